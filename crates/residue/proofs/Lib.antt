@@ -1,0 +1,3 @@
+-- The lemmas of the crate residue that the crates above cite.
+pub mod Congruence
+pub mod Sums

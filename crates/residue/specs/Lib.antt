@@ -1,0 +1,3 @@
+-- The definitions of the crate residue.
+pub mod Lists
+pub mod Congruence

@@ -1,0 +1,1 @@
+// Residues modulo one of the 18 primes of document 01.
