@@ -1,3 +1,5 @@
 -- The definitions of the crate residue.
 pub mod Lists
 pub mod Congruence
+pub mod Modulus
+pub mod Level

@@ -1,1 +1,2 @@
 // Residues modulo one of the 18 primes of document 01.
+pub mod level;

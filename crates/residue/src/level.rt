@@ -1,0 +1,71 @@
+// The moduli, and the residues of levels.
+ghost use mathlib.Core.Path.{_≡_};
+ghost use Rattle.residue.specs.Modulus.{isModulus};
+ghost use Rattle.residue.specs.Level.{residueOf, signedOf};
+
+pub const PRIMES: [u8; 18] = [
+    2,
+    3,
+    5,
+    7,
+    11,
+    13,
+    17,
+    19,
+    23,
+    29,
+    31,
+    37,
+    41,
+    43,
+    47,
+    53,
+    59,
+    61,
+];
+
+// Whether p is one of the 18 primes.
+pub fn is_modulus(p: u64) -> bool
+    ensures { λ r. ⌜ r ≡ isModulus p ⌝ }
+{
+    for i in 0..18 {
+        if PRIMES[i] as u64 == p {
+            return true;
+        }
+    }
+    false
+}
+
+pub enum Level {
+    Residue(u8),
+    Outside,
+}
+
+// The residue of a level. The level is widened before it is negated: -128 has no negation of its own width.
+pub fn residue(p: u8, level: i8) -> Level
+    ensures { λ r. ⌜ r ≡ residueOf p level ⌝ }
+{
+    if level < 0 {
+        let size = (-(level as i16)) as u16;
+        let modulus = p as u16;
+        if size < modulus {
+            return Level::Residue((modulus - size) as u8);
+        }
+        return Level::Outside;
+    }
+    let size = level as u8;
+    if size < p {
+        return Level::Residue(size);
+    }
+    Level::Outside
+}
+
+// The signed byte of the same bits.
+pub fn signed(b: u8) -> i8
+    ensures { λ r. ⌜ r ≡ signedOf b ⌝ }
+{
+    if b < 128 {
+        return b as i8;
+    }
+    (b as i16 - 256) as i8
+}
