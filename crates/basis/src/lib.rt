@@ -1,0 +1,2 @@
+// The reduced Gröbner basis, with its standard monomials, of the ideal of all polynomials that vanish at a list of points.
+pub mod settings;
