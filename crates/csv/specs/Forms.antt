@@ -1,0 +1,86 @@
+-- The forms of fields: document 01, 'Reading text'. Quoted fields count by their content.
+use mathlib.Core.Bool.{Bool, true, false, cond, _&&_}
+use mathlib.Core.List.{List, [], _∷_}
+use mathlib.Core.Option.{Option, some, none}
+use Prim.Native.Nat.{ℕ, zero, suc, _+_, _*_, _-_}
+use lib.IntN.{ℤ, pos, negsuc}
+use lib.ListN.{length, getD, take, drop}
+use lib.Dec.{eqb, leb}
+use Rattle.basis.specs.Levels.{sameList}
+
+unfoldable pub isDigit : ℕ → Bool
+isDigit b = leb 48 b && leb b 57
+
+-- the number that digits write, behind `value`
+unfoldable pub digitsFrom : ℕ → List ℕ → Option ℕ
+digitsFrom value [] = some value
+digitsFrom value (b ∷ l) = cond (isDigit b) (digitsFrom (10 * value + (b - 48)) l) none
+
+-- one to three digits
+unfoldable pub numberOf : List ℕ → Option ℕ
+numberOf l = cond (leb 1 (length l) && leb (length l) 3) (digitsFrom 0 l) none
+
+unfoldable pub negative : ℕ → ℤ
+negative zero = pos 0
+negative (suc k) = negsuc k
+
+unfoldable pub signed : (ℕ → ℤ) → Option ℕ → Option ℤ
+signed f none = none
+signed f (some k) = some (f k)
+
+-- a level or a value: an optional minus sign and one to three digits
+unfoldable pub levelOf : List ℕ → Option ℤ
+levelOf [] = none
+levelOf (b ∷ l) = cond (eqb b 45) (signed negative (numberOf l)) (signed pos (numberOf (b ∷ l)))
+
+unfoldable pub together : Option ℤ → Option (List ℤ) → Option (List ℤ)
+together (some z) (some zs) = some (z ∷ zs)
+together (some z) none = none
+together none zs = none
+
+-- the levels of all fields
+unfoldable pub levelsOf : List (List ℕ) → Option (List ℤ)
+levelsOf [] = some []
+levelsOf (f ∷ fs) = together (levelOf f) (levelsOf fs)
+
+-- the words of the last header field, byte by byte
+abbrev pub mod-word : List ℕ
+mod-word = 109 ∷ 111 ∷ 100 ∷ 32 ∷ []
+
+abbrev pub lex-word : List ℕ
+lex-word = 32 ∷ 108 ∷ 101 ∷ 120 ∷ []
+
+abbrev pub grlex-word : List ℕ
+grlex-word = 32 ∷ 103 ∷ 114 ∷ 108 ∷ 101 ∷ 120 ∷ []
+
+abbrev pub grevlex-word : List ℕ
+grevlex-word = 32 ∷ 103 ∷ 114 ∷ 101 ∷ 118 ∷ 108 ∷ 101 ∷ 120 ∷ []
+
+-- the order's number, by what stands behind the digits; without the word the order is lex
+unfoldable pub orderWord : List ℕ → Option ℕ
+orderWord l = cond (sameList l []) (some 0)
+    (cond (sameList l lex-word) (some 0) (cond (sameList l grlex-word) (some 1) (cond (sameList l grevlex-word) (some 2) none)))
+
+-- how many digits stand at the front
+unfoldable pub digitCount : List ℕ → ℕ
+digitCount [] = 0
+digitCount (b ∷ l) = cond (isDigit b) (suc (digitCount l)) 0
+
+-- what the header says: m names, which may be anything, then the modulus and the order
+pub record Header : Type 0 where
+  pub variables : ℕ
+  pub modulus : ℕ
+  pub order : ℕ
+
+unfoldable pub header : ℕ → Option ℕ → Option ℕ → Option Header
+header m (some p) (some k) = some (record { variables = m; modulus = p; order = k })
+header m none k = none
+header m (some p) none = none
+
+-- the last field: `mod`, a space, one to three digits, and optionally a space and the order word
+unfoldable pub lastField : ℕ → List ℕ → Option Header
+lastField m l = let d = drop 4 l in
+    cond (sameList (take 4 l) mod-word) (header m (numberOf (take (digitCount d) d)) (orderWord (drop (digitCount d) d))) none
+
+unfoldable pub headerOf : List (List ℕ) → Option Header
+headerOf fields = lastField (length fields - 1) (getD fields (length fields - 1) [])

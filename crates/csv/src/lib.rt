@@ -1,0 +1,2 @@
+// Comma-separated text: the reader, and the printed basis.
+pub mod reading;
