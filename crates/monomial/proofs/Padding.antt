@@ -1,0 +1,86 @@
+-- A monomial of m exponents and the 8 bytes that hold it, as the tables do: what holds of one holds of the other.
+use mathlib.Core.Path.{_≡_, refl, sym, ap, _∙_}
+use mathlib.Core.Bool.{Bool, true, false}
+use mathlib.Core.List.{List, [], _∷_, _++_, append-nil}
+use Prim.Native.Nat.{ℕ, zero, suc, _+_, _-_, _<_, _≤_}
+use native.Mathlib.Nat.{add-zero}
+use native.Mathlib.Omega.{arith}
+use lib.Dec.{T}
+use lib.ListN.{length, take, replicate, getD, length-append, length-replicate, List·getD-append, replicate-append-replicate}
+use lib.Seq.{take-at, set-append-left}
+use Rattle.monomial.specs.Monomial.{degree, one, timesVariable, divides, valueAt, pad}
+use Rattle.monomial.specs.Order.{Order, lex, grlex, grevlex, byFirst, byLast, cmp}
+use Rattle.monomial.proofs.Algebra.Products.{Aligned, nil, cons, aligned, length-timesVariable}
+use Rattle.monomial.proofs.Algebra.Division.{divides-refl}
+use Rattle.monomial.proofs.Algebra.Values.{value-one}
+use Rattle.monomial.proofs.Orders.Answers.{compare-shift}
+use Rattle.monomial.proofs.Orders.Lawful.{first-lawful, last-lawful}
+
+-- exponents that agree behind change nothing
+first-append : {a b : List ℕ} (z : List ℕ) → Aligned a b → byFirst (a ++ z) (b ++ z) ≡ byFirst a b
+first-append z nil = first-lawful .self z
+first-append z (cons e) = rw (first-append z e)
+
+last-append : {a b : List ℕ} (z : List ℕ) → Aligned a b → byLast (a ++ z) (b ++ z) ≡ byLast a b
+last-append z nil = last-lawful .self z
+last-append z (cons e) = rw (last-append z e)
+
+degree-append : (a z : List ℕ) → degree (a ++ z) ≡ degree z + degree a
+degree-append [] z = sym (add-zero (degree z))
+degree-append (x ∷ xs) z = omega (arith, degree-append xs z)
+
+cmp-append : (order : Order) {a b : List ℕ} (z : List ℕ) → Aligned a b → cmp order (a ++ z) (b ++ z) ≡ cmp order a b
+unfolding cmp
+cmp-append lex z e = first-append z e
+cmp-append grlex {a} {b} z e = rw (degree-append a z, degree-append b z, compare-shift (degree z) (degree a) (degree b), first-append z e)
+cmp-append grevlex {a} {b} z e = rw (degree-append a z, degree-append b z, compare-shift (degree z) (degree a) (degree b), last-append z e)
+
+divides-append : {a b : List ℕ} (z : List ℕ) → Aligned a b → divides (a ++ z) (b ++ z) ≡ divides a b
+divides-append z nil = is-true (divides z z) (divides-refl z)
+  where
+    is-true : (b : Bool) → T b → b ≡ true
+    is-true true h = refl
+    is-true false h = absurd h
+divides-append z (cons {x} {y} e) = rw (divides-append z e)
+
+value-append : {p a : List ℕ} (n : ℕ) → Aligned p a → valueAt (p ++ replicate n 0) (a ++ replicate n 0) ≡ valueAt p a
+value-append n nil = value-one (replicate n 0) n
+value-append n (cons e) = rw (value-append n e)
+
+degree-one : (m : ℕ) → degree (one m) ≡ 0
+degree-one zero = refl
+degree-one (suc m) = omega (arith, degree-one m)
+
+-- padding
+module _ (a : List ℕ) where
+  pub length-pad : length a ≤ 8 → length (pad a) ≡ 8
+  length-pad h = simp (length-append, length-replicate) (omega arith)
+
+  pub pad-full : length a ≡ 8 → pad a ≡ a
+  pad-full h = rw (h, append-nil)
+
+  pub degree-pad : degree (pad a) ≡ degree a
+  degree-pad = degree-append a (replicate (8 - length a) 0) ∙ rw (degree-one (8 - length a)) (omega arith)
+
+  pub timesVariable-pad : (k : ℕ) → k < length a → timesVariable k (pad a) ≡ pad (timesVariable k a)
+  timesVariable-pad k h =
+      rw (length-timesVariable k a, List·getD-append a (replicate (8 - length a) 0) 0 k h)
+      (set-append-left a (replicate (8 - length a) 0) k (getD a k 0 + 1) h)
+
+pub one-pad : (m : ℕ) → m ≤ 8 → pad (one m) ≡ one 8
+one-pad m h = let e : m + (8 - m) ≡ 8 = omega arith in rw (length-replicate, replicate-append-replicate, e)
+
+-- two of one length
+module _ (a b : List ℕ) (l : length a ≡ length b) where
+  pub pad-inj : pad a ≡ pad b → a ≡ b
+  pad-inj e = sym (take-at a _ (length a) refl) ∙ ap (take (length a)) e ∙ take-at b _ (length a) (sym l)
+
+  pub cmp-pad : (order : Order) → cmp order (pad a) (pad b) ≡ cmp order a b
+  cmp-pad order = rw l (cmp-append order (replicate (8 - length b) 0) (aligned a b l))
+
+  pub divides-pad : divides (pad a) (pad b) ≡ divides a b
+  divides-pad = rw l (divides-append (replicate (8 - length b) 0) (aligned a b l))
+
+  -- a point's coordinates are padded as well
+  pub value-pad : valueAt (pad a) (pad b) ≡ valueAt a b
+  value-pad = rw l (value-append (8 - length b) (aligned a b l))

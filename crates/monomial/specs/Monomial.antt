@@ -1,0 +1,41 @@
+-- Monomials. A monomial in m variables is the list of its m exponents, x1's first; a point is the list of its m coordinates.
+use mathlib.Core.Bool.{Bool, true, false, _&&_}
+use mathlib.Core.List.{List, [], _∷_, _++_}
+use Prim.Native.Nat.{ℕ, _+_, _-_, _*_, _^_}
+use lib.Dec.{leb}
+use lib.ListN.{length, replicate, getD, set}
+
+-- the total degree (document 01, 'Monomial orders')
+abbrev pub degree : List ℕ → ℕ
+degree [] = 0
+degree (x ∷ xs) = x + degree xs
+
+-- the monomial 1 in m variables (document 01, 'The sheet')
+abbrev pub one : ℕ → List ℕ
+one m = replicate m 0
+
+-- the product of two monomials
+abbrev pub product : List ℕ → List ℕ → List ℕ
+product [] b = b
+product (x ∷ xs) [] = x ∷ xs
+product (x ∷ xs) (y ∷ ys) = (x + y) ∷ product xs ys
+
+-- x_(k+1) times a
+abbrev pub timesVariable : ℕ → List ℕ → List ℕ
+timesVariable k a = set a k (getD a k 0 + 1)
+
+-- a divides b: no exponent of a is larger than b's (document 01, 'The sheet': rows)
+abbrev pub divides : List ℕ → List ℕ → Bool
+divides [] b = true
+divides (x ∷ xs) [] = false
+divides (x ∷ xs) (y ∷ ys) = leb x y && divides xs ys
+
+-- the value at a point, not reduced; zero to the power 0 is 1 (document 01, 'The sheet')
+abbrev pub valueAt : List ℕ → List ℕ → ℕ
+valueAt [] a = 1
+valueAt (p ∷ ps) [] = 1
+valueAt (p ∷ ps) (x ∷ xs) = p ^ x * valueAt ps xs
+
+-- as the tables hold exponents and coordinates: 8 bytes, those above m being 0 (document 01, 'The sheet': tables)
+abbrev pub pad : List ℕ → List ℕ
+pad a = a ++ replicate (8 - length a) 0

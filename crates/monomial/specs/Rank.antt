@@ -1,0 +1,29 @@
+-- The rank of a monomial: one number whose order is the monomial order, as long as the total degree is at most 64.
+use mathlib.Core.List.{List, [], _∷_, _++_, dropLast}
+use Prim.Native.Nat.{ℕ, _+_, _*_, _^_}
+use lib.ListN.{length}
+use Rattle.monomial.specs.Monomial.{degree, one, timesVariable}
+use Rattle.monomial.specs.Order.{Order, lex, grlex, grevlex}
+
+-- the sums of the first exponents, from all of them down to the first alone, c added to each
+abbrev pub sumsDown : ℕ → List ℕ → List ℕ
+sumsDown c [] = []
+sumsDown c (x ∷ xs) = sumsDown (c + x) xs ++ ((c + x) ∷ [])
+
+-- as many numbers as exponents, whose first difference decides as the order does
+unfoldable pub key : Order → List ℕ → List ℕ
+key lex a = a
+key grlex a = degree a ∷ dropLast a
+key grevlex a = sumsDown 0 a
+
+-- the number with these digits to the base 128, the most significant first
+abbrev pub numeral : List ℕ → ℕ
+numeral [] = 0
+numeral (d ∷ ds) = d * 128 ^ length ds + numeral ds
+
+unfoldable pub rankOf : Order → List ℕ → ℕ
+rankOf order a = numeral (key order a)
+
+-- the rank of x_(k+1), one of 8 variables
+unfoldable pub variableRank : Order → ℕ → ℕ
+variableRank order k = rankOf order (timesVariable k (one 8))

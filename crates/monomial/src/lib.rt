@@ -1,0 +1,1 @@
+// Monomials: their orders, divisibility, ranks and values.
