@@ -4,3 +4,6 @@ pub mod Sums
 pub mod Moduli
 pub mod Levels
 pub mod SignedBytes
+pub mod Reduction
+pub mod Powers
+pub mod Inverses

@@ -54,6 +54,11 @@ among (q ∷ qs) p h = pick (eqb p q) refl (among qs p)
     pick true e g = inl (eqb-true p q e)
     pick false e g = inr (g (subst (λ (b : Bool). (b || isOneOf qs p) ≡ true) e h))
 
+-- where a member stands
+pub place : (qs : List ℕ) (p : ℕ) → Among p qs → (i : ℕ) × ((i < length qs) × (getD qs i 0 ≡ p))
+place (q ∷ qs) p (inl e) = (0, (omega arith, sym e))
+place (q ∷ qs) p (inr m) = let w = place qs p m in (suc (w .0), (omega arith, w .1 .1))
+
 -- a fact of each modulus
 pub of-modulus : (f : ℕ → Bool) → T (each f primes) → (p : ℕ) → isModulus p ≡ true → T (f p)
 unfolding isModulus

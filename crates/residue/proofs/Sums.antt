@@ -1,6 +1,6 @@
 -- Laws of sums over a list, and a fact of every member of a longer list.
 use mathlib.Core.Path.{_≡_, refl, sym, _∙_, ap, subst}
-use mathlib.Core.List.{List, [], _∷_}
+use mathlib.Core.List.{List, [], _∷_, _++_}
 use mathlib.Core.Logic.{inl, inr}
 use Prim.Native.Nat.{ℕ, _+_, _*_}
 use native.Mathlib.Omega.{arith}
@@ -29,6 +29,10 @@ module _ {A : Type 0} where
   pub sum-scale : (f : A → ℕ) (k : ℕ) (l : List A) → sumOver (λ a. k * f a) l ≡ k * sumOver f l
   sum-scale f k [] = omega arith
   sum-scale f k (a ∷ l) = let h : sumOver (λ a. k * f a) l ≡ k * sumOver f l = sum-scale f k l in omega arith
+
+  pub sum-append : (f : A → ℕ) (l r : List A) → sumOver f (l ++ r) ≡ sumOver f l + sumOver f r
+  sum-append f [] r = omega arith
+  sum-append f (a ∷ l) r = let h : sumOver f (l ++ r) ≡ sumOver f l + sumOver f r = sum-append f l r in omega arith
 
   pub sum-nil : (l : List A) → sumOver (λ a. 0) l ≡ 0
   sum-nil [] = refl

@@ -3,3 +3,4 @@ pub mod Lists
 pub mod Congruence
 pub mod Modulus
 pub mod Level
+pub mod Inverse

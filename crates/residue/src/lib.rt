@@ -1,2 +1,4 @@
 // Residues modulo one of the 18 primes of document 01.
+pub mod arithmetic;
+pub mod inverse;
 pub mod level;

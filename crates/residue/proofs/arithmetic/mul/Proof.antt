@@ -1,0 +1,18 @@
+-- `arithmetic::mul` meets its contract.
+use native.Mathlib.Omega.{arith}
+use Rattle.residue.proofs.Reduction.{product-small}
+use borrow.Author.Needs.{needs}
+use Rattle.residue.proofs.arithmetic.mul.Statement.{statement}
+use Rattle.residue.proofs.arithmetic.mul.Tie as tie
+
+mul-result : tie.Need-mul-result
+mul-result c = omega (arith, product-small _ _ _ (c .pre .0) (c .pre .1 .0) (c .pre .1 .1))
+
+rem-result : tie.Need-rem-result
+rem-result c = search needs
+
+returns : tie.Need-returns
+returns c = search needs
+
+pub mul-spec : {M : Type 1} → statement M
+mul-spec = tie.close (tie.spec mul-result rem-result returns)

@@ -1,0 +1,78 @@
+-- `arithmetic::power` meets its contract. The product so far, times what is left of the power of the square, is the whole power.
+use mathlib.Core.Path.{_≡_, _∙_}
+use mathlib.Core.Logic.{⊎-elim}
+use Prim.Native.Nat.{_*_, _^_, _<_}
+use native.Mathlib.Nat.{mod-lt}
+use native.Mathlib.Omega.{arith}
+use Rattle.residue.specs.Congruence.{Mod}
+use Rattle.residue.proofs.Congruence.{of}
+use Rattle.residue.proofs.Reduction.{kept, product-small}
+use Rattle.residue.proofs.Powers.{even, odd, whole}
+use Rattle.residue.proofs.arithmetic.power.Statement.{statement}
+use Rattle.residue.proofs.arithmetic.power.Tie as tie
+
+abbrev Inv-loop : tie.InvT-loop
+Inv-loop p x e m product₀ square₀ left₀ product square left =
+    (product < p) × ((square < p) × Mod p (product * square ^ left) (x ^ e))
+
+abbrev μ-loop : tie.MeasureT-loop
+μ-loop p x e m product₀ square₀ left₀ product square left = left
+
+reciprocal-requires : tie.Need-reciprocal-requires Inv-loop μ-loop
+reciprocal-requires c κs = c .pre .0 .0
+
+loop-holds : tie.Need-loop-holds Inv-loop μ-loop
+loop-holds c = (omega arith, (omega arith, of (omega arith)))
+
+mul-reduce : tie.Need-mul-reduce Inv-loop μ-loop
+mul-reduce c =
+    let l = c .before .before in
+    omega (arith, product-small _ _ _ (l .before .before .pre .0 .1) (l .loop .inv .0) (l .loop .inv .1 .0))
+
+reduce-requires : tie.Need-reduce-requires Inv-loop μ-loop
+reduce-requires c κs = let r = c .before .before .before in (r .before .pre .0 .0, r .reciprocal .ensures)
+
+mul-reduce-2 : tie.Need-mul-reduce-2 Inv-loop μ-loop
+mul-reduce-2 c =
+    let l = c .before .before in
+    omega (arith, product-small _ _ _ (l .before .before .pre .0 .1) (l .loop .inv .1 .0) (l .loop .inv .1 .0))
+
+reduce-requires-2 : tie.Need-reduce-requires-2 Inv-loop μ-loop
+reduce-requires-2 c κs = let r = c .before .before .before in (r .before .pre .0 .0, r .reciprocal .ensures)
+
+loop-less : tie.Need-loop-less Inv-loop μ-loop
+loop-less c = omega arith
+
+loop-again : tie.Need-loop-again Inv-loop μ-loop
+loop-again c =
+    let l = c .before .before .before in
+    let p = l .before .before .args .p in
+    let two : 0 < p = omega arith in
+    let sq = c .reduce2 .ensures in
+    let low : c .reduce2 .result < p = rw sq (mod-lt _ two) in
+    ⊎-elim
+    (λ w. let e = w .2 ∙ w .1 .ensures in (rw e (mod-lt _ two), (low, odd _ _ _ (l .loop .inv .1 .1) sq (w .0 .taken) e)))
+    (λ w. (rw (w .1) (l .loop .inv .0), (low, even _ _ _ (l .loop .inv .1 .1) sq (w .0 .left) (w .1))))
+    (c .before .if1 .came)
+
+returns : tie.Need-returns Inv-loop μ-loop
+returns c =
+    let l = c .before in
+    let e : l .loop .left ≡ 0 = omega arith in
+    kept _ _ (l .loop .inv .0) ∙ whole _ _ _ e (l .loop .inv .1 .1)
+
+pub power-spec : {M : Type 1} → statement M
+power-spec =
+    tie.close
+    (tie.spec
+    Inv-loop
+    μ-loop
+    reciprocal-requires
+    loop-holds
+    mul-reduce
+    reduce-requires
+    mul-reduce-2
+    reduce-requires-2
+    loop-less
+    loop-again
+    returns)

@@ -1,0 +1,14 @@
+-- The inverse of a residue.
+use Prim.Native.Nat.{ℕ, zero, suc, _*_, _%_}
+use mathlib.Core.Bool.{cond, _&&_}
+use lib.Dec.{ltb, eqb}
+use Rattle.residue.specs.Modulus.{isModulus}
+
+-- the number below n whose product with x is 1 modulo p, or 0 where there is none
+unfoldable pub inverseBelow : ℕ → ℕ → ℕ → ℕ
+inverseBelow p x zero = 0
+inverseBelow p x (suc n) = cond (eqb ((x * n) % p) 1) n (inverseBelow p x n)
+
+-- "The entry for 0 is 0; for any other residue the product with its entry is 1 modulo p". 0 as well where p is no modulus or x no residue.
+unfoldable pub inverseOf : ℕ → ℕ → ℕ
+inverseOf p x = cond (isModulus p && ltb x p) (inverseBelow p x p) 0
