@@ -1,0 +1,58 @@
+-- The tests of equality mean equality.
+use mathlib.Core.Path.{_≡_, refl, sym, _∙_, ap}
+use mathlib.Core.Bool.{Bool, true, false, not, _&&_, _||_}
+use mathlib.Core.List.{List, [], _∷_}
+use mathlib.Core.Logic.{_⊎_, inl, inr}
+use Prim.Native.Nat.{ℕ}
+use lib.Dec.{T, eqb, eqb→eq, eqb-refl}
+use Rattle.residue.specs.Lists.{Among}
+use Rattle.basis.specs.Levels.{sameList, isAmong, noRepeat}
+
+pub and-left : (a b : Bool) → T (a && b) → T a
+and-left true b h = tt
+and-left false b h = h
+
+pub and-right : (a b : Bool) → T (a && b) → T b
+and-right true b h = h
+and-right false b h = absurd h
+
+pub and-both : (a b : Bool) → T a → T b → T (a && b)
+and-both true b h k = k
+and-both false b h k = h
+
+pub same-is : (k l : List ℕ) → T (sameList k l) → k ≡ l
+unfolding sameList
+same-is [] [] h = refl
+same-is [] (b ∷ l) h = absurd h
+same-is (a ∷ k) [] h = absurd h
+same-is (a ∷ k) (b ∷ l) h =
+    let e : a ≡ b = eqb→eq a b (and-left (eqb a b) (sameList k l) h) in
+    let r : k ≡ l = same-is k l (and-right (eqb a b) (sameList k l) h) in
+    cc
+
+pub same-self : (l : List ℕ) → T (sameList l l)
+unfolding sameList
+same-self [] = tt
+same-self (a ∷ l) = and-both (eqb a a) (sameList l l) (eqb-refl a) (same-self l)
+
+pub among-is : (P : List ℕ) (S : List (List ℕ)) → T (isAmong P S) → Among P S
+unfolding isAmong
+among-is P [] h = h
+among-is P (Q ∷ S) h = go (sameList P Q) refl h (λ k. among-is P S k)
+  where
+    go : (b : Bool) → sameList P Q ≡ b → T (b || isAmong P S) → (T (isAmong P S) → Among P S) → Among P (Q ∷ S)
+    go true e k f = inl (same-is P Q (rw e tt))
+    go false e k f = inr (f k)
+
+pub is-among : (P : List ℕ) (S : List (List ℕ)) → Among P S → T (isAmong P S)
+unfolding isAmong
+is-among P (Q ∷ S) (inl e) = rw e (first (sameList Q Q) (isAmong Q S) (same-self Q))
+  where
+    first : (a b : Bool) → T a → T (a || b)
+    first true b h = tt
+    first false b h = absurd h
+is-among P (Q ∷ S) (inr q) = later (sameList P Q) (isAmong P S) (is-among P S q)
+  where
+    later : (a b : Bool) → T b → T (a || b)
+    later true b h = tt
+    later false b h = h

@@ -1,0 +1,73 @@
+-- Laws of layouts: filling up, places of one width, and writing over the front of a lent list.
+use mathlib.Core.Path.{_≡_, refl, sym, _∙_, ap, ap₂}
+use mathlib.Core.List.{List, [], _∷_, _++_, map, append-assoc, append-nil}
+use Prim.Native.Nat.{ℕ, zero, suc, _+_, _*_, _≤_}
+use native.Mathlib.Omega.{arith}
+use native.Mathlib.Nat.{zero-add}
+use lib.ListN.{length, take, drop, replicate, length-append, length-drop}
+use lib.Seq.{take-at, drop-at}
+use lib.Dec.{T}
+use Rattle.basis.specs.Levels.{groups}
+use Rattle.basis.specs.Layout.{fill, inPlaces, over, begins}
+use Rattle.basis.proofs.Equality.{same-self}
+
+pub length-fill : (k : ℕ) (l : List ℕ) → length (fill k l) ≡ k
+unfolding fill
+length-fill zero l = refl
+length-fill (suc k) [] = ap suc (length-fill k [])
+length-fill (suc k) (a ∷ l) = ap suc (length-fill k l)
+
+-- nothing is cut and nothing filled up
+pub fill-whole : (l : List ℕ) → fill (length l) l ≡ l
+unfolding fill
+fill-whole [] = refl
+fill-whole (a ∷ l) = ap (λ (z : List ℕ). a ∷ z) (fill-whole l)
+
+pub fill-zeros : (k : ℕ) → fill k [] ≡ replicate k 0
+unfolding fill
+fill-zeros zero = refl
+fill-zeros (suc k) = ap (λ (z : List ℕ). 0 ∷ z) (fill-zeros k)
+
+-- what is filled up is behind
+pub fill-append : (xs ys : List ℕ) (k : ℕ) → fill (length xs + k) (xs ++ ys) ≡ xs ++ fill k ys
+unfolding fill
+fill-append [] ys k = rw zero-add
+fill-append (x ∷ xs) ys k =
+    let e : suc (length xs) + k ≡ suc (length xs + k) = omega arith in
+    ap (λ (n : ℕ). fill n (x ∷ (xs ++ ys))) e ∙ ap (λ (z : List ℕ). x ∷ z) (fill-append xs ys k)
+
+pub length-places : (w : ℕ) (S : List (List ℕ)) → length (inPlaces w S) ≡ w * length S
+unfolding inPlaces
+length-places w [] = omega arith
+length-places w (r ∷ S) = length-append (fill w r) (inPlaces w S) ∙ omega (arith, length-fill w r, length-places w S)
+
+-- the rows read back from their places
+pub places-back : (w : ℕ) (S : List (List ℕ)) (t : List ℕ) → groups w (length S) (inPlaces w S ++ t) ≡ map (fill w) S
+unfolding groups inPlaces
+places-back w [] t = refl
+places-back w (r ∷ S) t =
+    rw (append-assoc (fill w r) (inPlaces w S) t, take-at (fill w r) (inPlaces w S ++ t) w (length-fill w r), drop-at (fill w r) (inPlaces w S ++ t) w (length-fill w r))
+    (ap (λ (z : List (List ℕ)). fill w r ∷ z) (places-back w S t))
+
+-- a table is its places and zeros behind them
+pub table-split : (w : ℕ) (S : List (List ℕ)) (k : ℕ) → fill (w * length S + k) (inPlaces w S) ≡ inPlaces w S ++ replicate k 0
+table-split w S k =
+    ap₂ (λ (n : ℕ) (l : List ℕ). fill (n + k) l) (sym (length-places w S)) (sym (append-nil (inPlaces w S))) ∙ fill-append (inPlaces w S) [] k
+    ∙ ap (λ (z : List ℕ). inPlaces w S ++ z) (fill-zeros k)
+
+-- Writing over the front.
+pub over-over : (a b t : List ℕ) → length a ≡ length b → over a (over b t) ≡ over a t
+unfolding over
+over-over a b t e = ap (λ (z : List ℕ). a ++ z) (drop-at b (drop (length b) t) (length a) (sym e) ∙ ap (λ (n : ℕ). drop n t) (sym e))
+
+pub length-over : (a t : List ℕ) → length a ≤ length t → length (over a t) ≡ length t
+unfolding over
+length-over a t h = length-append a (drop (length a) t) ∙ omega (arith, length-drop (length a) t)
+
+pub take-over : (a t : List ℕ) → take (length a) (over a t) ≡ a
+unfolding over
+take-over a t = take-at a (drop (length a) t) (length a) refl
+
+pub begins-over : (a t : List ℕ) → T (begins a (over a t))
+unfolding begins
+begins-over a t = rw (take-over a t) (same-self a)

@@ -1,0 +1,3 @@
+-- The lemmas of the crate basis.
+pub mod Equality
+pub mod Layouts
