@@ -3,3 +3,5 @@ pub mod Algebra
 pub mod Orders
 pub mod Padding
 pub mod Ranks
+mod Loops
+mod Truncation

@@ -25,7 +25,7 @@ last-append : {a b : List ℕ} (z : List ℕ) → Aligned a b → byLast (a ++ z
 last-append z nil = last-lawful .self z
 last-append z (cons e) = rw (last-append z e)
 
-degree-append : (a z : List ℕ) → degree (a ++ z) ≡ degree z + degree a
+pub degree-append : (a z : List ℕ) → degree (a ++ z) ≡ degree z + degree a
 degree-append [] z = sym (add-zero (degree z))
 degree-append (x ∷ xs) z = omega (arith, degree-append xs z)
 
@@ -47,7 +47,7 @@ value-append : {p a : List ℕ} (n : ℕ) → Aligned p a → valueAt (p ++ repl
 value-append n nil = value-one (replicate n 0) n
 value-append n (cons e) = rw (value-append n e)
 
-degree-one : (m : ℕ) → degree (one m) ≡ 0
+pub degree-one : (m : ℕ) → degree (one m) ≡ 0
 degree-one zero = refl
 degree-one (suc m) = omega (arith, degree-one m)
 

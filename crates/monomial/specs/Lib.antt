@@ -1,5 +1,6 @@
 -- The definitions of the crate monomial.
 pub mod Monomial
 pub mod Order
+pub mod Comparison
 pub mod Increasing
 pub mod Rank

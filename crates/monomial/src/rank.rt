@@ -1,0 +1,55 @@
+// Ranks: one number for a monomial, whose order is the monomial order as long as the total degree is below 128.
+ghost use mathlib.Core.Path.{_≡_};
+ghost use Prim.Native.Nat.{_<_, _≤_};
+ghost use lib.ListN.{length};
+ghost use Rattle.monomial.specs.Monomial.{degree};
+ghost use Rattle.monomial.specs.Order.{orderOf};
+ghost use Rattle.monomial.specs.Rank.{rankOf, variableRank};
+
+// The ranks of x1 to x8, order after order.
+const VARIABLES: [u64; 24] = [
+    562949953421312,
+    4398046511104,
+    34359738368,
+    268435456,
+    2097152,
+    16384,
+    128,
+    1,
+    567347999932416,
+    562984313159680,
+    562950221856768,
+    562949955518464,
+    562949953437696,
+    562949953421440,
+    562949953421313,
+    562949953421312,
+    567382630219905,
+    567382630219904,
+    567382630219776,
+    567382630203392,
+    567382628106240,
+    567382359670784,
+    567347999932416,
+    562949953421312,
+];
+
+// The rank of x_(k+1).
+pub fn variable_rank(order: u8, k: usize) -> u64
+    requires { ⌜ (order ≤ 2) × (k < 8) ⌝ }
+    ensures { λ r. ⌜ r ≡ variableRank (orderOf order) k ⌝ }
+{
+    VARIABLES[8 * order as usize + k]
+}
+
+pub fn rank(order: u8, a: &[u8]) -> u64
+    requires { ⌜ order ≤ 2 ⌝ }
+    requires { ⌜ (length (now a) ≡ 8) × (degree (now a) < 128) ⌝ }
+    ensures { λ r. ⌜ r ≡ rankOf (orderOf order) (now (a .entry)) ⌝ }
+{
+    let mut sum: u64 = 0;
+    for i in 0..8 {
+        sum += a[i] as u64 * variable_rank(order, i);
+    }
+    sum
+}
