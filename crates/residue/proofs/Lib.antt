@@ -7,3 +7,5 @@ pub mod SignedBytes
 pub mod Reduction
 pub mod Powers
 pub mod Inverses
+pub mod Filled
+pub mod Vectors

@@ -4,3 +4,4 @@ pub mod Congruence
 pub mod Modulus
 pub mod Level
 pub mod Inverse
+pub mod Vector

@@ -2,3 +2,4 @@
 pub mod arithmetic;
 pub mod inverse;
 pub mod level;
+pub mod vector;
