@@ -1,3 +1,4 @@
 -- The lemmas of the crate basis.
 pub mod Equality
 pub mod Layouts
+pub mod ideal

@@ -22,7 +22,7 @@ module _ {A : Type 0} (c : A → A → Ordering) where
   inserted-only x [] z m = m
   inserted-only x (y ∷ ys) z m = go (c x y) (inserted-only x ys z) m
     where
-      go : (o : Ordering) → (Among z (inserted c x ys) → (z ≡ x) ⊎ Among z ys) → Among z (placed c x y ys (inserted c x ys) o) → (z ≡ x) ⊎ Among z (y ∷ ys)
+      go : (o : Ordering) → (Among z (inserted c x ys) → (z ≡ x) ⊎ Among z ys) → Among z (placed x y ys (inserted c x ys) o) → (z ≡ x) ⊎ Among z (y ∷ ys)
       go Ordering·lt ih n = n
       go Ordering·eq ih n = inr n
       go Ordering·gt ih (inl e) = inr (inl e)
@@ -55,7 +55,7 @@ module _ {A : Type 0} (c : A → A → Ordering) (L : Lawful c) where
   inserted-increasing x [] s = (tt, tt)
   inserted-increasing x (y ∷ ys) s = go (c x y) refl (inserted-increasing x ys (s .1))
     where
-      go : (o : Ordering) → c x y ≡ o → Increasing c (inserted c x ys) → Increasing c (placed c x y ys (inserted c x ys) o)
+      go : (o : Ordering) → c x y ≡ o → Increasing c (inserted c x ys) → Increasing c (placed x y ys (inserted c x ys) o)
       go Ordering·lt e ih = ((e, below-less x y ys e (s .0)), s)
       go Ordering·eq e ih = s
       go Ordering·gt e ih = (
@@ -68,7 +68,7 @@ module _ {A : Type 0} (c : A → A → Ordering) (L : Lawful c) where
   inserted-adds x [] z m = m
   inserted-adds x (y ∷ ys) z m = go (c x y) refl (inserted-adds x ys z) m
     where
-      go : (o : Ordering) → c x y ≡ o → ((z ≡ x) ⊎ Among z ys → Among z (inserted c x ys)) → (z ≡ x) ⊎ Among z (y ∷ ys) → Among z (placed c x y ys (inserted c x ys) o)
+      go : (o : Ordering) → c x y ≡ o → ((z ≡ x) ⊎ Among z ys → Among z (inserted c x ys)) → (z ≡ x) ⊎ Among z (y ∷ ys) → Among z (placed x y ys (inserted c x ys) o)
       go Ordering·lt f ih m = m
       go Ordering·eq f ih (inl e) = inl (e ∙ L .eq x y f)
       go Ordering·eq f ih (inr n) = n
@@ -80,7 +80,7 @@ module _ {A : Type 0} (c : A → A → Ordering) (L : Lawful c) where
   inserted-length x [] n = refl
   inserted-length x (y ∷ ys) n = go (c x y) refl (inserted-length x ys (λ m. n (inr m)))
     where
-      go : (o : Ordering) → c x y ≡ o → length (inserted c x ys) ≡ suc (length ys) → length (placed c x y ys (inserted c x ys) o) ≡ suc (suc (length ys))
+      go : (o : Ordering) → c x y ≡ o → length (inserted c x ys) ≡ suc (length ys) → length (placed x y ys (inserted c x ys) o) ≡ suc (suc (length ys))
       go Ordering·lt e ih = refl
       go Ordering·eq e ih = absurd (n (inl (L .eq x y e)))
       go Ordering·gt e ih = ap suc ih
