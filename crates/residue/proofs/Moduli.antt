@@ -1,4 +1,4 @@
--- The moduli: a fact of each of them and of each residue, from one computed test; a search for one along the list.
+-- The moduli: a fact of each of them, or of each number below a bound, from one computed test; a search for one along the list.
 use mathlib.Core.Path.{_≡_, refl, sym, subst}
 use mathlib.Core.Bool.{Bool, true, false, _&&_, _||_}
 use mathlib.Core.List.{List, [], _∷_}
@@ -63,10 +63,6 @@ place (q ∷ qs) p (inr m) = let w = place qs p m in (suc (w .0), (omega arith, 
 pub of-modulus : (f : ℕ → Bool) → T (each f primes) → (p : ℕ) → isModulus p ≡ true → T (f p)
 unfolding isModulus
 of-modulus f t p m = each-at f primes t p (among primes p m)
-
--- a fact of each modulus and each of its residues
-pub of-residue : (f : ℕ → ℕ → Bool) → T (each (λ p. below (f p) p) primes) → (p x : ℕ) → isModulus p ≡ true → x < p → T (f p x)
-of-residue f t p x m h = below-at (f p) p (of-modulus (λ q. below (f q) q) t p m) x h
 
 pub modulus-range : (p : ℕ) → isModulus p ≡ true → (2 ≤ p) × (p ≤ 61)
 unfolding primes

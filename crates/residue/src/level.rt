@@ -3,6 +3,7 @@ ghost use mathlib.Core.Path.{_≡_};
 ghost use Rattle.residue.specs.Modulus.{isModulus};
 ghost use Rattle.residue.specs.Level.{residueOf, signedOf};
 
+// The moduli, in the order in which the table of inverses has them.
 pub const PRIMES: [u8; 18] = [
     2,
     3,

@@ -2,6 +2,7 @@
 use mathlib.Core.Path.{_≡_, refl, sym, ap, subst, _∙_}
 use mathlib.Core.Bool.{true}
 use Prim.Native.Nat.{ℕ, _+_, _≤_, _<_, _-_}
+use native.Mathlib.Nat.{lt-of-lt-of-le}
 use native.Mathlib.Omega.{arith}
 use lib.ListN.{getD, drop}
 use Rattle.residue.specs.Modulus.{primes, isOneOf, isModulus}
@@ -67,8 +68,7 @@ array-read-result c = omega (arith, inside (i c) (p c) (x c) (turn c) (prime c) 
 cast-result : tie.Need-cast-result Inv-loop μ-loop
 cast-result c =
     let e = entry-below (i c) (p c) (x c) (turn c) (prime c) (residue c) in
-    let h = subst (λ (k : ℕ). getD inverses (k + x c) 0 < p c) (sym (from c)) e in
-    omega arith
+    record { fits = lt-of-lt-of-le (subst (λ (k : ℕ). getD inverses (k + x c) 0 < p c) (sym (from c)) e) (omega arith) }
 
 returns-2 : tie.Need-returns-2 Inv-loop μ-loop
 returns-2 c =
