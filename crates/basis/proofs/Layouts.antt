@@ -8,14 +8,9 @@ use lib.ListN.{length, take, drop, replicate, length-append, length-drop}
 use lib.Seq.{take-at, drop-at}
 use lib.Dec.{T}
 use Rattle.basis.specs.Levels.{groups}
+pub use Rattle.basis.specs.Layout.{length-fill}
 use Rattle.basis.specs.Layout.{fill, inPlaces, over, begins}
 use Rattle.basis.proofs.Equality.{same-self}
-
-pub length-fill : (k : ℕ) (l : List ℕ) → length (fill k l) ≡ k
-unfolding fill
-length-fill zero l = refl
-length-fill (suc k) [] = ap suc (length-fill k [])
-length-fill (suc k) (a ∷ l) = ap suc (length-fill k l)
 
 -- nothing is cut and nothing filled up
 pub fill-whole : (l : List ℕ) → fill (length l) l ≡ l

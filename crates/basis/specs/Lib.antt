@@ -8,3 +8,8 @@ pub mod Polynomial
 pub mod Basis
 pub mod Extension
 pub mod BasisOf
+pub mod Instance
+pub mod Tables
+pub mod Adding
+pub mod Solving
+pub mod Reference

@@ -13,3 +13,9 @@ pub struct Answer {
     pub n: u8,
     pub r: u16,
 }
+
+// The refusal, or 0 with how many variables the wiring list names.
+pub struct Wired {
+    pub refusal: u8,
+    pub count: u8,
+}
