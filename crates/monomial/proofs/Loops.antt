@@ -1,15 +1,17 @@
--- One turn, a find and the end of each loop over the exponents of two monomials.
+-- One turn, a find and the end of each loop over exponents.
 use mathlib.Core.Path.{_≡_, refl, sym, _∙_}
 use mathlib.Core.Bool.{false, true}
 use mathlib.Core.List.{List}
-use Prim.Native.Nat.{ℕ, zero, suc, _+_, _<_, _≤_, compare, Ordering, Ordering·lt, Ordering·eq, Ordering·gt}
-use native.Mathlib.Nat.{le-antisymm}
+use Prim.Native.Nat.{ℕ, zero, suc, _+_, _*_, _^_, _%_, _<_, _≤_, compare, Ordering, Ordering·lt, Ordering·eq, Ordering·gt}
+use native.Mathlib.Nat.{le-antisymm, mul-assoc, mul-one, mod-eq-of-lt}
 use native.Mathlib.Numerals.{add-one}
 use native.Mathlib.Omega.{arith}
 use borrow.Author.Tests.{le-leb, lt-leb}
 use lib.ListN.{length, drop, getD, drop-of-length-le}
 use lib.Seq.{drop-cons}
-use Rattle.monomial.specs.Monomial.{degree, divides}
+use Rattle.residue.specs.Congruence.{Mod}
+use Rattle.residue.proofs.Congruence.{rfl, of, _then_, _times_, reduce}
+use Rattle.monomial.specs.Monomial.{degree, divides, valueAt}
 use Rattle.monomial.specs.Order.{orderOf, andThen, byFirst, byLast, cmp}
 use Rattle.monomial.proofs.Algebra.Products.{Aligned, nil, cons, aligned}
 use Rattle.monomial.proofs.Orders.Answers.{Says, same, said, compare-self}
@@ -86,3 +88,22 @@ module _ (a b : List ℕ) where
   number-grevlex zero n m d = absurd (n refl)
   number-grevlex (suc zero) n m d = absurd (m refl)
   number-grevlex (suc (suc k)) n m d = rw (said (same d))
+
+-- the product of the powers passed, modulo p, times the value of what is left
+module _ (p : ℕ) (P a : List ℕ) (i x : ℕ) (v : Mod p (x * valueAt (drop i P) (drop i a)) (valueAt P a)) where
+  pub value-again : i < length P → i < length a → {f : ℕ} → f ≡ (getD P i 0 ^ getD a i 0) % p →
+      Mod p ((x * f) % p * valueAt (drop (i + 1) P) (drop (i + 1) a)) (valueAt P a)
+  value-again h k {f} e =
+      reduce p (x * f) times rfl {x = rest} then of (mul-assoc x f rest) then rfl {x = x} times ((of e then reduce p power) times rfl {x = rest}) then of turn then v
+    where
+      rest : ℕ
+      rest = valueAt (drop (i + 1) P) (drop (i + 1) a)
+
+      power : ℕ
+      power = getD P i 0 ^ getD a i 0
+
+      turn : x * (power * rest) ≡ x * valueAt (drop i P) (drop i a)
+      turn = sym (rw (add-one, drop-cons P i 0 h, drop-cons a i 0 k))
+
+  pub value-end : length P ≤ i → x < p → x ≡ valueAt P a % p
+  value-end h k = sym (mod-eq-of-lt k) ∙ rw (drop-of-length-le P {i = i} h, mul-one) at (v .same)

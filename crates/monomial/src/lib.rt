@@ -2,3 +2,4 @@
 pub mod exponents;
 pub mod order;
 pub mod rank;
+pub mod value;

@@ -21,7 +21,7 @@ fn by_first(a: &[u8], b: &[u8]) -> Comparison
         if a[i] < b[i] {
             return Comparison::Less;
         }
-        if b[i] < a[i] {
+        if a[i] > b[i] {
             return Comparison::Greater;
         }
     }
@@ -39,7 +39,7 @@ fn by_last(a: &[u8], b: &[u8]) -> Comparison
         if b[i] < a[i] {
             return Comparison::Less;
         }
-        if a[i] < b[i] {
+        if b[i] > a[i] {
             return Comparison::Greater;
         }
     }

@@ -1,0 +1,21 @@
+// Values of monomials at a point, modulo p.
+use residue::arithmetic;
+ghost use mathlib.Core.Path.{_≡_};
+ghost use Prim.Native.Nat.{_%_, _≤_};
+ghost use lib.ListN.{length};
+ghost use Rattle.residue.specs.Vector.{Below};
+ghost use Rattle.monomial.specs.Monomial.{valueAt};
+
+pub fn value(p: u16, point: &[u8], a: &[u8]) -> u16
+    requires { ⌜ (2 ≤ p) × (p ≤ 61) ⌝ }
+    requires { ⌜ (length (now point) ≡ 8) × (length (now a) ≡ 8) ⌝ }
+    requires { ⌜ Below p (now point) ⌝ }
+    ensures { λ r. ⌜ r ≡ valueAt (now (point .entry)) (now (a .entry)) % p ⌝ }
+{
+    let mut product = 1;
+    for i in 0..8 {
+        let factor = arithmetic::power(p, point[i] as u16, a[i]);
+        product = arithmetic::mul(p, product, factor);
+    }
+    product
+}
