@@ -1,12 +1,13 @@
 -- The forms of fields: document 01, 'Reading text'. Quoted fields count by their content.
-use mathlib.Core.Bool.{Bool, true, false, cond, _&&_}
+use mathlib.Core.Bool.{Bool, cond, _&&_}
 use mathlib.Core.List.{List, [], _∷_}
-use mathlib.Core.Option.{Option, some, none}
+use mathlib.Core.Option.{Option, some, none, Option·map}
 use Prim.Native.Nat.{ℕ, zero, suc, _+_, _*_, _-_}
 use lib.IntN.{ℤ, pos, negsuc}
 use lib.ListN.{length, getD, take, drop}
 use lib.Dec.{eqb, leb}
 use Rattle.basis.specs.Levels.{sameList}
+use Rattle.csv.specs.Fields.{front}
 
 unfoldable pub isDigit : ℕ → Bool
 isDigit b = leb 48 b && leb b 57
@@ -24,14 +25,10 @@ unfoldable pub negative : ℕ → ℤ
 negative zero = pos 0
 negative (suc k) = negsuc k
 
-unfoldable pub signed : (ℕ → ℤ) → Option ℕ → Option ℤ
-signed f none = none
-signed f (some k) = some (f k)
-
 -- a level or a value: an optional minus sign and one to three digits
 unfoldable pub levelOf : List ℕ → Option ℤ
 levelOf [] = none
-levelOf (b ∷ l) = cond (eqb b 45) (signed negative (numberOf l)) (signed pos (numberOf (b ∷ l)))
+levelOf (b ∷ l) = cond (eqb b 45) (Option·map negative (numberOf l)) (Option·map pos (numberOf (b ∷ l)))
 
 unfoldable pub together : Option ℤ → Option (List ℤ) → Option (List ℤ)
 together (some z) (some zs) = some (z ∷ zs)
@@ -42,6 +39,10 @@ together none zs = none
 unfoldable pub levelsOf : List (List ℕ) → Option (List ℤ)
 levelsOf [] = some []
 levelsOf (f ∷ fs) = together (levelOf f) (levelsOf fs)
+
+-- a record behind the header: m levels and one value
+unfoldable pub entryOf : ℕ → List (List ℕ) → Option (List ℤ)
+entryOf m fields = cond (eqb (length fields) (suc m)) (levelsOf fields) none
 
 -- the words of the last header field, byte by byte
 abbrev pub mod-word : List ℕ
@@ -61,11 +62,6 @@ unfoldable pub orderWord : List ℕ → Option ℕ
 orderWord l = cond (sameList l []) (some 0)
     (cond (sameList l lex-word) (some 0) (cond (sameList l grlex-word) (some 1) (cond (sameList l grevlex-word) (some 2) none)))
 
--- how many digits stand at the front
-unfoldable pub digitCount : List ℕ → ℕ
-digitCount [] = 0
-digitCount (b ∷ l) = cond (isDigit b) (suc (digitCount l)) 0
-
 -- what the header says: m names, which may be anything, then the modulus and the order
 pub record Header : Type 0 where
   pub variables : ℕ
@@ -74,13 +70,13 @@ pub record Header : Type 0 where
 
 unfoldable pub header : ℕ → Option ℕ → Option ℕ → Option Header
 header m (some p) (some k) = some (record { variables = m; modulus = p; order = k })
-header m none k = none
 header m (some p) none = none
+header m none k = none
 
 -- the last field: `mod`, a space, one to three digits, and optionally a space and the order word
 unfoldable pub lastField : ℕ → List ℕ → Option Header
 lastField m l = let d = drop 4 l in
-    cond (sameList (take 4 l) mod-word) (header m (numberOf (take (digitCount d) d)) (orderWord (drop (digitCount d) d))) none
+    cond (sameList (take 4 l) mod-word) (header m (numberOf (take (front isDigit d) d)) (orderWord (drop (front isDigit d) d))) none
 
 unfoldable pub headerOf : List (List ℕ) → Option Header
 headerOf fields = lastField (length fields - 1) (getD fields (length fields - 1) [])

@@ -1,4 +1,5 @@
 -- The definitions of the crate csv.
 pub mod Fields
+pub mod Spans
 pub mod Forms
 pub mod Reading

@@ -1,2 +1,3 @@
 // Comma-separated text: the reader, and the printed basis.
+pub mod fields;
 pub mod reading;

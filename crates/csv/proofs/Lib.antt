@@ -1,0 +1,4 @@
+-- The lemmas of the crate csv.
+pub mod Searches
+pub mod Endings
+pub mod Spanning
