@@ -2,3 +2,4 @@
 pub mod Equality
 pub mod Layouts
 pub mod ideal
+pub mod elimination

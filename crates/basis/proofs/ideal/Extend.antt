@@ -33,7 +33,7 @@ module _ (D : Space) where
     pub zero-below : (b : Mono) → Among b leads → Less D b α → error D l N P (val b) ≈ 0
 
   -- a row is zero at P where there is no error
-  error-holds : (l : List Mono) (N : (Pt → ℕ) → Mono → ℕ) (P : Pt) (a : Mono) → error D l N P (val a) ≈ 0 → Holds D l N P a
+  pub error-holds : (l : List Mono) (N : (Pt → ℕ) → Mono → ℕ) (P : Pt) (a : Mono) → error D l N P (val a) ≈ 0 → Holds D l N P a
   error-holds l N P a h = lin h (at D (N (val a)) l P) 0 (omega arith)
 
   module _ (L : Laws D) (S : List Pt) (l leads : List Mono) (N : (Pt → ℕ) → Mono → ℕ) (T : Staircase D S l leads N) (P : Pt) where
