@@ -1,5 +1,6 @@
 -- The lemmas of the crate basis.
 pub mod Equality
 pub mod Layouts
+pub mod WorkingRows
 pub mod ideal
 pub mod elimination

@@ -13,3 +13,4 @@ pub mod Tables
 pub mod Adding
 pub mod Solving
 pub mod Reference
+pub mod Working

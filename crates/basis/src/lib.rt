@@ -1,2 +1,3 @@
 // The reduced Gröbner basis, with its standard monomials, of the ideal of all polynomials that vanish at a list of points.
+pub mod rows;
 pub mod settings;

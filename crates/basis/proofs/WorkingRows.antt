@@ -1,0 +1,183 @@
+-- Laws of working rows: lengths and residues, what a cancellation does to each entry, and the search for the first number that is not 0.
+use mathlib.Core.Path.{_≡_, refl, sym, ap, _∙_}
+use mathlib.Core.Bool.{Bool, true, false, cond}
+use mathlib.Core.List.{List, _++_}
+use Prim.Native.Nat.{ℕ, zero, suc, _+_, _*_, _-_, _%_, _<_, _≤_}
+use native.Mathlib.Nat.{not-suc-le-zero}
+use native.Mathlib.Numerals.{add-one}
+use native.Mathlib.Decide.{decLt}
+use native.Mathlib.Omega.{arith}
+use lib.ListN.{length, getD, take, drop, length-append, length-take, length-drop, List·getD-append, List·getD-eq-default}
+use lib.Seq.{getD-take, getD-drop, getD-append-add, length-take-le, drop-drop}
+use lib.Dec.{eqb}
+use borrow.Author.Tests.{eq-eqb, ne-eqb, eqb-true, eqb-false}
+use Rattle.residue.specs.Congruence.{Mod}
+use Rattle.residue.specs.Vector.{Below, addScaled}
+use Rattle.residue.proofs.Congruence.{rfl, of, reduce, negative, _then_, _plus_, _times_}
+use Rattle.residue.proofs.Vectors.{addScaled-length, addScaled-at, addScaled-below, below-drop, below-append}
+use Rattle.basis.specs.Working.{cancelled, eliminated, firstNonzero}
+
+-- A cancellation.
+module _ (p : ℕ) (row : List ℕ) (at : ℕ) (w : List ℕ) where
+  -- the front of the row, as far as the row that is added goes
+  abbrev front : List ℕ
+  front = addScaled p (p - getD w at 0) (take (length row) w) row
+
+  pub cancel-none : getD w at 0 ≡ 0 → cancelled p row at w ≡ w
+  unfolding cancelled
+  cancel-none e = simp (eq-eqb (getD w at 0) 0 e)
+
+  pub cancel-some : (getD w at 0 ≡ 0 → ⊥) → cancelled p row at w ≡ front ++ drop (length row) w
+  unfolding cancelled
+  cancel-some e = simp (ne-eqb (getD w at 0) 0 e)
+
+  -- what holds of both holds of the result
+  either : (P : List ℕ → Type 0) → (getD w at 0 ≡ 0 → P w) → P (front ++ drop (length row) w) → P (cancelled p row at w)
+  either P h k = go (eqb (getD w at 0) 0) refl
+    where
+      go : (b : Bool) → eqb (getD w at 0) 0 ≡ b → P (cancelled p row at w)
+      go true e = rw (cancel-none (eqb-true (getD w at 0) 0 e)) (h (eqb-true (getD w at 0) 0 e))
+      go false e = rw (cancel-some (eqb-false (getD w at 0) 0 e)) k
+
+  module _ (fits : length row ≤ length w) where
+    same : length (take (length row) w) ≡ length row
+    same = length-take-le (length row) w fits
+
+    front-length : length front ≡ length row
+    front-length = addScaled-length p (p - getD w at 0) (take (length row) w) row same ∙ same
+
+    pub cancelled-length : length (cancelled p row at w) ≡ length w
+    cancelled-length = either (λ l. length l ≡ length w) (λ z. refl) (simp (length-append, length-drop, front-length) (omega arith))
+
+    pub cancelled-below : 0 < p → Below p w → Below p (cancelled p row at w)
+    cancelled-below z b =
+        either (Below p) (λ e. b) (below-append p front (drop (length row) w) (addScaled-below p (p - getD w at 0) (take (length row) w) row same z) (below-drop p (length row) w b))
+
+    front-at : (i : ℕ) → i < length row → getD (front ++ drop (length row) w) i 0 ≡ (getD w i 0 + (p - getD w at 0) * getD row i 0) % p
+    front-at i h =
+        let e = front-length in
+        let s = same in
+        List·getD-append front (drop (length row) w) 0 i (omega arith) ∙ addScaled-at p (p - getD w at 0) (take (length row) w) row same i (omega arith)
+        ∙ ap (λ (y : ℕ). (y + (p - getD w at 0) * getD row i 0) % p) (getD-take (length row) w i 0 h)
+
+    past-at : (i : ℕ) → length row ≤ i → getD (front ++ drop (length row) w) i 0 ≡ getD w i 0
+    past-at i h =
+        let l = front-length in
+        let e : i ≡ length front + (i - length row) = omega arith in
+        let k : length row + (i - length row) ≡ i = omega arith in
+        ap (λ (j : ℕ). getD (front ++ drop (length row) w) j 0) e ∙ getD-append-add front (drop (length row) w) (i - length row) 0 ∙ getD-drop (length row) w (i - length row) 0
+        ∙ ap (λ (j : ℕ). getD w j 0) k
+
+-- Each entry gains the row's, times minus the entry to be cancelled; where p is suc q, minus 1 is q.
+gain : (q x y z : ℕ) → x ≤ suc q → Mod (suc q) ((y + (suc q - x) * z) % suc q) (y + q * x * z)
+gain q x y z h = reduce (suc q) (y + (suc q - x) * z) then (rfl {x = y} plus (negative q x h times rfl {x = z}))
+
+pub cancelled-at : (q : ℕ) (row : List ℕ) (at : ℕ) (w : List ℕ) → length row ≤ length w → getD w at 0 ≤ suc q
+    → (i : ℕ) → Mod (suc q) (getD (cancelled (suc q) row at w) i 0) (getD w i 0 + q * getD w at 0 * getD row i 0)
+cancelled-at q row at w fits h i = either (suc q) row at w Gained (λ z. of (none (getD w at 0) z)) (some (decLt i (length row)))
+  where
+    Gained : List ℕ → Type 0
+    Gained l = Mod (suc q) (getD l i 0) (getD w i 0 + q * getD w at 0 * getD row i 0)
+
+    none : (x : ℕ) → x ≡ 0 → getD w i 0 ≡ getD w i 0 + q * x * getD row i 0
+    none x z = rw z (omega arith)
+
+    some : Dec (i < length row) → Gained (front (suc q) row at w ++ drop (length row) w)
+    some (yes l) = of (front-at (suc q) row at w fits i l) then gain q (getD w at 0) (getD w i 0) (getD row i 0) h
+    some (no l) =
+        let k : length row ≤ i = omega (arith, l) in
+        let z : getD row i 0 ≡ 0 = List·getD-eq-default row 0 k in
+        of (past-at (suc q) row at w fits i k ∙ rw z (omega arith))
+
+-- The elimination.
+module _ (p n : ℕ) (rows pivots : List ℕ) (w : List ℕ) where
+  pub eliminated-none : eliminated p n rows pivots 0 w ≡ w
+  unfolding eliminated
+  eliminated-none = refl
+
+  pub eliminated-more : (t : ℕ)
+      → eliminated p n rows pivots (t + 1) w ≡ cancelled p (take (n + t + 1) (drop (128 * t) rows)) (getD pivots t 0) (eliminated p n rows pivots t w)
+  unfolding eliminated
+  eliminated-more t = ap (λ (k : ℕ). eliminated p n rows pivots k w) (add-one t)
+
+  pub part-short : (t : ℕ) → length (take (n + t + 1) (drop (128 * t) rows)) ≤ n + t + 1
+  part-short t = simp length-take (omega arith)
+
+  module _ (long : length w ≡ 128) where
+    pub eliminated-length : (t : ℕ) → n + t ≤ 128 → length (eliminated p n rows pivots t w) ≡ 128
+    unfolding eliminated
+    eliminated-length zero h = long
+    eliminated-length (suc t) h =
+        let e = eliminated-length t (omega arith) in
+        let s = part-short t in
+        cancelled-length p (take (n + t + 1) (drop (128 * t) rows)) (getD pivots t 0) (eliminated p n rows pivots t w) (omega arith) ∙ e
+
+    pub eliminated-below : 0 < p → Below p w → (t : ℕ) → n + t ≤ 128 → Below p (eliminated p n rows pivots t w)
+    unfolding eliminated
+    eliminated-below z b zero h = b
+    eliminated-below z b (suc t) h =
+        let e = eliminated-length t (omega arith) in
+        let s = part-short t in
+        cancelled-below p (take (n + t + 1) (drop (128 * t) rows)) (getD pivots t 0) (eliminated p n rows pivots t w) (omega arith) z (eliminated-below z b t (omega arith))
+
+-- The search: its loop has passed q numbers, all of them 0.
+module _ (n : ℕ) (w : List ℕ) where
+  abbrev pub Passed : ℕ → Type 0
+  Passed q = firstNonzero n w ≡ q + firstNonzero (n - q) (drop q w)
+
+  pub passed-none : Passed 0
+  passed-none = let e : n - 0 ≡ n = omega arith in rw e (omega arith)
+
+  here : (q : ℕ) → q < n → firstNonzero (n - q) (drop q w) ≡ cond (eqb (getD w q 0) 0) (suc (firstNonzero (n - (q + 1)) (drop (q + 1) w))) 0
+  unfolding firstNonzero
+  here q h =
+      let e : n - q ≡ suc (n - (q + 1)) = omega arith in
+      let z : q + 0 ≡ q = omega arith in
+      rw (e, getD-drop q w 0 0, drop-drop 1 q w, z)
+
+  pub passed-more : (q : ℕ) → q < n → Passed q → getD w q 0 ≡ 0 → Passed (q + 1)
+  passed-more q h e z =
+      let k : firstNonzero (n - q) (drop q w) ≡ suc (firstNonzero (n - (q + 1)) (drop (q + 1) w)) = here q h ∙ simp (eq-eqb (getD w q 0) 0 z) in
+      omega arith
+
+  pub passed-hit : (q : ℕ) → q < n → Passed q → (getD w q 0 ≡ 0 → ⊥) → q ≡ firstNonzero n w
+  passed-hit q h e z =
+      let k : firstNonzero (n - q) (drop q w) ≡ 0 = here q h ∙ simp (ne-eqb (getD w q 0) 0 z) in
+      omega arith
+
+  pub passed-end : (q : ℕ) → n ≤ q → q ≤ n → Passed q → n ≡ firstNonzero n w
+  unfolding firstNonzero
+  passed-end q h k e =
+      let z : n - q ≡ 0 = omega arith in
+      let o : firstNonzero (n - q) (drop q w) ≡ 0 = rw z in
+      omega arith
+
+-- What is found: no number before it is other than 0, and it is, if it is one of the n.
+step : (n : ℕ) (w : List ℕ) (P : ℕ → Type 0) → ((getD w 0 0 ≡ 0 → ⊥) → P 0) → (getD w 0 0 ≡ 0 → P (suc (firstNonzero n (drop 1 w)))) → P (firstNonzero (suc n) w)
+unfolding firstNonzero
+step n w P h k = go (eqb (getD w 0 0) 0) refl
+  where
+    go : (b : Bool) → eqb (getD w 0 0) 0 ≡ b → P (cond b (suc (firstNonzero n (drop 1 w))) 0)
+    go true e = k (eqb-true (getD w 0 0) 0 e)
+    go false e = h (eqb-false (getD w 0 0) 0 e)
+
+next : (w : List ℕ) (i : ℕ) → getD (drop 1 w) i 0 ≡ getD w (suc i) 0
+next w i = let e : 1 + i ≡ suc i = omega arith in getD-drop 1 w i 0 ∙ ap (λ (j : ℕ). getD w j 0) e
+
+pub first-most : (n : ℕ) (w : List ℕ) → firstNonzero n w ≤ n
+unfolding firstNonzero
+first-most zero w = omega arith
+first-most (suc n) w = let h = first-most n (drop 1 w) in step n w (λ q. q ≤ suc n) (λ z. omega arith) (λ z. omega arith)
+
+pub zero-before : (n : ℕ) (w : List ℕ) (i : ℕ) → i < firstNonzero n w → getD w i 0 ≡ 0
+unfolding firstNonzero
+zero-before zero w i h = absurd (not-suc-le-zero h)
+zero-before (suc n) w zero h = step n w (λ q. 0 < q → getD w 0 0 ≡ 0) (λ z k. absurd (not-suc-le-zero k)) (λ z k. z) h
+zero-before (suc n) w (suc i) h =
+    sym (next w i) ∙ step n w (λ q. suc i < q → getD (drop 1 w) i 0 ≡ 0) (λ z k. absurd (not-suc-le-zero k)) (λ z k. zero-before n (drop 1 w) i (omega arith)) h
+
+pub not-zero-there : (n : ℕ) (w : List ℕ) → firstNonzero n w < n → getD w (firstNonzero n w) 0 ≡ 0 → ⊥
+unfolding firstNonzero
+not-zero-there zero w h = absurd (not-suc-le-zero h)
+not-zero-there (suc n) w h =
+    step n w (λ q. q < suc n → getD w q 0 ≡ 0 → ⊥) (λ z k. z) (λ z k e. not-zero-there n (drop 1 w) (omega arith) (next w (firstNonzero n (drop 1 w)) ∙ e)) h
