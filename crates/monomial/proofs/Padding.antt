@@ -1,14 +1,12 @@
 -- A monomial of m exponents and the 8 bytes that hold it, as the tables do: what holds of one holds of the other.
 use mathlib.Core.Path.{_≡_, refl, sym, ap, _∙_}
-use mathlib.Core.Bool.{Bool, true, false}
 use mathlib.Core.List.{List, [], _∷_, _++_, append-nil}
 use Prim.Native.Nat.{ℕ, zero, suc, _+_, _-_, _<_, _≤_}
 use native.Mathlib.Nat.{add-zero}
 use native.Mathlib.Omega.{arith}
-use lib.Dec.{T}
 use lib.ListN.{length, take, replicate, getD, length-append, length-replicate, List·getD-append, replicate-append-replicate}
 use lib.Seq.{take-at, set-append-left}
-use Rattle.monomial.specs.Monomial.{degree, one, timesVariable, divides, valueAt, pad}
+use Rattle.monomial.specs.Monomial.{degree, one, timesVariable, divides, valueAt}
 use Rattle.monomial.specs.Order.{Order, lex, grlex, grevlex, byFirst, byLast, cmp}
 use Rattle.monomial.proofs.Algebra.Products.{Aligned, nil, cons, aligned, length-timesVariable}
 use Rattle.monomial.proofs.Algebra.Division.{divides-refl}
@@ -36,11 +34,7 @@ cmp-append grlex {a} {b} z e = rw (degree-append a z, degree-append b z, compare
 cmp-append grevlex {a} {b} z e = rw (degree-append a z, degree-append b z, compare-shift (degree z) (degree a) (degree b), last-append z e)
 
 divides-append : {a b : List ℕ} (z : List ℕ) → Aligned a b → divides (a ++ z) (b ++ z) ≡ divides a b
-divides-append z nil = is-true (divides z z) (divides-refl z)
-  where
-    is-true : (b : Bool) → T b → b ≡ true
-    is-true true h = refl
-    is-true false h = absurd h
+divides-append z nil = divides-refl z
 divides-append z (cons {x} {y} e) = rw (divides-append z e)
 
 value-append : {p a : List ℕ} (n : ℕ) → Aligned p a → valueAt (p ++ replicate n 0) (a ++ replicate n 0) ≡ valueAt p a
@@ -51,7 +45,10 @@ pub degree-one : (m : ℕ) → degree (one m) ≡ 0
 degree-one zero = refl
 degree-one (suc m) = omega (arith, degree-one m)
 
--- padding
+-- 8 exponents or coordinates, those above m being 0
+abbrev pub pad : List ℕ → List ℕ
+pad a = a ++ replicate (8 - length a) 0
+
 module _ (a : List ℕ) where
   pub length-pad : length a ≤ 8 → length (pad a) ≡ 8
   length-pad h = simp (length-append, length-replicate) (omega arith)

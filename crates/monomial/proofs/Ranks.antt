@@ -5,14 +5,14 @@ use Prim.Native.Nat.{ℕ, _+_, _*_, _^_, _<_, _≤_, compare, Ordering}
 use native.Mathlib.Nat.{pow-succ', mul-le-mul-right}
 use native.Mathlib.Omega.{arith}
 use lib.ListN.{length}
-use Rattle.monomial.specs.Monomial.{degree, one, product, timesVariable, pad}
+use Rattle.monomial.specs.Monomial.{degree, one, product, timesVariable}
 use Rattle.monomial.specs.Order.{Order, lex, grlex, grevlex, andThen, byFirst, cmp}
 use Rattle.monomial.specs.Rank.{sumsDown, key, numeral, rankOf, variableRank}
 use Rattle.monomial.proofs.Algebra.Products.{Aligned, nil, cons, aligned, aligned-length, grow-aligned, variable-product, length-variable}
 use Rattle.monomial.proofs.Orders.Answers.{Says, less, same, more, says, said, compare-self, compare-shift}
 use Rattle.monomial.proofs.Orders.Lawful.{lawful}
 use Rattle.monomial.proofs.Orders.Keys.{key-aligned, key-cmp, key-product}
-use Rattle.monomial.proofs.Padding.{degree-pad, cmp-pad, length-pad}
+use Rattle.monomial.proofs.Padding.{pad, degree-pad, cmp-pad, length-pad}
 
 -- each of a list is a digit
 abbrev Digits : List ℕ → Type 0

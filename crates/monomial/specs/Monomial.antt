@@ -1,9 +1,9 @@
 -- Monomials. A monomial in m variables is the list of its m exponents, x1's first; a point is the list of its m coordinates.
 use mathlib.Core.Bool.{Bool, true, false, _&&_}
-use mathlib.Core.List.{List, [], _∷_, _++_}
-use Prim.Native.Nat.{ℕ, _+_, _-_, _*_, _^_}
+use mathlib.Core.List.{List, [], _∷_}
+use Prim.Native.Nat.{ℕ, _+_, _*_, _^_}
 use lib.Dec.{leb}
-use lib.ListN.{length, replicate, getD, set}
+use lib.ListN.{replicate, getD, set}
 
 -- the total degree (document 01, 'Monomial orders')
 abbrev pub degree : List ℕ → ℕ
@@ -35,7 +35,3 @@ abbrev pub valueAt : List ℕ → List ℕ → ℕ
 valueAt [] a = 1
 valueAt (p ∷ ps) [] = 1
 valueAt (p ∷ ps) (x ∷ xs) = p ^ x * valueAt ps xs
-
--- as the tables hold exponents and coordinates: 8 bytes, those above m being 0 (document 01, 'The sheet': tables)
-abbrev pub pad : List ℕ → List ℕ
-pad a = a ++ replicate (8 - length a) 0

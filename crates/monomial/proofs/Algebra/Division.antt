@@ -1,44 +1,47 @@
 -- Division of monomials.
 use mathlib.Core.Path.{_≡_, refl, sym, ap, _∙_}
 use mathlib.Core.Logic.{_⊎_, inl, inr, _↔_}
+use mathlib.Core.Bool.{true, false≢true, and-eq-true-iff}
 use mathlib.Core.List.{List, [], _∷_}
 use Prim.Native.Nat.{ℕ, zero, suc, _+_, _-_, _<_, _≤_, suc-le-suc}
 use native.Mathlib.Nat.{suc-inj}
 use native.Mathlib.Omega.{arith}
 use native.Mathlib.Decide.{ℕ-discrete}
 use lib.ListN.{length}
-use lib.Dec.{T, leb, leb→le, le→leb}
-use lib.Ieee.Fits.{and-i, and-l, and-r}
+use lib.Dec.{leb}
+use borrow.Author.Tests.{leb-true, le-leb}
 use Rattle.monomial.specs.Monomial.{one, product, timesVariable, divides}
 
 -- exponent by exponent
-pub record Divides (x y : ℕ) (xs ys : List ℕ) : Type 0 where
+record Divides (x y : ℕ) (xs ys : List ℕ) : Type 0 where
   pub first : x ≤ y
-  pub rest : T (divides xs ys)
+  pub rest : divides xs ys ≡ true
 
-pub split : (x y : ℕ) (xs ys : List ℕ) → T (divides (x ∷ xs) (y ∷ ys)) → Divides x y xs ys
-split x y xs ys h = record { first = leb→le x y (and-l (leb x y) (divides xs ys) h); rest = and-r (leb x y) (divides xs ys) h }
+split : (x y : ℕ) (xs ys : List ℕ) → divides (x ∷ xs) (y ∷ ys) ≡ true → Divides x y xs ys
+split x y xs ys h =
+    let k = and-eq-true-iff (leb x y) (divides xs ys) .0 h in
+    record { first = leb-true x y (k .0); rest = k .1 }
 
-pub join : (x y : ℕ) (xs ys : List ℕ) → x ≤ y → T (divides xs ys) → T (divides (x ∷ xs) (y ∷ ys))
-join x y xs ys h k = and-i (leb x y) (divides xs ys) (le→leb x y h) k
+join : (x y : ℕ) (xs ys : List ℕ) → x ≤ y → divides xs ys ≡ true → divides (x ∷ xs) (y ∷ ys) ≡ true
+join x y xs ys h k = and-eq-true-iff (leb x y) (divides xs ys) .1 (le-leb x y h, k)
 
-pub divides-refl : (a : List ℕ) → T (divides a a)
-divides-refl [] = tt
+pub divides-refl : (a : List ℕ) → divides a a ≡ true
+divides-refl [] = refl
 divides-refl (x ∷ xs) = join x x xs xs (omega arith) (divides-refl xs)
 
-pub divides-trans : (a b c : List ℕ) → T (divides a b) → T (divides b c) → T (divides a c)
-divides-trans [] b c h k = tt
-divides-trans (x ∷ xs) [] c h k = absurd h
-divides-trans (x ∷ xs) (y ∷ ys) [] h k = absurd k
+pub divides-trans : (a b c : List ℕ) → divides a b ≡ true → divides b c ≡ true → divides a c ≡ true
+divides-trans [] b c h k = refl
+divides-trans (x ∷ xs) [] c h k = absurd (false≢true h)
+divides-trans (x ∷ xs) (y ∷ ys) [] h k = absurd (false≢true k)
 divides-trans (x ∷ xs) (y ∷ ys) (z ∷ zs) h k =
     let p = split x y xs ys h in
     let q = split y z ys zs k in
     join x z xs zs (omega arith) (divides-trans xs ys zs (p .rest) (q .rest))
 
-pub divides-antisym : (a b : List ℕ) → T (divides a b) → T (divides b a) → a ≡ b
+pub divides-antisym : (a b : List ℕ) → divides a b ≡ true → divides b a ≡ true → a ≡ b
 divides-antisym [] [] h k = refl
-divides-antisym [] (y ∷ ys) h k = absurd k
-divides-antisym (x ∷ xs) [] h k = absurd h
+divides-antisym [] (y ∷ ys) h k = absurd (false≢true k)
+divides-antisym (x ∷ xs) [] h k = absurd (false≢true h)
 divides-antisym (x ∷ xs) (y ∷ ys) h k =
     let p = split x y xs ys h in
     let q = split y x ys xs k in
@@ -46,16 +49,16 @@ divides-antisym (x ∷ xs) (y ∷ ys) h k =
     let f : xs ≡ ys = divides-antisym xs ys (p .rest) (q .rest) in
     cc
 
-pub one-divides : (m : ℕ) (a : List ℕ) → length a ≡ m → T (divides (one m) a)
-one-divides zero a e = tt
+pub one-divides : (m : ℕ) (a : List ℕ) → length a ≡ m → divides (one m) a ≡ true
+one-divides zero a e = refl
 one-divides (suc m) [] e = absurd (omega arith)
 one-divides (suc m) (x ∷ xs) e = join 0 x (one m) xs (omega arith) (one-divides m xs (suc-inj e))
 
-pub divides-one : (m : ℕ) (a : List ℕ) → length a ≡ m → T (divides a (one m)) → a ≡ one m
+pub divides-one : (m : ℕ) (a : List ℕ) → length a ≡ m → divides a (one m) ≡ true → a ≡ one m
 divides-one m a e h = divides-antisym a (one m) h (one-divides m a e)
 
-pub divides-timesVariable : (k : ℕ) (a : List ℕ) → T (divides a (timesVariable k a))
-divides-timesVariable k [] = tt
+pub divides-timesVariable : (k : ℕ) (a : List ℕ) → divides a (timesVariable k a) ≡ true
+divides-timesVariable k [] = refl
 divides-timesVariable zero (x ∷ xs) = join x (x + 1) xs xs (omega arith) (divides-refl xs)
 divides-timesVariable (suc k) (x ∷ xs) = join x x xs (timesVariable k xs) (omega arith) (divides-timesVariable k xs)
 
@@ -70,22 +73,22 @@ length-quotient [] a = refl
 length-quotient (y ∷ ys) [] = refl
 length-quotient (y ∷ ys) (x ∷ xs) = ap suc (length-quotient ys xs)
 
-pub quotient-product : (b a : List ℕ) → T (divides a b) → product (quotient b a) a ≡ b
+pub quotient-product : (b a : List ℕ) → divides a b ≡ true → product (quotient b a) a ≡ b
 quotient-product [] [] h = refl
-quotient-product [] (x ∷ xs) h = absurd h
+quotient-product [] (x ∷ xs) h = absurd (false≢true h)
 quotient-product (y ∷ ys) [] h = refl
 quotient-product (y ∷ ys) (x ∷ xs) h =
     let p = split x y xs ys h in
     let e : y - x + x ≡ y = omega arith in
     rw (e, quotient-product ys xs (p .rest))
 
-pub divides-product : (u a : List ℕ) → T (divides a (product u a))
+pub divides-product : (u a : List ℕ) → divides a (product u a) ≡ true
 divides-product [] a = divides-refl a
-divides-product (z ∷ zs) [] = tt
+divides-product (z ∷ zs) [] = refl
 divides-product (z ∷ zs) (x ∷ xs) = join x (z + x) xs (product zs xs) (omega arith) (divides-product zs xs)
 
 -- a divides b where b is a product of a
-pub divides-iff : (a b : List ℕ) → length a ≡ length b → T (divides a b) ↔ ((u : List ℕ) × (length u ≡ length a) × (b ≡ product u a))
+pub divides-iff : (a b : List ℕ) → length a ≡ length b → (divides a b ≡ true) ↔ ((u : List ℕ) × (length u ≡ length a) × (b ≡ product u a))
 divides-iff a b l = (
   λ h. (quotient b a, length-quotient b a ∙ sym l, sym (quotient-product b a h)),
   λ q. rw (q .2) (divides-product (q .0) a),
@@ -94,12 +97,12 @@ divides-iff a b l = (
 -- a proper multiple b of a is reached by one variable from below, from x_(k+1) a, and from above, from c with b = x_(k+1) c
 abbrev pub Step : List ℕ → List ℕ → Type 0
 Step a b =
-    (k : ℕ) × (c : List ℕ) × (k < length a) × (length c ≡ length a) × (b ≡ timesVariable k c) × T (divides a c) × T (divides (timesVariable k a) b)
+    (k : ℕ) × (c : List ℕ) × (k < length a) × (length c ≡ length a) × (b ≡ timesVariable k c) × (divides a c ≡ true) × (divides (timesVariable k a) b ≡ true)
 
-pub step : (a b : List ℕ) → length a ≡ length b → T (divides a b) → ¬ (a ≡ b) → Step a b
+pub step : (a b : List ℕ) → length a ≡ length b → divides a b ≡ true → ¬ (a ≡ b) → Step a b
 step [] [] l h ne = absurd (ne refl)
 step [] (y ∷ ys) l h ne = absurd (omega arith)
-step (x ∷ xs) [] l h ne = absurd h
+step (x ∷ xs) [] l h ne = absurd (false≢true h)
 step (x ∷ xs) (y ∷ ys) l h ne = go (ℕ-discrete x y) (step xs ys (suc-inj l) (d .rest))
   where
     d : Divides x y xs ys
@@ -130,7 +133,7 @@ step (x ∷ xs) (y ∷ ys) l h ne = go (ℕ-discrete x y) (step xs ys (suc-inj l
         )
 
 -- nothing is between a and x_(k+1) a
-pub gap : (k : ℕ) (a b : List ℕ) → length a ≡ length b → T (divides a b) → T (divides b (timesVariable k a)) → (b ≡ a) ⊎ (b ≡ timesVariable k a)
+pub gap : (k : ℕ) (a b : List ℕ) → length a ≡ length b → divides a b ≡ true → divides b (timesVariable k a) ≡ true → (b ≡ a) ⊎ (b ≡ timesVariable k a)
 gap k [] [] e h g = inl refl
 gap k [] (y ∷ ys) e h g = absurd (omega arith)
 gap k (x ∷ xs) [] e h g = absurd (omega arith)

@@ -62,7 +62,8 @@ module _ {ℓ} where
         (λ κ n ih a l e. step a l (λ b p h. ih (key order b) (key-length b p) (rw (← e, ← key-cmp order (aligned b a (p ∙ sym l))) h) b p refl))
         (key order a) (key-length a l) a l refl
 
--- the same as accessibility
-pub wf : (order : Order) (m : ℕ) (a : List ℕ) → length a ≡ m → Acc (λ (x y : List ℕ). (length x ≡ m) × (cmp order x y ≡ Ordering·lt)) a
-wf order m =
-    ind order m (λ a. Acc (λ (x y : List ℕ). (length x ≡ m) × (cmp order x y ≡ Ordering·lt)) a) (λ a l ih. Acc·intro a (λ b h. ih b (h .0) (h .1)))
+-- the same as accessibility, of the lists of m exponents
+pub wf : (order : Order) (m : ℕ) (a : (l : List ℕ) × (length l ≡ m)) → Acc (λ (x y : (l : List ℕ) × (length l ≡ m)). cmp order (x .0) (y .0) ≡ Ordering·lt) a
+wf order m a =
+    ind order m (λ b. (e : length b ≡ m) → Acc (λ (x y : (l : List ℕ) × (length l ≡ m)). cmp order (x .0) (y .0) ≡ Ordering·lt) (b, e))
+    (λ b l ih e. Acc·intro (b, e) (λ c h. ih (c .0) (c .1) h (c .1))) (a .0) (a .1) (a .1)

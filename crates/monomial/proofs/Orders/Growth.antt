@@ -1,8 +1,8 @@
 -- Every order goes with multiplication: a variable keeps every answer, multiples are greater, and 1 is least.
 use mathlib.Core.Path.{_≡_, refl, sym, ap, _∙_}
+use mathlib.Core.Bool.{true}
 use mathlib.Core.List.{List}
 use Prim.Native.Nat.{ℕ, _<_, Ordering, Ordering·lt, Ordering·eq, Ordering·gt}
-use lib.Dec.{T}
 use lib.ListN.{length, length-replicate}
 use Rattle.monomial.specs.Monomial.{one, product, timesVariable, divides}
 use Rattle.monomial.specs.Order.{Order, cmp}
@@ -28,7 +28,7 @@ module _ (order : Order) where
       go Ordering·eq e = absurd (ne (lawful order .eq a (product u a) e))
       go Ordering·gt e = absurd (cmp-grow order (aligned u a l) e)
 
-  pub divisor-smaller : (a b : List ℕ) → length a ≡ length b → T (divides a b) → ¬ (a ≡ b) → cmp order a b ≡ Ordering·lt
+  pub divisor-smaller : (a b : List ℕ) → length a ≡ length b → divides a b ≡ true → ¬ (a ≡ b) → cmp order a b ≡ Ordering·lt
   divisor-smaller a b l h ne =
       let e : product (quotient b a) a ≡ b = quotient-product b a h in
       rw (← e) (grows (quotient b a) a (length-quotient b a ∙ sym l) (λ q. ne (q ∙ e)))

@@ -49,6 +49,15 @@ module _ {A : Type 0} (c : A → A → Ordering) (L : Lawful c) where
   unfolding equal-from
   equal? a b = equal-from a b (c a b) refl
 
+-- a lawful comparison of what is told of the elements, where that tells them apart
+pub told-by : {A B : Type 0} (f : A → B) → ((a b : A) → f a ≡ f b → a ≡ b) → (c : B → B → Ordering) → Lawful c → Lawful (λ (a b : A). c (f a) (f b))
+told-by f inj c L = record {
+  eq = λ a b e. inj a b (L .eq (f a) (f b) e);
+  self = λ a. L .self (f a);
+  swap = λ a b. L .swap (f a) (f b);
+  chain = λ a b d. L .chain (f a) (f b) (f d);
+}
+
 -- a chain through two answers: c's, and where it finds no difference another
 then-chain : {A : Type 0} (c : A → A → Ordering) → ((a b : A) → c a b ≡ Ordering·eq → a ≡ b) → (a b d : A) (o p q : Ordering) →
     (c a b ≡ Ordering·lt → c b d ≡ Ordering·lt → c a d ≡ Ordering·lt) → (o ≡ Ordering·lt → p ≡ Ordering·lt → q ≡ Ordering·lt) →
