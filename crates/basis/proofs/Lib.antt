@@ -4,3 +4,4 @@ pub mod Layouts
 pub mod WorkingRows
 pub mod ideal
 pub mod elimination
+pub mod agreement

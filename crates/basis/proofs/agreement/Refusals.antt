@@ -1,0 +1,105 @@
+-- Which refusals are left for tables that hold the basis of their points, under settings that no call refuses.
+use mathlib.Core.Path.{_≡_, refl, sym, _∙_, ap, ap₂, subst}
+use mathlib.Core.Bool.{Bool, true, false, not, cond, _&&_, _||_, true≢false}
+use mathlib.Core.List.{List, [], _∷_, _++_}
+use Prim.Native.Nat.{ℕ, _≤_, _<_}
+use native.Mathlib.Omega.{arith}
+use lib.ListN.{length}
+use lib.Dec.{T, eqb, leb, ltb, leb→le, eqb-refl}
+use borrow.Author.Tests.{le-ltb, ltb-false}
+use Rattle.residue.specs.Modulus.{isModulus}
+use Rattle.residue.proofs.Moduli.{modulus-range}
+use Rattle.basis.specs.declared.settings.Settings.{Settings}
+use Rattle.basis.specs.Refusal.{Case, firstOf}
+use Rattle.basis.specs.Settings.{settingsCases}
+use Rattle.basis.specs.Levels.{noRepeat}
+use Rattle.basis.specs.Layout.{fill, inPlaces, over, begins}
+use Rattle.basis.specs.Tables.{Tables, rowCount, tablesOf, written, tooShort, pointsIn, recognised}
+use Rattle.basis.proofs.Equality.{and-both}
+use Rattle.basis.proofs.Layouts.{length-fill, length-over, begins-over}
+use Rattle.basis.proofs.agreement.Points.{Points, points-back}
+
+-- What settings that no call refuses say.
+pub record Accepted (s : Settings) : Type 0 where
+  pub modulus : isModulus (s .modulus) ≡ true
+  pub some : 1 ≤ s .variables
+  pub few : s .variables ≤ 8
+  pub order : s .order ≤ 2
+
+both-true : (a b : Bool) → (a && b) ≡ true → (a ≡ true) × (b ≡ true)
+both-true true true e = (refl, refl)
+both-true true false e = absurd (true≢false (sym e))
+both-true false b e = absurd (true≢false (sym e))
+
+-- the three cases by their tests
+three : (a b c : Bool) → firstOf ((not a, 3) ∷ (not b, 4) ∷ (c, 5) ∷ []) ≡ 0 → (a ≡ true) × (b ≡ true) × (c ≡ false)
+unfolding firstOf
+three true true false e = (refl, refl, refl)
+three true true true e = absurd (omega arith)
+three true false c e = absurd (omega arith)
+three false b c e = absurd (omega arith)
+
+true-T : {b : Bool} → b ≡ true → T b
+true-T e = subst T (sym e) tt
+
+pub accepted : (s : Settings) → firstOf (settingsCases s) ≡ 0 → Accepted s
+unfolding settingsCases
+accepted s e = let t = three (isModulus (s .modulus)) (leb 1 (s .variables) && leb (s .variables) 8) (ltb 2 (s .order)) e in
+    let v = both-true (leb 1 (s .variables)) (leb (s .variables) 8) (t .1) in
+    record {
+      modulus = t .0;
+      some = leb→le 1 (s .variables) (true-T (v .0));
+      few = leb→le (s .variables) 8 (true-T (v .1));
+      order = ltb-false 2 (s .order) (t .2);
+    }
+
+-- the cases behind those of the settings decide
+pub settings-pass : (s : Settings) → firstOf (settingsCases s) ≡ 0 → (l : List Case) → firstOf (settingsCases s ++ l) ≡ firstOf l
+unfolding settingsCases firstOf
+settings-pass s e l = let t = three (isModulus (s .modulus)) (leb 1 (s .variables) && leb (s .variables) 8) (ltb 2 (s .order)) e in simp (t .0, t .1, t .2)
+
+-- No table is shorter than its size.
+pub record Large (t : Tables) : Type 0 where
+  pub states : 512 ≤ length (t .states)
+  pub standard : 512 ≤ length (t .standard)
+  pub leads : 3592 ≤ length (t .leads)
+  pub coefficients : 28736 ≤ length (t .coefficients)
+
+pub not-short : (t : Tables) → Large t → tooShort t ≡ false
+unfolding tooShort
+not-short t h = simp (le-ltb (length (t .states)) 512 (h .states), le-ltb (length (t .standard)) 512 (h .standard), le-ltb (length (t .leads)) 3592 (h .leads), le-ltb (length (t .coefficients)) 28736 (h .coefficients))
+
+-- writing keeps the lengths
+kept : (k : ℕ) (l t : List ℕ) → k ≤ length t → k ≤ length (over (fill k l) t)
+kept k l t h = omega (arith, length-over (fill k l) t (omega (arith, length-fill k l)))
+
+pub written-large : (s : Settings) (L : List (List ℕ)) (t : Tables) → Large t → Large (written (tablesOf s L) t)
+unfolding written tablesOf
+written-large s L t h = record { states = kept 512 _ (t .states) (h .states); standard = kept 512 _ (t .standard) (h .standard); leads = kept 3592 _ (t .leads) (h .leads); coefficients = kept 28736 _ (t .coefficients) (h .coefficients) }
+
+module _ (s : Settings) (ok : Accepted s) (L : List (List ℕ)) (h : Points s L) (t : Tables) where
+  -- the points of the tables of L are L
+  pub written-points : pointsIn s (length L) (written (tablesOf s L) t .states) ≡ L
+  unfolding written tablesOf
+  written-points = points-back s (ok .few) L h (t .states)
+
+  -- tables that hold the basis of their points are recognised
+  pub written-recognised : recognised s (length L) (rowCount s L) (written (tablesOf s L) t) ≡ true
+  unfolding recognised written
+  written-recognised =
+      rw written-points
+      (simp (
+        is-true (noRepeat L) (h .once),
+        is-true (eqb (rowCount s L) (rowCount s L)) (eqb-refl (rowCount s L)),
+        begun (tablesOf s L .states) (t .states),
+        begun (tablesOf s L .standard) (t .standard),
+        begun (tablesOf s L .leads) (t .leads),
+        begun (tablesOf s L .coefficients) (t .coefficients),
+      ))
+    where
+      is-true : (b : Bool) → T b → b ≡ true
+      is-true true k = refl
+      is-true false k = absurd k
+
+      begun : (a l : List ℕ) → begins a (over a l) ≡ true
+      begun a l = is-true (begins a (over a l)) (begins-over a l)
