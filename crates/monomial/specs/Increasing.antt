@@ -15,6 +15,7 @@ module _ {A : Type 0} (c : A → A → Ordering) where
   Below x [] = Unit {0}
   Below x (y ∷ ys) = (c x y ≡ Ordering·lt) × Below x ys
 
+  -- each is less than all behind it
   abbrev pub Increasing : List A → Type 0
   Increasing [] = Unit {0}
   Increasing (x ∷ xs) = Below x xs × Increasing xs

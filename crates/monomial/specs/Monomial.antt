@@ -14,13 +14,13 @@ degree (x ∷ xs) = x + degree xs
 abbrev pub one : ℕ → List ℕ
 one m = replicate m 0
 
--- the product of two monomials
+-- the product of two monomials: exponents add up (document 01, 'The sheet': what divides what)
 abbrev pub product : List ℕ → List ℕ → List ℕ
 product [] b = b
 product (x ∷ xs) [] = x ∷ xs
 product (x ∷ xs) (y ∷ ys) = (x + y) ∷ product xs ys
 
--- x_(k+1) times a
+-- x_(k+1) times a (document 01, 'The sheet': the rows that a new state brings)
 abbrev pub timesVariable : ℕ → List ℕ → List ℕ
 timesVariable k a = set a k (getD a k 0 + 1)
 

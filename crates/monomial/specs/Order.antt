@@ -3,12 +3,13 @@ use mathlib.Core.List.{List, [], _∷_}
 use Prim.Native.Nat.{ℕ, zero, suc, compare, Ordering, Ordering·lt, Ordering·eq, Ordering·gt}
 use Rattle.monomial.specs.Monomial.{degree}
 
+-- orders 0, 1 and 2
 pub data Order : Type 0 where
   lex : Order
   grlex : Order
   grevlex : Order
 
--- the order of a number: 0, 1, 2; a number above 2 is refused before it is read here
+-- the order of a number; one above 2 is refused before it is read here (document 01, 'Refused', 5)
 unfoldable pub orderOf : ℕ → Order
 orderOf zero = lex
 orderOf (suc zero) = grlex
@@ -34,7 +35,7 @@ byLast [] (y ∷ ys) = Ordering·lt
 byLast (x ∷ xs) [] = Ordering·gt
 byLast (x ∷ xs) (y ∷ ys) = andThen (byLast xs ys) (compare y x)
 
--- how a stands to b; the larger total degree is greater in grlex and grevlex
+-- how a stands to b; in grlex and grevlex the larger total degree is greater, and only a tie is decided by the variables
 unfoldable pub cmp : Order → List ℕ → List ℕ → Ordering
 cmp lex a b = byFirst a b
 cmp grlex a b = andThen (compare (degree a) (degree b)) (byFirst a b)

@@ -1,4 +1,5 @@
--- The rank of a monomial: one number whose order is the monomial order, as long as the total degree is at most 64.
+-- The rank of a monomial: one number whose order is the monomial order, as long as the total degree is below 128. No public promise names it;
+-- the functions that look for the next monomial compare ranks in place of exponents.
 use mathlib.Core.List.{List, [], _∷_, _++_, dropLast}
 use Prim.Native.Nat.{ℕ, _+_, _*_, _^_}
 use lib.ListN.{length}
@@ -21,6 +22,7 @@ abbrev pub numeral : List ℕ → ℕ
 numeral [] = 0
 numeral (d ∷ ds) = d * 128 ^ length ds + numeral ds
 
+-- 56 bits for 8 exponents
 unfoldable pub rankOf : Order → List ℕ → ℕ
 rankOf order a = numeral (key order a)
 

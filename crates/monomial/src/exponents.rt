@@ -3,6 +3,7 @@ ghost use mathlib.Core.Path.{_≡_};
 ghost use lib.ListN.{length};
 ghost use Rattle.monomial.specs.Monomial.{degree, divides};
 
+// The total degree.
 pub fn degree(a: &[u8]) -> u64
     requires { ⌜ length (now a) ≡ 8 ⌝ }
     ensures { λ r. ⌜ r ≡ degree (now (a .entry)) ⌝ }

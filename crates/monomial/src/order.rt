@@ -46,6 +46,7 @@ fn by_last(a: &[u8], b: &[u8]) -> Comparison
     Comparison::Equal
 }
 
+// How a stands to b in the order of that number.
 pub fn compare(order: u8, a: &[u8], b: &[u8]) -> Comparison
     requires { ⌜ (length (now a) ≡ 8) × (length (now b) ≡ 8) ⌝ }
     ensures { λ r. ⌜ r ≡ comparisonOf (cmp (orderOf order) (now (a .entry)) (now (b .entry))) ⌝ }

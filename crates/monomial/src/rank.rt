@@ -42,6 +42,7 @@ pub fn variable_rank(order: u8, k: usize) -> u64
     VARIABLES[8 * order as usize + k]
 }
 
+// The sum of the exponents' shares: a product's rank is the sum of its factors' ranks.
 pub fn rank(order: u8, a: &[u8]) -> u64
     requires { ⌜ order ≤ 2 ⌝ }
     requires { ⌜ (length (now a) ≡ 8) × (degree (now a) < 128) ⌝ }

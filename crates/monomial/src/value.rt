@@ -6,6 +6,7 @@ ghost use lib.ListN.{length};
 ghost use Rattle.residue.specs.Vector.{Below};
 ghost use Rattle.monomial.specs.Monomial.{valueAt};
 
+// The product of the coordinates' powers. Exponents stay as they are: modulo p - 1 they would be wrong at 0.
 pub fn value(p: u16, point: &[u8], a: &[u8]) -> u16
     requires { ⌜ (2 ≤ p) × (p ≤ 61) ⌝ }
     requires { ⌜ (length (now point) ≡ 8) × (length (now a) ≡ 8) ⌝ }
