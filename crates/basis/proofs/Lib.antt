@@ -5,3 +5,4 @@ pub mod WorkingRows
 pub mod ideal
 pub mod elimination
 pub mod agreement
+pub mod Instance
