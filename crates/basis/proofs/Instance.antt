@@ -2,30 +2,31 @@
 use mathlib.Core.Path.{_≡_, refl, sym, _∙_, ap, subst}
 use mathlib.Core.List.{List, [], _∷_}
 use mathlib.Core.Logic.{inl, inr, _≢_}
-use mathlib.Core.Bool.{Bool, true, false}
+use mathlib.Core.Bool.{true}
 use mathlib.Core.HLevel.{Σ-prop-path, ×-prop, Unit-prop}
-use mathlib.Core.WellFounded.{Acc, Acc·intro, Acc·ndrec}
-use Prim.Native.Nat.{ℕ, zero, suc, _%_, _≤_, _<_, Ordering·lt}
+use Prim.Native.Nat.{ℕ, zero, suc, _%_, _≤_, _<_}
 use native.Mathlib.Nat.{ℕ-set, suc-inj, mod-eq-of-lt}
 use native.Mathlib.Omega.{arith}
 use native.Mathlib.Decide.{ℕ-discrete}
 use lib.ListN.{length, getD}
+use lib.Ieee.Bits.{is-true}
 use lib.Dec.{T, T-prop, ltb, ltb→lt}
 use Rattle.residue.specs.Congruence.{Mod}
 use Rattle.residue.specs.Lists.{Among}
 use Rattle.residue.specs.Modulus.{isModulus}
 use Rattle.residue.proofs.Congruence.{small}
 use Rattle.residue.proofs.Inverses.{inverse-mod, one-not-zero}
-use Rattle.monomial.specs.Monomial.{degree, timesVariable, divides}
+use Rattle.monomial.specs.Monomial.{degree, timesVariable}
 use Rattle.monomial.specs.Order.{Order, cmp}
 use Rattle.monomial.proofs.Algebra.Division.{Step, divides-refl, divides-trans, divides-one, one-divides, divides-timesVariable, step, gap}
 use Rattle.monomial.proofs.Algebra.Values.{value-one, value-timesVariable}
-use Rattle.monomial.proofs.Orders.Lawful.{Lawful, lawful}
+use Rattle.monomial.proofs.Orders.Lawful.{lawful, told-by}
 use Rattle.monomial.proofs.Orders.Descent.{wf}
 use Rattle.monomial.proofs.Orders.Growth.{cmp-timesVariable, divisor-smaller, timesVariable-greater}
 use Rattle.monomial.proofs.Padding.{degree-one}
-use Rattle.basis.specs.Space.{Less, Divides}
+use Rattle.basis.specs.Space.{Divides}
 use Rattle.basis.specs.Polynomial.{Distinct}
+use Rattle.basis.specs.Levels.{sameList}
 use Rattle.basis.specs.Layout.{fill}
 use Rattle.basis.specs.BasisOf.{standardOf, leadsOf}
 use Rattle.basis.specs.Instance.{Monomial, Residues, Point, reduced, pointOf, spaceOf}
@@ -33,14 +34,6 @@ use Rattle.basis.proofs.Equality.{same-is, same-self}
 use Rattle.basis.proofs.Layouts.{fill-whole}
 use Rattle.basis.proofs.ideal.Laws.{Laws}
 use Rattle.basis.proofs.ideal.Counts.{lead-degree, standard-degree}
-
--- a test that is true
-true-of : (b : Bool) → T b → b ≡ true
-true-of true h = refl
-true-of false h = absurd h
-
-of-true : {b : Bool} → b ≡ true → T b
-of-true e = subst T (sym e) tt
 
 -- a monomial is its exponents, and a point its coordinates
 pub monomial-path : {m : ℕ} {a b : Monomial m} → a .0 ≡ b .0 → a ≡ b
@@ -65,42 +58,31 @@ differ-at p (x ∷ a) (y ∷ b) e r t ne = go (ℕ-discrete x y) (differ-at p a 
     go (no f) ih = (0, omega arith, λ h. f (small (ltb→lt x p (r .0)) (ltb→lt y p (t .0)) h))
 
 module _ (q m : ℕ) (order : Order) where
-  order-lawful : Lawful (spaceOf q m order .cmp)
-  order-lawful = record {
-    eq = λ a b e. monomial-path (lawful order .eq (a .0) (b .0) e);
-    self = λ a. lawful order .self (a .0);
-    swap = λ a b. lawful order .swap (a .0) (b .0);
-    chain = λ a b d. lawful order .chain (a .0) (b .0) (d .0);
-  }
-
-  reach : (a : List ℕ) → Acc (λ (x y : List ℕ). (length x ≡ m) × (cmp order x y ≡ Ordering·lt)) a → (e : length a ≡ m) → Acc (Less (spaceOf q m order)) (a, e)
-  reach a h = Acc·ndrec {C = λ b. (e : length b ≡ m) → Acc (Less (spaceOf q m order)) (b, e)} (λ b _ ih e. Acc·intro (b, e) (λ c z. ih (c .0) (c .1, z) (c .1))) h
-
   -- a proper multiple of a monomial, from below and from above
   multiple : (a b : Monomial m) → Step (a .0) (b .0)
       → (k : ℕ) × (c : Monomial m) × (k < m) × (b ≡ spaceOf q m order .x k c) × Divides (spaceOf q m order) a c × Divides (spaceOf q m order) (spaceOf q m order .x k a) b
-  multiple a b (k, c, hk, lc, e, low, high) = (k, (c, lc ∙ a .1), rw (a .1) at hk, monomial-path e, true-of (divides (a .0) c) low, true-of (divides (timesVariable k (a .0)) (b .0)) high)
+  multiple a b (k, c, hk, lc, e, low, high) = (k, (c, lc ∙ a .1), rw (a .1) at hk, monomial-path e, low, high)
 
   pub laws : isModulus (suc q) ≡ true → Laws (spaceOf q m order)
   laws p = record {
     inv-law = λ a ne. inverse-mod (suc q) a p ne;
     one-not-zero = one-not-zero (suc q) p;
-    order = order-lawful;
-    wf = λ a. reach (a .0) (wf order m (a .0) (a .1)) (a .1);
+    order = told-by (λ (a : Monomial m). a .0) (λ a b e. monomial-path e) (cmp order) (lawful order);
+    wf = wf order m;
     x-mono = λ {k} {a} {b} hk h. cmp-timesVariable order k (a .0) (b .0) (a .1 ∙ sym (b .1)) ∙ h;
     x-up = λ {k} {a} hk. timesVariable-greater order k (a .0) (rw (a .1) hk);
     val-one = λ P. value-one (P .0) m;
     val-x = λ k a P hk. value-timesVariable (P .0) k (a .0) (rw (a .1) hk) (rw (P .1 .0) hk);
-    dvd-refl = λ {a}. true-of (divides (a .0) (a .0)) (divides-refl (a .0));
-    dvd-trans = λ {a} {b} {c} h g. true-of (divides (a .0) (c .0)) (divides-trans (a .0) (b .0) (c .0) (of-true h) (of-true g));
-    dvd-one = λ {a} h. monomial-path (divides-one m (a .0) (a .1) (of-true h));
-    one-dvd = λ {a}. true-of (divides (spaceOf q m order .one .0) (a .0)) (one-divides m (a .0) (a .1));
-    dvd-x = λ {k} {a} hk. true-of (divides (a .0) (timesVariable k (a .0))) (divides-timesVariable k (a .0));
-    dvd-less = λ {a} {b} h ne. divisor-smaller order (a .0) (b .0) (a .1 ∙ sym (b .1)) (of-true h) (λ e. ne (monomial-path e));
-    step = λ {a} {b} h ne. multiple a b (step (a .0) (b .0) (a .1 ∙ sym (b .1)) (of-true h) (λ e. ne (monomial-path e)));
-    between = λ {k} {a} {b} hk h g. elim (gap k (a .0) (b .0) (a .1 ∙ sym (b .1)) (of-true h) (of-true g)) [ inl e ↦ inl (monomial-path e) | inr e ↦ inr (monomial-path e) ];
-    point-self = λ P. true-of _ (same-self (P .0));
-    point-eq = λ {P} {Q} e. point-path (same-is (P .0) (Q .0) (of-true e));
+    dvd-refl = λ {a}. divides-refl (a .0);
+    dvd-trans = λ {a} {b} {c} h g. divides-trans (a .0) (b .0) (c .0) h g;
+    dvd-one = λ {a} h. monomial-path (divides-one m (a .0) (a .1) h);
+    one-dvd = λ {a}. one-divides m (a .0) (a .1);
+    dvd-x = λ {k} {a} hk. divides-timesVariable k (a .0);
+    dvd-less = λ {a} {b} h ne. divisor-smaller order (a .0) (b .0) (a .1 ∙ sym (b .1)) h (λ e. ne (monomial-path e));
+    step = λ {a} {b} h ne. multiple a b (step (a .0) (b .0) (a .1 ∙ sym (b .1)) h (λ e. ne (monomial-path e)));
+    between = λ {k} {a} {b} hk h g. elim (gap k (a .0) (b .0) (a .1 ∙ sym (b .1)) h g) [ inl e ↦ inl (monomial-path e) | inr e ↦ inr (monomial-path e) ];
+    point-self = λ P. is-true (sameList (P .0) (P .0)) (same-self (P .0));
+    point-eq = λ {P} {Q} e. point-path (same-is (P .0) (Q .0) (subst T (sym e) tt));
     differ = λ P Q ne. away P Q (differ-at (suc q) (P .0) (Q .0) (P .1 .0 ∙ sym (Q .1 .0)) (P .1 .1) (Q .1 .1) (λ e. ne (point-path e)));
   }
     where
