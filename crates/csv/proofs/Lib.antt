@@ -2,3 +2,6 @@
 pub mod Searches
 pub mod Endings
 pub mod Spanning
+pub mod Numbers
+pub mod Sameness
+pub mod Headers

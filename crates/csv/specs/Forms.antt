@@ -73,10 +73,13 @@ header m (some p) (some k) = some (record { variables = m; modulus = p; order = 
 header m (some p) none = none
 header m none k = none
 
--- the last field: `mod`, a space, one to three digits, and optionally a space and the order word
+-- one to three digits, and optionally a space and the order word
+unfoldable pub settingsOf : ℕ → List ℕ → Option Header
+settingsOf m l = header m (numberOf (take (front isDigit l) l)) (orderWord (drop (front isDigit l) l))
+
+-- the last field: `mod`, a space, and these
 unfoldable pub lastField : ℕ → List ℕ → Option Header
-lastField m l = let d = drop 4 l in
-    cond (sameList (take 4 l) mod-word) (header m (numberOf (take (front isDigit d) d)) (orderWord (drop (front isDigit d) d))) none
+lastField m l = cond (sameList (take 4 l) mod-word) (settingsOf m (drop 4 l)) none
 
 unfoldable pub headerOf : List (List ℕ) → Option Header
 headerOf fields = lastField (length fields - 1) (getD fields (length fields - 1) [])

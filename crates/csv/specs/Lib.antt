@@ -2,4 +2,5 @@
 pub mod Fields
 pub mod Spans
 pub mod Forms
+pub mod Said
 pub mod Reading

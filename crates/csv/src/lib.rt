@@ -1,3 +1,4 @@
 // Comma-separated text: the reader, and the printed basis.
 pub mod fields;
+pub mod forms;
 pub mod reading;

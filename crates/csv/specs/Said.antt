@@ -1,0 +1,32 @@
+-- What the readers of a field's content answer, in the terms of the definitions of forms.
+use mathlib.Core.Bool.{true, false}
+use mathlib.Core.Option.{Option, some, none}
+use Prim.Native.Nat.{ℕ}
+use lib.IntN.{ℤ, pos}
+use Rattle.csv.specs.Forms.{negative, Header}
+use Rattle.csv.specs.declared.forms.Number.{Number}
+use Rattle.csv.specs.declared.forms.Number.the-variants as N
+use Rattle.csv.specs.declared.forms.Signed.{Signed}
+use Rattle.csv.specs.declared.forms.Signed.the-variants as S
+use Rattle.csv.specs.declared.forms.Word.{Word}
+use Rattle.csv.specs.declared.forms.Word.the-variants as W
+use Rattle.csv.specs.declared.forms.Last.{Last}
+use Rattle.csv.specs.declared.forms.Last.the-variants as L
+
+unfoldable pub numberSaid : Number → Option ℕ
+numberSaid (N.Size k) = some k
+numberSaid N.Broken = none
+
+unfoldable pub orderSaid : Word → Option ℕ
+orderSaid (W.Order k) = some k
+orderSaid W.Broken = none
+
+unfoldable pub levelSaid : Signed → Option ℤ
+levelSaid (S.Level true size) = some (negative size)
+levelSaid (S.Level false size) = some (pos size)
+levelSaid S.Broken = none
+
+-- the last header field, behind m names
+unfoldable pub lastSaid : ℕ → Last → Option Header
+lastSaid m (L.Settings modulus order) = some (record { variables = m; modulus = modulus; order = order })
+lastSaid m L.Broken = none
