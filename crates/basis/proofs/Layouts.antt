@@ -1,16 +1,24 @@
 -- Laws of layouts: filling up, places of one width, and writing over the front of a lent list.
 use mathlib.Core.Path.{_≡_, refl, sym, _∙_, ap, ap₂}
 use mathlib.Core.List.{List, [], _∷_, _++_, map, append-assoc, append-nil}
-use Prim.Native.Nat.{ℕ, zero, suc, _+_, _*_, _≤_}
+use Prim.Native.Nat.{ℕ, zero, suc, _+_, _*_, _<_, _≤_}
 use native.Mathlib.Omega.{arith}
-use native.Mathlib.Nat.{zero-add}
-use lib.ListN.{length, take, drop, replicate, length-append, length-drop}
+use native.Mathlib.Nat.{zero-add, not-suc-le-zero, le-of-suc-le-suc}
+use lib.ListN.{length, getD, take, drop, replicate, length-append, length-drop}
 use lib.Seq.{take-at, drop-at}
 use lib.Dec.{T}
 use Rattle.basis.specs.Levels.{groups}
 pub use Rattle.basis.specs.Layout.{length-fill}
 use Rattle.basis.specs.Layout.{fill, inPlaces, over, begins}
 use Rattle.basis.proofs.Equality.{same-self}
+
+pub fill-at : (k : ℕ) (l : List ℕ) (i : ℕ) → i < k → getD (fill k l) i 0 ≡ getD l i 0
+unfolding fill
+fill-at zero l i h = absurd (not-suc-le-zero h)
+fill-at (suc k) [] zero h = refl
+fill-at (suc k) [] (suc i) h = fill-at k [] i (le-of-suc-le-suc h)
+fill-at (suc k) (a ∷ l) zero h = refl
+fill-at (suc k) (a ∷ l) (suc i) h = fill-at k l i (le-of-suc-le-suc h)
 
 -- nothing is cut and nothing filled up
 pub fill-whole : (l : List ℕ) → fill (length l) l ≡ l

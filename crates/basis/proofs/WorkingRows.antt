@@ -89,7 +89,10 @@ cancelled-at q row at w fits h i = either (suc q) row at w Gained (λ z. of (non
         let z : getD row i 0 ≡ 0 = List·getD-eq-default row 0 k in
         of (past-at (suc q) row at w fits i k ∙ rw z (omega arith))
 
--- The elimination.
+-- The elimination. Of pivot row t its first n + t + 1 entries are added.
+pub part-short : (n t : ℕ) (rows : List ℕ) → length (take (n + t + 1) (drop (128 * t) rows)) ≤ n + t + 1
+part-short n t rows = simp length-take (omega arith)
+
 module _ (p n : ℕ) (rows pivots : List ℕ) (w : List ℕ) where
   pub eliminated-none : eliminated p n rows pivots 0 w ≡ w
   unfolding eliminated
@@ -100,16 +103,13 @@ module _ (p n : ℕ) (rows pivots : List ℕ) (w : List ℕ) where
   unfolding eliminated
   eliminated-more t = ap (λ (k : ℕ). eliminated p n rows pivots k w) (add-one t)
 
-  pub part-short : (t : ℕ) → length (take (n + t + 1) (drop (128 * t) rows)) ≤ n + t + 1
-  part-short t = simp length-take (omega arith)
-
   module _ (long : length w ≡ 128) where
     pub eliminated-length : (t : ℕ) → n + t ≤ 128 → length (eliminated p n rows pivots t w) ≡ 128
     unfolding eliminated
     eliminated-length zero h = long
     eliminated-length (suc t) h =
         let e = eliminated-length t (omega arith) in
-        let s = part-short t in
+        let s = part-short n t rows in
         cancelled-length p (take (n + t + 1) (drop (128 * t) rows)) (getD pivots t 0) (eliminated p n rows pivots t w) (omega arith) ∙ e
 
     pub eliminated-below : 0 < p → Below p w → (t : ℕ) → n + t ≤ 128 → Below p (eliminated p n rows pivots t w)
@@ -117,7 +117,7 @@ module _ (p n : ℕ) (rows pivots : List ℕ) (w : List ℕ) where
     eliminated-below z b zero h = b
     eliminated-below z b (suc t) h =
         let e = eliminated-length t (omega arith) in
-        let s = part-short t in
+        let s = part-short n t rows in
         cancelled-below p (take (n + t + 1) (drop (128 * t) rows)) (getD pivots t 0) (eliminated p n rows pivots t w) (omega arith) z (eliminated-below z b t (omega arith))
 
 -- The search: its loop has passed q numbers, all of them 0.

@@ -4,3 +4,6 @@ pub mod Pivots
 pub mod Span
 pub mod Drawing
 pub mod Positions
+pub mod Combinations
+pub mod PivotRows
+pub mod ReducedRows
