@@ -14,3 +14,4 @@ pub mod Adding
 pub mod Solving
 pub mod Reference
 pub mod Working
+pub mod Agreement

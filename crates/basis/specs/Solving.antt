@@ -94,9 +94,12 @@ polynomialOf m [] es = []
 polynomialOf m (c ∷ cs) [] = []
 polynomialOf m (c ∷ cs) (e ∷ es) = (c, monomialOf m e) ∷ polynomialOf m cs es
 
+abbrev pub polynomialUnder : (s : Settings) → List ℤ → List ℕ → List (ℕ × Monomial (s .variables))
+polynomialUnder s coefficients exponents = polynomialOf (s .variables) (residues (s .modulus) coefficients) (groups 8 (length coefficients) exponents)
+
 unfoldable pub remainderIn : Settings → ℕ → Tables → List ℤ → List ℕ → List ℕ
-remainderIn s n t coefficients exponents = remainderOf (spaceUnder s) (pointsUnder s (pointsIn s n (t .states)))
-    (polynomialOf (s .variables) (residues (s .modulus) coefficients) (groups 8 (length coefficients) exponents))
+remainderIn s n t coefficients exponents =
+    remainderOf (spaceUnder s) (pointsUnder s (pointsIn s n (t .states))) (polynomialUnder s coefficients exponents)
 
 unfoldable pub remainderOutcome : Settings → ℕ → ℕ → Tables → List ℤ → List ℕ → List ℕ → Filled
 remainderOutcome s n r t coefficients exponents buffer =
