@@ -1,5 +1,5 @@
 -- The tests of equality mean equality.
-use mathlib.Core.Path.{_≡_, refl, sym, _∙_, ap}
+use mathlib.Core.Path.{_≡_, refl, sym, subst}
 use mathlib.Core.Bool.{Bool, true, false, not, _&&_, _||_}
 use mathlib.Core.List.{List, [], _∷_}
 use mathlib.Core.Logic.{_⊎_, inl, inr}
@@ -7,6 +7,14 @@ use Prim.Native.Nat.{ℕ}
 use lib.Dec.{T, eqb, eqb→eq, eqb-refl}
 use Rattle.residue.specs.Lists.{Among}
 use Rattle.basis.specs.Levels.{sameList, isAmong, noRepeat}
+
+-- a test that holds, as an equation and as a fact
+pub true-of : (b : Bool) → T b → b ≡ true
+true-of true h = refl
+true-of false h = absurd h
+
+pub of-true : {b : Bool} → b ≡ true → T b
+of-true e = subst T (sym e) tt
 
 pub and-left : (a b : Bool) → T (a && b) → T a
 and-left true b h = tt

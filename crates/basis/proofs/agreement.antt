@@ -2,3 +2,5 @@
 pub mod Points
 pub mod Refusals
 pub mod Run
+pub mod Drawings
+pub mod Claim

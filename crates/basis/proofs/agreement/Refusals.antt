@@ -15,7 +15,7 @@ use Rattle.basis.specs.Settings.{settingsCases}
 use Rattle.basis.specs.Levels.{noRepeat}
 use Rattle.basis.specs.Layout.{fill, inPlaces, over, begins}
 use Rattle.basis.specs.Tables.{Tables, rowCount, tablesOf, written, tooShort, pointsIn, recognised}
-use Rattle.basis.proofs.Equality.{and-both}
+use Rattle.basis.proofs.Equality.{true-of, of-true}
 use Rattle.basis.proofs.Layouts.{length-fill, length-over, begins-over}
 use Rattle.basis.proofs.agreement.Points.{Points, points-back}
 
@@ -39,17 +39,14 @@ three true true true e = absurd (omega arith)
 three true false c e = absurd (omega arith)
 three false b c e = absurd (omega arith)
 
-true-T : {b : Bool} → b ≡ true → T b
-true-T e = subst T (sym e) tt
-
 pub accepted : (s : Settings) → firstOf (settingsCases s) ≡ 0 → Accepted s
 unfolding settingsCases
 accepted s e = let t = three (isModulus (s .modulus)) (leb 1 (s .variables) && leb (s .variables) 8) (ltb 2 (s .order)) e in
     let v = both-true (leb 1 (s .variables)) (leb (s .variables) 8) (t .1) in
     record {
       modulus = t .0;
-      some = leb→le 1 (s .variables) (true-T (v .0));
-      few = leb→le (s .variables) 8 (true-T (v .1));
+      some = leb→le 1 (s .variables) (of-true (v .0));
+      few = leb→le (s .variables) 8 (of-true (v .1));
       order = ltb-false 2 (s .order) (t .2);
     }
 
@@ -68,6 +65,23 @@ pub record Large (t : Tables) : Type 0 where
 pub not-short : (t : Tables) → Large t → tooShort t ≡ false
 unfolding tooShort
 not-short t h = simp (le-ltb (length (t .states)) 512 (h .states), le-ltb (length (t .standard)) 512 (h .standard), le-ltb (length (t .leads)) 3592 (h .leads), le-ltb (length (t .coefficients)) 28736 (h .coefficients))
+
+pub large-of : (t : Tables) → tooShort t ≡ false → Large t
+unfolding tooShort
+large-of t e =
+    let a = none (ltb (length (t .states)) 512 || ltb (length (t .standard)) 512 || ltb (length (t .leads)) 3592) (ltb (length (t .coefficients)) 28736) e in
+    let b = none (ltb (length (t .states)) 512 || ltb (length (t .standard)) 512) (ltb (length (t .leads)) 3592) (a .0) in
+    let c = none (ltb (length (t .states)) 512) (ltb (length (t .standard)) 512) (b .0) in
+    record {
+      states = ltb-false (length (t .states)) 512 (c .0);
+      standard = ltb-false (length (t .standard)) 512 (c .1);
+      leads = ltb-false (length (t .leads)) 3592 (b .1);
+      coefficients = ltb-false (length (t .coefficients)) 28736 (a .1);
+    }
+  where
+    none : (a b : Bool) → (a || b) ≡ false → (a ≡ false) × (b ≡ false)
+    none true b z = absurd (true≢false z)
+    none false b z = (refl, z)
 
 -- writing keeps the lengths
 kept : (k : ℕ) (l t : List ℕ) → k ≤ length t → k ≤ length (over (fill k l) t)
@@ -89,17 +103,13 @@ module _ (s : Settings) (ok : Accepted s) (L : List (List ℕ)) (h : Points s L)
   written-recognised =
       rw written-points
       (simp (
-        is-true (noRepeat L) (h .once),
-        is-true (eqb (rowCount s L) (rowCount s L)) (eqb-refl (rowCount s L)),
+        true-of (noRepeat L) (h .once),
+        true-of (eqb (rowCount s L) (rowCount s L)) (eqb-refl (rowCount s L)),
         begun (tablesOf s L .states) (t .states),
         begun (tablesOf s L .standard) (t .standard),
         begun (tablesOf s L .leads) (t .leads),
         begun (tablesOf s L .coefficients) (t .coefficients),
       ))
     where
-      is-true : (b : Bool) → T b → b ≡ true
-      is-true true k = refl
-      is-true false k = absurd k
-
       begun : (a l : List ℕ) → begins a (over a l) ≡ true
-      begun a l = is-true (begins a (over a l)) (begins-over a l)
+      begun a l = true-of (begins a (over a l)) (begins-over a l)

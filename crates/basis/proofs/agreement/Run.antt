@@ -8,7 +8,7 @@ use native.Mathlib.Omega.{arith}
 use lib.IntN.{ℤ}
 use lib.ListN.{length}
 use lib.Dec.{T, eqb, leb, eqb→eq}
-use borrow.Author.Tests.{eqb-true, eqb-false, leb-false}
+use borrow.Author.Tests.{eqb-true, ne-eqb, leb-false}
 use Rattle.residue.specs.Lists.{Among}
 use Rattle.residue.proofs.Moduli.{modulus-range}
 use Rattle.basis.specs.declared.settings.Settings.{Settings}
@@ -20,7 +20,7 @@ use Rattle.basis.specs.Tables.{Tables, rowCount, tablesOf, written, tooS
 use Rattle.basis.specs.Adding.{Outcome, refused, holding, byRefusal, addCases, addRefusal, addOutcome}
 use Rattle.basis.specs.Reference
 use Rattle.basis.specs.Reference.{referenceAnswer, referenceAfter, Lent, own, other, Event, addition, interposed, Held, lentTables, tablesAfter, outcomeAt, heldAfter, numbers, heldAtEnd, fed, referenceAtEnd, dueAt, due, Refuses}
-use Rattle.basis.proofs.Equality.{is-among}
+use Rattle.basis.proofs.Equality.{of-true, is-among}
 use Rattle.basis.proofs.Layouts.{length-fill, over-over}
 use Rattle.basis.proofs.agreement.Points.{Points, levels-point, points-more}
 use Rattle.basis.proofs.agreement.Refusals.{Accepted, accepted, settings-pass, Large, not-short, written-large, written-points, written-recognised}
@@ -68,7 +68,7 @@ takes s L levels e = go (eqb (length levels) (s .variables)) refl (leb 64 (lengt
     go true ea false eb true ec false ed z = record {
       long = eqb-true (length levels) (s .variables) ea;
       room = leb-false 64 (length L) eb;
-      range = subst T (sym ec) tt;
+      range = of-true ec;
       fresh = λ q. subst T ed (is-among (residues (s .modulus) levels) L q);
     }
 
@@ -135,14 +135,7 @@ module _ (s : Settings) (fine : firstOf (settingsCases s) ≡ 0) (start : Tables
     interposed-held : (u : Settings) (n r : ℕ) (b c d e : Lent) (levels : List ℤ) → addRefusal u n r (lentTables b c d e (h .tables)) levels ≢ 0 → At (heldAfter s h (interposed u n r b c d e levels)) L
     unfolding heldAfter addOutcome byRefusal refused
     interposed-held u n r b c d e levels ne =
-        record { points = a .points; count = a .count; rows = a .rows; tables = rw (nonzero (addRefusal u n r (lentTables b c d e (h .tables)) levels) ne) (untouched b c d e (h .tables) ∙ a .tables) }
-      where
-        nonzero : (k : ℕ) → k ≢ 0 → eqb k 0 ≡ false
-        nonzero k z = pick (eqb k 0) refl
-          where
-            pick : (t : Bool) → eqb k 0 ≡ t → t ≡ false
-            pick true q = absurd (z (eqb-true k 0 q))
-            pick false q = refl
+        record { points = a .points; count = a .count; rows = a .rows; tables = rw (ne-eqb (addRefusal u n r (lentTables b c d e (h .tables)) levels) 0 ne) (untouched b c d e (h .tables) ∙ a .tables) }
 
   -- Every list of calls, from tables that hold the basis of a list of points.
   pub run : (es : List Event) (h : Held) (L : List (List ℕ)) → At h L → Refuses s h es → (numbers s h es ≡ due s L h es) × At (heldAtEnd s h es) (referenceAtEnd s L es)
