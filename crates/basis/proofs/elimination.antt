@@ -7,3 +7,5 @@ pub mod Positions
 pub mod Combinations
 pub mod PivotRows
 pub mod ReducedRows
+pub mod Turns
+pub mod Products

@@ -15,3 +15,4 @@ pub mod Solving
 pub mod Reference
 pub mod Working
 pub mod Agreement
+pub mod Candidates
