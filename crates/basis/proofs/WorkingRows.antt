@@ -7,15 +7,22 @@ use native.Mathlib.Nat.{not-suc-le-zero}
 use native.Mathlib.Numerals.{add-one}
 use native.Mathlib.Decide.{decLt}
 use native.Mathlib.Omega.{arith}
-use lib.ListN.{length, getD, take, drop, length-append, length-take, length-drop, List·getD-append, List·getD-eq-default}
-use lib.Seq.{getD-take, getD-drop, getD-append-add, length-take-le, drop-drop}
+use lib.ListN.{length, getD, set, take, drop, length-append, length-set, length-take, length-drop, List·getD-append, List·getD-eq-default}
+use lib.Seq.{getD-take, getD-drop, getD-append-add, getD-set-other, length-take-le, drop-drop}
 use lib.Dec.{eqb}
 use borrow.Author.Tests.{eq-eqb, ne-eqb, eqb-true, eqb-false}
 use Rattle.residue.specs.Congruence.{Mod}
-use Rattle.residue.specs.Vector.{Below, addScaled}
+use Rattle.residue.specs.Vector.{Below, addScaled, scaled}
 use Rattle.residue.proofs.Congruence.{rfl, of, reduce, negative, _then_, _plus_, _times_}
-use Rattle.residue.proofs.Vectors.{addScaled-length, addScaled-at, addScaled-below, below-drop, below-append}
-use Rattle.basis.specs.Working.{cancelled, eliminated, firstNonzero}
+use Rattle.residue.proofs.Vectors.{addScaled-length, addScaled-at, addScaled-below, scaled-length, scaled-at, scaled-below, below-take, below-drop, below-append, below-set}
+use Rattle.basis.specs.Working.{cancelled, eliminated, firstNonzero, pivotRow, withRow}
+
+-- what lies behind a new front is the row's own
+past-front : (f w : List ℕ) (k i : ℕ) → length f ≡ k → k ≤ i → getD (f ++ drop k w) i 0 ≡ getD w i 0
+past-front f w k i l h =
+    let e : i ≡ length f + (i - k) = omega arith in
+    let g : k + (i - k) ≡ i = omega arith in
+    ap (λ (j : ℕ). getD (f ++ drop k w) j 0) e ∙ getD-append-add f (drop k w) (i - k) 0 ∙ getD-drop k w (i - k) 0 ∙ ap (λ (j : ℕ). getD w j 0) g
 
 -- A cancellation.
 module _ (p : ℕ) (row : List ℕ) (at : ℕ) (w : List ℕ) where
@@ -60,14 +67,6 @@ module _ (p : ℕ) (row : List ℕ) (at : ℕ) (w : List ℕ) where
         List·getD-append front (drop (length row) w) 0 i (omega arith) ∙ addScaled-at p (p - getD w at 0) (take (length row) w) row same i (omega arith)
         ∙ ap (λ (y : ℕ). (y + (p - getD w at 0) * getD row i 0) % p) (getD-take (length row) w i 0 h)
 
-    past-at : (i : ℕ) → length row ≤ i → getD (front ++ drop (length row) w) i 0 ≡ getD w i 0
-    past-at i h =
-        let l = front-length in
-        let e : i ≡ length front + (i - length row) = omega arith in
-        let k : length row + (i - length row) ≡ i = omega arith in
-        ap (λ (j : ℕ). getD (front ++ drop (length row) w) j 0) e ∙ getD-append-add front (drop (length row) w) (i - length row) 0 ∙ getD-drop (length row) w (i - length row) 0
-        ∙ ap (λ (j : ℕ). getD w j 0) k
-
 -- Each entry gains the row's, times minus the entry to be cancelled; where p is suc q, minus 1 is q.
 gain : (q x y z : ℕ) → x ≤ suc q → Mod (suc q) ((y + (suc q - x) * z) % suc q) (y + q * x * z)
 gain q x y z h = reduce (suc q) (y + (suc q - x) * z) then (rfl {x = y} plus (negative q x h times rfl {x = z}))
@@ -87,7 +86,7 @@ cancelled-at q row at w fits h i = either (suc q) row at w Gained (λ z. of (non
     some (no l) =
         let k : length row ≤ i = omega (arith, l) in
         let z : getD row i 0 ≡ 0 = List·getD-eq-default row 0 k in
-        of (past-at (suc q) row at w fits i k ∙ rw z (omega arith))
+        of (past-front (front (suc q) row at w) w (length row) i (front-length (suc q) row at w fits) k ∙ rw z (omega arith))
 
 -- The elimination. Of pivot row t its first n + t + 1 entries are added.
 pub part-short : (n t : ℕ) (rows : List ℕ) → length (take (n + t + 1) (drop (128 * t) rows)) ≤ n + t + 1
@@ -119,6 +118,62 @@ module _ (p n : ℕ) (rows pivots : List ℕ) (w : List ℕ) where
         let e = eliminated-length t (omega arith) in
         let s = part-short n t rows in
         cancelled-below p (take (n + t + 1) (drop (128 * t) rows)) (getD pivots t 0) (eliminated p n rows pivots t w) (omega arith) z (eliminated-below z b t (omega arith))
+
+-- A pivot row is c times the working row with its own coefficient at 1. Behind it the row is 0.
+module _ (p own c : ℕ) (w : List ℕ) (inside : own < length w) where
+  abbrev own-front : List ℕ
+  own-front = take (own + 1) (set w own 1)
+
+  own-length : length (scaled p c own-front) ≡ own + 1
+  own-length = scaled-length p c own-front ∙ length-take-le (own + 1) (set w own 1) (simp length-set (omega arith))
+
+  pub pivotRow-length : length (pivotRow p own c w) ≡ length w
+  unfolding pivotRow
+  pivotRow-length = simp (length-append, length-drop, length-set, own-length) (omega arith)
+
+  pub pivotRow-below : 1 < p → Below p w → Below p (pivotRow p own c w)
+  unfolding pivotRow
+  pivotRow-below h b = below-append p (scaled p c own-front) (drop (own + 1) (set w own 1)) (scaled-below p c own-front (omega arith)) (below-drop p (own + 1) (set w own 1) (below-set p own 1 w h b))
+
+  pub pivotRow-at : (i : ℕ) → (own < i → getD w i 0 ≡ 0) → Mod p (getD (pivotRow p own c w) i 0) (c * getD (set w own 1) i 0)
+  unfolding pivotRow
+  pivotRow-at i h = go (decLt own i)
+    where
+      go : Dec (own < i) → Mod p (getD (scaled p c own-front ++ drop (own + 1) (set w own 1)) i 0) (c * getD (set w own 1) i 0)
+      go (no k) =
+          let l = own-length in
+          of (List·getD-append (scaled p c own-front) (drop (own + 1) (set w own 1)) 0 i (omega (arith, k)) ∙ scaled-at p c own-front i (omega (arith, k, scaled-length p c own-front)))
+          then reduce p (c * getD own-front i 0)
+          then of (ap (λ (x : ℕ). c * x) (getD-take (own + 1) (set w own 1) i 0 (omega (arith, k))))
+      go (yes k) =
+          let z : getD (set w own 1) i 0 ≡ 0 = getD-set-other w own i 1 0 (λ e. omega arith) ∙ h k in
+          of (past-front (scaled p c own-front) (set w own 1) (own + 1) i own-length (omega arith) ∙ rw z (omega arith))
+
+-- A table with a row replaced: its length, residues, the rows before and the row itself.
+module _ (t : ℕ) (new rows : List ℕ) (fits : 128 * t + 128 ≤ length rows) (long : length new ≡ 128) where
+  before-length : length (take (128 * t) rows) ≡ 128 * t
+  before-length = length-take-le (128 * t) rows (omega arith)
+
+  pub withRow-length : length (withRow t new rows) ≡ length rows
+  unfolding withRow
+  withRow-length = simp (length-append, length-drop, before-length) (omega arith)
+
+  pub withRow-below : (p : ℕ) → Below p new → Below p rows → Below p (withRow t new rows)
+  unfolding withRow
+  withRow-below p b c =
+      below-append p (take (128 * t) rows) (new ++ drop 128 (drop (128 * t) rows)) (below-take p (128 * t) rows c)
+      (below-append p new (drop 128 (drop (128 * t) rows)) b (below-drop p 128 (drop (128 * t) rows) (below-drop p (128 * t) rows c)))
+
+  pub withRow-before : (i : ℕ) → i < 128 * t → getD (withRow t new rows) i 0 ≡ getD rows i 0
+  unfolding withRow
+  withRow-before i h = List·getD-append (take (128 * t) rows) _ 0 i (rw before-length h) ∙ getD-take (128 * t) rows i 0 h
+
+  pub withRow-here : (i : ℕ) → i < 128 → getD (withRow t new rows) (128 * t + i) 0 ≡ getD new i 0
+  unfolding withRow
+  withRow-here i h =
+      ap (λ (k : ℕ). getD (withRow t new rows) (k + i) 0) (sym before-length)
+      ∙ getD-append-add (take (128 * t) rows) (new ++ drop 128 (drop (128 * t) rows)) i 0
+      ∙ List·getD-append new (drop 128 (drop (128 * t) rows)) 0 i (rw long h)
 
 -- The search: its loop has passed q numbers, all of them 0.
 module _ (n : ℕ) (w : List ℕ) where

@@ -9,3 +9,4 @@ pub mod PivotRows
 pub mod ReducedRows
 pub mod Turns
 pub mod Products
+pub mod NextPivot

@@ -3,9 +3,9 @@
 use mathlib.Core.Bool.{cond}
 use mathlib.Core.List.{List, _++_}
 use Prim.Native.Nat.{ℕ, zero, suc, _+_, _*_, _-_}
-use lib.ListN.{length, getD, take, drop}
+use lib.ListN.{length, getD, set, take, drop}
 use lib.Dec.{eqb}
-use Rattle.residue.specs.Vector.{addScaled}
+use Rattle.residue.specs.Vector.{addScaled, scaled}
 
 -- the row w with its entry at the given point cancelled, by adding a multiple of a row that is 1 there
 unfoldable pub cancelled : ℕ → List ℕ → ℕ → List ℕ → List ℕ
@@ -20,3 +20,11 @@ eliminated p n rows pivots (suc t) w = cancelled p (take (n + t + 1) (drop (128 
 unfoldable pub firstNonzero : ℕ → List ℕ → ℕ
 firstNonzero zero w = 0
 firstNonzero (suc n) w = cond (eqb (getD w 0 0) 0) (suc (firstNonzero n (drop 1 w))) 0
+
+-- the row w as a pivot row: its coefficient for its own monomial, at the given place, becomes 1, and then all of it is multiplied by c
+unfoldable pub pivotRow : ℕ → ℕ → ℕ → List ℕ → List ℕ
+pivotRow p own c w = scaled p c (take (own + 1) (set w own 1)) ++ drop (own + 1) (set w own 1)
+
+-- the table with row t replaced
+unfoldable pub withRow : ℕ → List ℕ → List ℕ → List ℕ
+withRow t new rows = take (128 * t) rows ++ (new ++ drop 128 (drop (128 * t) rows))
