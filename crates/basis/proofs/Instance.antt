@@ -18,7 +18,7 @@ use Rattle.residue.proofs.Congruence.{small}
 use Rattle.residue.proofs.Inverses.{inverse-mod, one-not-zero}
 use Rattle.monomial.specs.Monomial.{degree, timesVariable}
 use Rattle.monomial.specs.Order.{Order, cmp}
-use Rattle.monomial.proofs.Algebra.Division.{Step, divides-refl, divides-trans, divides-one, one-divides, divides-timesVariable, step, gap}
+use Rattle.monomial.proofs.Algebra.Division.{Step, divides-trans, divides-one, one-divides, divides-timesVariable, step, gap}
 use Rattle.monomial.proofs.Algebra.Values.{value-one, value-timesVariable}
 use Rattle.monomial.proofs.Orders.Lawful.{lawful, told-by}
 use Rattle.monomial.proofs.Orders.Descent.{wf}
@@ -73,7 +73,6 @@ module _ (q m : ℕ) (order : Order) where
     x-up = λ {k} {a} hk. timesVariable-greater order k (a .0) (rw (a .1) hk);
     val-one = λ P. value-one (P .0) m;
     val-x = λ k a P hk. value-timesVariable (P .0) k (a .0) (rw (a .1) hk) (rw (P .1 .0) hk);
-    dvd-refl = λ {a}. divides-refl (a .0);
     dvd-trans = λ {a} {b} {c} h g. divides-trans (a .0) (b .0) (c .0) h g;
     dvd-one = λ {a} h. monomial-path (divides-one m (a .0) (a .1) h);
     one-dvd = λ {a}. one-divides m (a .0) (a .1);

@@ -1,5 +1,5 @@
 -- Adding a point, as the tables have it: the first row that is not zero there, the column put in, the rows that stay.
-use mathlib.Core.Path.{_≡_, sym, _∙_, ap}
+use mathlib.Core.Path.{_≡_, sym, _∙_, ap, subst}
 use mathlib.Core.List.{List, [], _∷_}
 use mathlib.Core.Logic.{inl, inr, _≢_}
 use Prim.Native.Nat.{ℕ, zero, suc, _+_, _*_, _%_, _<_, suc-le-suc, zero-le}
@@ -15,16 +15,16 @@ use Rattle.basis.specs.Space.{Space, Less}
 use Rattle.basis.specs.Polynomial.{eval, Distinct, terms}
 use Rattle.basis.specs.Basis.{Row}
 use Rattle.basis.specs.Extension.{slot, minus, extended, first, grow}
-use Rattle.basis.specs.BasisOf.{basisOf, standardOf, leadsOf, rowsOf}
+use Rattle.basis.specs.BasisOf.{basisOf, standardOf, leadsOf, rowOf, rowsOf}
 use Rattle.basis.proofs.ideal.Laws.{Laws, cond-so, cond-not, zero-told}
-use Rattle.basis.proofs.ideal.Lists.{index-of}
+use Rattle.basis.proofs.ideal.Lists.{getD-among, index-of}
 use Rattle.basis.proofs.ideal.Newton.{at, error}
 use Rattle.basis.proofs.ideal.Staircase.{Holds, normal-form}
 use Rattle.basis.proofs.ideal.ZeroSet.{zeros}
 use Rattle.basis.proofs.ideal.Columns.{slot-length, slot-value, slot-members, minus-length, minus-small, minus-value}
 use Rattle.basis.proofs.ideal.Extend.{error-holds}
 use Rattle.basis.proofs.ideal.Sound.{gapOf, gap-error}
-use Rattle.basis.proofs.ideal.Basis.{coefficientsOf, rows-at, staircase, row-value}
+use Rattle.basis.proofs.ideal.Basis.{coefficientsOf, rows-at, staircase, row-value, row-is, row-only}
 
 module _ (D : Space) where
   open Space D using (q, m, Mono, Pt, one, val, cmp, inv)
@@ -119,3 +119,24 @@ module _ (D : Space) where
 
         e : first D (basisOf D S) P (leadsOf D S) ≡ getD (leadsOf D S) j one
         e = first-at (leadsOf D S) j h (λ i k. gap-value i (omega arith) then z i k) (λ mem. ne (flip (gap-value j h) then mem))
+
+    -- the point is a new one,
+    pub new-point : (j : ℕ) → j < length (leadsOf D S) → ¬ (valueOf S P j ≈ 0) → (Q : Pt) → Among Q S → P ≢ Q
+    new-point j h ne Q mem e = ne (of (ap (λ (z : List ℕ). rowValue (standardOf D S) (getD (leadsOf D S) j one) z P) (rows-at D S j h))
+        then row-is D L S d (getD (leadsOf D S) j one) .vanishes P (subst (λ (R : Pt). Among R S) (sym e) mem))
+
+    -- and the row of any monomial, a lead that stays or a new one, is its old row less a multiple of the one that went
+    pub row-grown : (j : ℕ) → j < length (leadsOf D S) → ((i : ℕ) → i < j → valueOf S P i ≈ 0) → ¬ (valueOf S P j ≈ 0)
+        → (a : Mono) → let α = getD (leadsOf D S) j one in kept (standardOf D S) P α (rowOf D S α) a (rowOf D S a) ≡ rowOf D (P ∷ S) a
+    row-grown j h z ne a = row-only D L (P ∷ S) (new-point j h ne, d) a (kept (standardOf D S) P α (rowOf D S α) a (rowOf D S a))
+        (subst (λ (l : List Mono). Row D (P ∷ S) l a (kept (standardOf D S) P α (rowOf D S α) a (rowOf D S a))) (sym (grow-at j h z ne .0))
+        (row-kept L S (standardOf D S) P α (rowOf D S α) (row-is D L S d α) not-zero fresh a (rowOf D S a) (row-is D L S d a)))
+      where
+        α : Mono
+        α = getD (leadsOf D S) j one
+
+        not-zero : ¬ (rowValue (standardOf D S) α (rowOf D S α) P ≈ 0)
+        not-zero u = ne (of (ap (λ (z : List ℕ). rowValue (standardOf D S) α z P) (rows-at D S j h)) then u)
+
+        fresh : (b : Mono) → Among b (standardOf D S) → α ≢ b
+        fresh b mem e = staircase D L S d .outside α (getD-among (leadsOf D S) j one h) (subst (λ (b : Mono). Among b (standardOf D S)) (sym e) mem)

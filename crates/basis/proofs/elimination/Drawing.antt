@@ -1,18 +1,20 @@
 -- Drawing up from all points (document 01, 'Buchberger and Möller, 1982'): monomials in increasing order, each a product of a standard monomial found; what has
 -- been decided is the basis up to the last of them. A monomial all of whose divisors are standard is a lead if its values are a combination of those of the
 -- standard monomials found, and else standard.
-use mathlib.Core.Path.{_≡_, sym, _∙_, subst}
+use mathlib.Core.Path.{_≡_, sym, _∙_, ap, subst}
 use mathlib.Core.List.{List, [], _∷_, _++_}
 use mathlib.Core.Logic.{_⊎_, inl, inr, _≢_}
 use mathlib.Core.WellFounded.{Acc·ndrec}
-use Prim.Native.Nat.{ℕ, _+_, _*_, _≤_, _<_, Ordering}
+use Prim.Native.Nat.{ℕ, _+_, _*_, _≤_, _<_, suc-le-suc, zero-le, Ordering}
 use native.Mathlib.Omega.{arith}
-use lib.ListN.{length}
+use lib.ListN.{length, length-append}
 use Rattle.residue.specs.Lists.{Among}
+use Rattle.residue.proofs.Congruence.{of, _then_}
 use Rattle.monomial.specs.Increasing.{Increasing}
 use Rattle.monomial.proofs.Orders.Increasing.{unique}
 use Rattle.basis.specs.Space.{Space, Less, Divides}
-use Rattle.basis.specs.Polynomial.{Distinct}
+use Rattle.basis.specs.Polynomial.{eval, Distinct, terms}
+use Rattle.basis.specs.Basis.{Row}
 use Rattle.basis.specs.BasisOf.{standardOf, leadsOf}
 use Rattle.basis.proofs.ideal.Laws.{Laws, Compares, lt, eq, gt, compared, same?, irrefl, trans, less-ne}
 use Rattle.basis.proofs.ideal.Lists.{snoc-of, snoc-in, snoc-increasing}
@@ -53,6 +55,20 @@ module _ (D : Space) where
     pub of-all : (a : Mono) → Among a standard → Among a (standardOf D S)
     pub new : ¬ Among b standard
     pub below : (a : Mono) → Among a (standardOf D S) → Less D a b → Among a standard
+
+  -- a row found stays one when a standard monomial more is found, with the coefficient 0 there
+  pub row-longer : (S : List Pt) (standard : List Mono) (a : Mono) (cs : List ℕ) (b : Mono) → Row D S standard a cs → Row D S (standard ++ (b ∷ [])) a (cs ++ (0 ∷ []))
+  row-longer S standard a cs b r = record {
+    long = omega (arith, length-append cs (0 ∷ []), length-append standard (b ∷ []), r .long);
+    residues = λ c mem. elim (snoc-of cs 0 c mem) [ inl z ↦ r .residues c z | inr e ↦ rw e (suc-le-suc zero-le) ];
+    vanishes = λ P mem. of (ap (λ (z : ℕ). 1 * val a P + z) (same-value cs standard P (r .long))) then r .vanishes P mem;
+  }
+    where
+      same-value : (cs : List ℕ) (l : List Mono) (P : Pt) → length cs ≡ length l → eval D (terms D (cs ++ (0 ∷ [])) (l ++ (b ∷ []))) P ≡ eval D (terms D cs l) P
+      same-value [] [] P e = omega arith
+      same-value [] (c ∷ l) P e = absurd (omega arith)
+      same-value (c ∷ cs) [] P e = absurd (omega arith)
+      same-value (c ∷ cs) (d ∷ l) P e = ap (λ (z : ℕ). c * val d P + z) (same-value cs l P (omega arith))
 
   module _ (L : Laws D) where
     open Laws L using (order, wf, x-up, dvd-x, dvd-less, one-dvd, step)

@@ -15,8 +15,8 @@ use Rattle.basis.specs.Basis.{Row, Fits, Rows, IsBasis}
 use Rattle.basis.specs.BasisOf.{basisOf, standardOf, leadsOf, rowOf, rowsOf, valueAt, interpolantOf, remainderOf}
 use Rattle.basis.proofs.ideal.Laws.{Laws, cond-so, cond-not, point-told}
 use Rattle.basis.proofs.ideal.Lists.{getD-among}
-use Rattle.basis.proofs.ideal.Polynomials.{pair, terms-over, collect}
-use Rattle.basis.proofs.ideal.Newton.{error, interp-unique}
+use Rattle.basis.proofs.ideal.Polynomials.{pair, Over, terms-over, collect}
+use Rattle.basis.proofs.ideal.Newton.{at, error, interp-unique}
 use Rattle.basis.proofs.ideal.Staircase.{Staircase, row-poly, row-at, row-greatest, inside-iff, leads-iff}
 use Rattle.basis.proofs.ideal.Unique.{fits-unique, fits-row, row-fits, basis-unique}
 use Rattle.basis.proofs.ideal.Sound.{interpolation, eval-at, sound}
@@ -91,18 +91,24 @@ module _ (D : Space) where
         → (standard ≡ standardOf D S) × (leads ≡ leadsOf D S) × (rows ≡ rowsOf D S)
     basis-only standard leads rows h = basis-unique D L S standard (standardOf D S) leads (leadsOf D S) rows (rowsOf D S) h basis-is
 
-    -- the row of a less its remainder, as functionals
+    -- the computed row of a is a less its remainder, whatever the monomials stand for
     pub row-pair : (a : Mono) (φ : Mono → ℕ) → pair D ((1, a) ∷ terms D (rowOf D S a) (standardOf D S)) φ ≈ pair D (row-poly D (standardOf D S) (coefficientsOf S) a) φ
-    row-pair a φ = rfl {x = 1 * φ a} plus (flip (collect D L (standardOf D S) (staircase .increasing) (terms D (rowOf D S a) (standardOf D S)) (terms-over D (rowOf D S a) (standardOf D S) (standardOf D S) (λ t mem. mem)) φ)
+    row-pair a φ = rfl {x = 1 * φ a} plus (flip (collect D L (standardOf D S) (staircase .increasing) (terms D (rowOf D S a) (standardOf D S)) over φ)
         then sum-cong (standardOf D S) (λ t mem. opposite t mem times rfl {x = φ t} then of (shape (coefficientsOf S (val a) t) (φ t))) then of (sum-scale (λ t. coefficientsOf S (val a) t * φ t) q (standardOf D S)))
         then of (omega arith) then flip (row-at D (standardOf D S) (coefficientsOf S) a φ)
       where
         shape : (u v : ℕ) → q * u * v ≡ q * (u * v)
         shape u v = omega arith
 
+        over : Over D (standardOf D S) (terms D (rowOf D S a) (standardOf D S))
+        over = terms-over D (rowOf D S a) (standardOf D S) (standardOf D S) (λ t mem. mem)
+
+        scaled : (P : Pt) → at D (λ b. q * coefficientsOf S (val a) b) (standardOf D S) P ≈ q * at D (coefficientsOf S (val a)) (standardOf D S) P
+        scaled P = sum-cong (standardOf D S) (λ b _. of (shape (coefficientsOf S (val a) b) (val b P))) then of (sum-scale (λ b. coefficientsOf S (val a) b * val b P) q (standardOf D S))
+
         opposite : (t : Mono) → Among t (standardOf D S) → coefficientsOf S (λ P. q * val a P) t ≈ q * coefficientsOf S (val a) t
         opposite t mem = flip (interp-unique D S (standardOf D S) (coefficientsOf S) (staircase .base) (λ P. q * val a P) (λ b. q * coefficientsOf S (val a) b)
-            (λ P z. sum-cong (standardOf D S) (λ b _. of (shape (coefficientsOf S (val a) b) (val b P))) then of (sum-scale (λ b. coefficientsOf S (val a) b * val b P) q (standardOf D S)) then scale q (staircase .base .interp (val a) P z)) t mem)
+            (λ P z. scaled P then scale q (staircase .base .interp (val a) P z)) t mem)
 
     -- 01: 'and its monomials are all smaller'
     pub row-smaller : (a : Mono) → ¬ Among a (standardOf D S) → Greatest D ((1, a) ∷ terms D (rowOf D S a) (standardOf D S)) a

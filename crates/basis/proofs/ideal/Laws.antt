@@ -24,7 +24,6 @@ pub record Laws (D : Space) : Type 0 where
   pub val-one : (P : D .Pt) → D .val (D .one) P ≡ 1
   pub val-x : (k : ℕ) (a : D .Mono) (P : D .Pt) → k < D .m → D .val (D .x k a) P ≡ D .coord k P * D .val a P
   -- division
-  pub dvd-refl : {a : D .Mono} → Divides D a a
   pub dvd-trans : {a b c : D .Mono} → Divides D a b → Divides D b c → Divides D a c
   pub dvd-one : {a : D .Mono} → Divides D a (D .one) → a ≡ D .one
   pub one-dvd : {a : D .Mono} → Divides D (D .one) a

@@ -39,16 +39,17 @@ module _ (D : Space) (L : Laws D) (leads : List (D .Mono)) (α : D .Mono) where
       go (so h) j = j
       go (not-so h) j = inserted-increasing cmp order (x k α) (extended D leads α k) j
 
-  pub extended-of : (j : ℕ) (b : Mono) → Among b (extended D leads α j) → (Among b (without D α leads)) ⊎ New D leads α j b
+  pub extended-of : (j : ℕ) (b : Mono) → Among b (extended D leads α j) → Among b (without D α leads) ⊎ New D leads α j b
   unfolding extended
   extended-of zero b mem = inl mem
   extended-of (suc k) b mem = go (divided-told D L (without D α leads) (x k α)) mem (extended-of k b)
     where
-      up : (Among b (without D α leads)) ⊎ New D leads α k b → (Among b (without D α leads)) ⊎ New D leads α (suc k) b
+      up : Among b (without D α leads) ⊎ New D leads α k b → Among b (without D α leads) ⊎ New D leads α (suc k) b
       up (inl mem) = inl mem
       up (inr t) = inr (t .0, omega (arith, t .1), t .2, t .3)
 
-      go : {t : Bool} → Decides (Divided D leads α (x k α)) t → Among b (cond t (extended D leads α k) (inserted cmp (x k α) (extended D leads α k))) → (Among b (extended D leads α k) → (Among b (without D α leads)) ⊎ New D leads α k b) → (Among b (without D α leads)) ⊎ New D leads α (suc k) b
+      go : {t : Bool} → Decides (Divided D leads α (x k α)) t → Among b (cond t (extended D leads α k) (inserted cmp (x k α) (extended D leads α k)))
+          → (Among b (extended D leads α k) → Among b (without D α leads) ⊎ New D leads α k b) → Among b (without D α leads) ⊎ New D leads α (suc k) b
       go (so h) mem f = up (f mem)
       go (not-so h) mem f = elim (inserted-only cmp (x k α) (extended D leads α k) b mem) [ inl e ↦ inr (k, omega arith, e, h) | inr z ↦ up (f z) ]
 
@@ -57,7 +58,8 @@ module _ (D : Space) (L : Laws D) (leads : List (D .Mono)) (α : D .Mono) where
   extended-length-le zero = omega arith
   extended-length-le (suc k) = go (divided-told D L (without D α leads) (x k α)) (extended-length-le k)
     where
-      go : {X : Type 0} {t : Bool} → Decides X t → length (extended D leads α k) ≤ length (without D α leads) + k → length (cond t (extended D leads α k) (inserted cmp (x k α) (extended D leads α k))) ≤ length (without D α leads) + suc k
+      go : {X : Type 0} {t : Bool} → Decides X t → length (extended D leads α k) ≤ length (without D α leads) + k
+          → length (cond t (extended D leads α k) (inserted cmp (x k α) (extended D leads α k))) ≤ length (without D α leads) + suc k
       go (so h) e = omega arith
       go (not-so h) e = omega (arith, inserted-length-le D L (x k α) (extended D leads α k))
 

@@ -40,4 +40,7 @@ module _ (D : Space) where
 
   pub snoc-increasing : (l : List Mono) (c : Mono) → Increasing cmp l → ((a : Mono) → Among a l → Less D a c) → Increasing cmp (l ++ (c ∷ []))
   snoc-increasing [] c i h = (tt, tt)
-  snoc-increasing (a ∷ l) c i h = (member-below cmp a (l ++ (c ∷ [])) (λ b mem. elim (snoc-of l c b mem) [ inl z ↦ below-member cmp a l (i .0) b z | inr e ↦ subst (Less D a) (sym e) (h a (inl refl)) ]), snoc-increasing l c (i .1) (λ b mem. h b (inr mem)))
+  snoc-increasing (a ∷ l) c i h = (member-below cmp a (l ++ (c ∷ [])) above, snoc-increasing l c (i .1) (λ b mem. h b (inr mem)))
+    where
+      above : (b : Mono) → Among b (l ++ (c ∷ [])) → Less D a b
+      above b mem = elim (snoc-of l c b mem) [ inl z ↦ below-member cmp a l (i .0) b z | inr e ↦ subst (Less D a) (sym e) (h a (inl refl)) ]

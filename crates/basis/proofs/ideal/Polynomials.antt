@@ -51,23 +51,17 @@ module _ (D : Space) (L : Laws D) where
   mask : Mono → (Mono → ℕ) → Mono → ℕ
   mask a φ b = cond (same D a b) 0 (φ b)
 
-  mask-at : (a : Mono) (φ : Mono → ℕ) (b : Mono) → ((a ≡ b) × (mask a φ b ≡ 0)) ⊎ ((a ≢ b) × (mask a φ b ≡ φ b))
-  unfolding mask
-  mask-at a φ b = go (same-told D L a b)
-    where
-      go : {t : Bool} → Decides (a ≡ b) t → ((a ≡ b) × (cond t 0 (φ b) ≡ 0)) ⊎ ((a ≢ b) × (cond t 0 (φ b) ≡ φ b))
-      go (so e) = inl (e, refl)
-      go (not-so e) = inr (e, refl)
-
   mask-split : (a : Mono) (φ : Mono → ℕ) (b : Mono) → φ b ≡ hit D a b * φ a + mask a φ b
-  mask-split a φ b = go (mask-at a φ b)
+  unfolding mask
+  mask-split a φ b = go (same-told D L a b)
     where
-      go : ((a ≡ b) × (mask a φ b ≡ 0)) ⊎ ((a ≢ b) × (mask a φ b ≡ φ b)) → φ b ≡ hit D a b * φ a + mask a φ b
-      go (inl e) = let k : φ a ≡ φ b = ap φ (e .0) in rw (hit-same D L (e .0)) (omega arith)
-      go (inr e) = rw (hit-other D L (e .0)) (omega arith)
+      go : {t : Bool} → Decides (a ≡ b) t → φ b ≡ hit D a b * φ a + cond t 0 (φ b)
+      go (so e) = let k : φ a ≡ φ b = ap φ e in rw (hit-same D L e) (omega arith)
+      go (not-so e) = rw (hit-other D L e) (omega arith)
 
   -- The functional φ is zero on f if at each monomial φ or the coefficient is.
   pub support : (f : Polynomial D) (φ : Mono → ℕ) → ((a : Mono) → coefficient D f a * φ a ≈ 0) → pair D f φ ≈ 0
+  unfolding mask
   support [] φ h = rfl
   support ((c, a) ∷ f) φ h = flip split then head plus support f (mask a φ) tail
     where
@@ -89,18 +83,18 @@ module _ (D : Space) (L : Laws D) where
       head = h a
 
       tail : (b : Mono) → coefficient D f b * mask a φ b ≈ 0
-      tail b = go (mask-at a φ b)
+      tail b = go (same-told D L a b)
         where
-          go : ((a ≡ b) × (mask a φ b ≡ 0)) ⊎ ((a ≢ b) × (mask a φ b ≡ φ b)) → coefficient D f b * mask a φ b ≈ 0
-          go (inl e) = rw (e .1) (of (omega arith))
-          go (inr e) = let z : hit D b a ≡ 0 = hit-other D L (λ mem. e .0 (sym mem)) in rw (e .1) (lin (h b) 0 0 (rw z (omega arith)))
+          go : {t : Bool} → Decides (a ≡ b) t → coefficient D f b * cond t 0 (φ b) ≈ 0
+          go (so e) = of (omega arith)
+          go (not-so e) = let z : hit D b a ≡ 0 = hit-other D L (λ u. e (sym u)) in lin (h b) 0 0 (rw z (omega arith))
 
   pub comb-miss : (c : Mono → ℕ) (l : List Mono) (a : Mono) → ((b : Mono) → Among b l → a ≢ b) → comb D c l (hit D a) ≈ 0
   comb-miss c l a h = sum-zero l (λ b m. rw (hit-other D L (h b m)) (of (omega arith)))
 
   pub comb-hit : (c : Mono → ℕ) (l : List Mono) (a : Mono) → Increasing cmp l → Among a l → comb D c l (hit D a) ≈ c a
-  comb-hit c (b ∷ l) a i (inl e) = rw (hit-same D L e) (lin (comb-miss c l a (λ d m mem. less-ne D L (below-member cmp b l (i .0) d m) (sym e ∙ mem)) plus of (ap c (sym e))) 0 0 (omega arith))
-  comb-hit c (b ∷ l) a i (inr m) = rw (hit-other D L (λ mem. less-ne D L (below-member cmp b l (i .0) a m) (sym mem))) (lin (comb-hit c l a (i .1) m) 0 0 (omega arith))
+  comb-hit c (b ∷ l) a i (inl e) = rw (hit-same D L e) (lin (comb-miss c l a (λ d m u. less-ne D L (below-member cmp b l (i .0) d m) (sym e ∙ u)) plus of (ap c (sym e))) 0 0 (omega arith))
+  comb-hit c (b ∷ l) a i (inr m) = rw (hit-other D L (λ u. less-ne D L (below-member cmp b l (i .0) a m) (sym u))) (lin (comb-hit c l a (i .1) m) 0 0 (omega arith))
 
   -- a polynomial's terms collected
   pub collect : (l : List Mono) → Increasing cmp l → (f : Polynomial D) → Over D l f → (φ : Mono → ℕ) → comb D (coefficient D f) l φ ≈ pair D f φ
@@ -112,34 +106,38 @@ module _ (D : Space) (L : Laws D) where
       shape : (u h w : ℕ) → (c * h + u) * w ≡ u * w + c * (w * h)
       shape u h w = omega arith
 
-  -- the greatest monomial with a coefficient that is not zero
-  top : (c : Mono → ℕ) (l : List Mono) → Increasing cmp l
-      → ((a : Mono) → Among a l → c a ≈ 0) ⊎ ((a : Mono) × (Among a l) × (¬ (c a ≈ 0)) × ((b : Mono) → Among b l → Less D a b → c b ≈ 0))
+  abbrev AllZero : (Mono → ℕ) → List Mono → Type 0
+  AllZero c l = (a : Mono) → Among a l → c a ≈ 0
+
+  -- a greatest monomial with a coefficient that is not zero
+  abbrev Top : (Mono → ℕ) → List Mono → Type 0
+  Top c l = (a : Mono) × Among a l × (¬ (c a ≈ 0)) × ((b : Mono) → Among b l → Less D a b → c b ≈ 0)
+
+  top : (c : Mono → ℕ) (l : List Mono) → Increasing cmp l → AllZero c l ⊎ Top c l
   top c [] i = inl (λ a m. absurd m)
   top c (a ∷ l) i = go (top c l (i .1)) (decided (zero-told q (c a)))
     where
-      go : ((a : Mono) → Among a l → c a ≈ 0) ⊎ ((a : Mono) × (Among a l) × (¬ (c a ≈ 0)) × ((b : Mono) → Among b l → Less D a b → c b ≈ 0)) → Dec (c a ≈ 0)
-          → ((b : Mono) → Among b (a ∷ l) → c b ≈ 0) ⊎ ((b : Mono) × (Among b (a ∷ l)) × (¬ (c b ≈ 0)) × ((d : Mono) → Among d (a ∷ l) → Less D b d → c d ≈ 0))
+      go : AllZero c l ⊎ Top c l → Dec (c a ≈ 0) → AllZero c (a ∷ l) ⊎ Top c (a ∷ l)
       go (inr t) d = inr (t .0, inr (t .1), t .2, each l (λ h. absurd (irrefl D L (trans D L h (below-member cmp a l (i .0) (t .0) (t .1))))) (t .3))
       go (inl z) (yes e) = inl (each l e z)
       go (inl z) (no e) = inr (a, inl refl, e, each l (λ h. absurd (irrefl D L h)) (λ b m _. z b m))
 
-  -- T1: a combination of standard monomials that vanishes has no coefficient.
+  -- A combination of standard monomials that vanishes has no coefficient: else its greatest monomial would be a leading one.
   pub independent : (S : List Pt) (l : List Mono) → Increasing cmp l → ((a : Mono) → Among a l → Standard D S a)
-      → (c : Mono → ℕ) → ((P : Pt) → Among P S → comb D c l (λ a. val a P) ≈ 0) → (a : Mono) → Among a l → c a ≈ 0
+      → (c : Mono → ℕ) → ((P : Pt) → Among P S → comb D c l (λ a. val a P) ≈ 0) → AllZero c l
   independent S l i s c h = go (top c l i)
     where
-      go : ((a : Mono) → Among a l → c a ≈ 0) ⊎ ((a : Mono) × (Among a l) × (¬ (c a ≈ 0)) × ((b : Mono) → Among b l → Less D a b → c b ≈ 0)) → (a : Mono) → Among a l → c a ≈ 0
+      go : AllZero c l ⊎ Top c l → AllZero c l
       go (inl z) = z
       go (inr t) = absurd (s (t .0) (t .1) (
         terms D (map c l) l,
         (λ P m. of (pair-terms D c l (λ a. val a P)) then h P m),
         (
           (λ z. t .2 (flip (comb-hit c l (t .0) i (t .1)) then of (sym (pair-terms D c l (hit D (t .0)))) then z)),
-          λ b mem. of (pair-terms D c l (hit D b)) then sum-zero l (λ d m. miss b mem d m (same? D L b d)),
+          λ b u. of (pair-terms D c l (hit D b)) then sum-zero l (λ d m. miss b u d m (same? D L b d)),
         ),
       ))
         where
           miss : (b : Mono) → Less D (t .0) b → (d : Mono) → Among d l → Dec (b ≡ d) → c d * hit D b d ≈ 0
-          miss b mem d m (yes e) = zero-left (t .3 d m (rw e at mem)) (hit D b d)
-          miss b mem d m (no e) = rw (hit-other D L e) (of (omega arith))
+          miss b u d m (yes e) = zero-left (t .3 d m (rw e at u)) (hit D b d)
+          miss b u d m (no e) = rw (hit-other D L e) (of (omega arith))

@@ -25,7 +25,7 @@ use Rattle.basis.proofs.ideal.Columns.{slot-length, slot-value, slot-me
 use Rattle.basis.proofs.ideal.Extend.{First, some-error, first-new, extend}
 
 module _ (D : Space) where
-  open Space D using (q, m, Mono, Pt, one, val, cmp, inv)
+  open Space D using (q, Mono, Pt, one, val, cmp, inv)
 
   infix 35 _≈_
   abbrev _≈_ : ℕ → ℕ → Type 0

@@ -14,7 +14,7 @@ use Rattle.residue.proofs.Sums.{sum-cong, sum-zero, sum-lin, sum-scale, sum-swa
 use Rattle.basis.specs.Space.{Space, Less, Divides}
 use Rattle.basis.specs.Polynomial.{Polynomial, hit, coefficient, Vanishes, Greatest, Leading, Standard, Minimal, terms}
 use Rattle.basis.proofs.ideal.Laws.{Laws, Compares, lt, eq, gt, compared, same?, irrefl, less-ne, hit-same, hit-other, trans}
-use Rattle.basis.proofs.ideal.Polynomials.{pair, comb, pair-terms, comb-hit, comb-miss, support, Over, terms-over}
+use Rattle.basis.proofs.ideal.Polynomials.{pair, comb, pair-terms, comb-hit, comb-miss, support}
 use Rattle.basis.proofs.ideal.Newton.{at, Base, at-cong, interp-unique}
 
 module _ (D : Space) where
@@ -45,11 +45,7 @@ module _ (D : Space) where
         shape : (u v : ℕ) → q * u * v ≡ q * (u * v)
         shape u v = omega arith
 
-    pub row-over : (a : Mono) (r : List Mono) → Among a r → ((b : Mono) → Among b l → Among b r) → Over D r (row-poly a)
-    unfolding row-poly
-    row-over a r mem h t (inl e) = subst (λ (z : Mono). Among z r) (sym (ap (λ (z : ℕ × Mono). z .1) e)) mem
-    row-over a r mem h t (inr e) = terms-over D (map (λ t. q * N (val a) t) l) l r h t e
-
+  -- a base whose remainders go down in the order, closed under divisors, and the leads: the least monomials outside
   pub record Staircase (S : List Pt) (l leads : List Mono) (N : (Pt → ℕ) → Mono → ℕ) : Type 0 where
     pub base : Base D S l N
     pub increasing : Increasing cmp l
@@ -67,7 +63,7 @@ module _ (D : Space) where
       shape : (u v w : ℕ) → u * (v + k * w) ≡ u * v + k * (u * w)
       shape u v w = omega arith
 
-  -- a sumOver's terms replaced by combinations of l
+  -- a sum of values, each replaced by that of a combination of l
   pub expand : {A : Type 0} (w : A → ℕ) (c : A → Mono → ℕ) (r : List A) (l : List Mono) (Q : Pt) → at D (λ t. sumOver (λ s. w s * c s t) r) l Q ≈ sumOver (λ s. w s * at D (c s) l Q) r
   expand w c r l Q = sum-cong l (λ t _. of (comm (sumOver (λ s. w s * c s t) r) (val t Q) ∙ sym (sum-scale (λ s. w s * c s t) (val t Q) r)))
       then of (sum-swap (λ t s. val t Q * (w s * c s t)) l r)
@@ -80,7 +76,7 @@ module _ (D : Space) where
       shape u v w = omega arith
 
   module _ (L : Laws D) where
-    open Laws L using (one-not-zero, wf, x-mono, x-up, val-x, dvd-refl, dvd-trans, dvd-less, step)
+    open Laws L using (one-not-zero, wf, x-mono, x-up, val-x, step)
 
     pub member? : (a : Mono) (l : List Mono) → Dec (Among a l)
     member? a [] = no (λ m. m)
@@ -104,7 +100,7 @@ module _ (D : Space) where
           comm u v = omega arith
 
       -- a monomial of l is its own remainder
-      pub own : (a b : Mono) → Among a l → Among b l → N (val a) b ≈ hit D a b
+      own : (a b : Mono) → Among a l → Among b l → N (val a) b ≈ hit D a b
       own a b m mem = flip (interp-unique D S l N B (val a) (hit D a) (λ P _. hit-at a m P) b mem)
 
     module _ (S : List Pt) (l leads : List Mono) (N : (Pt → ℕ) → Mono → ℕ) (T : Staircase S l leads N) where
@@ -122,10 +118,10 @@ module _ (D : Space) where
           all : pair D f (λ b. N (val b) a) + q * coefficient D f a ≈ 0
           all = flip (pair-lin f (λ b. N (val b) a) (hit D a) q) then support D L f (λ b. N (val b) a + q * hit D a b) (λ b. zero b (compared D L a b))
 
-      pub row-vanishes : (a : Mono) → Vanishes D (row-poly l N a) S
+      row-vanishes : (a : Mono) → Vanishes D (row-poly l N a) S
       row-vanishes a P mem = row-at l N a (λ b. val b P) then lin (scale q (base .interp (val a) P mem)) 0 (val a P) (omega arith)
 
-      pub row-greatest : (a : Mono) → ¬ (Among a l) → Greatest D (row-poly l N a) a
+      pub row-greatest : (a : Mono) → ¬ Among a l → Greatest D (row-poly l N a) a
       row-greatest a out = ((λ h. one-not-zero (flip at-a then h)), above)
         where
           at-a : coefficient D (row-poly l N a) a ≈ 1
@@ -138,20 +134,20 @@ module _ (D : Space) where
               miss t mem (yes e) = zero-left (below a t mem (rw e at h)) (hit D b t)
               miss t mem (no e) = rw (hit-other D L e) (of (omega arith))
 
-      pub outside-leading : (a : Mono) → ¬ (Among a l) → Leading D S a
+      outside-leading : (a : Mono) → ¬ Among a l → Leading D S a
       outside-leading a out = (row-poly l N a, row-vanishes a, row-greatest a out)
 
-      pub inside-iff : (a : Mono) → (Among a l) ↔ Standard D S a
+      pub inside-iff : (a : Mono) → Among a l ↔ Standard D S a
       inside-iff a = (inside-standard a, λ s. go s (member? a l))
         where
           go : Standard D S a → Dec (Among a l) → Among a l
           go s (yes mem) = mem
-          go s (no mem) = absurd (s (outside-leading a mem))
+          go s (no out) = absurd (s (outside-leading a out))
 
-      pub leads-iff : (a : Mono) → (Among a leads) ↔ Minimal D S a
+      pub leads-iff : (a : Mono) → Among a leads ↔ Minimal D S a
       leads-iff a = ((λ mem. (outside-leading a (outside a mem), λ b d e. inside-standard b (minimal a mem b d e))), λ h. go h (cover a (λ mem. inside-standard a mem (h .0))))
         where
-          go : Minimal D S a → (b : Mono) × (Among b leads) × Divides D b a → Among a leads
+          go : Minimal D S a → (b : Mono) × Among b leads × Divides D b a → Among a leads
           go h (b, mem, d) = pick (same? D L b a)
             where
               pick : Dec (b ≡ a) → Among a leads
@@ -182,7 +178,7 @@ module _ (D : Space) where
             good : (c : Mono) → Less D c a → Holds l N Q c
             good c h = rec c h (λ e mem up. ok e mem (λ z. up (trans D L h z)))
 
-            product : (k : ℕ) (c : Mono) → k < m → a ≡ x k c → ¬ (Among c l) → Holds l N Q a
+            product : (k : ℕ) (c : Mono) → k < m → a ≡ x k c → ¬ Among c l → Holds l N Q a
             product k c hk e out = subst (Holds l N Q) (sym e) (flip (chain-at k hk c Q (good c (rw e (x-up hk))) (λ t mem. part t mem (compared D L t c)))
                 then at-cong D (chain k c) (N (val (x k c))) l Q (interp-unique D S l N base (val (x k c)) (chain k c) (λ P mem.
                 chain-at k hk c P (flip (base .interp (val c) P mem)) (λ t _. inr (flip (base .interp (val (x k t)) P mem))))))
@@ -198,7 +194,7 @@ module _ (D : Space) where
 
             go : Dec (Among a l) → Holds l N Q a
             go (yes mem) = flip (at-cong D (N (val a)) (hit D a) l Q (λ b z. own S l N base increasing a b mem z) then hit-at S l N base increasing a mem Q)
-            go (no mem) = let c = cover a mem in multiple (c .0) (c .1) (c .2) (same? D L (c .0) a)
+            go (no out) = let c = cover a out in multiple (c .0) (c .1) (c .2) (same? D L (c .0) a)
 
         -- Normal forms: a is its remainder at every point Q where the rows vanish whose leads are not above a.
         pub normal-form : (a : Mono) → HoldTo l N leads Q a → Holds l N Q a

@@ -28,7 +28,7 @@ module _ (D : Space) (L : Laws D) where
   a ≈ b = Mod (suc q) a b
 
   -- A list of coefficients is a function on the monomials.
-  pub as-function : (l : List Mono) (cs : List ℕ) → Increasing cmp l → length cs ≡ length l → (c : Mono → ℕ) × (map c l ≡ cs)
+  as-function : (l : List Mono) (cs : List ℕ) → Increasing cmp l → length cs ≡ length l → (c : Mono → ℕ) × (map c l ≡ cs)
   as-function [] [] i e = (λ a. 0, refl)
   as-function [] (k ∷ cs) i e = absurd (omega arith)
   as-function (a ∷ l) [] i e = absurd (omega arith)
@@ -48,11 +48,11 @@ module _ (D : Space) (L : Laws D) where
   map-unique c d [] h = refl
   map-unique c d (a ∷ l) h = ap₂ (λ (u : ℕ) (v : List ℕ). u ∷ v) (h a (inl refl)) (map-unique c d l (λ b m. h b (inr m)))
 
-  pub map-member : (c : Mono → ℕ) (l : List Mono) (a : Mono) → Among a l → Among (c a) (map c l)
+  map-member : (c : Mono → ℕ) (l : List Mono) (a : Mono) → Among a l → Among (c a) (map c l)
   map-member c (b ∷ l) a (inl e) = inl (ap c e)
   map-member c (b ∷ l) a (inr m) = inr (map-member c l a m)
 
-  -- T1, T5: the interpolant of given values is unique.
+  -- The interpolant of given values is unique.
   pub fits-unique : (S : List Pt) (l : List Mono) → Increasing cmp l → ((a : Mono) → Among a l → Standard D S a)
       → (φ : Pt → ℕ) (cs ds : List ℕ) → Fits D S l φ cs → Fits D S l φ ds → cs ≡ ds
   fits-unique S l i s φ cs ds r t = sym (fc .1) ∙ map-unique (fc .0) (fd .0) l equal ∙ fd .1
@@ -86,8 +86,8 @@ module _ (D : Space) (L : Laws D) where
   pub fits-row : (S : List Pt) (l : List Mono) (a : Mono) (cs : List ℕ) → Fits D S l (λ P. q * val a P) cs → Row D S l a cs
   fits-row S l a cs r = record { long = r .long; residues = r .residues; vanishes = λ P m. lin (r .values P m) 0 (val a P) (omega arith) }
 
-  -- T1: the row of a monomial is unique.
-  pub row-unique : (S : List Pt) (l : List Mono) → Increasing cmp l → ((a : Mono) → Among a l → Standard D S a)
+  -- 01: 'There is one such combination'
+  row-unique : (S : List Pt) (l : List Mono) → Increasing cmp l → ((a : Mono) → Among a l → Standard D S a)
       → (a : Mono) (cs ds : List ℕ) → Row D S l a cs → Row D S l a ds → cs ≡ ds
   row-unique S l i s a cs ds r t = fits-unique S l i s (λ P. q * val a P) cs ds (row-fits S l a cs r) (row-fits S l a ds t)
 
@@ -101,22 +101,22 @@ module _ (D : Space) (L : Laws D) where
   rows-unique S l i s (a ∷ hs) (y ∷ rs) (z ∷ ts) r t =
       ap₂ (λ (u : List ℕ) (v : List (List ℕ)). u ∷ v) (row-unique S l i s a y z (r .0) (t .0)) (rows-unique S l i s hs rs ts (r .1) (t .1))
 
-  -- T1: a sheet is unique.
-  pub basis-unique : (S : List Pt) (std std′ leads leads′ : List Mono) (coefs coefs′ : List (List ℕ))
-      → IsBasis D S std leads coefs → IsBasis D S std′ leads′ coefs′ → (std ≡ std′) × (leads ≡ leads′) × (coefs ≡ coefs′)
-  basis-unique S std std′ leads leads′ coefs coefs′ h k = (
+  -- 01, 'The sheet': the definitions determine the tables.
+  pub basis-unique : (S : List Pt) (standard standard′ leads leads′ : List Mono) (rows rows′ : List (List ℕ))
+      → IsBasis D S standard leads rows → IsBasis D S standard′ leads′ rows′ → (standard ≡ standard′) × (leads ≡ leads′) × (rows ≡ rows′)
+  basis-unique S standard standard′ leads leads′ rows rows′ h k = (
     es,
     el,
-    rows-unique S std (h .standard-increasing) (λ a m. h .standard-members a .0 m) leads coefs coefs′ (h .rows-are) (rw (← es, ← el) at (k .rows-are)),
+    rows-unique S standard (h .standard-increasing) (λ a m. h .standard-members a .0 m) leads rows rows′ (h .rows-are) (rw (← es, ← el) at (k .rows-are)),
   )
     where
-      es : std ≡ std′
-      es = unique cmp order std std′ (h .standard-increasing) (k .standard-increasing) (λ a m. k .standard-members a .1 (h .standard-members a .0 m)) (λ a m. h .standard-members a .1 (k .standard-members a .0 m))
+      es : standard ≡ standard′
+      es = unique cmp order standard standard′ (h .standard-increasing) (k .standard-increasing) (λ a m. k .standard-members a .1 (h .standard-members a .0 m)) (λ a m. h .standard-members a .1 (k .standard-members a .0 m))
 
       el : leads ≡ leads′
       el = unique cmp order leads leads′ (h .leads-increasing) (k .leads-increasing) (λ a m. k .leads-members a .1 (h .leads-members a .0 m)) (λ a m. h .leads-members a .1 (k .leads-members a .0 m))
 
-  -- A sheet depends on the members of S alone.
+  -- They depend on the members of S alone.
   module _ (S S′ : List Pt) (f : (P : Pt) → Among P S → Among P S′) (g : (P : Pt) → Among P S′ → Among P S) where
     leading-points : (a : Mono) → Leading D S a ↔ Leading D S′ a
     leading-points a = (λ h. (h .0, (λ P m. h .1 P (g P m)), h .2), λ h. (h .0, (λ P m. h .1 P (f P m)), h .2))
@@ -124,17 +124,17 @@ module _ (D : Space) (L : Laws D) where
     minimal-points : (a : Mono) → Minimal D S a ↔ Minimal D S′ a
     minimal-points a = (λ h. (leading-points a .0 (h .0), λ b d e k. h .1 b d e (leading-points b .1 k)), λ h. (leading-points a .1 (h .0), λ b d e k. h .1 b d e (leading-points b .0 k)))
 
-    rows-points : (std leads : List Mono) (coefs : List (List ℕ)) → Rows D S std leads coefs → Rows D S′ std leads coefs
-    rows-points std [] [] r = tt
-    rows-points std [] (c ∷ cs) r = absurd r
-    rows-points std (a ∷ l) [] r = absurd r
-    rows-points std (a ∷ l) (c ∷ cs) r = (record { long = r .0 .long; residues = r .0 .residues; vanishes = λ P m. r .0 .vanishes P (g P m) }, rows-points std l cs (r .1))
+    rows-points : (standard leads : List Mono) (rows : List (List ℕ)) → Rows D S standard leads rows → Rows D S′ standard leads rows
+    rows-points standard [] [] r = tt
+    rows-points standard [] (c ∷ cs) r = absurd r
+    rows-points standard (a ∷ l) [] r = absurd r
+    rows-points standard (a ∷ l) (c ∷ cs) r = (record { long = r .0 .long; residues = r .0 .residues; vanishes = λ P m. r .0 .vanishes P (g P m) }, rows-points standard l cs (r .1))
 
-    pub basis-points : (std leads : List Mono) (coefs : List (List ℕ)) → IsBasis D S std leads coefs → IsBasis D S′ std leads coefs
-    basis-points std leads coefs h = record {
+    pub basis-points : (standard leads : List Mono) (rows : List (List ℕ)) → IsBasis D S standard leads rows → IsBasis D S′ standard leads rows
+    basis-points standard leads rows h = record {
       standard-increasing = h .standard-increasing;
       standard-members = λ a. (λ m k. h .standard-members a .0 m (leading-points a .1 k), λ s. h .standard-members a .1 (λ k. s (leading-points a .0 k)));
       leads-increasing = h .leads-increasing;
       leads-members = λ a. (λ m. minimal-points a .0 (h .leads-members a .0 m), λ k. h .leads-members a .1 (minimal-points a .1 k));
-      rows-are = rows-points std leads coefs (h .rows-are);
+      rows-are = rows-points standard leads rows (h .rows-are);
     }

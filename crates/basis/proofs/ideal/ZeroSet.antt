@@ -33,7 +33,7 @@ module _ (D : Space) (L : Laws D) where
   eval-binomial k c ((d, a) ∷ f) P hk = let e : eval D (binomial k c f) P ≡ (coord k P + c) * eval D f P = eval-binomial k c f P hk in rw (val-x k a P hk) (omega arith)
 
   -- a polynomial that is zero at the points of S and not at P
-  pub separator : (P : Pt) (S : List Pt) → ((Q : Pt) → Among Q S → P ≢ Q) → (f : Polynomial D) × Vanishes D f S × (¬ (eval D f P ≈ 0))
+  separator : (P : Pt) (S : List Pt) → ((Q : Pt) → Among Q S → P ≢ Q) → (f : Polynomial D) × Vanishes D f S × (¬ (eval D f P ≈ 0))
   separator P [] h = ((1, one) ∷ [], (λ Q mem. absurd mem), λ z. one-not-zero (of (rw (val-one P)) then z))
   separator P (Q ∷ S) h = go (separator P S (λ R mem. h R (inr mem))) (differ P Q (h Q (inl refl)))
     where
