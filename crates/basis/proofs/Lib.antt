@@ -6,3 +6,4 @@ pub mod ideal
 pub mod elimination
 pub mod agreement
 pub mod Instance
+pub mod Examples

@@ -16,3 +16,4 @@ pub mod Reference
 pub mod Working
 pub mod Agreement
 pub mod Candidates
+pub mod Examples
