@@ -1,12 +1,16 @@
 -- The tests of equality mean equality.
-use mathlib.Core.Path.{_≡_, refl, sym, subst}
-use mathlib.Core.Bool.{Bool, true, false, not, _&&_, _||_}
+use mathlib.Core.Path.{_≡_, refl, sym, _∙_, ap, subst}
+use mathlib.Core.Bool.{Bool, true, false, _&&_, _||_, and-true, and-false, and-assoc}
 use mathlib.Core.List.{List, [], _∷_}
-use mathlib.Core.Logic.{_⊎_, inl, inr}
-use Prim.Native.Nat.{ℕ}
+use mathlib.Core.Logic.{inl, inr}
+use Prim.Native.Nat.{ℕ, zero, suc, _+_, _<_}
+use native.Mathlib.Nat.{not-suc-le-zero, le-of-suc-le-suc}
+use native.Mathlib.Numerals.{add-one}
+use lib.ListN.{length, getD, take}
 use lib.Dec.{T, eqb, eqb→eq, eqb-refl}
+use borrow.Author.Tests.{eq-eqb, ne-eqb}
 use Rattle.residue.specs.Lists.{Among}
-use Rattle.basis.specs.Levels.{sameList, isAmong, noRepeat}
+use Rattle.basis.specs.Levels.{sameList, isAmong}
 
 -- a test that holds, as an equation and as a fact
 pub true-of : (b : Bool) → T b → b ≡ true
@@ -64,3 +68,25 @@ is-among P (Q ∷ S) (inr q) = later (sameList P Q) (isAmong P S) (is-among P S 
     later : (a b : Bool) → T b → T (a || b)
     later true b h = tt
     later false b h = h
+
+-- A comparison from the front, one place further: the entries there are equal or not.
+same-more : (a b : List ℕ) (i : ℕ) → i < length a → i < length b
+    → sameList (take (suc i) a) (take (suc i) b) ≡ (sameList (take i a) (take i b) && eqb (getD a i 0) (getD b i 0))
+unfolding sameList
+same-more [] b i h k = absurd (not-suc-le-zero h)
+same-more (x ∷ a) [] i h k = absurd (not-suc-le-zero k)
+same-more (x ∷ a) (y ∷ b) zero h k = and-true (eqb x y)
+same-more (x ∷ a) (y ∷ b) (suc i) h k =
+    ap (λ (z : Bool). eqb x y && z) (same-more a b i (le-of-suc-le-suc h) (le-of-suc-le-suc k))
+    ∙ sym (and-assoc (eqb x y) (sameList (take i a) (take i b)) (eqb (getD a i 0) (getD b i 0)))
+
+pub same-none : true ≡ sameList [] []
+unfolding sameList
+same-none = refl
+
+module _ (a b : List ℕ) (i : ℕ) (h : i < length a) (k : i < length b) where
+  pub same-on : getD a i 0 ≡ getD b i 0 → sameList (take (i + 1) a) (take (i + 1) b) ≡ sameList (take i a) (take i b)
+  same-on e = rw add-one (same-more a b i h k ∙ rw (eq-eqb (getD a i 0) (getD b i 0) e) (and-true (sameList (take i a) (take i b))))
+
+  pub same-off : (getD a i 0 ≡ getD b i 0 → ⊥) → sameList (take (i + 1) a) (take (i + 1) b) ≡ false
+  same-off e = rw add-one (same-more a b i h k ∙ rw (ne-eqb (getD a i 0) (getD b i 0) e) (and-false (sameList (take i a) (take i b))))

@@ -1,6 +1,11 @@
 -- The lemmas of the crate basis.
+pub mod Cases
+pub mod Copies
 pub mod Equality
 pub mod Layouts
+pub mod LevelLists
+pub mod Places
+pub mod PointTables
 pub mod WorkingRows
 pub mod ideal
 pub mod elimination

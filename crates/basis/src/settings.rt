@@ -1,4 +1,8 @@
 // What every call is handed and answers.
+use residue::level;
+ghost use mathlib.Core.Path.{_≡_};
+ghost use Rattle.basis.specs.Refusal.{firstOf};
+ghost use Rattle.basis.specs.Settings.{settingsCases};
 
 // The modulus p, the number m of variables, and the number of the monomial order, of any content.
 pub struct Settings {
@@ -18,4 +22,23 @@ pub struct Answer {
 pub struct Wired {
     pub refusal: u8,
     pub count: u8,
+}
+
+// The refusals that look at the settings alone.
+pub fn settings_refusal(settings: Settings) -> u8
+    ensures { λ k. ⌜ k ≡ firstOf (settingsCases settings) ⌝ }
+{
+    if level::is_modulus(settings.modulus) {
+        if settings.variables < 1 {
+            return 4;
+        }
+        if 8 < settings.variables {
+            return 4;
+        }
+        if 2 < settings.order {
+            return 5;
+        }
+        return 0;
+    }
+    3
 }

@@ -1,0 +1,34 @@
+-- Lists of levels: the search for one out of range, and the residues.
+use mathlib.Core.Path.{_≡_}
+use mathlib.Core.Bool.{true, false}
+use mathlib.Core.List.{List}
+use Prim.Native.Nat.{ℕ, _+_, _^_, _<_}
+use native.Mathlib.Numerals.{add-one}
+use lib.IntN.{ℤ}
+use lib.Signed.{mag}
+use lib.ListN.{length, getD, drop}
+use lib.Seq.{drop-cons, drop-length}
+use mir.Syntax.{w8}
+use mir.Val.{toZ, ofZ}
+use mir.Facts.{toZ-ofZ}
+use Rattle.residue.specs.Level.{residueOf}
+use Rattle.residue.specs.declared.level.Level.the-variants.{Residue, Outside}
+use Rattle.basis.specs.Levels.{isResidue, inRange}
+
+-- an element of a slice of signed bytes, as a function has it that is handed it
+pub handed : (z : ℤ) → mag z < 2 ^ 7 → toZ w8 (ofZ w8 z) ≡ z
+handed z h = toZ-ofZ {w = w8} (record { sfits = h })
+
+-- the level at i has a residue or none, or there is no further level
+module _ (p : ℕ) (zs : List ℤ) (i : ℕ) (d : ℤ) (h : i < length zs) where
+  pub range-on : (x : ℕ) → residueOf p (getD zs i d) ≡ Residue x → inRange p (drop (i + 1) zs) ≡ inRange p (drop i zs)
+  unfolding inRange isResidue
+  range-on x e = rw (add-one, drop-cons zs i d h) (simp e)
+
+  pub range-stop : residueOf p (getD zs i d) ≡ Outside → false ≡ inRange p (drop i zs)
+  unfolding inRange isResidue
+  range-stop e = rw (drop-cons zs i d h) (simp e)
+
+pub range-end : (p : ℕ) (zs : List ℤ) (i : ℕ) → i ≡ length zs → true ≡ inRange p (drop i zs)
+unfolding inRange
+range-end p zs i e = rw (e, drop-length)

@@ -1,0 +1,130 @@
+-- `points::read_points` meets its contract. The loop has written the first i points into the table.
+use mathlib.Core.Path.{_≡_, sym, ap, _∙_}
+use mathlib.Core.List.{List, [], _∷_, _++_, map}
+use Prim.Native.Nat.{ℕ, _+_, _*_, _-_, _%_, _≤_}
+use native.Mathlib.Omega.{arith}
+use lib.ListN.{length, take, drop, length-drop, length-take, length-map}
+use lib.Seq.{length-take-le}
+use Rattle.basis.specs.Layout.{fill, inPlaces}
+use Rattle.basis.specs.Levels.{groups}
+use Rattle.basis.proofs.Layouts.{length-fill}
+use Rattle.basis.proofs.Places.{place-more, no-places}
+use Rattle.basis.proofs.PointTables.{pointAt, pointsAs, length-points, points-more, point-read, points-in}
+use Rattle.basis.proofs.points.read_points.Statement.{statement}
+use Rattle.basis.proofs.points.read_points.Tie as tie
+
+abbrev table : ℕ → ℕ → List ℕ → ℕ → List ℕ
+table p m states i = fill 512 (inPlaces 8 (pointsAs p m i states))
+
+abbrev Inv-loop : tie.InvT-loop
+Inv-loop n states points₀ p m i₀ points i = (i ≤ n) × (points ≡ table p m states i)
+
+abbrev μ-loop : tie.MeasureT-loop
+μ-loop n states points₀ p m i₀ points i = n - i
+
+long : (l : tie.At-loop Inv-loop μ-loop) → length (l .loop .points) ≡ 512
+long l = ap length (l .loop .inv .1) ∙ length-fill 512 _
+
+cast-p : tie.Need-cast-p Inv-loop μ-loop
+cast-p c = omega arith
+
+loop-holds : tie.Need-loop-holds Inv-loop μ-loop
+unfolding groups
+loop-holds c = (omega arith, c .before .before .before .pre .1 .1 ∙ no-places 8 512)
+
+mul-place : tie.Need-mul-place Inv-loop μ-loop
+mul-place c = omega arith
+
+add-put-reduced : tie.Need-add-put-reduced Inv-loop μ-loop
+add-put-reduced c = omega arith
+
+sub-put-reduced : tie.Need-sub-put-reduced Inv-loop μ-loop
+sub-put-reduced c = omega arith
+
+part-put-reduced-start : tie.Need-part-put-reduced-start Inv-loop μ-loop
+part-put-reduced-start c = omega arith
+
+part-put-reduced-end : tie.Need-part-put-reduced-end Inv-loop μ-loop
+part-put-reduced-end c = omega arith
+
+add-put-reduced-2 : tie.Need-add-put-reduced-2 Inv-loop μ-loop
+add-put-reduced-2 c = omega arith
+
+sub-put-reduced-2 : tie.Need-sub-put-reduced-2 Inv-loop μ-loop
+sub-put-reduced-2 c = omega arith
+
+part-put-reduced-start-2 : tie.Need-part-put-reduced-start-2 Inv-loop μ-loop
+part-put-reduced-start-2 c = omega arith
+
+part-put-reduced-end-2 : tie.Need-part-put-reduced-end-2 Inv-loop μ-loop
+part-put-reduced-end-2 c = omega (arith, long (c .before .before))
+
+put-reduced-requires : tie.Need-put-reduced-requires Inv-loop μ-loop
+put-reduced-requires c κs =
+    let l = c .before .before .before in
+    let s = l .before .before .before .before in
+    let i : ℕ = l .loop .i in
+    let m : ℕ = s .args .settings .variables in
+    let a : 8 * i + m - 8 * i ≡ m = omega arith in
+    let b = length-take-le (8 * i + 8 - 8 * i) (drop (8 * i) (l .loop .points)) (simp length-drop (omega (arith, long l))) in
+    let d = length-take (8 * i + m - 8 * i) (drop (8 * i) (s .args .states .now)) in
+    (omega arith, omega arith)
+
+add-i : tie.Need-add-i Inv-loop μ-loop
+add-i c = omega arith
+
+loop-less : tie.Need-loop-less Inv-loop μ-loop
+loop-less c = omega arith
+
+loop-again : tie.Need-loop-again Inv-loop μ-loop
+loop-again c =
+    let l = c .before .before .before .before .before .before in
+    let s = l .before .before .before .before in
+    let i : ℕ = l .loop .i in
+    let p : ℕ = s .args .settings .modulus in
+    let m : ℕ = s .args .settings .variables in
+    let t : List ℕ = s .args .states .now in
+    let row : List ℕ = map (λ x. x % p) (take (8 * i + m - 8 * i) (drop (8 * i) t)) in
+    let room : 8 ≤ length (drop (8 * i) t) = simp length-drop (omega arith) in
+    let is : row ≡ pointAt p m t i = point-read p m t i (8 * i + m - 8 * i) (omega arith) (omega arith) (omega arith) room in
+    let short : length row ≤ 8 = simp (length-map, length-take) (omega arith) in
+    let at : 8 * i ≡ 8 * length (pointsAs p m i t) = ap (λ (k : ℕ). 8 * k) (sym (length-points p m i t)) in (
+      omega arith,
+      place-more 8 512 (pointsAs p m i t) row (l .loop .points) _ (8 * i) (8 * i + 8 - 8 * i) (l .loop .inv .1) at (omega arith) (omega arith) short (c .before .before .put-reduced .ensures)
+          ∙ ap (λ (S : List (List ℕ)). fill 512 (inPlaces 8 S)) (ap (λ (r : List ℕ). pointsAs p m i t ++ (r ∷ [])) is ∙ sym (points-more p m i t)),
+    )
+
+same-length : tie.Need-same-length Inv-loop μ-loop
+same-length c = long (c .before) ∙ sym (ap length (c .before .before .before .before .before .pre .1 .1))
+
+returns : tie.Need-returns Inv-loop μ-loop
+returns c =
+    let l = c .before in
+    let s = l .before .before .before .before in
+    let e : l .loop .i ≡ s .args .n = omega arith in
+    l .loop .inv .1 ∙ ap (table (s .args .settings .modulus) (s .args .settings .variables) (s .args .states .now)) e
+    ∙ ap (λ (S : List (List ℕ)). fill 512 (inPlaces 8 S)) (points-in (s .args .settings) (s .args .n) (s .args .states .now))
+
+pub read-points-spec : {M : Type 1} → statement M
+read-points-spec =
+    tie.close
+    (tie.spec
+    Inv-loop
+    μ-loop
+    cast-p
+    loop-holds
+    mul-place
+    add-put-reduced
+    sub-put-reduced
+    part-put-reduced-start
+    part-put-reduced-end
+    add-put-reduced-2
+    sub-put-reduced-2
+    part-put-reduced-start-2
+    part-put-reduced-end-2
+    put-reduced-requires
+    add-i
+    loop-less
+    loop-again
+    same-length
+    returns)

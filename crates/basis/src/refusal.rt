@@ -1,0 +1,65 @@
+// The refusals that look at the settings and at lengths and counts alone, 3 to 8.
+use crate::settings::Settings;
+use crate::settings::settings_refusal;
+ghost use mathlib.Core.Path.{_≡_};
+ghost use mathlib.Core.Bool.{_||_};
+ghost use mathlib.Core.List.{[], _∷_, _++_};
+ghost use Prim.Native.Nat.{_/_, _%_};
+ghost use lib.Dec.{ltb};
+ghost use Rattle.basis.specs.Refusal.{firstOf};
+ghost use Rattle.basis.specs.Settings.{settingsCases};
+
+// Whether one of four tables of these lengths is shorter than its size.
+pub fn too_short(states: usize, standard: usize, leads: usize, coefficients: usize) -> bool
+    ensures { λ b. ⌜ b ≡ (ltb states 512 || ltb standard 512 || ltb leads 3592 || ltb coefficients 28736) ⌝ }
+{
+    if states < 512 {
+        return true;
+    }
+    if standard < 512 {
+        return true;
+    }
+    if leads < 3592 {
+        return true;
+    }
+    coefficients < 28736
+}
+
+// A table or buffer is too short, a length is wrong, there are too many points or terms.
+pub fn by_sizes(settings: Settings, short: bool, wrong: bool, many: bool) -> u8
+    ensures { λ k. ⌜ k ≡ firstOf (settingsCases settings ++ ((short, 6) ∷ (wrong, 7) ∷ (many, 8) ∷ [])) ⌝ }
+{
+    let k = settings_refusal(settings);
+    if k != 0 {
+        return k;
+    }
+    if short {
+        return 6;
+    }
+    if wrong {
+        return 7;
+    }
+    if many {
+        return 8;
+    }
+    0
+}
+
+// Division as the definitions have it, by 0 too: lengths are judged before the settings are known to be good.
+pub fn quotient(k: usize, m: u64) -> usize
+    ensures { λ q. ⌜ q ≡ k / m ⌝ }
+{
+    if m == 0 {
+        return 0;
+    }
+    k / m as usize
+}
+
+pub fn rest(k: usize, m: u64) -> usize
+    ensures { λ r. ⌜ r ≡ k % m ⌝ }
+{
+    if m == 0 {
+        return k;
+    }
+    k % m as usize
+}
