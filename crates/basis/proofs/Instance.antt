@@ -89,7 +89,7 @@ module _ (q m : ℕ) (order : Order) where
       away P Q t = (t .0, rw (P .1 .0) at (t .1), t .2)
 
 -- exponents and degrees
-degree-timesVariable : (k : ℕ) (a : List ℕ) → k < length a → degree (timesVariable k a) ≡ suc (degree a)
+pub degree-timesVariable : (k : ℕ) (a : List ℕ) → k < length a → degree (timesVariable k a) ≡ suc (degree a)
 degree-timesVariable k [] h = absurd (omega arith)
 degree-timesVariable zero (y ∷ a) h = omega arith
 degree-timesVariable (suc k) (y ∷ a) h = omega (arith, degree-timesVariable k a (omega arith))

@@ -10,3 +10,6 @@ pub mod ReducedRows
 pub mod Turns
 pub mod Products
 pub mod NextPivot
+pub mod Occurring
+pub mod Exponents
+pub mod Candidates

@@ -116,13 +116,13 @@ module _ (found : ℕ) (ranks steps : List ℕ) where
             record { variable = k; within = l; product = rw z at p; least = λ i q u. rw z at (low-least m i q u) }
 
     -- nothing is left
-    pub least-nothing : (m : ℕ) → leastOf found ranks steps at m ≡ LeastRank.Nothing → (k : ℕ) → k < m → rank at k < 2 ^ 63 → found ≤ getD at k 0
+    pub least-nothing : (m : ℕ) → leastOf found ranks steps at m ≡ LeastRank.Nothing → (k : ℕ) → k < m → (getD at k 0 < found → rank at k < 2 ^ 63) → found ≤ getD at k 0
     unfolding leastOf
     least-nothing m e k l u = go (eqb (low m) (2 ^ 63)) refl e (ltb (getD at k 0) found) refl
       where
         go : (b : Bool) → eqb (low m) (2 ^ 63) ≡ b → cond b LeastRank.Nothing (LeastRank.Of (low m)) ≡ LeastRank.Nothing →
             (s : Bool) → ltb (getD at k 0) found ≡ s → found ≤ getD at k 0
-        go true f h true g = absurd (omega (arith, low-least m k l (ltb-true _ _ g), eqb-true (low m) (2 ^ 63) f))
+        go true f h true g = let z = ltb-true _ _ g in absurd (omega (arith, u z, low-least m k l z, eqb-true (low m) (2 ^ 63) f))
         go false f h true g = let z : _≡_ {A = ℕ} 0 1 = cc in absurd (omega arith)
         go b f h false g = ltb-false _ _ g
 
@@ -141,7 +141,7 @@ module _ (found : ℕ) (ranks steps : List ℕ) where
         go false h = h
 
     -- a variable that comes later has its position still
-    passed-later : (i k : ℕ) → i ≤ k → getD (moved i) k 0 ≡ getD at k 0
+    pub passed-later : (i k : ℕ) → i ≤ k → getD (moved i) k 0 ≡ getD at k 0
     unfolding passed
     passed-later zero k h = refl
     passed-later (suc i) k h = go (isOf found ranks steps r (moved i) i) (passed-later i k (omega arith))
@@ -153,7 +153,7 @@ module _ (found : ℕ) (ranks steps : List ℕ) where
     here : (i : ℕ) → Decides (Product r at i) (isOf found ranks steps r (moved i) i)
     here i = rw (passed-later i i (omega arith)) (product-told r at i)
 
-    passed-is : (m k : ℕ) → k < m → k < length at → Product r at k → getD (moved m) k 0 ≡ getD at k 0 + 1
+    pub passed-is : (m k : ℕ) → k < m → k < length at → Product r at k → getD (moved m) k 0 ≡ getD at k 0 + 1
     unfolding passed
     passed-is zero k l n h = absurd (omega arith)
     passed-is (suc i) k l n h = go (here i) (eqb k i) refl (λ z. passed-is i k z n h)
@@ -167,7 +167,7 @@ module _ (found : ℕ) (ranks steps : List ℕ) where
         go (not-so p) true e f = absurd (p (rw (eqb-true k i e) at h))
         go (not-so p) false e f = f (let d : ¬ (k ≡ i) = eqb-false k i e in omega arith)
 
-    passed-not : (m k : ℕ) → ¬ Product r at k → getD (moved m) k 0 ≡ getD at k 0
+    pub passed-not : (m k : ℕ) → ¬ Product r at k → getD (moved m) k 0 ≡ getD at k 0
     unfolding passed
     passed-not zero k h = refl
     passed-not (suc i) k h = go (here i) (passed-not i k h)
@@ -176,7 +176,7 @@ module _ (found : ℕ) (ranks steps : List ℕ) where
         go (so p) e = getD-set-other (moved i) i k _ 0 (λ z. h (rw z p)) ∙ e
         go (not-so p) e = e
 
-    pub passed-grows : (m k : ℕ) → m ≤ length at → getD at k 0 ≤ getD (moved m) k 0
+    passed-grows : (m k : ℕ) → m ≤ length at → getD at k 0 ≤ getD (moved m) k 0
     passed-grows m k l = go (ltb k m) refl (product-told r at k)
       where
         go : (s : Bool) → ltb k m ≡ s → {b : Bool} → Decides (Product r at k) b → getD at k 0 ≤ getD (moved m) k 0
@@ -190,7 +190,7 @@ module _ (found : ℕ) (ranks steps : List ℕ) where
       pub product : Product r at (p .variable)
       pub standard : p .standard ≡ getD at (p .variable) 0
 
-    pub parents-last : (m k : ℕ) → k < m → Product r at k → Last m (parentsOf found ranks steps r at m)
+    parents-last : (m k : ℕ) → k < m → Product r at k → Last m (parentsOf found ranks steps r at m)
     unfolding parentsOf
     parents-last zero k l h = absurd (omega arith)
     parents-last (suc i) k l h = go (here i) (eqb k i) refl (λ z. parents-last i k z h)
@@ -202,6 +202,18 @@ module _ (found : ℕ) (ranks steps : List ℕ) where
         go (not-so p) false e f =
             let w = f (let d : ¬ (k ≡ i) = eqb-false k i e in omega arith) in
             record { within = omega (arith, w .within); product = w .product; standard = w .standard }
+
+-- passing the products of the least rank leaves fewer
+module _ (found : ℕ) (ranks steps : List ℕ) (m : ℕ) (at : List ℕ) (r : ℕ) (e : leastOf found ranks steps at m ≡ LeastRank.Of r) where
+  pub passed-fewer : (next : List ℕ) → next ≡ passed found ranks steps r at m → m ≤ length at → remaining found next m < remaining found at m
+  passed-fewer next f l =
+      let u = least-of found ranks steps at m r e in
+      rw f
+      (remaining-less found at (passed found ranks steps r at m) (λ k. passed-grows found ranks steps r at m k l) m (u .variable) (u .within) (u .product .0)
+      (omega (arith, passed-is found ranks steps r at m (u .variable) (u .within) (omega (arith, u .within)) (u .product))))
+
+  pub least-last : (p : Parents) → p ≡ parentsOf found ranks steps r at m → Last found ranks steps r at m p
+  least-last p g = let u = least-of found ranks steps at m r e in rw g (parents-last found ranks steps r at m (u .variable) (u .within) (u .product))
 
 -- The search: there are turns enough for the products that are left.
 module _ (m found : ℕ) (standard ranks steps : List ℕ) where
@@ -223,16 +235,6 @@ module _ (m found : ℕ) (standard ranks steps : List ℕ) where
     search-none e = rw e at (w .reached)
 
     module _ (r : ℕ) (e : leastOf found ranks steps at m ≡ LeastRank.Of r) where
-      pub search-last : (p : Parents) → p ≡ parentsOf found ranks steps r at m → Last found ranks steps r at m p
-      search-last p g = let u = least-of found ranks steps at m r e in rw g (parents-last found ranks steps r at m (u .variable) (u .within) (u .product))
-
-      pub search-less : (next : List ℕ) → next ≡ passed found ranks steps r at m → m ≤ length at → remaining found next m < remaining found at m
-      search-less next f l =
-          let u = least-of found ranks steps at m r e in
-          rw f
-          (remaining-less found at (passed found ranks steps r at m) (λ k. passed-grows found ranks steps r at m k l) m (u .variable) (u .within) (u .product .0)
-          (omega (arith, passed-is found ranks steps r at m (u .variable) (u .within) (omega (arith, u .within)) (u .product))))
-
       -- what the turn has found, and how many variables occur
       module _ (p : Parents) (g : p ≡ parentsOf found ranks steps r at m) (next : List ℕ) (f : next ≡ passed found ranks steps r at m) (n : ℕ)
           (o : n ≡ occurringIn (take 8 (drop (8 * p .standard) standard)) (p .variable) 8) where
@@ -246,7 +248,7 @@ module _ (m found : ℕ) (standard ranks steps : List ℕ) where
         unfolding nextFrom atLeast
         search-again h l =
             let z : isWhole standard p ≡ false = ne-eqb _ _ (λ y. h (y ∙ sym o)) in
-            go (w .turns) (omega (arith, search-less next f l, w .enough)) (rw f (rw (e, rw g at z) at (w .reached)))
+            go (w .turns) (omega (arith, passed-fewer found ranks steps m at r e next f l, w .enough)) (rw f (rw (e, rw g at z) at (w .reached)))
           where
             go : (i : ℕ) → remaining found next m < i → from i next ≡ end → Searching next end
             go zero k y = absurd (omega arith)

@@ -6,7 +6,7 @@ use native.Mathlib.Omega.{arith}
 use lib.ListN.{length, take, drop, length-take, length-drop}
 use Rattle.basis.specs.declared.candidate.LeastRank.the-variants.{Of}
 use Rattle.basis.specs.Candidates.{leastOf, occurringIn, nextOf}
-use Rattle.basis.proofs.elimination.Products.{remaining, passed-length, Searching, search-start, search-none, search-last, search-found, search-less, search-again}
+use Rattle.basis.proofs.elimination.Products.{remaining, passed-length, passed-fewer, least-last, Searching, search-start, search-none, search-found, search-again}
 use Rattle.basis.proofs.candidate.next.Statement.{statement}
 use Rattle.basis.proofs.candidate.next.Tie as tie
 
@@ -32,7 +32,7 @@ module _ (c : tie.After-pass Inv-loop μ-loop) where
 
   within : c .pass .result .standard < s .args .found
   within =
-      let w = search-last _ _ _ _ _ _ _ (l .loop .inv .1) r ranked (c .pass .result) (c .pass .ensures .0) in
+      let w = least-last _ _ _ _ _ r ranked (c .pass .result) (c .pass .ensures .0) in
       omega (arith, w .standard, w .product .0)
 
   room : s .args .m ≤ length (l .loop .at)
@@ -100,7 +100,7 @@ returns-2 c =
     search-found _ _ _ _ _ _ _ (l p .loop .inv .1) (r p) (ranked p) (p .pass .result) (p .pass .ensures .0) _ (p .pass .ensures .1) _ (counted n) (c .if1 .taken)
 
 loop-less : tie.Need-loop-less Inv-loop μ-loop
-loop-less c = let p = q (c .before .before) in search-less _ _ _ _ _ _ _ (l p .loop .inv .1) (r p) (ranked p) _ (p .pass .ensures .1) (room p)
+loop-less c = let p = q (c .before .before) in passed-fewer _ _ _ _ _ (r p) (ranked p) _ (p .pass .ensures .1) (room p)
 
 loop-again : tie.Need-loop-again Inv-loop μ-loop
 loop-again c =
