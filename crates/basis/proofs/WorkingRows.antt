@@ -1,5 +1,5 @@
 -- Laws of working rows: lengths and residues, what a cancellation does to each entry, and the search for the first number that is not 0.
-use mathlib.Core.Path.{_≡_, refl, sym, ap, _∙_}
+use mathlib.Core.Path.{_≡_, refl, sym, ap, ap₂, _∙_}
 use mathlib.Core.Bool.{Bool, true, false, cond}
 use mathlib.Core.List.{List, _++_}
 use Prim.Native.Nat.{ℕ, zero, suc, _+_, _*_, _-_, _%_, _<_, _≤_}
@@ -148,6 +148,11 @@ module _ (p own c : ℕ) (w : List ℕ) (inside : own < length w) where
       go (yes k) =
           let z : getD (set w own 1) i 0 ≡ 0 = getD-set-other w own i 1 0 (λ e. omega arith) ∙ h k in
           of (past-front (scaled p c own-front) (set w own 1) (own + 1) i own-length (omega arith) ∙ rw z (omega arith))
+
+-- a part that was lent, and came back as the new row, is the row replaced
+pub put-row : (t k : ℕ) (rows : List ℕ) {part mid new : List ℕ} → k ≡ 128 → part ≡ mid → mid ≡ new → take (128 * t) rows ++ (part ++ drop k (drop (128 * t) rows)) ≡ withRow t new rows
+unfolding withRow
+put-row t k rows e h g = ap₂ (λ (m : ℕ) (l : List ℕ). take (128 * t) rows ++ (l ++ drop m (drop (128 * t) rows))) e (h ∙ g)
 
 -- A table with a row replaced: its length, residues, the rows before and the row itself.
 module _ (t : ℕ) (new rows : List ℕ) (fits : 128 * t + 128 ≤ length rows) (long : length new ≡ 128) where

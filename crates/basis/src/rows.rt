@@ -1,10 +1,13 @@
 // Elimination. A working row has n values at the points, then one coefficient for each standard monomial found, and is 128 numbers long.
+use residue::inverse::inverse;
 use residue::vector::add_scaled;
+use residue::vector::scale;
 ghost use mathlib.Core.Path.{_≡_};
 ghost use Prim.Native.Nat.{ℕ, _+_, _*_, _<_, _≤_};
-ghost use lib.ListN.{length, getD};
+ghost use lib.ListN.{length, getD, set};
+ghost use Rattle.residue.specs.Inverse.{inverseOf};
 ghost use Rattle.residue.specs.Vector.{Below};
-ghost use Rattle.basis.specs.Working.{cancelled, eliminated, firstNonzero};
+ghost use Rattle.basis.specs.Working.{cancelled, eliminated, firstNonzero, pivotRow, withRow};
 
 // Cancels the working row's entry at a point by a row that is 1 there.
 fn cancel(p: u16, row: &[u16], at: usize, work: &mut [u16])
@@ -51,4 +54,51 @@ pub fn first_nonzero(work: &[u16], n: usize) -> usize
         q += 1;
     }
     n
+}
+
+// Makes the working row a pivot row: its coefficient for its own monomial becomes 1, and then its value at the pivot.
+fn normalise(p: u16, own: usize, at: usize, work: &mut [u16])
+    requires { ⌜ (2 ≤ p) × (p ≤ 61) ⌝ }
+    requires { ⌜ (own < length (now work)) × (at < length (now work)) ⌝ }
+    requires { ⌜ Below p (now work) ⌝ }
+    ensures { λ _. ⌜ now (work .exit) ≡ pivotRow p own (inverseOf p (getD (now (work .entry)) at 0)) (now (work .entry)) ⌝ }
+{
+    let c = inverse(p, work[at]);
+    work[own] = 1;
+    let len = own + 1;
+    scale(p, &mut work[..len], c);
+}
+
+// Copies a row of numbers.
+pub fn copy(from: &[u16], to: &mut [u16])
+    requires { ⌜ length (now from) ≡ length (now to) ⌝ }
+    ensures { λ _. ⌜ now (to .exit) ≡ now (from .entry) ⌝ }
+{
+    for i in 0..to.len() {
+        to[i] = from[i];
+    }
+}
+
+// Keeps the working row as the next pivot row, with its pivot.
+pub fn keep(
+    p: u16,
+    n: usize,
+    found: usize,
+    at: usize,
+    work: &mut [u16],
+    rows: &mut [u16],
+    pivots: &mut [u8],
+)
+    requires { ⌜ (2 ≤ p) × (p ≤ 61) ⌝ }
+    requires { ⌜ (at < n) × ((n + found < 128) × (length (now work) ≡ 128)) ⌝ }
+    requires { ⌜ (128 * found + 128 ≤ length (now rows)) × (found < length (now pivots)) ⌝ }
+    requires { ⌜ Below p (now work) ⌝ }
+    ensures { λ _. ⌜ now (work .exit) ≡ pivotRow p (n + found) (inverseOf p (getD (now (work .entry)) at 0)) (now (work .entry)) ⌝ }
+    ensures { λ _. ⌜ now (rows .exit) ≡ withRow found (pivotRow p (n + found) (inverseOf p (getD (now (work .entry)) at 0)) (now (work .entry))) (now (rows .entry)) ⌝ }
+    ensures { λ _. ⌜ now (pivots .exit) ≡ set (now (pivots .entry)) found at ⌝ }
+{
+    normalise(p, n + found, at, work);
+    let from = 128 * found;
+    copy(work, &mut rows[from..from + 128]);
+    pivots[found] = at as u8;
 }

@@ -1,0 +1,93 @@
+-- `rows::normalise` meets its contract.
+use mathlib.Core.Path.{_≡_, refl, sym, ap, _∙_}
+use mathlib.Core.Bool.{Bool, true, false}
+use mathlib.Core.List.{List, _++_}
+use Prim.Native.Nat.{ℕ, _+_, _<_}
+use native.Mathlib.Decide.{decLt}
+use native.Mathlib.Omega.{arith}
+use lib.ListN.{length, getD, set, take, drop, length-set}
+use lib.Seq.{length-take-le, length-front}
+use borrow.Author.Needs.{needs}
+use Rattle.residue.specs.Modulus.{isModulus}
+use Rattle.residue.specs.Inverse.{inverseOf}
+use Rattle.residue.specs.Vector.{scaled}
+use Rattle.residue.proofs.Inverses.{inverse-below, no-modulus, no-residue}
+use Rattle.residue.proofs.Vectors.{below-take, below-set}
+use Rattle.basis.specs.Working.{pivotRow}
+use Rattle.basis.proofs.rows.normalise.Statement.{statement}
+use Rattle.basis.proofs.rows.normalise.Tie as tie
+
+inverse-small : (p x : ℕ) → 0 < p → inverseOf p x < p
+inverse-small p x z = go (isModulus p) refl (decLt x p)
+  where
+    go : (b : Bool) → isModulus p ≡ b → Dec (x < p) → inverseOf p x < p
+    go true m (yes h) = inverse-below p x m h
+    go true m (no h) = rw (no-residue p x (omega (arith, h))) z
+    go false m d = rw (no-modulus p x m) z
+
+front-long : (w : List ℕ) (own : ℕ) → own < length w → length (take (own + 1) (set w own 1)) ≡ own + 1
+front-long w own h = length-take-le (own + 1) (set w own 1) (simp length-set (omega arith))
+
+mul-inverse : tie.Need-mul-inverse
+mul-inverse c = search needs
+
+slice-read-inverse : tie.Need-slice-read-inverse
+slice-read-inverse c = search needs
+
+inverse-requires : tie.Need-inverse-requires
+inverse-requires c κs = search needs
+
+mul-work : tie.Need-mul-work
+mul-work c = search needs
+
+slice-write-work : tie.Need-slice-write-work
+slice-write-work c = search needs
+
+add-len : tie.Need-add-len
+add-len c = search needs
+
+slice-relend-prefix-scale : tie.Need-slice-relend-prefix-scale
+slice-relend-prefix-scale c = simp length-set (omega arith)
+
+slice-aggregate-scale : tie.Need-slice-aggregate-scale
+slice-aggregate-scale c = let s = c .before .before .before .before in sym (front-long (s .args .work .now) (s .args .own) (s .pre .1 .0 .0))
+
+scale-requires : tie.Need-scale-requires
+scale-requires c κs =
+    let s = c .before .before .before .before in
+    let w : List ℕ = s .args .work .now in
+    let i = inverse-small (s .args .p) (getD w (s .args .at) 0) (omega arith) in (
+      s .pre .0,
+      (below-take (s .args .p) (s .args .own + 1) (set w (s .args .own) 1) (below-set (s .args .p) (s .args .own) 1 w (omega arith) (s .pre .1 .1)), rw (c .before .inverse .ensures) i),
+    )
+
+same-length : tie.Need-same-length
+same-length c =
+    let called = c .before .before in
+    let s = called .before .before .before .before .before in
+    length-front (set (s .args .work .now) (s .args .own) 1) (called .scale .last .1 .0) (s .args .own + 1) (called .scale .kept .1 .0) ∙ simp length-set
+
+returns : tie.Need-returns
+unfolding pivotRow
+returns c =
+    let called = c .before .before in
+    let s = called .before .before .before .before .before in
+    let w : List ℕ = set (s .args .work .now) (s .args .own) 1 in
+    ap (λ (l : List ℕ). l ++ drop (s .args .own + 1) w)
+    (called .scale .ensures ∙ ap (λ (k : ℕ). scaled (s .args .p) k (take (s .args .own + 1) w)) (called .before .before .inverse .ensures))
+
+pub normalise-spec : {M : Type 1} → statement M
+normalise-spec =
+    tie.close
+    (tie.spec
+    mul-inverse
+    slice-read-inverse
+    inverse-requires
+    mul-work
+    slice-write-work
+    add-len
+    slice-relend-prefix-scale
+    slice-aggregate-scale
+    scale-requires
+    same-length
+    returns)
