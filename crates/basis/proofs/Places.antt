@@ -7,7 +7,7 @@ use Prim.Native.Nat.{ℕ, zero, suc, _+_, _*_, _-_, _<_, _≤_}
 use native.Mathlib.Omega.{arith}
 use native.Mathlib.Nat.{le-of-suc-le-suc}
 use native.Mathlib.Numerals.{add-one}
-use lib.ListN.{length, take, drop, replicate, length-append, length-replicate, replicate-append-replicate}
+use lib.ListN.{length, take, drop, getD, List·getD-map, replicate, length-append, length-replicate, replicate-append-replicate}
 use lib.Seq.{take-at, drop-at, drop-drop}
 use lib.Dec.{eqb}
 use Rattle.residue.specs.Lists.{Among}
@@ -45,6 +45,15 @@ module _ {A : Type 0} (w : ℕ) where
   -- the first i and one more
   pub groups-more : (i : ℕ) (t : List A) → groups w (i + 1) t ≡ groups w i t ++ (take w (drop (w * i) t) ∷ [])
   groups-more i t = ap (λ (k : ℕ). groups w k t) (add-one i) ∙ more i t
+
+  -- the ith of them
+  pub groups-at : (n i : ℕ) (t d : List A) → i < n → getD (groups w n t) i d ≡ take w (drop (w * i) t)
+  unfolding groups
+  groups-at zero i t d h = absurd (omega arith)
+  groups-at (suc n) zero t d h = let e : w * 0 ≡ 0 = omega arith in rw e
+  groups-at (suc n) (suc i) t d h =
+      let e : w + w * i ≡ w * suc i = omega arith in
+      groups-at n i (drop w t) d (le-of-suc-le-suc h) ∙ rw (drop-drop (w * i) w t, e)
 
 -- A search for a point along the places.
 module _ (P t : List ℕ) (n i : ℕ) (h : i < n) where
@@ -105,6 +114,10 @@ pub table-groups : (w N : ℕ) (S : List (List ℕ)) → w * length S ≤ N → 
 table-groups w N S h =
     let e : N ≡ w * length S + (N - w * length S) = omega arith in
     ap (λ (n : ℕ). groups w (length S) (fill n (inPlaces w S))) e ∙ ap (groups w (length S)) (table-split w S (N - w * length S)) ∙ places-back w S _
+
+pub place-at : (w N : ℕ) (S : List (List ℕ)) (i : ℕ) (d : List ℕ) → w * length S ≤ N → i < length S → take w (drop (w * i) (fill N (inPlaces w S))) ≡ fill w (getD S i d)
+place-at w N S i d h l =
+    sym (groups-at w (length S) i (fill N (inPlaces w S)) (fill w d) l) ∙ ap (λ (z : List (List ℕ)). getD z i (fill w d)) (table-groups w N S h) ∙ List·getD-map (fill w) S i d
 
 -- Writing.
 over-zeros : (r : List ℕ) (w : ℕ) → length r ≤ w → over r (replicate w 0) ≡ fill w r

@@ -2,12 +2,14 @@
 -- the positions stand behind its products.
 use mathlib.Core.Path.{_≡_, refl, sym, ap, subst, _∙_}
 use mathlib.Core.Bool.{Bool, true, false, cond}
-use mathlib.Core.List.{List}
+use mathlib.Core.List.{List, [], _∷_, _++_, map}
 use Prim.Native.Nat.{ℕ, zero, suc, _+_, _*_, _<_, _≤_}
 use native.Mathlib.Numerals.{add-one}
 use native.Mathlib.Omega.{arith}
+use native.Mathlib.Decide.{ℕ-discrete}
 use borrow.Author.Tests.{eqb-true, eqb-false}
-use lib.ListN.{length, take, drop, getD}
+use lib.ListN.{length, take, drop, getD, set, length-append, length-map, List·getD-append, List·getD-map}
+use lib.Seq.{getD-at, getD-set-same, getD-set-other}
 use Rattle.residue.specs.Lists.{Among}
 use Rattle.residue.specs.Modulus.{isModulus}
 use Rattle.monomial.specs.Monomial.{degree}
@@ -19,17 +21,18 @@ use Rattle.basis.specs.declared.candidate.LeastRank.the-variants as Leas
 use Rattle.basis.specs.declared.candidate.Parents.{Parents}
 use Rattle.basis.specs.declared.candidate.Candidate.{Candidate}
 use Rattle.basis.specs.declared.candidate.Candidate.the-variants as Candidate
-use Rattle.basis.specs.Layout.{fill}
+use Rattle.basis.specs.Layout.{fill, inPlaces}
 use Rattle.basis.specs.Space.{Space, Less}
 use Rattle.basis.specs.Polynomial.{Distinct}
 use Rattle.basis.specs.BasisOf.{standardOf, leadsOf}
 use Rattle.basis.specs.Instance.{Monomial, Point, spaceOf}
 use Rattle.basis.specs.Candidates.{leastOf, passed, parentsOf, occurringIn, isWhole, Next, ended, atLeast, nextFrom, nextOf}
 use Rattle.basis.proofs.Instance.{monomial-path, laws, degree-timesVariable, standard-total}
+use Rattle.basis.proofs.Places.{place-at}
 use Rattle.basis.proofs.ideal.Laws.{Laws}
 use Rattle.basis.proofs.ideal.Lists.{getD-among}
 use Rattle.basis.proofs.elimination.Drawing as drawing
-use Rattle.basis.proofs.elimination.Drawing.{Drawn, Bordered, drawn-standard, drawn-leads, bordered}
+use Rattle.basis.proofs.elimination.Drawing.{Drawn, Bordered, drawn-standard, drawn-leads, bordered, standard-room}
 use Rattle.basis.proofs.elimination.Positions.{productAt, Positions, Lowest, Advances, none-left, next-at, bordered-at, at-bordered, advanced}
 use Rattle.basis.proofs.elimination.Products.{remaining, remaining-most, Product, least-of, least-nothing, passed-length, passed-is, passed-not, Last, passed-fewer, least-last}
 use Rattle.basis.proofs.elimination.Occurring.{Occurs, count-whole, whole-count}
@@ -42,11 +45,26 @@ module _ (q m : ℕ) (order : Order) where
   abbrev rank : Monomial m → ℕ
   rank a = rankOf order (fill 8 (a .0))
 
-  -- the standard monomials found, in their table, with their ranks and those of the variables
-  pub record Tabled (standard : List (Monomial m)) (table ranks steps : List ℕ) : Type 0 where
-    pub row : (t : ℕ) → t < length standard → take 8 (drop (8 * t) table) ≡ fill 8 (getD standard t (D .one) .0)
+  -- the table of the standard monomials found
+  abbrev pub tableOf : List (Monomial m) → List ℕ
+  tableOf standard = fill 512 (inPlaces 8 (map (λ a. a .0) standard))
+
+  -- their ranks, and those of the variables
+  pub record Ranked (standard : List (Monomial m)) (ranks steps : List ℕ) : Type 0 where
     pub ranked : (t : ℕ) → t < length standard → getD ranks t 0 ≡ rank (getD standard t (D .one))
     pub step : (k : ℕ) → k < m → getD steps k 0 ≡ variableRank order k
+
+  -- one more
+  pub ranked-more : (standard : List (Monomial m)) (ranks steps : List ℕ) → Ranked standard ranks steps → (b : Monomial m) (r : ℕ) → r ≡ rank b →
+      length standard < length ranks → Ranked (standard ++ (b ∷ [])) (set ranks (length standard) r) steps
+  ranked-more standard ranks steps R b r e h = record { ranked = λ t l. go t (ℕ-discrete t (length standard)) l; step = R .step }
+    where
+      go : (t : ℕ) → Dec (t ≡ length standard) → t < length (standard ++ (b ∷ [])) →
+          getD (set ranks (length standard) r) t 0 ≡ rank (getD (standard ++ (b ∷ [])) t (D .one))
+      go t (yes z) l = rw z (getD-set-same ranks (length standard) r 0 h ∙ e ∙ ap rank (sym (getD-at standard b [] (D .one) (length standard) refl)))
+      go t (no z) l =
+          let u : t < length standard = omega (arith, length-append standard (b ∷ [])) in
+          getD-set-other ranks (length standard) t r 0 z ∙ R .ranked t u ∙ ap rank (sym (List·getD-append standard (b ∷ []) (D .one) t u))
 
   -- The product of variable k and the t-th standard monomial is next, all below it being decided, and its divisors are standard.
   pub record Found (S : List (Point (suc q) m)) (standard leads : List (Monomial m)) (k t r : ℕ) (at : List ℕ) : Type 0 where
@@ -66,13 +84,16 @@ module _ (q m : ℕ) (order : Order) where
   Outcome S standard leads (Candidate.Of k t r) at = Found S standard leads k t r at
 
   module _ (p : isModulus (suc q) ≡ true) (l : m ≤ 8) (S : List (Point (suc q) m)) (d : Distinct D S) (n : length S ≤ 64)
-      (standard leads : List (Monomial m)) (table ranks steps : List ℕ) (T : Tabled standard table ranks steps) (inc : Increasing (D .cmp) standard)
-      (inside : (a : Monomial m) → Among a standard → Among a (standardOf D S)) where
+      (standard leads : List (Monomial m)) (ranks steps : List ℕ) (R : Ranked standard ranks steps) (inc : Increasing (D .cmp) standard)
+      (inside : (a : Monomial m) → Among a standard → Among a (standardOf D S)) (room : length standard ≤ length S) where
     L : Laws D
     L = laws q m order p
 
     abbrev found : ℕ
     found = length standard
+
+    abbrev table : List ℕ
+    table = tableOf standard
 
     abbrev std : ℕ → Monomial m
     std t = getD standard t (D .one)
@@ -80,12 +101,17 @@ module _ (q m : ℕ) (order : Order) where
     abbrev prod : ℕ → ℕ → Monomial m
     prod v t = productAt D standard v t
 
+    row : (t : ℕ) → t < found → take 8 (drop (8 * t) table) ≡ fill 8 (std t .0)
+    row t h =
+        place-at 8 512 (map (λ a. a .0) standard) t (D .one .0) (rw length-map (omega (arith, room))) (rw length-map h)
+        ∙ ap (fill 8) (List·getD-map (λ (a : Monomial m). a .0) standard t (D .one))
+
     small : (v t : ℕ) → v < m → t < found → degree (prod v t .0) < 128
     small v t hv h =
         omega (arith, degree-timesVariable v (std t .0) (rw (std t .1) hv), standard-total q m order p S d (std t) (inside (std t) (getD-among standard t (D .one) h)))
 
     rank-product : (v t : ℕ) → v < m → t < found → getD ranks t 0 + getD steps v 0 ≡ rank (prod v t)
-    rank-product v t hv h = rw (T .ranked t h, T .step v hv) (sym (rank-times (std t .0) (rw (std t .1) l) order v (rw (std t .1) hv)))
+    rank-product v t hv h = rw (R .ranked t h, R .step v hv) (sym (rank-times (std t .0) (rw (std t .1) l) order v (rw (std t .1) hv)))
 
     product-same : (v t w u : ℕ) → v < m → t < found → w < m → u < found → rank (prod v t) ≡ rank (prod w u) → prod v t ≡ prod w u
     product-same v t w u hv ht hw hu e =
@@ -184,11 +210,11 @@ module _ (q m : ℕ) (order : Order) where
         whole f =
             bordered-at D L standard inc c (λ v. getD at v 0) P b low
             (λ v a hv z. product-here v hv
-            (count-whole found ranks steps r at m l (fill 8 (std t .0)) k own none (f ∙ ap (λ (w : List ℕ). occurringIn w k 8) (T .row t parent)) v hv
+            (count-whole found ranks steps r at m l (fill 8 (std t .0)) k own none (f ∙ ap (λ (w : List ℕ). occurringIn w k 8) (row t parent)) v hv
             (product-occurs (std t .0) (rw (std t .1) l) k v (a .0) (rw (a .1) hv) (omega arith) (ap (λ (w : Monomial m). w .0) z))))
 
         counted : Bordered D standard b → pr .count ≡ occurringIn (take 8 (drop (8 * t) table)) k 8
-        counted f = whole-count found ranks steps r at m l (fill 8 (std t .0)) k own none each ∙ sym (ap (λ (w : List ℕ). occurringIn w k 8) (T .row t parent))
+        counted f = whole-count found ranks steps r at m l (fill 8 (std t .0)) k own none each ∙ sym (ap (λ (w : List ℕ). occurringIn w k 8) (row t parent))
           where
             each : (i : ℕ) → i < m → Occurs (fill 8 (std t .0)) k i → Product found ranks steps r at i
             each i hi o =
@@ -240,9 +266,10 @@ module _ (q m : ℕ) (order : Order) where
 
   -- What `candidate::next` answers, of the points S, with the standard monomials and leads found and all up to c decided.
   pub next-candidate : isModulus (suc q) ≡ true → m ≤ 8 → (S : List (Point (suc q) m)) → Distinct D S → length S ≤ 64 → (standard leads : List (Monomial m)) (c : Monomial m) →
-      Drawn D S standard leads c → (table ranks steps : List ℕ) → Tabled standard table ranks steps → (at : List ℕ) → length at ≡ 8 →
-      Positions D standard c (λ v. getD at v 0) → (a : Candidate) (at′ : List ℕ) → ended a at′ ≡ nextOf m (length standard) table ranks steps at → Outcome S standard leads a at′
+      Drawn D S standard leads c → (ranks steps : List ℕ) → Ranked standard ranks steps → (at : List ℕ) → length at ≡ 8 → Positions D standard c (λ v. getD at v 0) →
+      (a : Candidate) (at′ : List ℕ) → ended a at′ ≡ nextOf m (length standard) (tableOf standard) ranks steps at → Outcome S standard leads a at′
   unfolding nextOf
-  next-candidate p l S d n standard leads c W table ranks steps T at long P a at′ e =
+  next-candidate p l S d n standard leads c W ranks steps R at long P a at′ e =
       subst (λ (z : Next). Outcome S standard leads (z .answer) (z .positions)) (sym e)
-      (turns p l S d n standard leads table ranks steps T (W .standard-to .increasing) (W .standard-to .of-all) (m * length standard) at long c W P (remaining-most (length standard) at m))
+      (turns p l S d n standard leads ranks steps R (W .standard-to .increasing) (W .standard-to .of-all) (standard-room D (laws q m order p) S d standard leads c W)
+      (m * length standard) at long c W P (remaining-most (length standard) at m))

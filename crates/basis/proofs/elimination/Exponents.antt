@@ -8,15 +8,16 @@ use native.Mathlib.Omega.{arith}
 use native.Mathlib.Decide.{decLt, ℕ-discrete}
 use lib.ListN.{length, getD, set, length-set, List·getD-eq-default}
 use lib.Seq.{getD-set-same, getD-set-other, set-set, set-getD}
-use Rattle.monomial.specs.Monomial.{degree, timesVariable}
+use Rattle.monomial.specs.Monomial.{degree, one, timesVariable}
 use Rattle.monomial.specs.Order.{Order, cmp}
 use Rattle.monomial.specs.Rank.{rankOf, variableRank}
-use Rattle.monomial.proofs.Algebra.Products.{length-timesVariable}
+use Rattle.monomial.proofs.Algebra.Products.{length-timesVariable, length-variable}
 use Rattle.monomial.proofs.Orders.Answers.{Says, less, same, more, says, said, lt≢eq, gt≢lt}
 use Rattle.monomial.proofs.Orders.Lawful.{lawful}
-use Rattle.monomial.proofs.Padding.{pad, length-pad, degree-pad, timesVariable-pad}
+use Rattle.monomial.proofs.Padding.{degree-one, pad, length-pad, degree-pad, timesVariable-pad}
 use Rattle.monomial.proofs.Ranks.{rank-pad-cmp, rank-fits, rank-timesVariable}
 use Rattle.basis.specs.Layout.{fill, length-fill}
+use Rattle.basis.proofs.Instance.{degree-timesVariable}
 use Rattle.basis.proofs.Layouts.{fill-at, fill-append, fill-zeros}
 use Rattle.basis.proofs.elimination.Occurring.{Occurs}
 
@@ -24,6 +25,13 @@ fill-pad : (a : List ℕ) → length a ≤ 8 → fill 8 a ≡ pad a
 fill-pad a l =
     let e : length a + (8 - length a) ≡ 8 = omega arith in
     rw (e, append-nil, fill-zeros) at (fill-append a [] (8 - length a))
+
+-- the rank of a variable is small
+pub variable-small : (order : Order) (k : ℕ) → k < 8 → variableRank order k < 2 ^ 56
+unfolding variableRank
+variable-small order k h =
+    rank-fits order (timesVariable k (one 8)) (length-variable k 8)
+    (omega (arith, degree-timesVariable k (one 8) (omega arith), degree-one 8))
 
 -- a monomial in which a variable occurs is a product by it
 divided : (b : List ℕ) (i : ℕ) → i < length b → ¬ (getD b i 0 ≡ 0) → b ≡ timesVariable i (set b i (getD b i 0 - 1))
