@@ -21,7 +21,8 @@ unfoldable pub firstNonzero : ℕ → List ℕ → ℕ
 firstNonzero zero w = 0
 firstNonzero (suc n) w = cond (eqb (getD w 0 0) 0) (suc (firstNonzero n (drop 1 w))) 0
 
--- the row w as a pivot row: its coefficient for its own monomial, at the given place, becomes 1, and then all of it is multiplied by c
+-- the row w as a pivot row: its coefficient for its own monomial, at the given place, becomes 1, and then its numbers up to that place are multiplied by c;
+-- those behind are 0
 unfoldable pub pivotRow : ℕ → ℕ → ℕ → List ℕ → List ℕ
 pivotRow p own c w = scaled p c (take (own + 1) (set w own 1)) ++ drop (own + 1) (set w own 1)
 
