@@ -5,3 +5,8 @@ pub mod Spanning
 pub mod Numbers
 pub mod Sameness
 pub mod Headers
+pub mod Unrolling
+pub mod Quotes
+pub mod Entering
+pub mod Checking
+pub mod Heading

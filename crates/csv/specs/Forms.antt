@@ -4,7 +4,7 @@ use mathlib.Core.List.{List, [], _∷_}
 use mathlib.Core.Option.{Option, some, none, Option·map}
 use Prim.Native.Nat.{ℕ, zero, suc, _+_, _*_, _-_}
 use lib.IntN.{ℤ, pos, negsuc}
-use lib.ListN.{length, getD, take, drop}
+use lib.ListN.{length, take, drop}
 use lib.Dec.{eqb, leb}
 use Rattle.basis.specs.Levels.{sameList}
 use Rattle.csv.specs.Fields.{front}
@@ -62,7 +62,7 @@ unfoldable pub orderWord : List ℕ → Option ℕ
 orderWord l = cond (sameList l []) (some 0)
     (cond (sameList l lex-word) (some 0) (cond (sameList l grlex-word) (some 1) (cond (sameList l grevlex-word) (some 2) none)))
 
--- what the header says: m names, which may be anything, then the modulus and the order
+-- what the header says
 pub record Header : Type 0 where
   pub variables : ℕ
   pub modulus : ℕ
@@ -81,5 +81,11 @@ settingsOf m l = header m (numberOf (take (front isDigit l) l)) (orderWord (drop
 unfoldable pub lastField : ℕ → List ℕ → Option Header
 lastField m l = cond (sameList (take 4 l) mod-word) (settingsOf m (drop 4 l)) none
 
+-- m names so far, which may be anything, and the last field behind them all
+unfoldable pub headerFrom : ℕ → List (List ℕ) → Option Header
+headerFrom m [] = none
+headerFrom m (last ∷ []) = lastField m last
+headerFrom m (name ∷ f ∷ fields) = headerFrom (suc m) (f ∷ fields)
+
 unfoldable pub headerOf : List (List ℕ) → Option Header
-headerOf fields = lastField (length fields - 1) (getD fields (length fields - 1) [])
+headerOf fields = headerFrom 0 fields

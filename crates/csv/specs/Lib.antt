@@ -1,6 +1,7 @@
--- The definitions of the crate csv.
+-- The definitions of the crate csv. A reader of `read_text` needs Fields, Forms and Reading; the others are the inner functions' answers.
 pub mod Fields
-pub mod Spans
 pub mod Forms
-pub mod Said
 pub mod Reading
+pub mod Spans
+pub mod Said
+pub mod Records

@@ -1,5 +1,5 @@
 -- What the readers of a field's content answer, in the terms of the definitions of forms.
-use mathlib.Core.Bool.{true, false}
+use mathlib.Core.Bool.{Bool, true, false}
 use mathlib.Core.Option.{Option, some, none}
 use Prim.Native.Nat.{ℕ}
 use lib.IntN.{ℤ, pos}
@@ -21,9 +21,13 @@ unfoldable pub orderSaid : Word → Option ℕ
 orderSaid (W.Order k) = some k
 orderSaid W.Broken = none
 
+-- a level by its sign and size
+unfoldable pub signedOf : Bool → ℕ → ℤ
+signedOf true size = negative size
+signedOf false size = pos size
+
 unfoldable pub levelSaid : Signed → Option ℤ
-levelSaid (S.Level true size) = some (negative size)
-levelSaid (S.Level false size) = some (pos size)
+levelSaid (S.Level negative size) = some (signedOf negative size)
 levelSaid S.Broken = none
 
 -- the last header field, behind m names

@@ -2,3 +2,4 @@
 pub mod fields;
 pub mod forms;
 pub mod reading;
+pub mod records;
