@@ -8,7 +8,8 @@ use Rattle.residue.proofs.Filled.{filled, filled-front, filled-all}
 use Rattle.residue.proofs.Vectors.{map-at}
 use Rattle.basis.specs.Layout.{over}
 
-front : (g : ℕ → ℕ) (r l : List ℕ) (j : ℕ) → j ≡ length r → length r ≤ length l → ((i : ℕ) → i < length r → getD r i 0 ≡ g i) → filled g j l ≡ over r l
+-- by any rule
+pub front : (g : ℕ → ℕ) (r l : List ℕ) (j : ℕ) → j ≡ length r → length r ≤ length l → ((i : ℕ) → i < length r → getD r i 0 ≡ g i) → filled g j l ≡ over r l
 unfolding over
 front g r l j e h k = ap (λ (n : ℕ). filled g n l) e ∙ filled-front g r l 0 h k
 

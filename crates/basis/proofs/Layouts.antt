@@ -4,7 +4,7 @@ use mathlib.Core.List.{List, [], _∷_, _++_, map, append-assoc, append-nil}
 use Prim.Native.Nat.{ℕ, zero, suc, _+_, _*_, _<_, _≤_}
 use native.Mathlib.Omega.{arith}
 use native.Mathlib.Nat.{zero-add, not-suc-le-zero, le-of-suc-le-suc}
-use lib.ListN.{length, getD, take, drop, replicate, length-append, length-drop}
+use lib.ListN.{length, getD, take, drop, replicate, length-append, length-drop, drop-of-length-le}
 use lib.Seq.{take-at, drop-at}
 use lib.Dec.{T}
 use Rattle.basis.specs.Levels.{groups}
@@ -66,6 +66,11 @@ over-over a b t e = ap (λ (z : List ℕ). a ++ z) (drop-at b (drop (length b) t
 pub length-over : (a t : List ℕ) → length a ≤ length t → length (over a t) ≡ length t
 unfolding over
 length-over a t h = length-append a (drop (length a) t) ∙ omega (arith, length-drop (length a) t)
+
+-- all of it
+pub over-all : (a t : List ℕ) → length a ≡ length t → over a t ≡ a
+unfolding over
+over-all a t e = ap (λ (z : List ℕ). a ++ z) (drop-of-length-le t {i = length a} (omega arith)) ∙ append-nil a
 
 pub take-over : (a t : List ℕ) → take (length a) (over a t) ≡ a
 unfolding over

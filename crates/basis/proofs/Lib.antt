@@ -7,6 +7,7 @@ pub mod LevelLists
 pub mod Places
 pub mod PointTables
 pub mod WorkingRows
+pub mod ValueRows
 pub mod ideal
 pub mod elimination
 pub mod agreement

@@ -120,7 +120,7 @@ place-at w N S i d h l =
     sym (groups-at w (length S) i (fill N (inPlaces w S)) (fill w d) l) ∙ ap (λ (z : List (List ℕ)). getD z i (fill w d)) (table-groups w N S h) ∙ List·getD-map (fill w) S i d
 
 -- Writing.
-over-zeros : (r : List ℕ) (w : ℕ) → length r ≤ w → over r (replicate w 0) ≡ fill w r
+pub over-zeros : (r : List ℕ) (w : ℕ) → length r ≤ w → over r (replicate w 0) ≡ fill w r
 unfolding over fill
 over-zeros [] w h = sym (fill-zeros w)
 over-zeros (x ∷ r) zero h = absurd (omega arith)

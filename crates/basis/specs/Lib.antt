@@ -14,6 +14,7 @@ pub mod Adding
 pub mod Solving
 pub mod Reference
 pub mod Working
+pub mod Drawing
 pub mod Agreement
 pub mod Candidates
 pub mod Examples

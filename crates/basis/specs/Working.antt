@@ -6,6 +6,7 @@ use Prim.Native.Nat.{ℕ, zero, suc, _+_, _*_, _-_}
 use lib.ListN.{length, getD, set, take, drop}
 use lib.Dec.{eqb}
 use Rattle.residue.specs.Vector.{addScaled, scaled}
+use Rattle.basis.specs.Layout.{over}
 
 -- the row w with its entry at the given point cancelled, by adding a multiple of a row that is 1 there
 unfoldable pub cancelled : ℕ → List ℕ → ℕ → List ℕ → List ℕ
@@ -29,3 +30,7 @@ pivotRow p own c w = scaled p c (take (own + 1) (set w own 1)) ++ drop (own + 1)
 -- the table with row t replaced
 unfoldable pub withRow : ℕ → List ℕ → List ℕ → List ℕ
 withRow t new rows = take (128 * t) rows ++ (new ++ drop 128 (drop (128 * t) rows))
+
+-- numbers at the front of place k of a table whose places have the given width
+unfoldable pub withPlace : ℕ → ℕ → List ℕ → List ℕ → List ℕ
+withPlace width k new table = take (width * k) table ++ (over new (take width (drop (width * k) table)) ++ drop width (drop (width * k) table))

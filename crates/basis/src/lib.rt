@@ -1,6 +1,7 @@
 // The reduced Gröbner basis, with its standard monomials, of the ideal of all polynomials that vanish at a list of points.
 pub mod bytes;
 pub mod candidate;
+pub mod draw;
 pub mod points;
 pub mod refusal;
 pub mod rows;

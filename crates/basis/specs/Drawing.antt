@@ -1,0 +1,60 @@
+-- What drawing up from all points is handed, and what it leaves. The public calls stand on it; no public promise names these definitions.
+use mathlib.Core.Path.{_≡_}
+use mathlib.Core.Bool.{true}
+use mathlib.Core.List.{List, [], _∷_, _++_, map}
+use Prim.Native.Nat.{ℕ, _-_, _%_, _<_, _≤_}
+use lib.ListN.{length, getD, take, replicate}
+use lib.Dec.{T}
+use Rattle.residue.specs.Modulus.{isModulus}
+use Rattle.residue.specs.Vector.{Below, pointwise}
+use Rattle.monomial.specs.Order.{Order}
+use Rattle.monomial.specs.Rank.{variableRank}
+use Rattle.basis.specs.declared.settings.Settings.{Settings}
+use Rattle.basis.specs.Levels.{groups, noRepeat}
+use Rattle.basis.specs.Layout.{fill, inPlaces, over}
+use Rattle.basis.specs.BasisOf.{interpolantOf}
+use Rattle.basis.specs.Tables.{spaceUnder, pointsUnder, rowCount, tablesOf, pointsIn}
+use Rattle.basis.specs.Working.{eliminated}
+
+-- the ranks of x1 to x8
+unfoldable pub stepsOf : Order → List ℕ
+stepsOf order = map (variableRank order) (0 ∷ 1 ∷ 2 ∷ 3 ∷ 4 ∷ 5 ∷ 6 ∷ 7 ∷ [])
+
+-- the values of x_(k+1) at the first n points of a table
+unfoldable pub columnOf : ℕ → ℕ → List ℕ → List ℕ
+columnOf k n points = map (λ P. getD P k 0) (groups 8 n points)
+
+-- the values of x_(k+1) times a monomial, from those of the monomial
+unfoldable pub productValues : ℕ → ℕ → ℕ → List ℕ → List ℕ → List ℕ
+productValues p k n points values = over (pointwise p (take n values) (columnOf k n points)) values
+
+abbrev pub settingsOf : ℕ → ℕ → ℕ → Settings
+settingsOf p m order = record { modulus = p; variables = m; order = order }
+
+-- Settings that no call refuses, and the table of n points, none twice.
+pub record PointsGiven (s : Settings) (n : ℕ) (points : List ℕ) : Type 0 where
+  pub modulus : isModulus (s .modulus) ≡ true
+  pub some : 1 ≤ s .variables
+  pub few : s .variables ≤ 8
+  pub order : s .order ≤ 2
+  pub most : n ≤ 64
+  pub table : points ≡ fill 512 (inPlaces 8 (pointsIn s n points))
+  pub once : T (noRepeat (pointsIn s n points))
+
+-- Pivot rows for all the standard monomials: elimination leaves of any n values the negatives of their interpolant's coefficients.
+pub record Solves (s : Settings) (S : List (List ℕ)) (rows pivots : List ℕ) : Type 0 where
+  pub long-rows : length rows ≡ 8192
+  pub long-pivots : length pivots ≡ 64
+  pub below : Below (s .modulus) rows
+  pub inside : (t : ℕ) → t < length S → getD pivots t 0 < length S
+  pub solves : (vs : List ℕ) → length vs ≡ length S → Below (s .modulus) vs
+      → eliminated (s .modulus) (length S) rows pivots (length S) (fill 128 vs)
+      ≡ fill 128 (replicate (length S) 0 ++ map (λ c. (s .modulus - c) % s .modulus) (interpolantOf (spaceUnder s) (pointsUnder s S) vs))
+
+-- The row count, the three tables, and the pivot rows, of the points' basis.
+pub record DrawnUp (s : Settings) (S : List (List ℕ)) (r : ℕ) (standard leads coefficients rows pivots : List ℕ) : Type 0 where
+  pub row-count : r ≡ rowCount s S
+  pub standard-table : standard ≡ tablesOf s S .standard
+  pub leads-table : leads ≡ tablesOf s S .leads
+  pub coefficients-table : coefficients ≡ tablesOf s S .coefficients
+  pub pivot-rows : Solves s S rows pivots

@@ -1,0 +1,130 @@
+// Drawing up from all points: elimination over value columns (Buchberger and Möller, 1982). Monomials come in increasing order, each a variable times a
+// standard monomial found. One whose values are a combination of those of the standard monomials found is a leading monomial; any other is standard.
+use crate::bytes;
+use crate::rows;
+use monomial::rank::variable_rank;
+use residue::vector::multiply;
+ghost use mathlib.Core.Path.{_≡_};
+ghost use Prim.Native.Nat.{ℕ, _+_, _*_, _<_, _≤_};
+ghost use lib.ListN.{length, getD, take, drop, set, replicate};
+ghost use Rattle.residue.specs.Vector.{Below};
+ghost use Rattle.monomial.specs.Monomial.{timesVariable};
+ghost use Rattle.monomial.specs.Order.{orderOf};
+ghost use Rattle.basis.specs.Layout.{fill, over};
+ghost use Rattle.basis.specs.Working.{eliminated, firstNonzero, withPlace};
+ghost use Rattle.basis.specs.Drawing.{stepsOf, columnOf, productValues};
+
+// The ranks of the variables.
+fn put_steps(order: u8, steps: &mut [u64])
+    requires { ⌜ (order ≤ 2) × (length (now steps) ≡ 8) ⌝ }
+    ensures { λ _. ⌜ now (steps .exit) ≡ stepsOf (orderOf order) ⌝ }
+{
+    for k in 0..8 {
+        steps[k] = variable_rank(order, k);
+    }
+}
+
+// One coordinate of each point.
+fn put_column(n: usize, k: usize, points: &[u8], column: &mut [u16])
+    requires { ⌜ (n ≤ length (now column)) × ((k < 8) × ((length (now points) ≡ 512) × (n ≤ 64))) ⌝ }
+    ensures { λ _. ⌜ now (column .exit) ≡ over (columnOf k n (now (points .entry))) (now (column .entry)) ⌝ }
+{
+    for i in 0..n {
+        column[i] = points[8 * i + k] as u16;
+    }
+}
+
+// The working row of given values after it met the pivot rows: the first point where it is not 0, or n.
+fn reduce(
+    p: u16,
+    n: usize,
+    found: usize,
+    own: &[u16],
+    rows: &[u16],
+    pivots: &[u8],
+    work: &mut [u16],
+) -> usize
+    requires { ⌜ ((2 ≤ p) × (p ≤ 61)) × ((n ≤ 64) × (found ≤ n)) ⌝ }
+    requires { ⌜ (length (now own) ≡ 64) × ((length (now rows) ≡ 8192) × (length (now pivots) ≡ 64)) ⌝ }
+    requires { ⌜ (Below p (now own)) × (Below p (now rows)) ⌝ }
+    requires { ⌜ ((t : ℕ) → t < found → getD (now pivots) t 0 < n) ⌝ }
+    requires { ⌜ now work ≡ replicate 128 0 ⌝ }
+    ensures { λ q. ⌜ now (work .exit) ≡ eliminated p n (now (rows .entry)) (now (pivots .entry)) found (fill 128 (take n (now (own .entry)))) ⌝ }
+    ensures { λ q. ⌜ q ≡ firstNonzero n (now (work .exit)) ⌝ }
+{
+    rows::copy(&own[..n], &mut work[..n]);
+    rows::eliminate(p, n, found, rows, pivots, work);
+    rows::first_nonzero(work, n)
+}
+
+// Keeps the monomial as a lead, with its row of coefficients.
+fn keep_lead(
+    p: u16,
+    n: usize,
+    found: usize,
+    r: usize,
+    exponents: &[u8],
+    work: &[u16],
+    leads: &mut [u8],
+    coefficients: &mut [u8],
+)
+    requires { ⌜ (p ≤ 61) × ((n ≤ 64) × ((found ≤ n) × (r < 449))) ⌝ }
+    requires { ⌜ (length (now exponents) ≡ 8) × ((length (now work) ≡ 128) × ((length (now leads) ≡ 3592) × (length (now coefficients) ≡ 28736))) ⌝ }
+    requires { ⌜ Below p (now work) ⌝ }
+    ensures { λ _. ⌜ now (leads .exit) ≡ withPlace 8 r (now (exponents .entry)) (now (leads .entry)) ⌝ }
+    ensures { λ _. ⌜ now (coefficients .exit) ≡ withPlace 64 r (take found (drop n (now (work .entry)))) (now (coefficients .entry)) ⌝ }
+{
+    let place = 8 * r;
+    bytes::copy(exponents, &mut leads[place..place + 8]);
+    let from = 64 * r;
+    let end = n + found;
+    bytes::narrow(p, &work[n..end], &mut coefficients[from..from + 64]);
+}
+
+// Keeps the monomial as a standard one, with its rank and its values.
+fn keep_standard(
+    found: usize,
+    exponents: &[u8],
+    rank: u64,
+    own: &[u16],
+    standard: &mut [u8],
+    ranks: &mut [u64],
+    values: &mut [u16],
+)
+    requires { ⌜ (found < 64) × ((length (now exponents) ≡ 8) × (length (now own) ≡ 64)) ⌝ }
+    requires { ⌜ (length (now standard) ≡ 512) × ((length (now ranks) ≡ 64) × (length (now values) ≡ 4096)) ⌝ }
+    ensures { λ _. ⌜ now (standard .exit) ≡ withPlace 8 found (now (exponents .entry)) (now (standard .entry)) ⌝ }
+    ensures { λ _. ⌜ now (ranks .exit) ≡ set (now (ranks .entry)) found rank ⌝ }
+    ensures { λ _. ⌜ now (values .exit) ≡ withPlace 64 found (now (own .entry)) (now (values .entry)) ⌝ }
+{
+    let place = 8 * found;
+    bytes::copy(exponents, &mut standard[place..place + 8]);
+    ranks[found] = rank;
+    let from = 64 * found;
+    rows::copy(own, &mut values[from..from + 64]);
+}
+
+// The exponents of x_(k+1) times standard monomial t.
+fn put_exponents(k: usize, t: usize, standard: &[u8], exponents: &mut [u8])
+    requires { ⌜ (k < 8) × ((t < 64) × ((length (now standard) ≡ 512) × (length (now exponents) ≡ 8))) ⌝ }
+    requires { ⌜ getD (now standard) (8 * t + k) 0 < 255 ⌝ }
+    ensures { λ _. ⌜ now (exponents .exit) ≡ timesVariable k (take 8 (drop (8 * t) (now (standard .entry)))) ⌝ }
+{
+    let place = 8 * t;
+    bytes::copy(&standard[place..place + 8], exponents);
+    exponents[k] += 1;
+}
+
+// Its values.
+fn put_values(p: u16, n: usize, k: usize, t: usize, points: &[u8], values: &[u16], own: &mut [u16])
+    requires { ⌜ ((2 ≤ p) × (p ≤ 61)) × ((n ≤ 64) × ((k < 8) × (t < 64))) ⌝ }
+    requires { ⌜ (length (now points) ≡ 512) × ((length (now values) ≡ 4096) × (length (now own) ≡ 64)) ⌝ }
+    requires { ⌜ (Below p (now points)) × (Below p (now values)) ⌝ }
+    ensures { λ _. ⌜ now (own .exit) ≡ productValues p k n (now (points .entry)) (take 64 (drop (64 * t) (now (values .entry)))) ⌝ }
+{
+    let from = 64 * t;
+    rows::copy(&values[from..from + 64], own);
+    let mut column = [0u16; 64];
+    put_column(n, k, points, &mut column);
+    multiply(p, &mut own[..n], &column[..n]);
+}
