@@ -72,6 +72,11 @@ pub over-all : (a t : List ℕ) → length a ≡ length t → over a t ≡ a
 unfolding over
 over-all a t e = ap (λ (z : List ℕ). a ++ z) (drop-of-length-le t {i = length a} (omega arith)) ∙ append-nil a
 
+-- a front that was lent and came back
+pub answered : (k : ℕ) (l t new : List ℕ) → new ≡ fill k l → new ++ drop k t ≡ over (fill k l) t
+unfolding over
+answered k l t new e = ap₂ (λ (z : List ℕ) (n : ℕ). z ++ drop n t) e (sym (length-fill k l))
+
 pub take-over : (a t : List ℕ) → take (length a) (over a t) ≡ a
 unfolding over
 take-over a t = take-at a (drop (length a) t) (length a) refl

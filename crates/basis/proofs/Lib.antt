@@ -6,6 +6,8 @@ pub mod Layouts
 pub mod LevelLists
 pub mod Places
 pub mod PointTables
+pub mod Terms
+pub mod Wiring
 pub mod WorkingRows
 pub mod ValueRows
 pub mod ideal

@@ -15,6 +15,7 @@ pub mod Solving
 pub mod Reference
 pub mod Working
 pub mod Drawing
+pub mod Interpolants
 pub mod Agreement
 pub mod Candidates
 pub mod Examples

@@ -3,6 +3,8 @@ pub mod bytes;
 pub mod candidate;
 pub mod draw;
 pub mod points;
+pub mod polynomial;
 pub mod refusal;
 pub mod rows;
 pub mod settings;
+pub mod solve;
