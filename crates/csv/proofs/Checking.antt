@@ -92,13 +92,14 @@ first-entry m zs rest (part fields r) e = go (entryOf m fields) e
         let q : r ≡ rest = cc in
         ap₂ (λ (x : List ℤ) (y : List ℕ). some x ∷ map (entryIn m) (recordsOf y)) p q
 
-first-none : (m k : ℕ) (p : Part (List (List ℕ))) → reads (entryOf m) p ≡ faulty → counted k (map (entryIn m) (behindRecord recordsOf p)) ≡ N.Refused 2 (k + 2)
-unfolding reads kept behindRecord entryIn counted
-first-none m k faulty e = refl
-first-none m k (part fields r) e = go (entryOf m fields) e
+first-none : (m : ℕ) (p : Part (List (List ℕ))) → reads (entryOf m) p ≡ faulty
+    → (tl : List (Option (List ℤ))) × (map (entryIn m) (behindRecord recordsOf p) ≡ none ∷ tl)
+unfolding reads kept behindRecord entryIn
+first-none m faulty e = ([], refl)
+first-none m (part fields r) e = go (entryOf m fields) e
   where
-    go : (o : Option (List ℤ)) → kept o r ≡ faulty → counted k (o ∷ map (entryIn m) (recordsOf r)) ≡ N.Refused 2 (k + 2)
-    go none h = refl
+    go : (o : Option (List ℤ)) → kept o r ≡ faulty → (tl : List (Option (List ℤ))) × (o ∷ map (entryIn m) (recordsOf r) ≡ none ∷ tl)
+    go none h = (map (entryIn m) (recordsOf r), refl)
     go (some ys) h = let z : _≡_ {A = ℕ} 0 1 = cc in absurd (omega arith)
 
 module _ (m : ℕ) (l : List ℕ) (h : 0 < length l) where
@@ -111,9 +112,9 @@ module _ (m : ℕ) (l : List ℕ) (h : 0 < length l) where
     unfolding entriesAt entryPart
     entries-more = ap (map (entryIn m)) (records-unroll l h) ∙ first-entry m zs rest (recordOf l) e
 
-  pub entries-fault : (k : ℕ) → entryPart m l ≡ faulty → counted k (entriesAt m l) ≡ N.Refused 2 (k + 2)
+  pub entries-none : entryPart m l ≡ faulty → (tl : List (Option (List ℤ))) × (entriesAt m l ≡ none ∷ tl)
   unfolding entriesAt entryPart
-  entries-fault k e = ap (λ (r : List (Option (List (List ℕ)))). counted k (map (entryIn m) r)) (records-unroll l h) ∙ first-none m k (recordOf l) e
+  entries-none e = let f = first-none m (recordOf l) e in (f .0, ap (map (entryIn m)) (records-unroll l h) ∙ f .1)
 
 -- what an entry that was checked says of the entries
 of-ends : (at : ℕ) (rest : List ℕ) (p : Part (List ℤ)) → ends rest ≡ checked at p → (zs : List ℤ) × (p ≡ part zs rest)
@@ -141,9 +142,10 @@ module _ (t : List ℕ) (m from n : ℕ) (h : from < length t) where
       )
 
   pub no-entry : (k b : ℕ) → refuses k b ≡ checked (n + 2) (entryPart m (drop from t)) → N.Refused k b ≡ counted n (entriesAt m (drop from t))
+  unfolding counted
   no-entry k b e =
       let p = of-refuses (n + 2) k b (entryPart m (drop from t)) e in
-      ap₂ N.Refused (p .1 .0) (p .1 .1) ∙ sym (entries-fault m (drop from t) some-left n (p .0))
+      ap₂ N.Refused (p .1 .0) (p .1 .1) ∙ ap (counted n) (sym (entries-none m (drop from t) some-left (p .0) .1))
 
 pub no-more : (t : List ℕ) (m from n : ℕ) → length t ≤ from → N.Count n ≡ counted n (entriesAt m (drop from t))
 unfolding entriesAt recordsOf recordsFrom counted

@@ -10,3 +10,7 @@ pub mod Quotes
 pub mod Entering
 pub mod Checking
 pub mod Heading
+pub mod Placing
+pub mod Snocs
+pub mod Filling
+pub mod Gathering

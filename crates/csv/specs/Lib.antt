@@ -5,3 +5,4 @@ pub mod Reading
 pub mod Spans
 pub mod Said
 pub mod Records
+pub mod Points

@@ -53,16 +53,26 @@ pub record Entries : Type 0 where
 unfoldable pub entriesOf : Header → List (Option (List (List ℕ))) → Entries
 entriesOf h records = record { header = h; entries = map (λ e. Option·getD e []) (entriesIn (h .variables) records) }
 
+-- of an entry: the point, the value, and whether a level or the value is out of range
+unfoldable pub pointOf : ℕ → ℕ → List ℤ → List ℕ
+pointOf p m l = residues p (take m l)
+
+unfoldable pub valueOf : ℕ → ℕ → List ℤ → ℕ
+valueOf p m l = getD (residues p l) m 0
+
+unfoldable pub isOutside : ℕ → List ℤ → Bool
+isOutside p l = not (inRange p l)
+
 -- the points, and the values in their order
 unfoldable pub pointsOf : Entries → List (List ℕ)
-pointsOf e = map (λ l. residues (e .header .modulus) (take (e .header .variables) l)) (e .entries)
+pointsOf e = map (pointOf (e .header .modulus) (e .header .variables)) (e .entries)
 
 unfoldable pub valuesOf : Entries → List ℕ
-valuesOf e = map (λ l. getD (residues (e .header .modulus) l) (e .header .variables) 0) (e .entries)
+valuesOf e = map (valueOf (e .header .modulus) (e .header .variables)) (e .entries)
 
--- the place, from 1, of the first level or value out of range; 0 where there is none
+-- the place, from 1, of the first entry out of range; 0 where there is none
 unfoldable pub firstOutside : Entries → ℕ
-firstOutside e = firstFault (λ l. not (inRange (e .header .modulus) l)) (e .entries)
+firstOutside e = firstFault (isOutside (e .header .modulus)) (e .entries)
 
 -- the place, from 1, of the first point that equals an earlier one; 0 where there is none
 unfoldable pub firstRepeat : List (List ℕ) → List (List ℕ) → ℕ

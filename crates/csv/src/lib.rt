@@ -1,5 +1,6 @@
 // Comma-separated text: the reader, and the printed basis.
 pub mod fields;
 pub mod forms;
+pub mod points;
 pub mod reading;
 pub mod records;
