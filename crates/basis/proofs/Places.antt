@@ -126,7 +126,7 @@ over-zeros [] w h = sym (fill-zeros w)
 over-zeros (x ∷ r) zero h = absurd (omega arith)
 over-zeros (x ∷ r) (suc w) h = ap (λ (z : List ℕ). x ∷ z) (over-zeros r w (le-of-suc-le-suc h))
 
-places-append : (w : ℕ) (S R : List (List ℕ)) → inPlaces w (S ++ R) ≡ inPlaces w S ++ inPlaces w R
+pub places-append : (w : ℕ) (S R : List (List ℕ)) → inPlaces w (S ++ R) ≡ inPlaces w S ++ inPlaces w R
 unfolding inPlaces
 places-append w [] R = refl
 places-append w (r ∷ S) R = ap (λ (z : List ℕ). fill w r ++ z) (places-append w S R) ∙ sym (append-assoc (fill w r) (inPlaces w S) (inPlaces w R))

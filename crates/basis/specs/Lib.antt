@@ -16,6 +16,7 @@ pub mod Reference
 pub mod Working
 pub mod Drawing
 pub mod Interpolants
+pub mod Insertions
 pub mod Agreement
 pub mod Candidates
 pub mod Examples

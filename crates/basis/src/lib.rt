@@ -1,7 +1,10 @@
 // The reduced Gröbner basis, with its standard monomials, of the ideal of all polynomials that vanish at a list of points.
+pub mod add;
 pub mod bytes;
 pub mod candidate;
+pub mod correct;
 pub mod draw;
+pub mod insert;
 pub mod points;
 pub mod polynomial;
 pub mod refusal;

@@ -1,0 +1,145 @@
+-- `add::put_row` meets its contract.
+use mathlib.Core.Path.{_≡_, refl, sym, ap, subst, _∙_}
+use mathlib.Core.List.{List, map}
+use Prim.Native.Nat.{ℕ, _+_, _*_, _-_, _%_}
+use native.Mathlib.Omega.{arith}
+use lib.ListN.{length, take, drop, replicate, length-drop}
+use lib.Seq.{length-take-le}
+use Rattle.residue.specs.Vector.{Below}
+use Rattle.residue.proofs.Vectors.{below-take, below-drop}
+use Rattle.monomial.specs.Monomial.{valueAt}
+use Rattle.basis.specs.Levels.{groups}
+use Rattle.basis.specs.Layout.{over}
+use Rattle.basis.specs.Working.{eliminated}
+use Rattle.basis.specs.Insertions.{correctedRow, reducedRow}
+use Rattle.basis.proofs.WorkingRows.{eliminated-length, eliminated-below}
+use Rattle.basis.proofs.adding.Writes.{row-in, values-below}
+use borrow.Author.Needs.{needs}
+use Rattle.basis.proofs.add.put_row.Statement.{statement}
+use Rattle.basis.proofs.add.put_row.Tie as tie
+
+-- the values are residues, and zeros behind
+loaded : (s : tie.Start) (w : List ℕ) → w ≡ over (map (λ point. valueAt point (s .args .a .now) % s .args .p) (groups 8 (s .args .n) (s .args .points .now))) (replicate 128 0) → Below (s .args .p) w
+loaded s w e = subst (Below (s .args .p)) (sym e) (values-below (s .args .p) (λ point. valueAt point (s .args .a .now)) (groups 8 (s .args .n) (s .args .points .now)) 128 (omega arith))
+
+slice-aggregate-values-of : tie.Need-slice-aggregate-values-of
+slice-aggregate-values-of c = search needs
+
+values-of-requires : tie.Need-values-of-requires
+values-of-requires c κs =
+    let s = c .before .before .before .before .before .before .before .before .before in
+    ((s .pre .0 .0, s .pre .0 .1), ((omega arith, omega arith), (s .pre .1 .1 .0 .3, s .pre .1 .1 .1 .1 .0 .0)))
+
+slice-aggregate-eliminate : tie.Need-slice-aggregate-eliminate
+slice-aggregate-eliminate c = search needs
+
+eliminate-requires : tie.Need-eliminate-requires
+eliminate-requires c κs =
+    let s = c .before .before .before .before .before .before .before .before .before .before .before .before in
+    ((s .pre .0 .0, s .pre .0 .1), ((omega arith, c .before .before .values-of .kept .1 .1 .1 .1 .0), ((omega arith, omega arith), ((s .pre .1 .1 .1 .1 .0 .1, loaded s _ (c .before .before .values-of .ensures)), s .pre .1 .1 .1 .1 .1))))
+
+mul-from : tie.Need-mul-from
+mul-from c = search needs
+
+mul-move-on : tie.Need-mul-move-on
+mul-move-on c = search needs
+
+move-on-requires : tie.Need-move-on-requires
+move-on-requires c κs = search needs
+
+add-correct : tie.Need-add-correct
+add-correct c = search needs
+
+mul-work : tie.Need-mul-work
+mul-work c = search needs
+
+sub-correct : tie.Need-sub-correct
+sub-correct c = search needs
+
+part-work-start : tie.Need-part-work-start
+part-work-start c = search needs
+
+part-work-end : tie.Need-part-work-end
+part-work-end c = search needs
+
+add-correct-2 : tie.Need-add-correct-2
+add-correct-2 c = search needs
+
+sub-correct-2 : tie.Need-sub-correct-2
+sub-correct-2 c = search needs
+
+part-correct-start : tie.Need-part-correct-start
+part-correct-start c = search needs
+
+part-correct-end : tie.Need-part-correct-end
+part-correct-end c = search needs
+
+correct-requires : tie.Need-correct-requires
+correct-requires c κs =
+    let s = c .before .before .before .before .before .before .before .before .before .before .before .before .before .before .before .before .before .before .before .before in
+    let n : ℕ = s .args .n in
+    let i : ℕ = s .args .i in
+    let moved = c .before .before .before .before .move-on .last .1 .1 .1 .0 in
+    let long = c .before .before .before .before .move-on .kept .1 .1 .1 .0 in
+    let e : n + 64 - n ≡ 64 = omega arith in
+    let r = length-take-le (64 * i + 64 - 64 * i) (drop (64 * i) moved) (simp length-drop (omega arith)) in
+    let w = c .before .before .before .before .before .before .before .eliminate .last .1 .1 .1 .1 .1 .0 in
+    let h = c .before .before .before .before .before .before .before .eliminate .kept .1 .1 .1 .1 .1 .0 in
+    let l = c .before .before .before .before .before .before .before .before .before .before .values-of .kept .1 .1 .1 .1 .0 in
+    let d = length-take-le (n + 64 - n) (drop n w) (simp length-drop (omega arith)) in (
+      (s .pre .0 .0, s .pre .0 .1, s .pre .0 .3, s .pre .0 .4),
+      (
+        (s .pre .1 .1 .0 .1, s .pre .1 .1 .0 .3, s .pre .1 .1 .0 .2),
+        (
+          (s .pre .1 .1 .0 .0, omega arith, omega arith),
+          (
+            (s .pre .1 .1 .1 .1 .0 .3, s .pre .1 .1 .1 .1 .0 .4),
+            (
+              s .pre .1 .1 .1 .1 .0 .2,
+              below-take (s .args .p) (n + 64 - n) (drop n w) (below-drop (s .args .p) n w (subst (Below (s .args .p)) (sym (c .before .before .before .before .before .before .before .eliminate .ensures))
+                  (eliminated-below (s .args .p) n (s .args .rows .now) (s .args .pivots .now) _ l (omega arith) (loaded s _ (c .before .before .before .before .before .before .before .before .before .before .values-of .ensures)) n (omega arith)))),
+            ),
+          ),
+        ),
+      ),
+    )
+
+same-length : tie.Need-same-length
+same-length c = search needs
+
+returns : tie.Need-returns
+unfolding reducedRow
+returns c =
+    let s = c .before .before .before .before .before .before .before .before .before .before .before .before .before .before .before .before .before .before .before .before .before .before .before .before in
+    let n : ℕ = s .args .n in
+    let i : ℕ = s .args .i in
+    let e : n + 64 - n ≡ 64 = omega arith in
+    let cs : take (n + 64 - n) (drop n (c .before .before .before .before .before .before .before .before .before .before .before .eliminate .last .1 .1 .1 .1 .1 .0)) ≡ reducedRow (s .args .p) n (s .args .points .now) (s .args .rows .now) (s .args .pivots .now) (s .args .a .now) =
+    ap (λ (k : ℕ). take k (drop n (c .before .before .before .before .before .before .before .before .before .before .before .eliminate .last .1 .1 .1 .1 .1 .0))) e
+    ∙ ap (λ (z : List ℕ). take 64 (drop n z)) (c .before .before .before .before .before .before .before .before .before .before .before .eliminate .ensures ∙ ap (eliminated (s .args .p) n (s .args .rows .now) (s .args .pivots .now) n) (c .before .before .before .before .before .before .before .before .before .before .before .before .before .before .values-of .ensures)) in
+    row-in 64 (s .args .k) i (64 * i + 64 - 64 * i) _ (s .args .table .now) (c .before .before .before .before .before .before .before .before .move-on .last .1 .1 .1 .0) (c .before .before .before .correct .last .1 .1 .1 .1 .1 .1 .1 .1 .0) (omega arith) (omega arith) (omega arith) (c .before .before .before .before .before .before .before .before .move-on .ensures)
+    (c .before .before .before .correct .ensures .1 ∙ ap (correctedRow (s .args .p) (s .args .place) (s .args .inverse) (s .args .gone .now) (s .args .point .now) (s .args .values .now) (s .args .a .now)) cs)
+
+pub put-row-spec : {M : Type 1} → statement M
+put-row-spec =
+    tie.close
+    (tie.spec
+    slice-aggregate-values-of
+    values-of-requires
+    slice-aggregate-eliminate
+    eliminate-requires
+    mul-from
+    mul-move-on
+    move-on-requires
+    add-correct
+    mul-work
+    sub-correct
+    part-work-start
+    part-work-end
+    add-correct-2
+    sub-correct-2
+    part-correct-start
+    part-correct-end
+    correct-requires
+    same-length
+    returns)

@@ -1,0 +1,3 @@
+-- Adding a point to the tables: the laws of its functions, and that the tables they leave are those of the points with the new one.
+pub mod Searches
+pub mod Writes
