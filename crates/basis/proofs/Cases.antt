@@ -27,11 +27,11 @@ first-stop ((true, k) ∷ l) r h = refl
 first-stop ((false, k) ∷ l) r h = first-stop l r h
 
 -- it has none
-pub none : (l : List Case) → T (numbered l) → firstOf l ≡ 0 → None l
+pub none-holds : (l : List Case) → T (numbered l) → firstOf l ≡ 0 → None l
 unfolding firstOf
-none [] t e = tt
-none ((true, k) ∷ l) t e = absurd (rw (eq-eqb k 0 e) at (and-left (not (eqb k 0)) (numbered l) t))
-none ((false, k) ∷ l) t e = (refl, none l (and-right (not (eqb k 0)) (numbered l) t) e)
+none-holds [] t e = tt
+none-holds ((true, k) ∷ l) t e = absurd (rw (eq-eqb k 0 e) at (and-left (not (eqb k 0)) (numbered l) t))
+none-holds ((false, k) ∷ l) t e = (refl, none-holds l (and-right (not (eqb k 0)) (numbered l) t) e)
 
 pub first-on : (l r : List Case) → None l → firstOf r ≡ firstOf (l ++ r)
 unfolding firstOf

@@ -14,5 +14,6 @@ pub mod ideal
 pub mod elimination
 pub mod adding
 pub mod agreement
+pub mod calls
 pub mod Instance
 pub mod Examples

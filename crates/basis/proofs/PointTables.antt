@@ -14,12 +14,12 @@ use Rattle.basis.specs.Tables.{pointsIn}
 use Rattle.basis.proofs.Places.{length-groups, groups-more}
 
 module _ {A B : Type 0} (f : A → B) where
-  map-take : (k : ℕ) (l : List A) → map f (take k l) ≡ take k (map f l)
+  pub map-take : (k : ℕ) (l : List A) → map f (take k l) ≡ take k (map f l)
   map-take zero l = refl
   map-take (suc k) [] = refl
   map-take (suc k) (x ∷ l) = ap (λ (z : List B). f x ∷ z) (map-take k l)
 
-  map-drop : (k : ℕ) (l : List A) → map f (drop k l) ≡ drop k (map f l)
+  pub map-drop : (k : ℕ) (l : List A) → map f (drop k l) ≡ drop k (map f l)
   map-drop zero l = refl
   map-drop (suc k) [] = refl
   map-drop (suc k) (x ∷ l) = map-drop k l

@@ -1,13 +1,13 @@
 -- Drawing up the same points in any order gives the same basis, and the same remainders.
 use mathlib.Core.Path.{_≡_, refl, sym, _∙_, ap, ap₂, subst}
-use mathlib.Core.Bool.{Bool, true, false, not, _&&_, _||_}
-use mathlib.Core.List.{List, [], _∷_, _++_, map}
+use mathlib.Core.Bool.{true, false, not, _&&_, _||_}
+use mathlib.Core.List.{List, [], _∷_, _++_}
 use mathlib.Core.Logic.{inl, inr, _≢_}
-use Prim.Native.Nat.{ℕ, zero, suc, _+_, _-_, _*_, _/_, _%_, _≤_, _<_}
+use Prim.Native.Nat.{ℕ, suc, _+_, _-_, _*_, _/_, _%_, _≤_}
 use native.Mathlib.Nat.{mul-le-mul-left}
 use native.Mathlib.Omega.{arith}
 use lib.IntN.{ℤ}
-use lib.ListN.{length, take, drop, length-map}
+use lib.ListN.{length, take, length-map}
 use lib.Dec.{T, eqb, ltb}
 use borrow.Author.Tests.{eq-eqb, le-ltb}
 use Rattle.residue.specs.Lists.{Among}
@@ -22,19 +22,20 @@ use Rattle.basis.specs.Layout.{fill, over}
 use Rattle.basis.specs.Polynomial.{Polynomial, Distinct}
 use Rattle.basis.specs.BasisOf.{standardOf, leadsOf, rowsOf, remainderOf}
 use Rattle.basis.specs.Instance.{Point, pointOf}
-use Rattle.basis.specs.Tables.{Tables, spaceUnder, pointsUnder, rowCount, tablesOf, written, tooShort, pointsIn, recognised}
-use Rattle.basis.specs.Adding.{Outcome, holding, byRefusal, pointsOffered, drawCases, drawRefusal, drawOutcome}
+use Rattle.basis.specs.Tables.{Tables, spaceUnder, pointsUnder, rowCount, tablesOf, written, tooShort}
+use Rattle.basis.specs.Adding.{holding, byRefusal, pointsOffered, drawCases, drawRefusal, drawOutcome}
 use Rattle.basis.specs.Solving.{Filled, filling, withinVariables, polynomialUnder, remainderIn, remainderCases, remainderOutcome}
 use Rattle.basis.specs.Reference.{Held}
 use Rattle.basis.specs.Agreement.{Rearranges, SameAs}
 use Rattle.basis.proofs.Instance.{laws}
 use Rattle.basis.proofs.Equality.{true-of}
 use Rattle.basis.proofs.Layouts.{length-fill, take-over}
+use Rattle.basis.proofs.Places.{length-groups}
 use Rattle.basis.proofs.ideal.Laws.{Laws}
 use Rattle.basis.proofs.ideal.Counts.{standard-length, leads-length}
 use Rattle.basis.proofs.ideal.Permutation.{basis-permuted, remainder-permuted}
 use Rattle.basis.proofs.agreement.Points.{Points, IsPoint, point-same, once-of}
-use Rattle.basis.proofs.agreement.Refusals.{Accepted, accepted, settings-pass, Large, not-short, large-of, written-large, written-points, written-recognised}
+use Rattle.basis.proofs.agreement.Refusals.{Accepted, settings-pass, Large, not-short, large-of, written-large, written-points, written-recognised}
 
 module _ (s : Settings) (ok : Accepted s) where
   -- the space under these settings obeys the laws
@@ -132,11 +133,6 @@ module _ (s : Settings) (ok : Accepted s) where
   sizes : (A : List (List ℕ)) → Sized (tablesOf s A)
   unfolding tablesOf
   sizes A = record { standard = length-fill 512 _; leads = length-fill 3592 _; coefficients = length-fill 28736 _ }
-
-  length-groups : {A : Type 0} (m k : ℕ) (l : List A) → length (groups m k l) ≡ k
-  unfolding groups
-  length-groups m zero l = refl
-  length-groups m (suc k) l = ap suc (length-groups m k (drop m l))
 
   -- Every drawing up of the points of L, in any order.
   module _ (fine : firstOf (settingsCases s) ≡ 0) (L : List (List ℕ)) (hL : Points s L) (levels : List ℤ) (a : Rearranges s L levels) where

@@ -1,26 +1,26 @@
 -- Lists of distinct points under settings: what is written to a table of points is read back, and one more point keeps such a list so.
 use mathlib.Core.Path.{_≡_, refl, sym, _∙_, ap, ap₂, subst}
-use mathlib.Core.Bool.{Bool, true, false, not, _&&_, _||_}
+use mathlib.Core.Bool.{not}
 use mathlib.Core.List.{List, [], _∷_, _++_, map, append-assoc}
 use mathlib.Core.Logic.{inl, inr, _≢_}
-use Prim.Native.Nat.{ℕ, zero, suc, _+_, _-_, _*_, _%_, _≤_, _<_}
+use Prim.Native.Nat.{ℕ, zero, suc, _+_, _-_, _*_, _≤_, _<_}
 use native.Mathlib.Omega.{arith}
 use native.Mathlib.Nat.{mod-eq-of-lt}
 use lib.IntN.{ℤ}
 use lib.ListN.{length, drop, replicate, length-map, length-append}
-use lib.Dec.{T, ltb, not-T, T-not}
+use lib.Dec.{T, not-T, T-not}
 use Rattle.residue.specs.Lists.{Among}
 use Rattle.residue.specs.Level.{residueOf}
 use Rattle.residue.specs.declared.level.Level.{Level}
 use Rattle.residue.specs.declared.level.Level.the-variants.{Residue, Outside}
 use Rattle.residue.proofs.Levels.{residue-below}
 use Rattle.basis.specs.declared.settings.Settings.{Settings}
-use Rattle.basis.specs.Levels.{isResidue, residueOr0, inRange, residues, groups, sameList, isAmong, noRepeat}
+use Rattle.basis.specs.Levels.{isResidue, residueOr0, inRange, residues, groups, isAmong, noRepeat}
 use Rattle.basis.specs.Layout.{fill, inPlaces, over}
 use Rattle.basis.specs.Instance.{reduced, pointOf}
 use Rattle.basis.specs.Tables.{pointsUnder, pointsIn}
-use Rattle.basis.proofs.Equality.{and-left, and-right, and-both, same-is, among-is, is-among}
-use Rattle.basis.proofs.Layouts.{length-fill, fill-whole, places-back, table-split}
+use Rattle.basis.proofs.Equality.{and-left, and-right, and-both, among-is, is-among}
+use Rattle.basis.proofs.Layouts.{fill-whole, places-back, table-split}
 use Rattle.basis.proofs.ideal.Lists.{snoc-of}
 
 -- m residues modulo p, as a point under the settings is
@@ -94,7 +94,7 @@ residue-small p z h = go (residueOf p z) refl h
     go (Residue k) e t = residue-below p k z e
     go Outside e t = absurd t
 
-residues-same : (p : ℕ) (zs : List ℤ) → 0 < p → T (inRange p zs) → reduced (p - 1) (residues p zs) ≡ residues p zs
+pub residues-same : (p : ℕ) (zs : List ℤ) → 0 < p → T (inRange p zs) → reduced (p - 1) (residues p zs) ≡ residues p zs
 unfolding residues inRange
 residues-same p [] h t = refl
 residues-same p (z ∷ zs) h t = ap₂ (λ (a : ℕ) (l : List ℕ). a ∷ l) (mod-eq-of-lt low) (residues-same p zs h (and-right (isResidue (residueOf p z)) (inRange p zs) t))

@@ -1,21 +1,21 @@
 -- Which refusals are left for tables that hold the basis of their points, under settings that no call refuses.
-use mathlib.Core.Path.{_≡_, refl, sym, _∙_, ap, ap₂, subst}
-use mathlib.Core.Bool.{Bool, true, false, not, cond, _&&_, _||_, true≢false}
-use mathlib.Core.List.{List, [], _∷_, _++_}
-use Prim.Native.Nat.{ℕ, _≤_, _<_}
+use mathlib.Core.Path.{_≡_, refl, sym}
+use mathlib.Core.Bool.{Bool, true, false, _&&_, _||_, true≢false}
+use mathlib.Core.List.{List, _++_}
+use Prim.Native.Nat.{ℕ, _≤_}
 use native.Mathlib.Omega.{arith}
 use lib.ListN.{length}
-use lib.Dec.{T, eqb, leb, ltb, leb→le, eqb-refl}
-use borrow.Author.Tests.{le-ltb, ltb-false}
+use lib.Dec.{eqb, leb, ltb, leb→le, eqb-refl}
+use borrow.Author.Tests.{le-ltb, ltb-false, not-false}
 use Rattle.residue.specs.Modulus.{isModulus}
-use Rattle.residue.proofs.Moduli.{modulus-range}
 use Rattle.basis.specs.declared.settings.Settings.{Settings}
 use Rattle.basis.specs.Refusal.{Case, firstOf}
 use Rattle.basis.specs.Settings.{settingsCases}
 use Rattle.basis.specs.Levels.{noRepeat}
-use Rattle.basis.specs.Layout.{fill, inPlaces, over, begins}
+use Rattle.basis.specs.Layout.{fill, over, begins}
 use Rattle.basis.specs.Tables.{Tables, rowCount, tablesOf, written, tooShort, pointsIn, recognised}
-use Rattle.basis.proofs.Equality.{true-of, of-true}
+use Rattle.basis.proofs.Cases.{none-holds, first-on}
+use Rattle.basis.proofs.Equality.{true-of, of-true, and-left, and-right}
 use Rattle.basis.proofs.Layouts.{length-fill, length-over, begins-over}
 use Rattle.basis.proofs.agreement.Points.{Points, points-back}
 
@@ -26,34 +26,22 @@ pub record Accepted (s : Settings) : Type 0 where
   pub few : s .variables ≤ 8
   pub order : s .order ≤ 2
 
-both-true : (a b : Bool) → (a && b) ≡ true → (a ≡ true) × (b ≡ true)
-both-true true true e = (refl, refl)
-both-true true false e = absurd (true≢false (sym e))
-both-true false b e = absurd (true≢false (sym e))
-
--- the three cases by their tests
-three : (a b c : Bool) → firstOf ((not a, 3) ∷ (not b, 4) ∷ (c, 5) ∷ []) ≡ 0 → (a ≡ true) × (b ≡ true) × (c ≡ false)
-unfolding firstOf
-three true true false e = (refl, refl, refl)
-three true true true e = absurd (omega arith)
-three true false c e = absurd (omega arith)
-three false b c e = absurd (omega arith)
-
 pub accepted : (s : Settings) → firstOf (settingsCases s) ≡ 0 → Accepted s
 unfolding settingsCases
-accepted s e = let t = three (isModulus (s .modulus)) (leb 1 (s .variables) && leb (s .variables) 8) (ltb 2 (s .order)) e in
-    let v = both-true (leb 1 (s .variables)) (leb (s .variables) 8) (t .1) in
+accepted s e =
+    let n = none-holds (settingsCases s) tt e in
+    let v = of-true (not-false (leb 1 (s .variables) && leb (s .variables) 8) (n .1 .0)) in
     record {
-      modulus = t .0;
-      some = leb→le 1 (s .variables) (of-true (v .0));
-      few = leb→le (s .variables) 8 (of-true (v .1));
-      order = ltb-false 2 (s .order) (t .2);
+      modulus = not-false (isModulus (s .modulus)) (n .0);
+      some = leb→le 1 (s .variables) (and-left (leb 1 (s .variables)) (leb (s .variables) 8) v);
+      few = leb→le (s .variables) 8 (and-right (leb 1 (s .variables)) (leb (s .variables) 8) v);
+      order = ltb-false 2 (s .order) (n .1 .1 .0);
     }
 
 -- the cases behind those of the settings decide
 pub settings-pass : (s : Settings) → firstOf (settingsCases s) ≡ 0 → (l : List Case) → firstOf (settingsCases s ++ l) ≡ firstOf l
-unfolding settingsCases firstOf
-settings-pass s e l = let t = three (isModulus (s .modulus)) (leb 1 (s .variables) && leb (s .variables) 8) (ltb 2 (s .order)) e in simp (t .0, t .1, t .2)
+unfolding settingsCases
+settings-pass s e l = sym (first-on (settingsCases s) l (none-holds (settingsCases s) tt e))
 
 -- No table is shorter than its size.
 pub record Large (t : Tables) : Type 0 where

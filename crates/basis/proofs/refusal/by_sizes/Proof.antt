@@ -3,14 +3,14 @@ use borrow.Author.Needs.{needs}
 use mathlib.Core.Path.{sym, _∙_}
 use Rattle.basis.specs.Refusal.{firstOf}
 use Rattle.basis.specs.Settings.{settingsCases}
-use Rattle.basis.proofs.Cases.{None, none, first-stop, first-on}
+use Rattle.basis.proofs.Cases.{None, none-holds, first-stop, first-on}
 use Rattle.basis.proofs.refusal.by_sizes.Statement.{statement}
 use Rattle.basis.proofs.refusal.by_sizes.Tie as tie
 
 -- the settings are good
 passed : (c : tie.Else1) → None (settingsCases (c .before .before .args .settings))
 unfolding settingsCases
-passed c = none _ tt (sym (c .before .settings-refusal .ensures) ∙ c .if1 .left)
+passed c = none-holds _ tt (sym (c .before .settings-refusal .ensures) ∙ c .if1 .left)
 
 settings-refusal-requires : tie.Need-settings-refusal-requires
 settings-refusal-requires c κs = search needs

@@ -1,0 +1,4 @@
+-- What the public calls stand on: their points, their refusals, and their answers.
+pub mod Given
+pub mod Refusing
+pub mod Answers

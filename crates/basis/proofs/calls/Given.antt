@@ -1,0 +1,96 @@
+-- The points of a call, offered as levels or read from a table, as drawing up is handed them.
+use mathlib.Core.Path.{_≡_, refl, sym, _∙_, ap, subst}
+use mathlib.Core.List.{List, _∷_, map}
+use mathlib.Core.Logic.{inl, inr}
+use Prim.Native.Nat.{ℕ, zero, suc, _-_, _*_, _/_, _%_, _≤_}
+use native.Mathlib.Nat.{div-add-mod', mul-comm}
+use native.Mathlib.Omega.{arith}
+use lib.IntN.{ℤ}
+use lib.ListN.{length, take, drop, length-drop}
+use lib.Seq.{length-take-le}
+use lib.Dec.{T}
+use Rattle.residue.specs.Lists.{Among}
+use Rattle.residue.proofs.Moduli.{modulus-range}
+use Rattle.basis.specs.declared.settings.Settings.{Settings}
+use Rattle.basis.specs.Levels.{inRange, residues, groups, noRepeat}
+use Rattle.basis.specs.Layout.{fill, inPlaces}
+use Rattle.basis.specs.Instance.{Point, reduced, pointOf}
+use Rattle.basis.specs.Tables.{pointsUnder, pointsIn}
+use Rattle.basis.specs.Adding.{pointsOffered}
+use Rattle.basis.specs.Drawing.{PointsGiven}
+use Rattle.basis.proofs.Instance.{point-of}
+use Rattle.basis.proofs.Layouts.{fill-whole, over-all}
+use Rattle.basis.proofs.Places.{length-groups, table-groups, repeat-filled}
+use Rattle.basis.proofs.PointTables.{map-take, map-drop, length-points, points-in}
+use Rattle.basis.proofs.agreement.Points.{IsPoint, Points, points-back, residues-same, length-residues}
+use Rattle.basis.proofs.agreement.Refusals.{Accepted}
+
+-- the members of a list that is changed one by one
+among-map : {A B : Type 0} (f : A → B) (l : List A) (b : B) → Among b (map f l) → (a : A) × Among a l × (b ≡ f a)
+among-map f (a ∷ l) b (inl e) = (a, inl refl, e)
+among-map f (a ∷ l) b (inr q) = let w = among-map f l b q in (w .0, inr (w .1), w .2)
+
+-- groups of m residues each
+rows-of : (q m k : ℕ) (R : List ℕ) → reduced q R ≡ R → length R ≡ m * k → (P : List ℕ) → Among P (groups m k R) → (length P ≡ m) × (reduced q P ≡ P)
+unfolding groups
+rows-of q m zero R e l P w = absurd w
+rows-of q m (suc k) R e l P (inl f) =
+    (ap length f ∙ length-take-le m R (omega arith), ap (reduced q) f ∙ map-take _ m R ∙ ap (take m) e ∙ sym f)
+rows-of q m (suc k) R e l P (inr w) =
+    let d : length (drop m R) ≡ m * k = length-drop m R ∙ omega arith in
+    rows-of q m k (drop m R) (map-drop _ m R ∙ ap (drop m) e) d P w
+
+module _ (s : Settings) (ok : Accepted s) where
+  -- Points offered.
+  pub offered : (levels : List ℤ) → length levels % s .variables ≡ 0 → length levels / s .variables ≤ 64 → T (inRange (s .modulus) levels) → T (noRepeat (pointsOffered s levels))
+      → Points s (pointsOffered s levels)
+  unfolding pointsOffered
+  offered levels whole few range once =
+      let k : ℕ = length levels / s .variables in
+      let R : List ℕ = residues (s .modulus) levels in
+      let p = modulus-range (s .modulus) (ok .modulus) in
+      let n : length R ≡ s .variables * k = length-residues (s .modulus) levels ∙ sym (div-add-mod' (length levels) (s .variables)) ∙ omega (arith, mul-comm k (s .variables)) in
+      record {
+        points = λ P w. let g = rows-of (s .modulus - 1) (s .variables) k R (residues-same (s .modulus) levels (omega arith) range) n P w in record { long = g .0; same = g .1 };
+        once = once;
+        few = omega (arith, length-groups (s .variables) k R);
+      }
+
+  -- Points read.
+  is-read : (X : Point (suc (s .modulus - 1)) (s .variables)) → IsPoint s (X .0)
+  unfolding pointOf
+  is-read X = record {
+    long = X .1 .0;
+    same =
+        ap (reduced (s .modulus - 1)) (sym (subst (λ (k : ℕ). fill k (X .0) ≡ X .0) (X .1 .0) (fill-whole (X .0))))
+        ∙ ap (λ (Y : Point (suc (s .modulus - 1)) (s .variables)). Y .0) (point-of (s .modulus - 1) (s .variables) X);
+  }
+
+  pub read-each : (n : ℕ) (t P : List ℕ) → Among P (pointsIn s n t) → IsPoint s P
+  unfolding pointsIn
+  read-each n t P w = let g = among-map (λ X. X .0) (pointsUnder s (groups 8 n t)) P w in subst (IsPoint s) (sym (g .2)) (is-read (g .0))
+
+  pub read : (n : ℕ) (t : List ℕ) → n ≤ 64 → T (noRepeat (pointsIn s n t)) → Points s (pointsIn s n t)
+  read n t few once = record { points = read-each n t; once = once; few = omega (arith, length-points (s .modulus) (s .variables) n t, ap length (points-in s n t)) }
+
+  -- A table of points.
+  module _ (L : List (List ℕ)) (h : (P : List ℕ) → Among P L → IsPoint s P) (few : length L ≤ 64) where
+    pub table-repeat : noRepeat (groups 8 (length L) (fill 512 (inPlaces 8 L))) ≡ noRepeat L
+    table-repeat = ap noRepeat (table-groups 8 512 L (omega arith)) ∙ repeat-filled 8 (s .variables) (ok .few) L (λ P w. h P w .long)
+
+  module _ (L : List (List ℕ)) (h : Points s L) where
+    pub table-points : pointsIn s (length L) (fill 512 (inPlaces 8 L)) ≡ L
+    table-points =
+        let t : List ℕ = fill 512 (inPlaces 8 L) in
+        ap (pointsIn s (length L)) (sym (over-all t t refl)) ∙ points-back s (ok .few) L h t
+
+    pub given : PointsGiven s (length L) (fill 512 (inPlaces 8 L))
+    given = record {
+      modulus = ok .modulus;
+      some = ok .some;
+      few = ok .few;
+      order = ok .order;
+      most = h .few;
+      table = ap (λ (S : List (List ℕ)). fill 512 (inPlaces 8 S)) (sym table-points);
+      once = subst (λ (S : List (List ℕ)). T (noRepeat S)) (sym table-points) (h .once);
+    }

@@ -1,0 +1,70 @@
+-- The number of a call: the refusals on numbers first, then its own tests; and its outcome by the number.
+use mathlib.Core.Path.{_≡_, refl, sym, _∙_, ap}
+use mathlib.Core.Bool.{Bool, false}
+use mathlib.Core.List.{List, [], _∷_, _++_, append-assoc}
+use Prim.Native.Nat.{ℕ}
+use native.Mathlib.Decide.{ℕ-discrete}
+use borrow.Author.Tests.{ne-eqb}
+use Rattle.basis.specs.declared.settings.Settings.{Settings}
+use Rattle.basis.specs.Refusal.{Case, firstOf}
+use Rattle.basis.specs.Settings.{settingsCases}
+use Rattle.basis.specs.Tables.{Tables}
+use Rattle.basis.specs.Adding.{Outcome, refused, byRefusal}
+use Rattle.basis.specs.Solving.{Filled, filling}
+use Rattle.basis.specs.Layout.{over}
+use Rattle.basis.proofs.Cases.{None, none-holds, first-stop, first-on}
+use Rattle.basis.proofs.agreement.Refusals.{Accepted, accepted, settings-pass}
+
+module _ (s : Settings) (short wrong many : Bool) where
+  -- the cases that look at numbers alone
+  abbrev pub sizes : List Case
+  sizes = (short, 6) ∷ (wrong, 7) ∷ (many, 8) ∷ []
+
+  -- what it says that none of them holds
+  pub record Passed : Type 0 where
+    pub settings : Accepted s
+    pub long : short ≡ false
+    pub right : wrong ≡ false
+    pub few : many ≡ false
+
+  none-of : firstOf (settingsCases s ++ sizes) ≡ 0 → (firstOf (settingsCases s) ≡ 0) × None sizes
+  none-of e = go (ℕ-discrete (firstOf (settingsCases s)) 0)
+    where
+      go : Dec (firstOf (settingsCases s) ≡ 0) → (firstOf (settingsCases s) ≡ 0) × None sizes
+      go (yes z) = (z, none-holds sizes tt (sym (settings-pass s z sizes) ∙ e))
+      go (no z) = absurd (z (first-stop (settingsCases s) sizes z ∙ e))
+
+  pub passed : firstOf (settingsCases s ++ sizes) ≡ 0 → Passed
+  passed e = let n = none-of e in record { settings = accepted s (n .0); long = n .1 .0; right = n .1 .1 .0; few = n .1 .1 .1 .0 }
+
+  module _ (rest : List Case) where
+    together : (settingsCases s ++ sizes) ++ rest ≡ settingsCases s ++ (sizes ++ rest)
+    together = append-assoc (settingsCases s) sizes rest
+
+    -- one of them holds
+    pub by-size : (k : ℕ) → k ≡ firstOf (settingsCases s ++ sizes) → (k ≡ 0 → ⊥) → k ≡ firstOf (settingsCases s ++ (sizes ++ rest))
+    by-size k e n = e ∙ first-stop (settingsCases s ++ sizes) rest (λ z. n (e ∙ z)) ∙ ap firstOf together
+
+    -- none does: the call's own tests decide
+    pub by-rest : firstOf (settingsCases s ++ sizes) ≡ 0 → firstOf rest ≡ firstOf (settingsCases s ++ (sizes ++ rest))
+    by-rest e = let n = none-of e in first-on sizes rest (n .1) ∙ sym (settings-pass s (n .0) (sizes ++ rest))
+
+-- the outcome of a call that writes tables
+module _ (t : Tables) (new : Outcome) (k : ℕ) where
+  pub when-refused : (j : ℕ) → j ≡ k → (j ≡ 0 → ⊥) → refused j t ≡ byRefusal k t new
+  unfolding byRefusal
+  when-refused j e n = rw (← e) (simp (ne-eqb j 0 n))
+
+  pub when-accepted : 0 ≡ k → new ≡ byRefusal k t new
+  unfolding byRefusal
+  when-accepted e = rw (← e) refl
+
+-- and of one that fills a buffer
+module _ (new buffer : List ℕ) (k : ℕ) where
+  pub fill-refused : (j : ℕ) → j ≡ k → (j ≡ 0 → ⊥) → _≡_ {A = Filled} (record { refusal = j; buffer = buffer }) (filling k new buffer)
+  unfolding filling
+  fill-refused j e n = rw (← e) (simp (ne-eqb j 0 n))
+
+  pub fill-accepted : (end : List ℕ) → 0 ≡ k → end ≡ over new buffer → _≡_ {A = Filled} (record { refusal = 0; buffer = end }) (filling k new buffer)
+  unfolding filling
+  fill-accepted end e f = rw (← e, f) refl
