@@ -11,3 +11,4 @@ pub mod refusal;
 pub mod rows;
 pub mod settings;
 pub mod solve;
+pub mod tables;

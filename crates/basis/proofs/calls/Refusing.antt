@@ -1,17 +1,19 @@
 -- The number of a call: the refusals on numbers first, then its own tests; and its outcome by the number.
 use mathlib.Core.Path.{_≡_, refl, sym, _∙_, ap}
-use mathlib.Core.Bool.{Bool, false}
+use mathlib.Core.Bool.{Bool, false, _&&_, and-assoc}
 use mathlib.Core.List.{List, [], _∷_, _++_, append-assoc}
 use Prim.Native.Nat.{ℕ}
 use native.Mathlib.Decide.{ℕ-discrete}
+use lib.Dec.{eqb}
 use borrow.Author.Tests.{ne-eqb}
 use Rattle.basis.specs.declared.settings.Settings.{Settings}
 use Rattle.basis.specs.Refusal.{Case, firstOf}
 use Rattle.basis.specs.Settings.{settingsCases}
-use Rattle.basis.specs.Tables.{Tables}
+use Rattle.basis.specs.Levels.{noRepeat}
+use Rattle.basis.specs.Tables.{Tables, rowCount, tablesOf, pointsIn, recognised}
 use Rattle.basis.specs.Adding.{Outcome, refused, byRefusal}
 use Rattle.basis.specs.Solving.{Filled, filling}
-use Rattle.basis.specs.Layout.{over}
+use Rattle.basis.specs.Layout.{over, begins}
 use Rattle.basis.proofs.Cases.{None, none-holds, first-stop, first-on}
 use Rattle.basis.proofs.agreement.Refusals.{Accepted, accepted, settings-pass}
 
@@ -68,3 +70,15 @@ module _ (new buffer : List ℕ) (k : ℕ) where
   pub fill-accepted : (end : List ℕ) → 0 ≡ k → end ≡ over new buffer → _≡_ {A = Filled} (record { refusal = 0; buffer = end }) (filling k new buffer)
   unfolding filling
   fill-accepted end e f = rw (← e, f) refl
+
+-- Refusal 10, test by test: the points, the row count, the four tables.
+module _ (s : Settings) (n r : ℕ) (t : Tables) where
+  abbrev pub readIn : List (List ℕ)
+  readIn = pointsIn s n (t .states)
+
+  abbrev pub sameTables : Tables → Bool
+  sameTables new = begins (new .states) (t .states) && (begins (new .standard) (t .standard) && (begins (new .leads) (t .leads) && begins (new .coefficients) (t .coefficients)))
+
+  pub recognised-is : recognised s n r t ≡ (noRepeat readIn && (eqb r (rowCount s readIn) && sameTables (tablesOf s readIn)))
+  unfolding recognised
+  recognised-is = simp and-assoc
