@@ -14,3 +14,6 @@ pub mod Placing
 pub mod Snocs
 pub mod Filling
 pub mod Gathering
+pub mod Appended
+pub mod Decimals
+pub mod Printed

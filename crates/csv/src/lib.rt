@@ -2,5 +2,6 @@
 pub mod fields;
 pub mod forms;
 pub mod points;
+pub mod printing;
 pub mod reading;
 pub mod records;

@@ -1,0 +1,81 @@
+-- What is printed: document 01, 'The program reads standard input and prints'.
+use mathlib.Core.Bool.{cond}
+use mathlib.Core.List.{List, [], _∷_, _++_, map, flatten, zipWith}
+use Prim.Native.Nat.{ℕ, zero, suc, _+_, _/_, _%_}
+use lib.Dec.{ltb}
+use lib.ListN.{length}
+
+-- a number in decimal, with more turns than it has digits
+unfoldable pub digitsOf : ℕ → ℕ → List ℕ
+digitsOf zero n = []
+digitsOf (suc turns) n = cond (ltb n 10) ((48 + n) ∷ []) (digitsOf turns (n / 10) ++ ((48 + n % 10) ∷ []))
+
+unfoldable pub decimal : ℕ → List ℕ
+decimal n = digitsOf (suc n) n
+
+-- 'One space before each number or colon, LF at each end.'
+unfoldable pub spaced : ℕ → List ℕ
+spaced n = 32 ∷ decimal n
+
+unfoldable pub numbers : List ℕ → List ℕ
+numbers l = flatten (map spaced l)
+
+abbrev pub colon : List ℕ
+colon = 32 ∷ 58 ∷ []
+
+abbrev pub lineEnd : List ℕ
+lineEnd = 10 ∷ []
+
+-- the words: points, standard, rows, row, interpolant, wiring, refused
+abbrev pub points-word : List ℕ
+points-word = 112 ∷ 111 ∷ 105 ∷ 110 ∷ 116 ∷ 115 ∷ []
+
+abbrev pub standard-word : List ℕ
+standard-word = 115 ∷ 116 ∷ 97 ∷ 110 ∷ 100 ∷ 97 ∷ 114 ∷ 100 ∷ []
+
+abbrev pub rows-word : List ℕ
+rows-word = 114 ∷ 111 ∷ 119 ∷ 115 ∷ []
+
+abbrev pub row-word : List ℕ
+row-word = 114 ∷ 111 ∷ 119 ∷ []
+
+abbrev pub interpolant-word : List ℕ
+interpolant-word = 105 ∷ 110 ∷ 116 ∷ 101 ∷ 114 ∷ 112 ∷ 111 ∷ 108 ∷ 97 ∷ 110 ∷ 116 ∷ []
+
+abbrev pub wiring-word : List ℕ
+wiring-word = 119 ∷ 105 ∷ 114 ∷ 105 ∷ 110 ∷ 103 ∷ []
+
+abbrev pub refused-word : List ℕ
+refused-word = 114 ∷ 101 ∷ 102 ∷ 117 ∷ 115 ∷ 101 ∷ 100 ∷ []
+
+-- a word and numbers
+unfoldable pub line : List ℕ → List ℕ → List ℕ
+line word l = word ++ (numbers l ++ lineEnd)
+
+unfoldable pub labelled : List ℕ → ℕ → List ℕ
+labelled word n = word ++ spaced n
+
+-- 'First line: n, n, r.'
+unfoldable pub firstLine : ℕ → ℕ → List ℕ
+firstLine n r = labelled points-word n ++ (labelled (32 ∷ standard-word) n ++ (labelled (32 ∷ rows-word) r ++ lineEnd))
+
+-- '`standard`: m exponents.'
+unfoldable pub standardLines : List (List ℕ) → List ℕ
+standardLines standard = flatten (map (line standard-word) standard)
+
+-- '`row`: the lead's m exponents, a colon, n coefficients.'
+unfoldable pub rowLine : List ℕ → List ℕ → List ℕ
+rowLine lead coefficients = row-word ++ (numbers lead ++ line colon coefficients)
+
+unfoldable pub rowLines : List (List ℕ) → List (List ℕ) → List ℕ
+rowLines leads rows = flatten (zipWith rowLine leads rows)
+
+-- '`interpolant`: n coefficients. `wiring`: gene numbers.'
+unfoldable pub basisLines : (standard leads rows : List (List ℕ)) (interpolant names : List ℕ) → List ℕ
+basisLines standard leads rows interpolant names =
+    firstLine (length standard) (length leads)
+    ++ (standardLines standard ++ (rowLines leads rows ++ (line interpolant-word interpolant ++ line wiring-word names)))
+
+-- 'A refusal prints only one line: `refused`, the number, the record.'
+unfoldable pub refusalLine : ℕ → ℕ → List ℕ
+refusalLine refusal at = labelled refused-word refusal ++ (spaced at ++ lineEnd)
