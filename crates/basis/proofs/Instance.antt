@@ -117,7 +117,7 @@ module _ (q m : ℕ) (order : Order) (p : isModulus (suc q) ≡ true) (S : List 
   lead-exponent a mem i = omega (arith, exponent-degree (a .0) i, lead-total a mem)
 
 -- m residues are the coordinates of their point
-residues-reduced : (q : ℕ) (l : List ℕ) → Residues (suc q) l → reduced q l ≡ l
+pub residues-reduced : (q : ℕ) (l : List ℕ) → Residues (suc q) l → reduced q l ≡ l
 residues-reduced q [] r = refl
 residues-reduced q (c ∷ l) r = let e : c % suc q ≡ c = mod-eq-of-lt (ltb→lt c (suc q) (r .0)) in let f : reduced q l ≡ l = residues-reduced q l (r .1) in cc
 

@@ -1,24 +1,24 @@
 -- Laws of what drawing up writes: places of tables, the ranks of the variables, the values of a monomial at the points.
 use mathlib.Core.Path.{_≡_, refl, sym, ap, ap₂, _∙_}
-use mathlib.Core.List.{List, [], _∷_, _++_, map}
-use Prim.Native.Nat.{ℕ, zero, suc, _+_, _*_, _<_, _≤_}
-use native.Mathlib.Nat.{not-suc-le-zero}
+use mathlib.Core.List.{List, [], _∷_, _++_}
+use Prim.Native.Nat.{ℕ, _+_, _*_, _%_, _^_, _<_, _≤_}
 use native.Mathlib.Decide.{decLt}
 use native.Mathlib.Omega.{arith}
-use lib.ListN.{length, getD, take, drop, replicate, length-map, length-drop, length-replicate, List·getD-eq-default}
-use lib.Seq.{getD-take, getD-drop, length-take-le, take-at, drop-drop}
+use lib.ListN.{length, getD, take, drop, replicate, length-append, length-map, length-drop, length-replicate, List·getD-append, List·getD-eq-default}
+use lib.Seq.{getD-take, getD-drop, getD-append-add, length-take-le, take-at}
 use lib.Dec.{eqb, eqb→eq}
 use Rattle.residue.specs.Vector.{Below, pointwise}
-use Rattle.residue.proofs.Vectors.{map-at, pointwise-length}
+use Rattle.residue.proofs.Vectors.{map-at, pointwise-length, pointwise-at, pointwise-below, below-take, below-drop, below-append}
 use Rattle.residue.proofs.Moduli.{below-at}
 use Rattle.monomial.specs.Order.{Order}
 use Rattle.monomial.specs.Rank.{variableRank}
 use Rattle.basis.specs.Levels.{groups}
-use Rattle.basis.specs.Layout.{fill, over}
+use Rattle.basis.specs.Layout.{fill, inPlaces, over}
 use Rattle.basis.specs.Working.{withPlace}
 use Rattle.basis.specs.Drawing.{stepsOf, columnOf, productValues}
-use Rattle.basis.proofs.Layouts.{length-fill, fill-at, over-all}
-use Rattle.basis.proofs.Places.{length-groups, over-zeros}
+use Rattle.basis.proofs.Layouts.{length-fill, fill-at, fill-whole, length-over, over-all}
+use Rattle.basis.proofs.elimination.Exponents.{variable-small}
+use Rattle.basis.proofs.Places.{length-groups, groups-at, over-zeros, place-more}
 
 -- a part that was lent, and came back written over at its front
 pub put-place : (w k j : ℕ) (new table : List ℕ) {part : List ℕ} → j ≡ w → part ≡ over new (take j (drop (w * k) table))
@@ -41,6 +41,45 @@ pub read-whole : (at j w : ℕ) (table old : List ℕ) → j ≡ w → at + w �
 read-whole at j w table old e h l =
     over-all (take j (drop at table)) old (part-long at j w table e h ∙ sym l) ∙ ap (λ (i : ℕ). take i (drop at table)) e
 
+-- one row more in a table whose places behind are 0
+pub table-more : (w N k : ℕ) (S : List (List ℕ)) (r t : List ℕ) → t ≡ fill N (inPlaces w S) → k ≡ length S → w * k + w ≤ N → length r ≤ w
+    → withPlace w k r t ≡ fill N (inPlaces w (S ++ (r ∷ [])))
+unfolding withPlace
+table-more w N k S r t e c h l = place-more w N S r t (over r (take w (drop (w * k) t))) (w * k) w e (ap (λ (z : ℕ). w * z) c) refl h l refl
+
+-- a row that is filled up already
+pub places-filled : (w : ℕ) (S : List (List ℕ)) (r : List ℕ) → inPlaces w (S ++ (fill w r ∷ [])) ≡ inPlaces w (S ++ (r ∷ []))
+unfolding inPlaces
+places-filled w [] r = ap (λ (z : List ℕ). z ++ []) (ap (λ (k : ℕ). fill k (fill w r)) (sym (length-fill w r)) ∙ fill-whole (fill w r))
+places-filled w (x ∷ S) r = ap (λ (z : List ℕ). fill w x ++ z) (places-filled w S r)
+
+-- a place that is written whole: the table's length, residues, what lies before, and the place itself
+module _ (w k : ℕ) (new table : List ℕ) (fits : w * k + w ≤ length table) (long : length new ≡ w) where
+  whole : withPlace w k new table ≡ take (w * k) table ++ (new ++ drop w (drop (w * k) table))
+  whole = sym (put-whole w k w new table refl fits long refl)
+
+  before : length (take (w * k) table) ≡ w * k
+  before = length-take-le (w * k) table (omega arith)
+
+  pub place-length : length (withPlace w k new table) ≡ length table
+  place-length = rw whole (simp (length-append, length-drop, before) (omega arith))
+
+  pub place-below : (p : ℕ) → Below p new → Below p table → Below p (withPlace w k new table)
+  place-below p b c =
+      rw whole
+      (below-append p (take (w * k) table) (new ++ drop w (drop (w * k) table)) (below-take p (w * k) table c)
+      (below-append p new (drop w (drop (w * k) table)) b (below-drop p w (drop (w * k) table) (below-drop p (w * k) table c))))
+
+  pub place-before : (i : ℕ) → i < w * k → getD (withPlace w k new table) i 0 ≡ getD table i 0
+  place-before i h = rw whole (List·getD-append (take (w * k) table) _ 0 i (rw before h) ∙ getD-take (w * k) table i 0 h)
+
+  pub place-here : (i : ℕ) → i < w → getD (withPlace w k new table) (w * k + i) 0 ≡ getD new i 0
+  place-here i h =
+      rw whole
+      (ap (λ (j : ℕ). getD (take (w * k) table ++ (new ++ drop w (drop (w * k) table))) (j + i) 0) (sym before)
+      ∙ getD-append-add (take (w * k) table) (new ++ drop w (drop (w * k) table)) i 0
+      ∙ List·getD-append new (drop w (drop (w * k) table)) 0 i (rw long h))
+
 -- the ranks of the variables
 abbrev indices : List ℕ
 indices = 0 ∷ 1 ∷ 2 ∷ 3 ∷ 4 ∷ 5 ∷ 6 ∷ 7 ∷ []
@@ -53,12 +92,8 @@ pub steps-at : (order : Order) (k : ℕ) → k < 8 → getD (stepsOf order) k 0 
 unfolding stepsOf
 steps-at order k h = map-at (variableRank order) indices 0 0 k h ∙ ap (variableRank order) (eqb→eq _ _ (below-at (λ i. eqb (getD indices i 0) i) 8 tt k h))
 
--- a group of a table
-pub groups-at : {A : Type 0} (w n i : ℕ) (t : List A) → i < n → getD (groups w n t) i [] ≡ take w (drop (w * i) t)
-unfolding groups
-groups-at w zero i t h = absurd (not-suc-le-zero h)
-groups-at w (suc n) zero t h = let e : w * 0 ≡ 0 = omega arith in rw e
-groups-at w (suc n) (suc i) t h = let e : w + w * i ≡ w * suc i = omega arith in groups-at w n i (drop w t) (omega arith) ∙ rw (drop-drop (w * i) w t, e)
+pub steps-below : (order : Order) → Below (2 ^ 56) (stepsOf order)
+steps-below order i h = let l = steps-long order in rw (steps-at order i (omega arith)) (variable-small order i (omega arith))
 
 -- one coordinate of the points of a table
 module _ (k n : ℕ) (points : List ℕ) where
@@ -70,7 +105,7 @@ module _ (k n : ℕ) (points : List ℕ) where
   unfolding columnOf
   column-at i h l =
       map-at (λ P. getD P k 0) (groups 8 n points) [] 0 i (rw (length-groups 8 n points) h)
-      ∙ ap (λ (P : List ℕ). getD P k 0) (groups-at 8 n i points h)
+      ∙ ap (λ (P : List ℕ). getD P k 0) (groups-at 8 n i points [] h)
       ∙ getD-take 8 (drop (8 * i) points) k 0 l
       ∙ getD-drop (8 * i) points k 0
 
@@ -81,15 +116,37 @@ module _ (k n : ℕ) (points : List ℕ) where
   unfolding over
   column-front column old c = ap (take n) c ∙ take-at (columnOf k n points) (drop (length (columnOf k n points)) old) n column-long
 
-  -- the values of a product, as they are made in place
-  pub product-made : (p : ℕ) (values column old : List ℕ) {part : List ℕ} → n ≤ length values → column ≡ over (columnOf k n points) old
-      → part ≡ pointwise p (take n values) (take n column) → part ++ drop n values ≡ productValues p k n points values
-  unfolding productValues over
-  product-made p values column old {part} h c e =
-      let f : part ≡ pointwise p (take n values) (columnOf k n points) = e ∙ ap (pointwise p (take n values)) (column-front column old c) in
-      let g : length (pointwise p (take n values) (columnOf k n points)) ≡ n =
-      pointwise-length p (take n values) (columnOf k n points) (length-take-le n values h ∙ sym column-long) ∙ length-take-le n values h in
-      ap₂ (λ (a : List ℕ) (i : ℕ). a ++ drop i values) f (sym g)
+  -- the values of a product
+  module _ (p : ℕ) (values : List ℕ) (h : n ≤ length values) where
+    abbrev made : List ℕ
+    made = pointwise p (take n values) (columnOf k n points)
+
+    even : length (take n values) ≡ length (columnOf k n points)
+    even = length-take-le n values h ∙ sym column-long
+
+    made-long : length made ≡ n
+    made-long = pointwise-length p (take n values) (columnOf k n points) even ∙ length-take-le n values h
+
+    pub product-long : length (productValues p k n points values) ≡ length values
+    unfolding productValues
+    product-long = length-over made values (omega (arith, made-long))
+
+    pub product-below : 0 < p → Below p values → Below p (productValues p k n points values)
+    unfolding productValues over
+    product-below z b = below-append p made (drop (length made) values) (pointwise-below p (take n values) (columnOf k n points) even z) (below-drop p (length made) values b)
+
+    pub product-at : (i : ℕ) → i < n → k < 8 → getD (productValues p k n points values) i 0 ≡ (getD values i 0 * getD points (8 * i + k) 0) % p
+    unfolding productValues over
+    product-at i l s =
+        List·getD-append made (drop (length made) values) 0 i (rw made-long l)
+        ∙ pointwise-at p (take n values) (columnOf k n points) even i (rw (length-take-le n values h) l)
+        ∙ ap₂ (λ (x y : ℕ). (x * y) % p) (getD-take n values i 0 l) (column-at i l s)
+
+    -- as they are made in place
+    pub product-made : (column old : List ℕ) {part : List ℕ} → column ≡ over (columnOf k n points) old → part ≡ pointwise p (take n values) (take n column)
+        → part ++ drop n values ≡ productValues p k n points values
+    unfolding productValues over
+    product-made column old c e = ap₂ (λ (a : List ℕ) (i : ℕ). a ++ drop i values) (e ∙ ap (pointwise p (take n values)) (column-front column old c)) (sym made-long)
 
 pub zeros-long : (l : List ℕ) (k : ℕ) → l ≡ replicate k 0 → length l ≡ k
 zeros-long l k e = ap length e ∙ length-replicate k 0

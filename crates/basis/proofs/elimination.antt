@@ -13,3 +13,10 @@ pub mod NextPivot
 pub mod Occurring
 pub mod Exponents
 pub mod Candidates
+pub mod Matrix
+pub mod FoundRows
+pub mod Held
+pub mod Decisions
+pub mod Hands
+pub mod Grounds
+pub mod Loop

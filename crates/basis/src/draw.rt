@@ -1,6 +1,8 @@
 // Drawing up from all points: elimination over value columns (Buchberger and Möller, 1982). Monomials come in increasing order, each a variable times a
 // standard monomial found. One whose values are a combination of those of the standard monomials found is a leading monomial; any other is standard.
 use crate::bytes;
+use crate::candidate::Candidate;
+use crate::candidate::next;
 use crate::rows;
 use monomial::rank::variable_rank;
 use residue::vector::multiply;
@@ -11,8 +13,9 @@ ghost use Rattle.residue.specs.Vector.{Below};
 ghost use Rattle.monomial.specs.Monomial.{timesVariable};
 ghost use Rattle.monomial.specs.Order.{orderOf};
 ghost use Rattle.basis.specs.Layout.{fill, over};
+ghost use Rattle.basis.specs.Tables.{pointsIn};
 ghost use Rattle.basis.specs.Working.{eliminated, firstNonzero, withPlace};
-ghost use Rattle.basis.specs.Drawing.{stepsOf, columnOf, productValues};
+ghost use Rattle.basis.specs.Drawing.{stepsOf, columnOf, productValues, settingsOf, PointsGiven, DrawnUp};
 
 // The ranks of the variables.
 fn put_steps(order: u8, steps: &mut [u64])
@@ -127,4 +130,60 @@ fn put_values(p: u16, n: usize, k: usize, t: usize, points: &[u8], values: &[u16
     let mut column = [0u16; 64];
     put_column(n, k, points, &mut column);
     multiply(p, &mut own[..n], &column[..n]);
+}
+
+// Fills the tables of the points' basis and its pivot rows; how many rows it has.
+pub fn draw(
+    p: u16,
+    m: usize,
+    order: u8,
+    n: usize,
+    points: &[u8],
+    standard: &mut [u8],
+    leads: &mut [u8],
+    coefficients: &mut [u8],
+    rows: &mut [u16],
+    pivots: &mut [u8],
+) -> usize
+    requires { ⌜ PointsGiven (settingsOf p m order) n (now points) ⌝ }
+    requires { ⌜ (now standard ≡ replicate 512 0) × ((now leads ≡ replicate 3592 0) × (now coefficients ≡ replicate 28736 0)) ⌝ }
+    requires { ⌜ (now rows ≡ replicate 8192 0) × (length (now pivots) ≡ 64) ⌝ }
+    ensures { λ r. ⌜ DrawnUp (settingsOf p m order) (pointsIn (settingsOf p m order) n (now (points .entry))) r (now (standard .exit)) (now (leads .exit)) (now (coefficients .exit)) (now (rows .exit)) (now (pivots .exit)) ⌝ }
+{
+    let mut steps = [0u64; 8];
+    put_steps(order, &mut steps);
+    let mut values = [0u16; 4096];
+    let mut ranks = [0u64; 64];
+    let mut at = [0u8; 8];
+    let mut found = 0;
+    let mut r = 0;
+    let mut exponents = [0u8; 8];
+    let mut rank = 0u64;
+    let mut own = [1u16; 64];
+    loop {
+        let mut work = [0u16; 128];
+        let q = reduce(p, n, found, &own, rows, pivots, &mut work);
+        if q == n {
+            keep_lead(p, n, found, r, &exponents, &work, leads, coefficients);
+            r += 1;
+        } else {
+            keep_standard(
+                found,
+                &exponents,
+                rank,
+                &own,
+                standard,
+                &mut ranks,
+                &mut values,
+            );
+            rows::keep(p, n, found, q, &mut work, rows, pivots);
+            found += 1;
+        }
+        let Candidate::Of(k, t, least) = next(m, found, standard, &ranks, &steps, &mut at) else {
+            return r;
+        };
+        rank = least;
+        put_exponents(k, t, standard, &mut exponents);
+        put_values(p, n, k, t, points, &values, &mut own);
+    }
 }

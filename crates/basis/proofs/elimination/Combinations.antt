@@ -17,6 +17,10 @@ pub sumTo-zero : {p : ℕ} {f : ℕ → ℕ} (k : ℕ) → ((j : ℕ) → j < k 
 sumTo-zero zero h = rfl
 sumTo-zero (suc k) h = sumTo-zero k (λ j l. h j (omega arith)) plus h k (omega arith)
 
+pub sumTo-front : (f : ℕ → ℕ) (k : ℕ) → sumTo f (suc k) ≡ f 0 + sumTo (λ j. f (suc j)) k
+sumTo-front f zero = omega arith
+sumTo-front f (suc k) = let h = sumTo-front f k in omega arith
+
 -- v j i is the value of the jth monomial at the ith point; the value at the ith point of the combination of the first k with the coefficients c
 abbrev pub combination : (ℕ → ℕ → ℕ) → ℕ → (ℕ → ℕ) → ℕ → ℕ
 combination v k c i = sumTo (λ j. c j * v j i) k

@@ -11,8 +11,7 @@ use Rattle.residue.proofs.Filled.{filled, filled-none, kept-length, filled-more
 use Rattle.monomial.specs.Monomial.{valueAt}
 use Rattle.basis.specs.Levels.{groups}
 use Rattle.basis.proofs.Copies.{mapped}
-use Rattle.basis.proofs.Places.{length-groups}
-use Rattle.basis.proofs.ValueRows.{groups-at}
+use Rattle.basis.proofs.Places.{length-groups, groups-at}
 use Rattle.basis.proofs.correct.values_of.Statement.{statement}
 use Rattle.basis.proofs.correct.values_of.Tie as tie
 
@@ -77,7 +76,7 @@ loop-again c =
     let i : ℕ = l .loop .i in
     let t : List ℕ = s .args .points .now in
     let e : 8 * i + 8 - 8 * i ≡ 8 = omega arith in
-    let row : take (8 * i + 8 - 8 * i) (drop (8 * i) t) ≡ getD (groups 8 (s .args .k) t) i [] = ap (λ (n : ℕ). take n (drop (8 * i) t)) e ∙ sym (groups-at 8 (s .args .k) i t (omega arith)) in (
+    let row : take (8 * i + 8 - 8 * i) (drop (8 * i) t) ≡ getD (groups 8 (s .args .k) t) i [] = ap (λ (n : ℕ). take n (drop (8 * i) t)) e ∙ sym (groups-at 8 (s .args .k) i t [] (omega arith)) in (
       omega arith,
       filled-more (value-at s) i (s .args .values .now) (l .loop .values) (l .loop .inv .1) _ (omega arith)
           (c .value .ensures ∙ ap (λ (a : List ℕ). valueAt (a) (s .args .a .now) % s .args .p) row),

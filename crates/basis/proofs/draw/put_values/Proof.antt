@@ -1,6 +1,5 @@
 -- `draw::put_values` meets its contract.
 use mathlib.Core.Path.{_≡_, sym, ap, subst, _∙_}
-use mathlib.Core.List.{List}
 use Prim.Native.Nat.{ℕ, _+_, _*_, _-_}
 use native.Mathlib.Omega.{arith}
 use borrow.Author.Needs.{needs}
@@ -98,7 +97,7 @@ returns : tie.Need-returns
 returns c =
     let r = c .before .before .before .before .before .before .before .before .before .before in
     let a = start r .args in
-    product-made (a .k) (a .n) (a .points .now) (a .p) (r .copy .last .1 .0) (c .before .before .before .before .before .before .put-column .last .1 .1 .1 .0) (replicate 64 0) (omega (arith, row-long r)) (c .before .before .before .before .before .before .put-column .ensures) (c .before .before .multiply .ensures)
+    product-made (a .k) (a .n) (a .points .now) (a .p) (r .copy .last .1 .0) (omega (arith, row-long r)) (c .before .before .before .before .before .before .put-column .last .1 .1 .1 .0) (replicate 64 0) (c .before .before .before .before .before .before .put-column .ensures) (c .before .before .multiply .ensures)
     ∙ ap (productValues (a .p) (a .k) (a .n) (a .points .now)) (row r)
 
 pub put-values-spec : {M : Type 1} → statement M
