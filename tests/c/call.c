@@ -1,0 +1,47 @@
+/* Performing a call by the archive or by the reference. */
+#include "call.h"
+
+#include "reference.h"
+
+const char *const kind_names[KINDS] = {"add_point", "draw_up", "check", "interpolate", "remainder", "wiring", "read_text"};
+
+const size_t table_sizes[4] = {MISQAFUR_STATES_SIZE, MISQAFUR_STANDARD_SIZE, MISQAFUR_LEADS_SIZE,
+                               MISQAFUR_COEFFICIENTS_SIZE};
+
+const struct calls archive = {misqafur_add_point, misqafur_draw_up, misqafur_check, misqafur_interpolate,
+                              misqafur_remainder, misqafur_wiring,  misqafur_read_text};
+
+const struct calls reference = {reference_add_point, reference_draw_up, reference_check, reference_interpolate,
+                                reference_remainder, reference_wiring,  reference_read_text};
+
+size_t out_size(enum kind kind)
+{
+    if (kind == WIRING)
+        return MISQAFUR_WIRING_SIZE;
+    return kind == INTERPOLATE || kind == REMAINDER || kind == READ_TEXT ? MISQAFUR_RESIDUES_SIZE : 0;
+}
+
+#define LENT(I) b[I].at, b[I].length
+#define TABLES LENT(STATES), LENT(STANDARD), LENT(LEADS), LENT(COEFFICIENTS)
+#define SETTINGS c->modulus, c->variables, c->order
+
+uint64_t perform(const struct calls *by, const struct call *c)
+{
+    const struct bytes *b = c->buffer;
+    switch (c->kind) {
+    case ADD_POINT:
+        return by->add_point(SETTINGS, c->n, c->r, TABLES, LENT(GIVEN));
+    case DRAW_UP:
+        return by->draw_up(SETTINGS, TABLES, LENT(GIVEN));
+    case CHECK:
+        return by->check(SETTINGS, c->n, c->r, TABLES);
+    case INTERPOLATE:
+        return by->interpolate(SETTINGS, c->n, c->r, TABLES, LENT(GIVEN), LENT(OUT));
+    case REMAINDER:
+        return by->remainder(SETTINGS, c->n, c->r, TABLES, LENT(GIVEN), LENT(EXPONENTS), LENT(OUT));
+    case WIRING:
+        return by->wiring(SETTINGS, c->n, c->r, TABLES, LENT(GIVEN), LENT(OUT));
+    default:
+        return by->read_text(LENT(GIVEN), LENT(STATES), LENT(OUT));
+    }
+}

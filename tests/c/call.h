@@ -1,0 +1,56 @@
+/* One call with everything that it is handed, and the two implementations that can perform it. */
+#ifndef CALL_H
+#define CALL_H
+
+#include "misqafur.h"
+
+enum kind { ADD_POINT, DRAW_UP, CHECK, INTERPOLATE, REMAINDER, WIRING, READ_TEXT, KINDS };
+
+extern const char *const kind_names[KINDS];
+
+/* The seven calls of one implementation. */
+struct calls {
+    __typeof__(misqafur_add_point) *add_point;
+    __typeof__(misqafur_draw_up) *draw_up;
+    __typeof__(misqafur_check) *check;
+    __typeof__(misqafur_interpolate) *interpolate;
+    __typeof__(misqafur_remainder) *remainder;
+    __typeof__(misqafur_wiring) *wiring;
+    __typeof__(misqafur_read_text) *read_text;
+};
+
+extern const struct calls archive, reference;
+
+/* The buffers of a call. A call has no use for those that its kind does not name. */
+enum buffer {
+    STATES,
+    STANDARD,
+    LEADS,
+    COEFFICIENTS,
+    GIVEN,     /* levels, values, coefficients of terms, or text */
+    EXPONENTS, /* of terms */
+    OUT,       /* interpolant, remainder, wiring list, or the values read */
+    BUFFERS
+};
+
+/* The size that a table must have. */
+extern const size_t table_sizes[4];
+
+struct bytes {
+    uint8_t *at;
+    size_t length;
+};
+
+struct call {
+    enum kind kind;
+    uint64_t modulus, variables, order, n, r;
+    struct bytes buffer[BUFFERS];
+};
+
+/* Has the call performed on its buffers, and gives the number returned. */
+uint64_t perform(const struct calls *by, const struct call *call);
+
+/* The answer buffer's size; 0 where a kind has none. */
+size_t out_size(enum kind kind);
+
+#endif

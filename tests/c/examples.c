@@ -1,0 +1,140 @@
+/* Part "examples": those of document 01 that are not proved from the definitions, and the fresh basis. */
+#include "guard.h"
+#include "parts.h"
+
+#include <stdio.h>
+#include <string.h>
+
+struct tables {
+    uint64_t n, r;
+    uint8_t states[MISQAFUR_STATES_SIZE], standard[MISQAFUR_STANDARD_SIZE];
+    uint8_t leads[MISQAFUR_LEADS_SIZE], coefficients[MISQAFUR_COEFFICIENTS_SIZE];
+};
+
+#define LENT(T) T->states, sizeof T->states, T->standard, sizeof T->standard, T->leads, sizeof T->leads, \
+                T->coefficients, sizeof T->coefficients
+
+static void say(struct score *score, const char *what, int holds)
+{
+    if (!holds)
+        fprintf(stderr, "examples: %s does not hold\n", what);
+    count(score, holds);
+}
+
+static void fresh(struct tables *t)
+{
+    memset(t, 0, sizeof *t);
+    t->r = 1;
+}
+
+/* Adds a point and keeps the counts; gives the refusal. */
+static uint32_t add(struct tables *t, uint64_t p, uint64_t m, const uint8_t *levels)
+{
+    uint32_t answer = misqafur_add_point(p, m, MISQAFUR_GREVLEX, t->n, t->r, LENT(t), levels, m);
+    if (misqafur_refusal(answer) == 0) {
+        t->n = misqafur_points(answer);
+        t->r = misqafur_elements(answer);
+    }
+    return misqafur_refusal(answer);
+}
+
+static uint32_t draw(struct tables *t, uint64_t p, uint64_t m, const uint8_t *levels, size_t length)
+{
+    return misqafur_refusal(misqafur_draw_up(p, m, MISQAFUR_GREVLEX, LENT(t), levels, length));
+}
+
+static void settings(struct score *score, struct tables *t)
+{
+    static const uint8_t levels[9] = {0};
+    const uint64_t moduli[3] = {61, 67, 1}, variables[2] = {8, 9};
+    for (int i = 0; i < 3; i++) {
+        uint32_t expected = i == 0 ? 0 : 3;
+        fresh(t);
+        say(score, "modulus, adding", add(t, moduli[i], 2, levels) == expected);
+        say(score, "modulus, drawing up", draw(t, moduli[i], 2, levels, 2) == expected);
+    }
+    for (int i = 0; i < 2; i++) {
+        uint32_t expected = i == 0 ? 0 : 4;
+        fresh(t);
+        say(score, "variables, adding", add(t, 61, variables[i], levels) == expected);
+        say(score, "variables, drawing up", draw(t, 61, variables[i], levels, variables[i]) == expected);
+    }
+}
+
+/* 65 distinct points modulo 61 in two variables, as levels. */
+static void many_points(uint8_t levels[130])
+{
+    for (int i = 0; i < 65; i++) {
+        levels[2 * i] = (uint8_t)(i % 61);
+        levels[2 * i + 1] = (uint8_t)(i / 61 + i % 3);
+    }
+}
+
+static void points(struct score *score, struct tables *t)
+{
+    static struct tables before;
+    uint8_t levels[130];
+    const uint8_t outside[2] = {127, 128};
+    int taken = 1;
+    many_points(levels);
+    fresh(t);
+    for (int i = 0; i < 64; i++)
+        taken &= add(t, 61, 2, levels + 2 * i) == 0;
+    say(score, "64 points added", taken && t->n == 64);
+    before = *t;
+    say(score, "the 65th point", add(t, 61, 2, levels + 128) == 8);
+    say(score, "the 65th point outside the range", add(t, 61, 2, outside) == 8);
+    say(score, "refused without a trace", memcmp(t, &before, sizeof before) == 0);
+    say(score, "64 points drawn up", draw(t, 61, 2, levels, 128) == 0);
+    say(score, "the same tables both ways", memcmp(t, &before, sizeof before) == 0);
+    say(score, "65 points drawn up", draw(t, 61, 2, levels, 130) == 8);
+    memcpy(levels + 128, outside, 2);
+    say(score, "65 points drawn up, one outside the range", draw(t, 61, 2, levels, 130) == 8);
+    say(score, "refused without a trace", memcmp(t, &before, sizeof before) == 0);
+}
+
+/* The same in text: a header and so many records, the last with the given level. */
+static uint64_t read_records(int records, int last)
+{
+    static char text[8192];
+    uint8_t states[MISQAFUR_STATES_SIZE], values[MISQAFUR_RESIDUES_SIZE];
+    int length = snprintf(text, sizeof text, "g1,g2,mod 61\n");
+    for (int i = 0; i < records; i++)
+        length += snprintf(text + length, sizeof text - (size_t)length, "%d,%d,0\n", i % 61,
+                           i + 1 == records ? last : i / 61);
+    return misqafur_read_text((const uint8_t *)text, (size_t)length, states, sizeof states, values, sizeof values);
+}
+
+static void texts(struct score *score)
+{
+    uint64_t answer = read_records(64, 60);
+    say(score, "64 records", misqafur_read_refusal(answer) == 0 && misqafur_read_points(answer) == 64 &&
+                                 misqafur_read_modulus(answer) == 61 && misqafur_read_variables(answer) == 2 &&
+                                 misqafur_read_order(answer) == MISQAFUR_LEX);
+    answer = read_records(65, 999);
+    say(score, "65 records, one outside the range",
+        misqafur_read_refusal(answer) == 8 && misqafur_read_record(answer) == 66);
+}
+
+/* The basis of no points under every settings: one buffer of zeros, which is only read, lent four times. */
+static void no_points(struct score *score)
+{
+    static const uint8_t zeros[MISQAFUR_COEFFICIENTS_SIZE];
+    for (uint64_t order = 0; order < 3; order++)
+        for (uint64_t m = 1; m <= 8; m++)
+            say(score, "the basis of no points",
+                misqafur_check(5, m, order, 0, 1, zeros, MISQAFUR_STATES_SIZE, zeros, MISQAFUR_STANDARD_SIZE, zeros,
+                               MISQAFUR_LEADS_SIZE, zeros, MISQAFUR_COEFFICIENTS_SIZE) == 0);
+}
+
+struct score examples(const struct options *options)
+{
+    static struct tables tables;
+    struct score score = {0, 0};
+    (void)options;
+    settings(&score, &tables);
+    points(&score, &tables);
+    texts(&score);
+    no_points(&score);
+    return score;
+}

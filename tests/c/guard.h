@@ -1,0 +1,37 @@
+/* Guarded memory: a call's buffers, each at the edge of a page that cannot be touched, with known
+ * bytes on its other side; and the comparison of two performed calls. */
+#ifndef GUARD_H
+#define GUARD_H
+
+#include "call.h"
+
+/* No buffer in a test is longer than this. */
+#define ROOM 32768
+
+struct guard;
+
+struct guard *guard_new(void);
+void guard_free(struct guard *guard);
+
+/* The same call on guarded copies of its buffers. Each bit of the choice places a buffer before or
+ * behind its forbidden page; an empty buffer there is NULL. */
+struct call guard_lend(struct guard *guard, const struct call *call, uint64_t choice);
+
+/* Whether the bytes around the buffers last lent are as they were. */
+int guard_intact(const struct guard *guard);
+
+/* Has the archive and the reference perform the call, each on copies of its own: whether the
+ * numbers, every lent byte and the bytes around agree. If not, it says on standard error how.
+ * *number is what the archive returned. */
+int agrees(struct guard *guard, const struct call *call, uint64_t choice, const char *name, uint64_t *number);
+
+/* From now on a call that touches a forbidden page ends the program with a line that names the call. */
+void guard_watch(void);
+
+/* What this thread performs, for that line. */
+extern _Thread_local const char *performing;
+
+/* Puts the entries of a wiring list in increasing order: document 01 leaves their order free. */
+void sort_wiring(const struct call *call, uint64_t number);
+
+#endif

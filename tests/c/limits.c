@@ -1,0 +1,118 @@
+/* Parts "long" and "stack": lengths above 4 GiB, and how much stack a call takes. */
+#define _DEFAULT_SOURCE
+#include "guard.h"
+#include "made.h"
+#include "parts.h"
+
+#include <inttypes.h>
+#include <stdio.h>
+#include <stdlib.h>
+#include <string.h>
+#include <sys/mman.h>
+#include <ucontext.h>
+
+#define FOUR_GIB ((size_t)1 << 32)
+
+/* A call on zeros: the basis of no points, with one long region in the place of some buffers. */
+static void long_call(struct score *score, uint8_t *zeros, enum kind kind, size_t given, size_t exponents,
+                      uint64_t n, uint32_t expected)
+{
+    struct call call = {.kind = kind, .modulus = 5, .variables = 8, .n = n, .r = 1};
+    static uint8_t tables[4][MISQAFUR_COEFFICIENTS_SIZE], out[MISQAFUR_RESIDUES_SIZE];
+    for (int t = 0; t < 4; t++)
+        call.buffer[t] = (struct bytes){tables[t], table_sizes[t]};
+    if (kind == CHECK)
+        for (int t = 0; t < 4; t++)
+            call.buffer[t] = (struct bytes){zeros, FOUR_GIB + 100 * (size_t)t};
+    call.buffer[GIVEN] = (struct bytes){zeros, given};
+    call.buffer[EXPONENTS] = (struct bytes){zeros, exponents};
+    call.buffer[OUT] = (struct bytes){out, sizeof out};
+    uint64_t number = perform(&archive, &call);
+    if (number != expected)
+        fprintf(stderr, "long: %s of %zu bytes returned %" PRIx64 " (hex)\n", kind_names[kind], given, number);
+    count(score, number == expected);
+}
+
+/* The region is reserved and never touched, so it takes no memory. */
+struct score long_buffers(const struct options *options)
+{
+    struct score score = {0, 0};
+    size_t length = FOUR_GIB + 65536;
+    uint8_t *zeros = mmap(NULL, length, PROT_READ, MAP_PRIVATE | MAP_ANONYMOUS | MAP_NORESERVE, -1, 0);
+    (void)options;
+    if (zeros == MAP_FAILED) {
+        printf("long: no address room of 4 GiB here, left out\n");
+        return score;
+    }
+    long_call(&score, zeros, DRAW_UP, FOUR_GIB + 8, 0, 0, 8);
+    long_call(&score, zeros, DRAW_UP, FOUR_GIB + 1, 0, 0, 7);
+    long_call(&score, zeros, ADD_POINT, FOUR_GIB + 8, 0, 0, 7);
+    long_call(&score, zeros, CHECK, 0, 0, 0, 0);
+    long_call(&score, zeros, INTERPOLATE, FOUR_GIB, 0, 0, 7);
+    long_call(&score, zeros, INTERPOLATE, FOUR_GIB, 0, FOUR_GIB, 8);
+    long_call(&score, zeros, WIRING, FOUR_GIB, 0, 0, 7);
+    long_call(&score, zeros, WIRING, FOUR_GIB, 0, FOUR_GIB, 8);
+    long_call(&score, zeros, REMAINDER, FOUR_GIB + 2, 16, 0, 7);
+    long_call(&score, zeros, REMAINDER, 2, FOUR_GIB + 16, 0, 7);
+    long_call(&score, zeros, REMAINDER, FOUR_GIB / 8, FOUR_GIB, 0, 8);
+    long_call(&score, zeros, READ_TEXT, FOUR_GIB + 14, 0, 0, 1);
+    munmap(zeros, length);
+    return score;
+}
+
+#define PAINTED (4 << 20)
+#define PAINT 0xA7
+
+/* What the painted stack's context runs, and where it goes back. */
+static struct call painted_call;
+static ucontext_t back;
+
+static void run_painted(void)
+{
+    perform(&archive, &painted_call);
+}
+
+/* How many bytes of stack the call takes, counted from the last painted byte. */
+static size_t depth_of(const struct call *call)
+{
+    uint8_t *stack = malloc(PAINTED);
+    ucontext_t context;
+    size_t clean = 0;
+    if (stack == NULL || getcontext(&context) != 0)
+        abort();
+    memset(stack, PAINT, PAINTED);
+    painted_call = *call;
+    context.uc_stack.ss_sp = stack;
+    context.uc_stack.ss_size = PAINTED;
+    context.uc_link = &back;
+    makecontext(&context, run_painted, 0);
+    swapcontext(&back, &context);
+    while (clean < PAINTED && stack[clean] == PAINT)
+        clean++;
+    free(stack);
+    return PAINTED - clean;
+}
+
+/* The deepest of many calls of each kind. */
+struct score stack_depth(const struct options *options)
+{
+    struct score score = {0, 0};
+    struct made *made = malloc(sizeof *made);
+    size_t deepest = 0;
+    if (made == NULL)
+        abort();
+    for (int i = 0; i < 20 * KINDS; i++) {
+        memset(made, 0, sizeof *made);
+        made->chance.state = options->seed + (uint64_t)i;
+        if (i % KINDS == READ_TEXT)
+            make_text(made);
+        else
+            make_call(made, (enum kind)(i % KINDS));
+        size_t depth = depth_of(&made->call);
+        deepest = depth > deepest ? depth : deepest;
+    }
+    free(made);
+    printf("  the deepest call took %zu bytes of stack; the header promises %d\n", deepest, MISQAFUR_STACK);
+    count(&score, deepest <= MISQAFUR_STACK);
+    return score;
+}

@@ -1,0 +1,187 @@
+/* Part "lists": whole lists of additions, refused ones and others between them, against a plain
+ * list of points; then the same points drawn up in another order, and remainders over both. */
+#include "guard.h"
+#include "made.h"
+#include "parts.h"
+
+#include <stdio.h>
+#include <stdlib.h>
+#include <string.h>
+
+/* The plain list: it is fed settings and levels alone. */
+struct list {
+    int p, m;
+    size_t n;
+    uint8_t points[512];
+};
+
+/* The list's answer to one addition. */
+static uint32_t list_add(struct list *list, const uint8_t *levels, size_t length)
+{
+    uint8_t point[8] = {0};
+    if (length != (size_t)list->m)
+        return 7;
+    if (list->n == 64)
+        return 8;
+    for (size_t k = 0; k < length; k++) {
+        int level = (int8_t)levels[k];
+        if (level <= -list->p || level >= list->p)
+            return 9;
+        point[k] = (uint8_t)(level < 0 ? level + list->p : level);
+    }
+    for (size_t i = 0; i < list->n; i++)
+        if (memcmp(list->points + 8 * i, point, 8) == 0)
+            return 11;
+    memcpy(list->points + 8 * list->n++, point, 8);
+    return 0;
+}
+
+static void set(struct made *made, enum buffer which, size_t length)
+{
+    made->call.buffer[which] = (struct bytes){made->bytes[which], length};
+}
+
+/* Fresh tables under random settings, few enough points in all that some repeat. */
+static void begin(struct made *made, struct list *list)
+{
+    static const uint8_t moduli[] = {2, 3, 5, 7, 61};
+    struct chance *c = &made->chance;
+    list->p = moduli[below(c, sizeof moduli)];
+    list->m = 1 + (int)below(c, 8);
+    list->n = 0;
+    memset(list->points, 0, sizeof list->points);
+    made->call = (struct call){.kind = ADD_POINT, .modulus = (uint64_t)list->p, .variables = (uint64_t)list->m,
+                               .order = below(c, 3), .r = 1};
+    for (int t = 0; t < 4; t++)
+        set(made, (enum buffer)t, table_sizes[t]);
+}
+
+/* Levels of any number and content, mostly good ones. */
+static void next_levels(struct made *made, const struct list *list)
+{
+    struct chance *c = &made->chance;
+    set(made, GIVEN, once_in(c, 12) ? below(c, 20) : (size_t)list->m);
+    for (size_t k = 0; k < 20; k++)
+        made->bytes[GIVEN][k] = random_level(c, list->p, (uint8_t)below(c, (uint64_t)list->p));
+    if (once_in(c, 12))
+        made->bytes[GIVEN][below(c, 20)] = (uint8_t)any_number(c);
+}
+
+/* A call of adding with other settings, counts or tables between two additions, if it is one that is refused. */
+static int refused_between(struct guard *guard, const struct made *made, struct made *other)
+{
+    struct call *call = &other->call, copy;
+    uint64_t number;
+    memcpy(other, made, sizeof *made);
+    for (int i = 0; i < BUFFERS; i++)
+        call->buffer[i].at = other->bytes[i];
+    damage(other);
+    copy = guard_lend(guard, call, 0);
+    if (misqafur_refusal((uint32_t)perform(&reference, &copy)) == 0)
+        return 1;
+    return agrees(guard, call, other->chance.state, "a refused call between additions", &number);
+}
+
+/* Adds, and says whether the list's answer came back; then keeps the counts. */
+static int addition(struct made *made, struct list *list)
+{
+    struct call *call = &made->call;
+    uint32_t expected = list_add(list, call->buffer[GIVEN].at, call->buffer[GIVEN].length);
+    uint32_t answer = (uint32_t)perform(&archive, call);
+    if (misqafur_refusal(answer) != expected || (expected != 0 && answer != expected))
+        return 0;
+    if (expected == 0) {
+        call->n = misqafur_points(answer);
+        call->r = misqafur_elements(answer);
+    }
+    return call->n == list->n && memcmp(made->bytes[STATES], list->points, 512) == 0;
+}
+
+/* The list's points in another order, as levels. */
+static size_t shuffled(struct chance *c, const struct list *list, uint8_t *levels)
+{
+    size_t order[64];
+    for (size_t i = 0; i < list->n; i++) {
+        size_t j = below(c, i + 1);
+        order[i] = order[j];
+        order[j] = i;
+    }
+    for (size_t i = 0; i < list->n; i++)
+        for (size_t k = 0; k < (size_t)list->m; k++)
+            levels[(size_t)list->m * i + k] = random_level(c, list->p, list->points[8 * order[i] + k]);
+    return (size_t)list->m * list->n;
+}
+
+/* Whether drawing up gives the counts and three tables that adding has left. */
+static int drawn_alike(struct made *made, struct made *drawn, const struct list *list)
+{
+    memset(drawn->bytes, 170, sizeof drawn->bytes);
+    drawn->call = made->call;
+    drawn->call.kind = DRAW_UP;
+    for (int t = 0; t < 4; t++)
+        set(drawn, (enum buffer)t, table_sizes[t]);
+    set(drawn, GIVEN, shuffled(&made->chance, list, drawn->bytes[GIVEN]));
+    uint32_t answer = (uint32_t)perform(&archive, &drawn->call);
+    if (misqafur_refusal(answer) != 0 || misqafur_points(answer) != made->call.n ||
+        misqafur_elements(answer) != made->call.r)
+        return 0;
+    for (int t = STANDARD; t <= COEFFICIENTS; t++)
+        if (memcmp(made->bytes[t], drawn->bytes[t], table_sizes[t]) != 0)
+            return 0;
+    return 1;
+}
+
+/* Whether a remainder, refused or not, is the reference's over either set of tables. */
+static int remainders_alike(struct guard *guard, struct made *made, struct made *drawn)
+{
+    struct chance *c = &made->chance;
+    uint64_t first, second;
+    size_t terms = below(c, 10);
+    for (size_t i = 0; i < terms; i++)
+        made->bytes[GIVEN][i] = random_level(c, (int)made->call.modulus, (uint8_t)below(c, made->call.modulus));
+    for (size_t i = 0; i < 8 * terms; i++)
+        made->bytes[EXPONENTS][i] = i % 8 < made->call.variables ? (uint8_t)any_number(c) : (uint8_t)once_in(c, 200);
+    drawn->call.kind = made->call.kind = REMAINDER;
+    set(made, GIVEN, terms);
+    set(made, EXPONENTS, 8 * terms);
+    set(made, OUT, MISQAFUR_RESIDUES_SIZE + below(c, 4));
+    for (int i = GIVEN; i < BUFFERS; i++)
+        drawn->call.buffer[i] = made->call.buffer[i];
+    return agrees(guard, &made->call, 0, "remainder after adding", &first) &&
+           agrees(guard, &drawn->call, 0, "remainder after drawing up", &second) && first == second;
+}
+
+static int list_holds(struct guard *guard, struct made *made, struct made *other)
+{
+    struct list list;
+    begin(made, &list);
+    size_t additions = below(&made->chance, 100);
+    for (size_t i = 0; i < additions; i++) {
+        next_levels(made, &list);
+        if (once_in(&made->chance, 4) && !refused_between(guard, made, other))
+            return 0;
+        if (!addition(made, &list))
+            return 0;
+    }
+    return drawn_alike(made, other, &list) && remainders_alike(guard, made, other);
+}
+
+struct score lists(const struct options *options)
+{
+    struct score score = {0, 0};
+    struct guard *guard = guard_new();
+    struct made *made = malloc(2 * sizeof *made);
+    if (made == NULL)
+        abort();
+    for (uint64_t i = 0; i < 1 + options->cases / 100; i++) {
+        memset(made, 0, 2 * sizeof *made);
+        made->chance.state = options->seed * 1000003 + i;
+        int holds = list_holds(guard, made, made + 1);
+        if (!holds)
+            fprintf(stderr, "lists: list %llu does not hold\n", (unsigned long long)i);
+        count(&score, holds);
+    }
+    free(made);
+    guard_free(guard);
+    return score;
+}

@@ -1,0 +1,167 @@
+/* Random calls over tables that are to succeed. */
+#include "made.h"
+
+#include "reference.h"
+
+#include <string.h>
+
+const uint8_t primes[18] = {2, 3, 5, 7, 11, 13, 17, 19, 23, 29, 31, 37, 41, 43, 47, 53, 59, 61};
+
+/* Mostly few points, now and then many. */
+static size_t random_count(struct chance *c)
+{
+    if (once_in(c, 50))
+        return 33 + below(c, 32);
+    return once_in(c, 10) ? 11 + below(c, 22) : below(c, 11);
+}
+
+/* Residues below a bound for each variable: small bounds make grids, a bound of 1 a fixed residue. */
+static void random_bounds(struct chance *c, int p, int bounds[8])
+{
+    int style = (int)below(c, 4);
+    for (int k = 0; k < 8; k++) {
+        int small = 1 + (int)below(c, 4);
+        bounds[k] = style == 0 || p < small ? p : style == 1 ? 1 + (int)below(c, (uint64_t)p) : small;
+    }
+}
+
+static int is_among(const uint8_t *points, size_t n, const uint8_t *point)
+{
+    for (size_t i = 0; i < n; i++)
+        if (memcmp(points + 8 * i, point, 8) == 0)
+            return 1;
+    return 0;
+}
+
+size_t random_points(struct chance *c, int p, int m, size_t n, uint8_t points[512])
+{
+    int bounds[8];
+    size_t found = 0;
+    random_bounds(c, p, bounds);
+    memset(points, 0, 512);
+    for (size_t tries = 0; tries < 4 * n && found < n; tries++) {
+        uint8_t point[8] = {0};
+        for (int k = 0; k < m; k++)
+            point[k] = (uint8_t)below(c, (uint64_t)bounds[k]);
+        if (!is_among(points, found, point))
+            memcpy(points + 8 * found++, point, 8);
+    }
+    return found;
+}
+
+uint8_t random_level(struct chance *c, int p, uint8_t residue)
+{
+    return residue != 0 && once_in(c, 2) ? (uint8_t)(residue - p) : residue;
+}
+
+static void random_settings(struct made *made)
+{
+    struct chance *c = &made->chance;
+    made->call.modulus = primes[once_in(c, 2) ? below(c, 4) : below(c, 18)];
+    made->call.variables = 1 + below(c, 8);
+    made->call.order = below(c, 3);
+}
+
+/* A buffer of so many bytes. */
+static void set_length(struct made *made, enum buffer which, size_t length)
+{
+    made->call.buffer[which] = (struct bytes){made->bytes[which], length};
+}
+
+/* Random bytes over the first bytes of a buffer, more than any call may touch. */
+static void fill(struct made *made, enum buffer which, size_t length)
+{
+    for (size_t i = 0; i < length; i += 8) {
+        uint64_t bits = any_number(&made->chance);
+        memcpy(made->bytes[which] + i, &bits, 8);
+    }
+}
+
+/* Bytes past a size: none, or some. */
+static size_t surplus(struct chance *c)
+{
+    return once_in(c, 2) ? 0 : below(c, 300);
+}
+
+/* The tables: the basis of the points, or nothing yet, with random bytes past the sizes. */
+static void set_tables(struct made *made, const uint8_t *levels, size_t count)
+{
+    struct call *call = &made->call;
+    for (int t = 0; t < 4; t++) {
+        fill(made, (enum buffer)t, 304);
+        memcpy(made->bytes[t] + table_sizes[t], made->bytes[t], 304);
+        memset(made->bytes[t], 170, table_sizes[t]);
+        set_length(made, (enum buffer)t, table_sizes[t] + surplus(&made->chance));
+    }
+    if (call->kind == DRAW_UP)
+        return;
+    struct call draw = *call;
+    draw.kind = DRAW_UP;
+    draw.buffer[GIVEN] = (struct bytes){(uint8_t *)levels, count};
+    uint32_t answer = (uint32_t)perform(&reference, &draw);
+    call->n = misqafur_points(answer);
+    call->r = misqafur_elements(answer);
+}
+
+/* Levels of the points, in either sign. */
+static size_t levels_of(struct made *made, const uint8_t *points, size_t n, uint8_t *levels)
+{
+    size_t m = made->call.variables;
+    for (size_t i = 0; i < n; i++)
+        for (size_t k = 0; k < m; k++)
+            levels[m * i + k] = random_level(&made->chance, (int)made->call.modulus, points[8 * i + k]);
+    return m * n;
+}
+
+static void set_levels_in_range(struct made *made, size_t count)
+{
+    uint64_t p = made->call.modulus;
+    for (size_t i = 0; i < count; i++)
+        made->bytes[GIVEN][i] = random_level(&made->chance, (int)p, (uint8_t)below(&made->chance, p));
+    set_length(made, GIVEN, count);
+}
+
+/* Mostly few terms of small degree, now and then many or great ones. */
+static void set_terms(struct made *made)
+{
+    struct chance *c = &made->chance;
+    size_t count = once_in(c, 20) ? below(c, 257) : below(c, 12);
+    uint64_t limit = once_in(c, 4) ? 256 : 1 + below(c, 8);
+    set_levels_in_range(made, count);
+    for (size_t i = 0; i < 8 * count; i++)
+        made->bytes[EXPONENTS][i] = i % 8 < made->call.variables ? (uint8_t)below(c, limit) : 0;
+    set_length(made, EXPONENTS, 8 * count);
+}
+
+/* What a call is handed beside settings, counts and tables. */
+static void set_given(struct made *made)
+{
+    enum kind kind = made->call.kind;
+    if (kind == INTERPOLATE || kind == WIRING)
+        set_levels_in_range(made, made->call.n);
+    if (kind == REMAINDER)
+        set_terms(made);
+    if (kind == ADD_POINT)
+        set_levels_in_range(made, made->call.variables);
+    size_t size = out_size(kind);
+    if (size > 0) {
+        fill(made, OUT, 400);
+        set_length(made, OUT, size + surplus(&made->chance));
+    }
+}
+
+void make_call(struct made *made, enum kind kind)
+{
+    uint8_t points[512], levels[512];
+    made->call = (struct call){.kind = kind};
+    random_settings(made);
+    int p = (int)made->call.modulus, m = (int)made->call.variables;
+    size_t n = random_points(&made->chance, p, m, random_count(&made->chance), points);
+    size_t count = levels_of(made, points, n, levels);
+    if (kind == DRAW_UP) {
+        memcpy(made->bytes[GIVEN], levels, sizeof levels);
+        set_length(made, GIVEN, count);
+    }
+    set_tables(made, levels, count);
+    set_given(made);
+}

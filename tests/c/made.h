@@ -1,0 +1,33 @@
+/* Random calls: made whole, then perhaps damaged. */
+#ifndef MADE_H
+#define MADE_H
+
+#include "chance.h"
+#include "guard.h"
+
+/* A call on buffers of its own. */
+struct made {
+    struct call call;
+    struct chance chance;
+    uint8_t bytes[BUFFERS][ROOM];
+};
+
+extern const uint8_t primes[18];
+
+/* The settings, points and tables of a random basis, and the rest of a call of this kind that is to
+ * succeed, or to be refused because of a point that repeats. */
+void make_call(struct made *made, enum kind kind);
+
+/* A random text that is to be read; now and then one that is refused. */
+void make_text(struct made *made);
+
+/* Changes one thing about the call. */
+void damage(struct made *made);
+
+/* At most n distinct random points of m residues, 8 bytes each; gives how many were found. */
+size_t random_points(struct chance *c, int p, int m, size_t n, uint8_t points[512]);
+
+/* A signed byte with this residue. */
+uint8_t random_level(struct chance *c, int p, uint8_t residue);
+
+#endif

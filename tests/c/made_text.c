@@ -1,0 +1,143 @@
+/* Random texts for the reader. */
+#include "made.h"
+
+#include <stdio.h>
+#include <string.h>
+
+static void put(struct made *made, const char *bytes, size_t length)
+{
+    struct bytes *text = &made->call.buffer[GIVEN];
+    if (text->length + length > ROOM - 600)
+        return;
+    memcpy(text->at + text->length, bytes, length);
+    text->length += length;
+}
+
+/* A field, now and then in quotes. */
+static void put_field(struct made *made, const char *content)
+{
+    int quoted = once_in(&made->chance, 8);
+    if (quoted)
+        put(made, "\"", 1);
+    put(made, content, strlen(content));
+    if (quoted)
+        put(made, "\"", 1);
+}
+
+static void put_name(struct made *made)
+{
+    static const char *const names[] = {"g1", "", "\"a\"\"b\"", "\"a,b\"", "\"x\r\ny\"", "\"\"\"\"", "\xef\xbb\xbf", "long name"};
+    const char *name = names[below(&made->chance, sizeof names / sizeof *names)];
+    put(made, name, strlen(name));
+    put(made, ",", 1);
+}
+
+static void put_break(struct made *made)
+{
+    if (once_in(&made->chance, 2))
+        put(made, "\r", 1);
+    put(made, "\n", 1);
+}
+
+/* A name so long that the text comes near the limit, and past it. */
+static void put_long_name(struct made *made)
+{
+    size_t length = MISQAFUR_MAX_TEXT - below(&made->chance, 400);
+    for (size_t i = 0; i < length; i++)
+        put(made, "n", 1);
+    put(made, ",", 1);
+}
+
+static void put_header(struct made *made, size_t m, int p)
+{
+    static const char *const words[] = {"", " lex", " grlex", " grevlex"};
+    struct chance *c = &made->chance;
+    char content[32];
+    int odd = once_in(c, 30) ? (int)below(c, 1100) : p;
+    for (size_t k = 0; k < m; k++) {
+        if (k == 0 && once_in(c, 40))
+            put_long_name(made);
+        else
+            put_name(made);
+    }
+    snprintf(content, sizeof content, "mod %0*d%s", once_in(c, 6) ? 3 : 1, odd, words[below(c, 4)]);
+    put_field(made, content);
+}
+
+/* A level with this residue; now and then one out of range. */
+static void put_level(struct made *made, int p, uint8_t residue)
+{
+    struct chance *c = &made->chance;
+    char content[16];
+    int level = (int8_t)random_level(c, p, residue);
+    if (once_in(c, 400))
+        level = once_in(c, 2) ? (int)below(c, 1999) - 999 : once_in(c, 2) ? p : -p;
+    snprintf(content, sizeof content, "%s%0*d", level < 0 || once_in(c, 60) ? "-" : "", once_in(c, 10) ? 3 : 1,
+             level < 0 ? -level : level);
+    put_field(made, content);
+}
+
+static size_t random_records(struct chance *c)
+{
+    if (once_in(c, 30))
+        return 60 + below(c, 8);
+    return below(c, 12);
+}
+
+/* Changes, inserts or removes one byte. */
+static void mistype(struct made *made)
+{
+    static const char bytes[] = ",\"\r\n-0123456789 modlexgrv+\0\xff";
+    struct chance *c = &made->chance;
+    struct bytes *text = &made->call.buffer[GIVEN];
+    size_t at = below(c, text->length + 1);
+    char byte = bytes[below(c, sizeof bytes)];
+    int insert = once_in(c, 2), drop = !insert && once_in(c, 2);
+    if (insert) {
+        memmove(text->at + at + 1, text->at + at, text->length - at);
+        text->length++;
+    }
+    if (at == text->length)
+        return;
+    text->at[at] = (uint8_t)byte;
+    if (drop) {
+        memmove(text->at + at, text->at + at + 1, text->length - at - 1);
+        text->length--;
+    }
+}
+
+static void put_records(struct made *made, size_t m, int p, size_t records)
+{
+    struct chance *c = &made->chance;
+    uint8_t points[512];
+    size_t found = random_points(c, p, m < 8 ? (int)m : 8, records < 64 ? records : 64, points);
+    size_t lines = once_in(c, 4) ? records : found;
+    for (size_t i = 0; i < lines; i++) {
+        const uint8_t *point = points + 8 * (found == 0 ? 0 : i % found);
+        put_break(made);
+        for (size_t k = 0; k < m; k++) {
+            put_level(made, p, k < 8 ? point[k] : 0);
+            put(made, ",", 1);
+        }
+        put_level(made, p, (uint8_t)below(c, (uint64_t)p));
+    }
+}
+
+void make_text(struct made *made)
+{
+    struct chance *c = &made->chance;
+    int p = primes[below(c, 18)];
+    size_t m = once_in(c, 30) ? below(c, 12) : 1 + below(c, 8);
+    made->call = (struct call){.kind = READ_TEXT};
+    made->call.buffer[GIVEN] = (struct bytes){made->bytes[GIVEN], 0};
+    memset(made->bytes[STATES], 170, 800);
+    memset(made->bytes[OUT], 170, 400);
+    made->call.buffer[STATES] = (struct bytes){made->bytes[STATES], once_in(c, 40) ? below(c, 512) : 512 + below(c, 200)};
+    made->call.buffer[OUT] = (struct bytes){made->bytes[OUT], once_in(c, 40) ? below(c, 64) : 64 + below(c, 200)};
+    put_header(made, m, p);
+    put_records(made, m, p, random_records(c));
+    if (once_in(c, 2))
+        put_break(made);
+    while (once_in(c, 3))
+        mistype(made);
+}

@@ -1,0 +1,41 @@
+/* The calls once more, written in plain C from document 01 alone, to compare the archive with.
+ * Each has the type of the exported call of the same name. */
+#ifndef REFERENCE_H
+#define REFERENCE_H
+
+#include "misqafur.h"
+
+__typeof__(misqafur_add_point) reference_add_point;
+__typeof__(misqafur_draw_up) reference_draw_up;
+__typeof__(misqafur_check) reference_check;
+__typeof__(misqafur_interpolate) reference_interpolate;
+__typeof__(misqafur_remainder) reference_remainder;
+__typeof__(misqafur_wiring) reference_wiring;
+__typeof__(misqafur_read_text) reference_read_text;
+
+/* What the files of the reference share. */
+
+/* The basis of some points, with the inverse of the matrix that evaluates standard monomials at them. */
+struct basis {
+    int p, m, order, n, r;
+    uint8_t states[512], standard[512], leads[3592], coefficients[28736];
+    int inverse[64][64]; /* row: standard monomial; column: point */
+};
+
+/* The basis by the definitions, of b->n distinct points in b->states, under b's settings. */
+void reference_basis(struct basis *b);
+
+/* The coefficients over the standard monomials of the combination with these values at the points. */
+void reference_solve(const struct basis *b, const int values[64], uint8_t coefficients[64]);
+
+/* The value of x1^e1 ... x8^e8 at a point; 0 to the power 0 is 1. */
+int reference_value(int p, const uint8_t *exponents, const uint8_t *point);
+
+/* 3, 4, 5 or 0. */
+int reference_settings_refusal(uint64_t modulus, uint64_t variables, uint64_t order);
+
+/* Whether a number is from -(p-1) to p-1, and its residue. */
+int reference_in_range(int p, int level);
+uint8_t reference_residue(int p, int level);
+
+#endif

@@ -1,0 +1,238 @@
+/* The text reader by document 01: first the records and the contents of their fields, then their
+ * form, then the remaining refusals in order. */
+#include "reference.h"
+
+#include <stdlib.h>
+#include <string.h>
+
+#define MOST_TEXT 16384
+
+/* A field's content stands in text order at bytes[start .. start + length). */
+struct field {
+    size_t start, length;
+};
+
+struct records {
+    uint8_t bytes[MOST_TEXT];
+    size_t used;
+    struct field fields[MOST_TEXT + 1];
+    size_t field_count;
+    size_t first_field[MOST_TEXT + 2]; /* of each record; one more stands at the end */
+    size_t count;                      /* records without a fault in them, from the first on */
+    int broken;                        /* whether the record after these has a fault */
+};
+
+/* Reads on in a quoted field, behind its opening quote; says whether it is closed. */
+static int read_quoted(struct records *to, const uint8_t *text, size_t length, size_t *at)
+{
+    while (*at < length) {
+        uint8_t byte = text[(*at)++];
+        if (byte == '"') {
+            if (*at == length || text[*at] != '"')
+                return 1;
+            ++*at;
+        }
+        to->bytes[to->used++] = byte;
+    }
+    return 0;
+}
+
+static void read_unquoted(struct records *to, const uint8_t *text, size_t length, size_t *at)
+{
+    while (*at < length && text[*at] != ',' && text[*at] != '"' && text[*at] != '\r' && text[*at] != '\n')
+        to->bytes[to->used++] = text[(*at)++];
+}
+
+/* Reads the field at *at; says whether it is whole. */
+static int read_field(struct records *to, const uint8_t *text, size_t length, size_t *at)
+{
+    struct field *field = &to->fields[to->field_count++];
+    int whole = 1;
+    field->start = to->used;
+    if (*at < length && text[*at] == '"') {
+        ++*at;
+        whole = read_quoted(to, text, length, at);
+    } else {
+        read_unquoted(to, text, length, at);
+    }
+    field->length = to->used - field->start;
+    return whole;
+}
+
+/* Steps over the end of a record at *at, and says whether there is one. */
+static int read_end(const uint8_t *text, size_t length, size_t *at)
+{
+    if (*at == length)
+        return 1;
+    if (text[*at] == '\r' && *at + 1 < length && text[*at + 1] == '\n')
+        ++*at;
+    else if (text[*at] != '\n')
+        return 0;
+    ++*at;
+    return 1;
+}
+
+static int read_record(struct records *to, const uint8_t *text, size_t length, size_t *at)
+{
+    for (;;) {
+        if (!read_field(to, text, length, at))
+            return 0;
+        if (*at == length || text[*at] != ',')
+            return read_end(text, length, at);
+        ++*at;
+    }
+}
+
+static void read_records(struct records *to, const uint8_t *text, size_t length)
+{
+    size_t at = 0;
+    to->used = to->field_count = to->count = 0;
+    to->broken = length == 0;
+    to->first_field[0] = 0;
+    while (at < length && !to->broken) {
+        if (read_record(to, text, length, &at))
+            to->first_field[++to->count] = to->field_count;
+        else
+            to->broken = 1;
+    }
+}
+
+/* One to three digits: their number; anything else: -1. */
+static int digits(const uint8_t *bytes, size_t length)
+{
+    int number = 0;
+    if (length < 1 || length > 3)
+        return -1;
+    for (size_t i = 0; i < length; i++) {
+        if (bytes[i] < '0' || bytes[i] > '9')
+            return -1;
+        number = 10 * number + bytes[i] - '0';
+    }
+    return number;
+}
+
+/* An optional minus sign and one to three digits. */
+static int read_level(const struct records *from, size_t field, int *level)
+{
+    const uint8_t *bytes = from->bytes + from->fields[field].start;
+    size_t length = from->fields[field].length;
+    int negative = length > 0 && bytes[0] == '-';
+    int number = digits(bytes + negative, length - (size_t)negative);
+    *level = negative ? -number : number;
+    return number >= 0;
+}
+
+/* `mod`, a space, one to three digits, and optionally a space and an order's word. */
+static int read_settings(const struct records *from, size_t field, int *modulus, int *order)
+{
+    static const char *const words[4] = {" lex", " grlex", " grevlex", ""};
+    const uint8_t *bytes = from->bytes + from->fields[field].start;
+    size_t length = from->fields[field].length;
+    if (length < 4 || memcmp(bytes, "mod ", 4) != 0)
+        return 0;
+    for (int i = 0; i < 4; i++) {
+        size_t word = strlen(words[i]);
+        if (length < 4 + word || memcmp(bytes + length - word, words[i], word) != 0)
+            continue;
+        *modulus = digits(bytes + 4, length - 4 - word);
+        *order = i % 3;
+        if (*modulus >= 0)
+            return 1;
+    }
+    return 0;
+}
+
+static int record_is_good(const struct records *from, size_t record, size_t header_fields)
+{
+    int level;
+    if (from->first_field[record + 1] - from->first_field[record] != header_fields)
+        return 0;
+    for (size_t i = from->first_field[record]; i < from->first_field[record + 1]; i++)
+        if (!read_level(from, i, &level))
+            return 0;
+    return 1;
+}
+
+static uint64_t refused(uint64_t refusal, uint64_t record)
+{
+    return refusal + 256 * record;
+}
+
+/* The record with refusal 2, or 0; then the settings. */
+static size_t fault_of_form(const struct records *from, int *modulus, int *order)
+{
+    if (from->count == 0 || !read_settings(from, from->first_field[1] - 1, modulus, order))
+        return 1;
+    for (size_t record = 1; record < from->count; record++)
+        if (!record_is_good(from, record, from->first_field[1]))
+            return record + 1;
+    return from->broken ? from->count + 1 : 0;
+}
+
+/* Residues of the points and the values, or refusal 9 with its record. */
+static uint64_t read_levels(const struct records *from, int p, int m, uint8_t points[512], uint8_t values[64])
+{
+    for (size_t record = 1; record < from->count; record++)
+        for (int k = 0; k <= m; k++) {
+            int level;
+            read_level(from, from->first_field[record] + (size_t)k, &level);
+            if (!reference_in_range(p, level))
+                return refused(9, record + 1);
+            uint8_t residue = reference_residue(p, level);
+            if (k < m)
+                points[8 * (record - 1) + (size_t)k] = residue;
+            else
+                values[record - 1] = residue;
+        }
+    return 0;
+}
+
+/* Refusal 11 with its record, or 0. */
+static uint64_t find_repeat(const uint8_t points[512], size_t n)
+{
+    for (size_t i = 0; i < n; i++)
+        for (size_t j = 0; j < i; j++)
+            if (memcmp(points + 8 * i, points + 8 * j, 8) == 0)
+                return refused(11, i + 2);
+    return 0;
+}
+
+static uint64_t read_whole(struct records *from, uint8_t *states, size_t states_length, uint8_t *values,
+                           size_t values_length)
+{
+    uint8_t points[512] = {0}, residues[64] = {0};
+    int modulus = 0, order = 0;
+    size_t fault = fault_of_form(from, &modulus, &order);
+    if (fault != 0)
+        return refused(2, fault);
+    size_t m = from->first_field[1] - 1, n = from->count - 1;
+    int refusal = reference_settings_refusal((uint64_t)modulus, m, 0);
+    if (refusal != 0)
+        return refused((uint64_t)refusal, 1);
+    if (states_length < 512 || values_length < 64)
+        return refused(6, 0);
+    if (n > 64)
+        return refused(8, 66);
+    uint64_t late = read_levels(from, modulus, (int)m, points, residues);
+    if (late == 0)
+        late = find_repeat(points, n);
+    if (late != 0)
+        return late;
+    memcpy(states, points, 512);
+    memcpy(values, residues, 64);
+    return 256 * n + 65536 * (uint64_t)modulus + (m << 24) + ((uint64_t)order << 32);
+}
+
+uint64_t reference_read_text(const uint8_t *text, size_t text_length, uint8_t *states, size_t states_length,
+                             uint8_t *values, size_t values_length)
+{
+    if (text_length > MOST_TEXT)
+        return refused(1, 0);
+    struct records *records = malloc(sizeof *records);
+    if (records == NULL)
+        abort();
+    read_records(records, text, text_length);
+    uint64_t answer = read_whole(records, states, states_length, values, values_length);
+    free(records);
+    return answer;
+}
