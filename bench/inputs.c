@@ -1,0 +1,48 @@
+/* Random inputs for the benchmark. */
+#include "inputs.h"
+
+#include <string.h>
+
+/* The minimal standard generator of Park and Miller: enough for points. */
+static uint64_t next_number(uint64_t *state)
+{
+    *state = *state * 48271 % 2147483647;
+    return *state >> 5;
+}
+
+int input_exists(uint64_t p, uint64_t m, uint64_t n)
+{
+    uint64_t points = 1;
+    for (uint64_t k = 0; k < m && points < n; k++)
+        points *= p;
+    return points >= n;
+}
+
+static int is_among(const struct input *input, uint64_t n, const uint8_t *point)
+{
+    for (uint64_t i = 0; i < n; i++)
+        if (memcmp(input->levels + input->m * i, point, input->m) == 0)
+            return 1;
+    return 0;
+}
+
+void input_make(struct input *input, uint64_t p, uint64_t m, uint64_t order, uint64_t n)
+{
+    uint64_t state = 1 + p * 1000000 + m * 10000 + n;
+    memset(input, 0, sizeof *input);
+    input->p = p;
+    input->m = m;
+    input->order = order;
+    input->n = n;
+    for (uint64_t found = 0; found < n;) {
+        uint8_t *point = input->levels + m * found;
+        for (uint64_t k = 0; k < m; k++)
+            point[k] = (uint8_t)(next_number(&state) % p);
+        found += !is_among(input, found, point);
+    }
+    for (unsigned i = 0; i < MOST_TERMS; i++) {
+        input->terms[i] = (uint8_t)(next_number(&state) % p);
+        for (uint64_t k = 0; k < m; k++)
+            input->exponents[8 * i + k] = (uint8_t)(next_number(&state) % 10);
+    }
+}

@@ -1,0 +1,30 @@
+/* The inputs of the benchmark, the same in every run. */
+#ifndef INPUTS_H
+#define INPUTS_H
+
+#include "misqafur.h"
+
+/* A basis as lent tables, of exactly the sizes. */
+struct lent {
+    uint64_t n, r;
+    uint8_t states[MISQAFUR_STATES_SIZE], standard[MISQAFUR_STANDARD_SIZE];
+    uint8_t leads[MISQAFUR_LEADS_SIZE], coefficients[MISQAFUR_COEFFICIENTS_SIZE];
+};
+
+#define MOST_TERMS 32
+
+struct input {
+    uint64_t p, m, order, n;
+    uint8_t levels[512];           /* n points */
+    struct lent before;            /* the basis of all points but the last */
+    struct lent whole;             /* the basis of all points */
+    uint8_t terms[MOST_TERMS], exponents[8 * MOST_TERMS];
+};
+
+/* Whether p^m is enough for n distinct points. */
+int input_exists(uint64_t p, uint64_t m, uint64_t n);
+
+/* Distinct random points and a random polynomial. The two bases are left to be drawn up. */
+void input_make(struct input *input, uint64_t p, uint64_t m, uint64_t order, uint64_t n);
+
+#endif
