@@ -3,6 +3,7 @@
 #define _POSIX_C_SOURCE 200809L
 #include "inputs.h"
 #include "plain.h"
+#include "scripts.h"
 
 #include <stdio.h>
 #include <stdlib.h>
@@ -23,6 +24,7 @@ struct measured {
 
 static const struct measured archive = {misqafur_draw_up, misqafur_add_point, misqafur_check, misqafur_remainder};
 static const struct measured plain = {plain_draw_up, plain_add_point, plain_check, plain_remainder};
+static const struct measured same_method = {.draw_up = rows_draw_up};
 
 /* What an operation leaves. */
 struct result {
@@ -68,13 +70,15 @@ struct operation {
     uint64_t least; /* fewest points that it is measured with */
 };
 
-static const struct operation operations[] = {
-    {"draw up", run_draw, 0}, {"add", run_add, 64}, {"check", run_check, 64}, {"remainder", run_remainder, 64}};
+static const struct operation operations[] = {{"draw up", run_draw, 0},
+                                              {"add", run_add, 64},
+                                              {"check", run_check, 64},
+                                              {"remainder", run_remainder, 64}};
 
 #define OPERATIONS (sizeof operations / sizeof *operations)
-#define MOST_RATIOS 1024
+#define MOST_RATIOS 256
 
-static double ratios[OPERATIONS][MOST_RATIOS];
+static double ratios[OPERATIONS][3][MOST_RATIOS];
 static size_t ratio_count[OPERATIONS];
 
 /* Processor time, so that other work on the machine counts little. */
@@ -100,51 +104,83 @@ static double time_once(const struct operation *op, const struct measured *by, c
     return 1e6 * (end - begin) / runs;
 }
 
-/* The best of several rounds in which both sides take turns. */
-static void time_both(const struct operation *op, const struct input *in, double best[2])
+/* Who takes part: the archive, plain C, and for drawing up plain C by the archive's method. */
+static const struct measured *const sides[] = {&archive, &plain, &same_method};
+
+static int side_count(const struct operation *op)
 {
-    best[0] = best[1] = 1e30;
-    for (int round = 0; round < 5; round++) {
-        double a = time_once(op, &archive, in), b = time_once(op, &plain, in);
-        best[0] = a < best[0] ? a : best[0];
-        best[1] = b < best[1] ? b : best[1];
-    }
+    return op->run == run_draw ? 3 : 2;
 }
 
+/* The best of several rounds in which the sides take turns. */
+static void time_all(const struct operation *op, const struct input *in, double best[3])
+{
+    for (int side = 0; side < 3; side++)
+        best[side] = 1e30;
+    for (int round = 0; round < 5; round++)
+        for (int side = 0; side < side_count(op); side++) {
+            double time = time_once(op, sides[side], in);
+            best[side] = time < best[side] ? time : best[side];
+        }
+}
+
+/* Whether all sides leave the same. */
 static int same(const struct operation *op, const struct input *in)
 {
-    static struct result a, b;
-    memset(&a, 0, sizeof a);
-    memset(&b, 0, sizeof b);
-    op->run(&archive, in, &a);
-    op->run(&plain, in, &b);
-    if (memcmp(&a, &b, sizeof a) == 0 && misqafur_refusal(a.answer) == 0)
+    static struct result results[3];
+    int agree = 1;
+    memset(results, 0, sizeof results);
+    for (int side = 0; side < side_count(op); side++) {
+        op->run(sides[side], in, &results[side]);
+        agree &= memcmp(&results[side], &results[0], sizeof results[0]) == 0;
+    }
+    if (agree && misqafur_refusal(results[0].answer) == 0)
         return 1;
     printf("%s: results differ for p %d, m %d, order %d, n %d\n", op->name, (int)in->p, (int)in->m, (int)in->order,
            (int)in->n);
     return 0;
 }
 
-/* One input: every operation that it is for. Gives how many results differ. */
-static int measure(struct input *in, int smoke)
+/* The bases that an input's operations start from. */
+static void prepare(struct input *in)
 {
-    static const char *const words[3] = {"lex", "grlex", "grevlex"};
-    int differing = 0;
     uint32_t answer;
     draw(&plain, in, in->n - 1, &in->before, &answer);
     draw(&plain, in, in->n, &in->whole, &answer);
+}
+
+/* One input, every operation: how many results differ. */
+static int compare(struct input *in)
+{
+    int differing = 0;
+    prepare(in);
+    for (size_t i = 0; i < OPERATIONS; i++)
+        differing += !same(&operations[i], in);
+    return differing;
+}
+
+/* One input, every operation that is measured with so many points: a line each. Gives how many results differ. */
+static int measure(struct input *in)
+{
+    static const char *const words[3] = {"lex", "grlex", "grevlex"};
+    int differing = 0;
+    prepare(in);
     for (size_t i = 0; i < OPERATIONS; i++) {
         const struct operation *op = &operations[i];
-        double best[2];
-        if (in->n < op->least && !smoke)
+        double best[3];
+        if (in->n < op->least)
             continue;
         differing += !same(op, in);
-        if (smoke)
-            continue;
-        time_both(op, in, best);
-        ratios[i][ratio_count[i]++] = best[0] / best[1];
-        printf("%-10s %3d %3d  %-8s %3d %4d %10.1f %10.1f %8.2f\n", op->name, (int)in->p, (int)in->m, words[in->order],
-               (int)in->n, (int)in->whole.r, best[0], best[1], best[0] / best[1]);
+        time_all(op, in, best);
+        printf("%-10s %3d %3d  %-8s %3d %4d %10.1f", op->name, (int)in->p, (int)in->m, words[in->order], (int)in->n,
+               (int)in->whole.r, best[0]);
+        for (int side = 1; side < side_count(op); side++) {
+            double ratio = best[0] / best[side];
+            ratios[i][side][ratio_count[i]] = ratio;
+            printf(" %10.1f %6.2f", best[side], ratio);
+        }
+        ratio_count[i]++;
+        printf("\n");
         fflush(stdout);
     }
     return differing;
@@ -156,25 +192,28 @@ static int compare_numbers(const void *a, const void *b)
     return (x > y) - (x < y);
 }
 
-static void print_medians(void)
+static void print_median(size_t operation, int side, const char *against)
 {
-    for (size_t i = 0; i < OPERATIONS; i++) {
-        size_t count = ratio_count[i];
-        qsort(ratios[i], count, sizeof(double), compare_numbers);
-        printf("median ratio, %s: %.2f (%.2f to %.2f, %zu inputs)\n", operations[i].name, ratios[i][count / 2],
-               ratios[i][0], ratios[i][count - 1], count);
-    }
+    double *list = ratios[operation][side];
+    size_t count = ratio_count[operation];
+    qsort(list, count, sizeof *list, compare_numbers);
+    printf("median ratio, %s against %s: %.2f (%.2f to %.2f, %zu inputs)\n", operations[operation].name, against,
+           list[count / 2], list[0], list[count - 1], count);
 }
 
-/* All inputs; with a smoke run also the small and odd numbers of points. */
-static int measure_all(int smoke)
+static void print_medians(void)
+{
+    for (size_t i = 0; i < OPERATIONS; i++)
+        print_median(i, 1, "plain C");
+    print_median(0, 2, "the same method in C");
+}
+
+/* Makes every input in turn and hands it on; gives the sum of what comes back. */
+static int for_all_inputs(const uint64_t *counts, size_t count, int (*take)(struct input *))
 {
     static const uint64_t moduli[] = {2, 5, 61}, variables[] = {2, 4, 8};
-    static const uint64_t points[] = {8, 16, 32, 48, 64}, smoke_points[] = {1, 2, 3, 7, 8, 33, 63, 64};
-    const uint64_t *counts = smoke ? smoke_points : points;
-    size_t count = smoke ? sizeof smoke_points / sizeof *smoke_points : sizeof points / sizeof *points;
     static struct input in;
-    int differing = 0;
+    int sum = 0;
     for (int p = 0; p < 3; p++)
         for (int m = 0; m < 3; m++)
             for (size_t i = 0; i < count; i++)
@@ -182,20 +221,59 @@ static int measure_all(int smoke)
                     if (!input_exists(moduli[p], variables[m], counts[i]))
                         continue;
                     input_make(&in, moduli[p], variables[m], order, counts[i]);
-                    differing += measure(&in, smoke);
+                    sum += take(&in);
                 }
-    return differing;
+    return sum;
+}
+
+static int singular(struct input *in)
+{
+    singular_input(in);
+    return 0;
+}
+
+static int macaulay2(struct input *in)
+{
+    macaulay2_input(in);
+    return 0;
+}
+
+static int report(int differing)
+{
+    printf("benchmark: %d results differ\n", differing);
+    return differing == 0 ? 0 : 1;
+}
+
+/* Results alone, also for small and odd numbers of points. */
+static int smoke_run(void)
+{
+    static const uint64_t points[] = {1, 2, 3, 7, 8, 33, 63, 64};
+    return report(for_all_inputs(points, sizeof points / sizeof *points, compare));
+}
+
+static int full_run(void)
+{
+    static const uint64_t points[] = {8, 16, 32, 48, 64};
+    printf("%-10s %3s %3s  %-8s %3s %4s %10s %10s %6s %10s %6s\n", "operation", "p", "m", "order", "n", "r",
+           "archive us", "plain us", "ratio", "same us", "ratio");
+    int differing = for_all_inputs(points, sizeof points / sizeof *points, measure);
+    print_medians();
+    return report(differing);
 }
 
 int main(int count, char **words)
 {
-    int smoke = count > 1 && strcmp(words[1], "--smoke") == 0;
-    if (!smoke)
-        printf("%-10s %3s %3s  %-8s %3s %4s %10s %10s %8s\n", "operation", "p", "m", "order", "n", "r", "archive us",
-               "plain us", "ratio");
-    int differing = measure_all(smoke);
-    if (!smoke)
-        print_medians();
-    printf("benchmark: %d results differ\n", differing);
-    return differing == 0 ? 0 : 1;
+    static const uint64_t most[] = {64};
+    const char *mode = count > 1 ? words[1] : "";
+    if (strcmp(mode, "--smoke") == 0)
+        return smoke_run();
+    if (strcmp(mode, "--singular") == 0) {
+        singular_begin();
+        return for_all_inputs(most, 1, singular);
+    }
+    if (strcmp(mode, "--macaulay2") == 0) {
+        macaulay2_begin();
+        return for_all_inputs(most, 1, macaulay2);
+    }
+    return full_run();
 }

@@ -11,4 +11,7 @@ __typeof__(misqafur_add_point) plain_add_point;
 __typeof__(misqafur_check) plain_check;
 __typeof__(misqafur_remainder) plain_remainder;
 
+/* Drawing up once more, by the method that the archive has. */
+__typeof__(misqafur_draw_up) rows_draw_up;
+
 #endif

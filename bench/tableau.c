@@ -5,38 +5,21 @@
 
 #define LANES 8
 
-static uint64_t variable_rank(unsigned order, unsigned k)
-{
-    uint64_t sum = 0;
-    if (order == 0)
-        return (uint64_t)1 << 7 * (7 - k);
-    if (order == 1)
-        return ((uint64_t)1 << 49) + (k < 7 ? (uint64_t)1 << 7 * (6 - k) : 0);
-    for (unsigned i = k; i < 8; i++)
-        sum += (uint64_t)1 << 7 * i;
-    return sum;
-}
-
 void tableau_begin(struct tableau *t, unsigned p, unsigned m, unsigned order, unsigned n, const uint8_t *points)
 {
+    candidates_begin(&t->candidates, m, order);
     t->p = p;
     t->m = m;
     t->n = n;
     t->found = 0;
     t->width = (n + LANES - 1) / LANES * LANES;
-    t->room = (65535 - (p - 1)) / ((p - 1) * (p - 1));
-    t->magic = (uint16_t)(65536 / p);
-    t->inverse[1] = 1;
-    for (unsigned a = 2; a < p; a++)
-        t->inverse[a] = (uint16_t)((p - p / a) * t->inverse[p % a] % p);
+    t->room = room_for_products(p);
+    t->magic = magic_of(p);
+    make_inverses(p, t->inverse);
     memset(t->coordinate, 0, sizeof t->coordinate);
-    for (unsigned k = 0; k < m; k++) {
-        t->step[k] = variable_rank(order, k);
+    for (unsigned k = 0; k < m; k++)
         for (unsigned i = 0; i < n; i++)
             t->coordinate[k][i] = points[8 * i + k];
-    }
-    for (unsigned i = 0; i < n; i++)
-        t->arrival[i] = (uint8_t)i;
 }
 
 /* The width, in a form that shows the compiler that it is whole vectors. */
@@ -133,7 +116,6 @@ static void swap(uint16_t *in, unsigned a, unsigned b)
 static void swap_slots(struct tableau *t, uint16_t *values, uint16_t *rest, unsigned slot)
 {
     unsigned to = t->found;
-    uint8_t kept = t->arrival[slot];
     if (slot == to)
         return;
     swap(values, slot, to);
@@ -144,8 +126,6 @@ static void swap_slots(struct tableau *t, uint16_t *values, uint16_t *rest, unsi
         swap(t->value[j], slot, to);
         swap(t->row[j], slot, to);
     }
-    t->arrival[slot] = t->arrival[to];
-    t->arrival[to] = kept;
 }
 
 /* The exchange step: the next slot now means the new standard monomial. */
@@ -166,15 +146,8 @@ static void exchange(struct tableau *t, const uint16_t *values, const uint16_t *
     t->found++;
 }
 
-/* Where a candidate comes from, and its rank. */
-struct candidate {
-    uint64_t rank;
-    unsigned parent, by;
-};
-
-/* Takes a candidate whose proper divisors are all standard: it is standard or a new lead. */
-static void take(struct tableau *t, struct drawn *to, const struct candidate *c, const uint8_t *exponents,
-                 uint16_t *values)
+/* Takes a monomial whose proper divisors are all standard: it is standard or a new lead. */
+static void take(struct tableau *t, struct drawn *to, const struct candidate *c, uint16_t *values)
 {
     uint16_t rest[MOST];
     unsigned slot = t->found;
@@ -182,15 +155,15 @@ static void take(struct tableau *t, struct drawn *to, const struct candidate *c,
     while (slot < t->n && rest[slot] == 0)
         slot++;
     if (slot < t->n) {
-        memcpy(to->standard + 8 * t->found, exponents, 8);
-        t->rank[t->found] = c->rank;
+        memcpy(to->standard + 8 * t->found, c->exponents, 8);
         t->parent[t->found] = (uint8_t)c->parent;
         t->by[t->found] = (uint8_t)c->by;
+        candidates_found(&t->candidates, c);
         swap_slots(t, values, rest, slot);
         exchange(t, values, rest);
         return;
     }
-    memcpy(to->leads + 8 * to->r, exponents, 8);
+    memcpy(to->leads + 8 * to->r, c->exponents, 8);
     to->rank[to->r] = c->rank;
     to->parent[to->r] = (uint8_t)c->parent;
     to->by[to->r] = (uint8_t)c->by;
@@ -199,48 +172,19 @@ static void take(struct tableau *t, struct drawn *to, const struct candidate *c,
     to->r++;
 }
 
-/* The least product of a variable and the standard monomial at its position; 0 if there is none. */
-static int next(const struct tableau *t, const unsigned at[8], struct candidate *c)
-{
-    c->rank = UINT64_MAX;
-    for (unsigned k = 0; k < t->m; k++)
-        if (at[k] < t->found && t->rank[at[k]] + t->step[k] < c->rank)
-            *c = (struct candidate){t->rank[at[k]] + t->step[k], at[k], k};
-    return c->rank != UINT64_MAX;
-}
-
-/* Moves the positions past the candidate; whether all its proper divisors are standard. */
-static int pass(const struct tableau *t, unsigned at[8], const struct candidate *c, const uint8_t *exponents)
-{
-    int all = 1;
-    for (unsigned k = 0; k < t->m; k++) {
-        int same = at[k] < t->found && t->rank[at[k]] + t->step[k] == c->rank;
-        all &= same || exponents[k] == 0;
-        at[k] += (unsigned)same;
-    }
-    return all;
-}
-
 void tableau_draw(struct tableau *t, struct drawn *to)
 {
-    struct candidate c = {0, 0, 0};
-    uint8_t exponents[8] = {0};
+    struct candidate c = {.rank = 0};
     uint16_t values[MOST] = {0};
-    unsigned at[8] = {0};
     memset(to->standard, 0, 512);
     memset(to->leads, 0, 3592);
     memset(to->coefficients, 0, 28736);
-    to->n = t->n;
     to->r = 0;
     for (unsigned i = 0; i < t->n; i++)
         values[i] = 1;
-    take(t, to, &c, exponents, values);
-    while (next(t, at, &c)) {
-        memcpy(exponents, to->standard + 8 * c.parent, 8);
-        exponents[c.by]++;
-        if (!pass(t, at, &c, exponents))
-            continue;
+    take(t, to, &c, values);
+    while (candidates_next(&t->candidates, to->standard, &c)) {
         tableau_times(t, c.parent, c.by, values);
-        take(t, to, &c, exponents, values);
+        take(t, to, &c, values);
     }
 }

@@ -9,9 +9,9 @@
 #ifndef TABLEAU_H
 #define TABLEAU_H
 
-#include <stdint.h>
+#include "candidates.h"
+#include "reduce.h"
 
-#define MOST 64   /* points */
 #define LEADS 449 /* rows of the leads table */
 
 struct tableau {
@@ -22,15 +22,13 @@ struct tableau {
     uint16_t coordinate[8][MOST];   /* of the points, by variable and slot */
     uint16_t value[MOST][MOST];     /* of the standard monomials, by slot */
     uint16_t row[MOST][MOST];
-    uint8_t arrival[MOST];          /* the point that came to stand in a slot */
-    uint64_t step[8];               /* rank of each variable */
-    uint64_t rank[MOST];            /* of the standard monomials: its order is the monomial order */
+    struct candidates candidates;
     uint8_t parent[MOST], by[MOST]; /* a standard monomial is its parent times a variable */
 };
 
 /* A basis in the layout of the lent tables, and what drawing up knows besides. */
 struct drawn {
-    unsigned n, r;
+    unsigned r;
     uint8_t *standard, *leads, *coefficients;
     uint64_t rank[LEADS];
     uint8_t parent[LEADS], by[LEADS];
@@ -48,13 +46,5 @@ void tableau_eliminate(const struct tableau *t, const uint16_t *values, uint16_t
 
 /* The values by slot of a standard monomial times a variable. */
 void tableau_times(const struct tableau *t, unsigned standard, unsigned variable, uint16_t *values);
-
-/* x modulo p, for any 16-bit x: x * magic / 65536 is x / p or one less. */
-static inline uint16_t reduce(uint16_t x, uint16_t magic, uint16_t p)
-{
-    uint16_t quotient = (uint16_t)((uint32_t)x * magic >> 16);
-    int16_t rest = (int16_t)(x - quotient * p - p);
-    return (uint16_t)(rest + (p & (rest >> 15)));
-}
 
 #endif

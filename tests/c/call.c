@@ -3,7 +3,8 @@
 
 #include "reference.h"
 
-const char *const kind_names[KINDS] = {"add_point", "draw_up", "check", "interpolate", "remainder", "wiring", "read_text"};
+const char *const kind_names[KINDS] = {"add_point", "draw_up", "check",    "interpolate",
+                                       "remainder", "wiring",  "read_text"};
 
 const size_t table_sizes[4] = {MISQAFUR_STATES_SIZE, MISQAFUR_STANDARD_SIZE, MISQAFUR_LEADS_SIZE,
                                MISQAFUR_COEFFICIENTS_SIZE};

@@ -64,7 +64,8 @@ static void short_buffer(struct made *made)
 static uint8_t *table_byte(struct made *made, enum buffer table)
 {
     struct chance *c = &made->chance;
-    size_t rows = table == STATES || table == STANDARD ? made->call.n : made->call.r, wide = table == COEFFICIENTS ? 64 : 8;
+    size_t rows = table == STATES || table == STANDARD ? made->call.n : made->call.r;
+    size_t wide = table == COEFFICIENTS ? 64 : 8;
     size_t used = rows <= table_sizes[table] / wide ? rows * wide : 0;
     if (once_in(c, 8))
         return made->bytes[table] + table_sizes[table] - 1 + below(c, 2);
@@ -186,8 +187,9 @@ static void terms(struct made *made)
 
 void damage(struct made *made)
 {
-    static void (*const any[])(struct made *) = {settings,     other_settings, counts,       short_buffer, table_change,
-                                                 table_change, table_rows,     given_length, given_byte,   repeat_point};
+    static void (*const any[])(struct made *) = {settings,     other_settings, counts,     short_buffer,
+                                                 table_change, table_change,   table_rows, given_length,
+                                                 given_byte,   repeat_point};
     enum kind kind = made->call.kind;
     if (kind == REMAINDER && once_in(&made->chance, 4))
         terms(made);

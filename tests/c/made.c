@@ -159,7 +159,7 @@ void make_call(struct made *made, enum kind kind)
     size_t n = random_points(&made->chance, p, m, random_count(&made->chance), points);
     size_t count = levels_of(made, points, n, levels);
     if (kind == DRAW_UP) {
-        memcpy(made->bytes[GIVEN], levels, sizeof levels);
+        memcpy(made->bytes[GIVEN], levels, count);
         set_length(made, GIVEN, count);
     }
     set_tables(made, levels, count);

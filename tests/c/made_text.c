@@ -26,7 +26,8 @@ static void put_field(struct made *made, const char *content)
 
 static void put_name(struct made *made)
 {
-    static const char *const names[] = {"g1", "", "\"a\"\"b\"", "\"a,b\"", "\"x\r\ny\"", "\"\"\"\"", "\xef\xbb\xbf", "long name"};
+    static const char *const names[] = {"g1",          "",           "\"a\"\"b\"",   "\"a,b\"",
+                                        "\"x\r\ny\"", "\"\"\"\"", "\xef\xbb\xbf", "long name"};
     const char *name = names[below(&made->chance, sizeof names / sizeof *names)];
     put(made, name, strlen(name));
     put(made, ",", 1);
@@ -132,8 +133,10 @@ void make_text(struct made *made)
     made->call.buffer[GIVEN] = (struct bytes){made->bytes[GIVEN], 0};
     memset(made->bytes[STATES], 170, 800);
     memset(made->bytes[OUT], 170, 400);
-    made->call.buffer[STATES] = (struct bytes){made->bytes[STATES], once_in(c, 40) ? below(c, 512) : 512 + below(c, 200)};
-    made->call.buffer[OUT] = (struct bytes){made->bytes[OUT], once_in(c, 40) ? below(c, 64) : 64 + below(c, 200)};
+    size_t states = once_in(c, 40) ? below(c, 512) : 512 + below(c, 200);
+    size_t values = once_in(c, 40) ? below(c, 64) : 64 + below(c, 200);
+    made->call.buffer[STATES] = (struct bytes){made->bytes[STATES], states};
+    made->call.buffer[OUT] = (struct bytes){made->bytes[OUT], values};
     put_header(made, m, p);
     put_records(made, m, p, random_records(c));
     if (once_in(c, 2))

@@ -1,0 +1,29 @@
+/* What the calls in plain C share: points as residues, and tables checked by drawing them up again. */
+#ifndef REDRAWN_H
+#define REDRAWN_H
+
+#include "tableau.h"
+
+static inline uint8_t residue(unsigned p, uint8_t level)
+{
+    return (uint8_t)(level < 128 ? level : level + p);
+}
+
+/* Whether a point stands among n points. */
+int repeats(const uint8_t *points, unsigned n, const uint8_t *point);
+
+/* The residues of n points in the layout of the states table; 0 if a point repeats, and then nothing is written. */
+int read_points(unsigned p, unsigned m, unsigned n, const uint8_t *levels, uint8_t *states);
+
+/* A basis with tables of its own. */
+struct redrawn {
+    struct drawn drawn;
+    uint8_t standard[512], leads[3592], coefficients[28736];
+};
+
+/* Draws up the points again; whether the counts and tables are the ones handed in. */
+int good_tables(struct tableau *t, struct redrawn *to, uint64_t modulus, uint64_t variables, uint64_t order, uint64_t n,
+                uint64_t r, const uint8_t *states, const uint8_t *standard, const uint8_t *leads,
+                const uint8_t *coefficients);
+
+#endif
