@@ -122,8 +122,7 @@ void sort_wiring(const struct call *call, uint64_t number)
         qsort(call->buffer[OUT].at, count, 1, compare_bytes);
 }
 
-/* Whether two performed calls have left equal bytes in every buffer. */
-static int same_bytes(const struct call *a, const struct call *b, const char *name)
+int same_bytes(const struct call *a, const struct call *b, const char *name)
 {
     for (int i = 0; i < BUFFERS; i++) {
         const uint8_t *left = a->buffer[i].at, *right = b->buffer[i].at;
@@ -132,7 +131,7 @@ static int same_bytes(const struct call *a, const struct call *b, const char *na
             continue;
         while (left[k] == right[k])
             k++;
-        fprintf(stderr, "%s: %s byte %zu is %d, the reference has %d\n", name, buffer_names[i], k, left[k], right[k]);
+        fprintf(stderr, "%s: %s byte %zu is %d, expected %d\n", name, buffer_names[i], k, left[k], right[k]);
         return 0;
     }
     return 1;

@@ -25,6 +25,9 @@ int guard_intact(const struct guard *guard);
  * *number is what the archive returned. */
 int agrees(struct guard *guard, const struct call *call, uint64_t choice, const char *name, uint64_t *number);
 
+/* Whether every buffer of the first call has the bytes of the second's. If not, it says on standard error where. */
+int same_bytes(const struct call *a, const struct call *b, const char *name);
+
 /* From now on a call that touches a forbidden page ends the program with a line that names the call. */
 void guard_watch(void);
 

@@ -1,4 +1,5 @@
-/* Parts "long" and "stack": lengths above 4 GiB, and how much stack a call takes. */
+/* Parts "short", "long" and "stack": every length below a size, lengths above 4 GiB, and how much stack
+ * a call takes. */
 #define _DEFAULT_SOURCE
 #include "guard.h"
 #include "made.h"
@@ -10,6 +11,59 @@
 #include <string.h>
 #include <sys/mman.h>
 #include <ucontext.h>
+
+/* A call that is to succeed, but for the length of a buffer. */
+static void make_good(struct made *made, enum kind kind)
+{
+    static const char text[] = "g1,mod 5\n1,2\n";
+    memset(made, 0, sizeof *made);
+    made->chance.state = 7;
+    make_call(made, kind == READ_TEXT ? INTERPOLATE : kind);
+    made->call.kind = kind;
+    if (kind == READ_TEXT) {
+        memcpy(made->bytes[GIVEN], text, sizeof text - 1);
+        made->call.buffer[GIVEN].length = sizeof text - 1;
+    }
+}
+
+/* Every length of one buffer below its size is refused with 6, and nothing changes. */
+static int all_short(struct guard *guard, struct made *made, enum buffer which, size_t size)
+{
+    uint64_t kept = made->call.buffer[which].length;
+    int holds = 1;
+    for (size_t length = 0; length < size && holds; length++) {
+        made->call.buffer[which].length = length;
+        struct call lent = guard_lend(guard, &made->call, length);
+        performing = "a call with a short buffer";
+        uint64_t number = perform(&archive, &lent);
+        holds = number == 6 && guard_intact(guard) && same_bytes(&lent, &made->call, performing);
+        if (!holds)
+            fprintf(stderr, "short: %s with %zu bytes returned %" PRIu64 "\n", kind_names[made->call.kind], length,
+                    number);
+    }
+    made->call.buffer[which].length = kept;
+    return holds;
+}
+
+struct score short_buffers(const struct options *options)
+{
+    struct score score = {0, 0};
+    struct guard *guard = guard_new();
+    struct made *made = malloc(sizeof *made);
+    (void)options;
+    if (made == NULL)
+        abort();
+    for (int kind = 0; kind < KINDS; kind++) {
+        make_good(made, (enum kind)kind);
+        for (int t = STATES; t <= (kind == READ_TEXT ? STATES : COEFFICIENTS); t++)
+            count(&score, all_short(guard, made, (enum buffer)t, table_sizes[t]));
+        if (out_size((enum kind)kind) > 0)
+            count(&score, all_short(guard, made, OUT, out_size((enum kind)kind)));
+    }
+    free(made);
+    guard_free(guard);
+    return score;
+}
 
 #define FOUR_GIB ((size_t)1 << 32)
 

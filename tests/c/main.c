@@ -10,8 +10,8 @@
 static const struct {
     const char *name;
     struct score (*run)(const struct options *);
-} parts[] = {{"calls", stored_calls},   {"texts", stored_texts},        {"examples", examples}, {"lists", lists},
-             {"random", random_calls}, {"long", long_buffers}, {"stack", stack_depth}};
+} parts[] = {{"calls", stored_calls},  {"texts", stored_texts},   {"examples", examples},    {"lists", lists},
+             {"random", random_calls}, {"short", short_buffers}, {"long", long_buffers}, {"stack", stack_depth}};
 
 static struct score run_part(const char *name, const struct options *options)
 {
