@@ -27,6 +27,21 @@ use Rattle.basis.proofs.elimination.Decisions.{few-standard, few-leads,
 use Rattle.basis.proofs.elimination.Hands.{start-held, start-hand, few-found, exponent-small, next-hand}
 use Rattle.basis.proofs.elimination.Grounds.{ground, coordinate, drawn-up}
 
+-- What the code's calls ask of the tables.
+pub record Sized (p n found : ℕ) (standard leads coefficients rows pivots values ranks : List ℕ) : Type 0 where
+  pub found-room : found ≤ n
+  pub standard-long : length standard ≡ 512
+  pub leads-long : length leads ≡ 3592
+  pub coefficients-long : length coefficients ≡ 28736
+  pub rows-long : length rows ≡ 8192
+  pub pivots-long : length pivots ≡ 64
+  pub values-long : length values ≡ 4096
+  pub ranks-long : length ranks ≡ 64
+  pub rows-below : Below p rows
+  pub values-below : Below p values
+  pub ranks-below : Below (2 ^ 56) ranks
+  pub pivots-inside : (t : ℕ) → t < found → getD pivots t 0 < n
+
 -- the points under the settings
 abbrev pub pointsOf : (p m order n : ℕ) → List ℕ → List (Point (suc (p - 1)) m)
 pointsOf p m order n points = pointsUnder (settingsOf p m order) (pointsIn (settingsOf p m order) n points)
@@ -52,21 +67,6 @@ module _ (p m order n : ℕ) (points : List ℕ) where
     pub r-is : r ≡ length lds
     pub held : Held (p - 1) m n (orderOf order) (pointsOf p m order n points) std lds css standard leads coefficients rows pivots values ranks steps
     pub decided : Decided (p - 1) m n (orderOf order) (pointsOf p m order n points) std lds at
-
-  -- What the code's calls ask of the tables.
-  pub record Sized (found : ℕ) (standard leads coefficients rows pivots values ranks : List ℕ) : Type 0 where
-    pub found-room : found ≤ n
-    pub standard-long : length standard ≡ 512
-    pub leads-long : length leads ≡ 3592
-    pub coefficients-long : length coefficients ≡ 28736
-    pub rows-long : length rows ≡ 8192
-    pub pivots-long : length pivots ≡ 64
-    pub values-long : length values ≡ 4096
-    pub ranks-long : length ranks ≡ 64
-    pub rows-below : Below p rows
-    pub values-below : Below p values
-    pub ranks-below : Below (2 ^ 56) ranks
-    pub pivots-inside : (t : ℕ) → t < found → getD pivots t 0 < n
 
 module _ {p m order n : ℕ} {points : List ℕ} where
   -- the same lists, by their equations
@@ -108,7 +108,7 @@ module _ {p m order n : ℕ} {points : List ℕ} where
     module _ {found : ℕ} {standard leads coefficients rows pivots values ranks steps : List ℕ} where
       -- the tables' sizes, from what they hold
       sized : {std lds : List (Monomial m)} {css : List (List ℕ)} → found ≡ length std → Held (p - 1) m n o S std lds css standard leads coefficients rows pivots values ranks steps
-          → Sized p m order n points found standard leads coefficients rows pivots values ranks
+          → Sized p n found standard leads coefficients rows pivots values ranks
       sized e H = record {
         found-room = omega (arith, H .pivot-rows .room);
         standard-long = ap length (H .standard-table) ∙ length-fill 512 _;
@@ -125,7 +125,7 @@ module _ {p m order n : ℕ} {points : List ℕ} where
       }
 
       module _ {r : ℕ} {at exponents : List ℕ} {rank : ℕ} {own : List ℕ} (h : Head p m order n points found r standard leads coefficients rows pivots values ranks steps at exponents rank own) where
-        pub head-sized : Sized p m order n points found standard leads coefficients rows pivots values ranks
+        pub head-sized : Sized p n found standard leads coefficients rows pivots values ranks
         head-sized = sized (h .found-is) (h .held)
 
         pub exponents-long : length exponents ≡ 8
@@ -191,7 +191,7 @@ module _ {p m order n : ℕ} {points : List ℕ} where
           }
 
       module _ {r : ℕ} {at : List ℕ} (h : Kept p m order n points found r standard leads coefficients rows pivots values ranks steps at) where
-        pub kept-sized : Sized p m order n points found standard leads coefficients rows pivots values ranks
+        pub kept-sized : Sized p n found standard leads coefficients rows pivots values ranks
         kept-sized = sized (h .found-is) (h .held)
 
         pub kept-few : found + r ≤ 513

@@ -33,7 +33,7 @@ module _ (l : tie.At-loop Inv-loop μ-loop) where
   given : PointsGiven (settingsOf (start .args .p) (start .args .m) (start .args .order)) (start .args .n) (start .args .points .now)
   given = start .pre .0
 
-  head-sizes : Sized (start .args .p) (start .args .m) (start .args .order) (start .args .n) (start .args .points .now) (l .loop .found) (l .loop .standard) (l .loop .leads) (l .loop .coefficients) (l .loop .rows) (l .loop .pivots) (l .loop .values) (l .loop .ranks)
+  head-sizes : Sized (start .args .p) (start .args .n) (l .loop .found) (l .loop .standard) (l .loop .leads) (l .loop .coefficients) (l .loop .rows) (l .loop .pivots) (l .loop .values) (l .loop .ranks)
   head-sizes = head-sized given (l .loop .inv)
 
   exponents-8 : length (l .loop .exponents) ≡ 8
@@ -77,7 +77,8 @@ module _ (j : tie.Joined1 Inv-loop μ-loop) where
   abbrev steps : List ℕ
   steps = above .before .before .put-steps .last .1 .0
 
-  kept : Kept (start above .args .p) (start above .args .m) (start above .args .order) (start above .args .n) (start above .args .points .now) (j .if1 .found) (j .if1 .r) (j .if1 .standard) (j .if1 .leads) (j .if1 .coefficients) (j .if1 .rows) (j .if1 .pivots) (j .if1 .values) (j .if1 .ranks) steps (above .loop .at)
+  kept : Kept (start above .args .p) (start above .args .m) (start above .args .order) (start above .args .n) (start above .args .points .now) (j .if1 .found) (j .if1 .r)
+      (j .if1 .standard) (j .if1 .leads) (j .if1 .coefficients) (j .if1 .rows) (j .if1 .pivots) (j .if1 .values) (j .if1 .ranks) steps (above .loop .at)
   kept =
       ⊎-elim
       (λ w. kept-as (w .17) (w .18) (w .10) (w .11) (w .12) (w .13) (w .14) (w .15) (w .16)
@@ -91,7 +92,7 @@ module _ (j : tie.Joined1 Inv-loop μ-loop) where
   one-more : j .if1 .found + j .if1 .r ≡ above .loop .found + above .loop .r + 1
   one-more = ⊎-elim (λ w. omega (arith, w .17, w .18)) (λ w. omega (arith, w .27, w .28)) (j .if1 .came)
 
-  sizes : Sized (start above .args .p) (start above .args .m) (start above .args .order) (start above .args .n) (start above .args .points .now) (j .if1 .found) (j .if1 .standard) (j .if1 .leads) (j .if1 .coefficients) (j .if1 .rows) (j .if1 .pivots) (j .if1 .values) (j .if1 .ranks)
+  sizes : Sized (start above .args .p) (start above .args .n) (j .if1 .found) (j .if1 .standard) (j .if1 .leads) (j .if1 .coefficients) (j .if1 .rows) (j .if1 .pivots) (j .if1 .values) (j .if1 .ranks)
   sizes = kept-sized (given above) kept
 
   steps-8 : length steps ≡ 8
@@ -147,7 +148,9 @@ keep-lead-requires c κs =
     )
 
 add-r : tie.Need-add-r Inv-loop μ-loop
-add-r c = let q = c .before .before .before .before .before .before .before .before .before .before .before in omega (arith, lead-fits q (c .before .before .before .before .before .before .before .before .before .if1 .taken))
+add-r c =
+    let q = c .before .before .before .before .before .before .before .before .before .before .before in
+    omega (arith, lead-fits q (c .before .before .before .before .before .before .before .before .before .if1 .taken))
 
 slice-aggregate-keep-standard : tie.Need-slice-aggregate-keep-standard Inv-loop μ-loop
 slice-aggregate-keep-standard c = sym (exponents-8 (c .before .before .before .before .before .before .before .before))
@@ -187,7 +190,9 @@ keep-requires c κs =
     )
 
 add-found : tie.Need-add-found Inv-loop μ-loop
-add-found c = let q = c .before .before .before .before .before .before .before .before .before .before .before .before .before .before .before .before .before .before .before .before .before in omega (arith, standard-fits q (c .before .before .before .before .before .before .before .before .before .before .before .before .before .before .before .before .before .before .before .if1 .left), given (top q) .most)
+add-found c =
+    let q = c .before .before .before .before .before .before .before .before .before .before .before .before .before .before .before .before .before .before .before .before .before in
+    omega (arith, standard-fits q (c .before .before .before .before .before .before .before .before .before .before .before .before .before .before .before .before .before .before .before .if1 .left), given (top q) .most)
 
 slice-aggregate-next : tie.Need-slice-aggregate-next Inv-loop μ-loop
 slice-aggregate-next c = sym (sizes (c .before .before) .ranks-long)
@@ -214,19 +219,33 @@ enum-told : tie.Need-enum-told Inv-loop μ-loop
 enum-told c = search needs
 
 same-length : tie.Need-same-length Inv-loop μ-loop
-same-length c = let j = c .before .before .before .before .before .before .before .before in let t = start (above j) in sizes j .standard-long ∙ sym (zeros-long (t .args .standard .now) 512 (t .pre .1 .0 .0))
+same-length c =
+    let j = c .before .before .before .before .before .before .before .before in
+    let t = start (above j) in
+    sizes j .standard-long ∙ sym (zeros-long (t .args .standard .now) 512 (t .pre .1 .0 .0))
 
 same-length-2 : tie.Need-same-length-2 Inv-loop μ-loop
-same-length-2 c = let j = c .before .before .before .before .before .before .before .before in let t = start (above j) in sizes j .leads-long ∙ sym (zeros-long (t .args .leads .now) 3592 (t .pre .1 .0 .1 .0))
+same-length-2 c =
+    let j = c .before .before .before .before .before .before .before .before in
+    let t = start (above j) in
+    sizes j .leads-long ∙ sym (zeros-long (t .args .leads .now) 3592 (t .pre .1 .0 .1 .0))
 
 same-length-3 : tie.Need-same-length-3 Inv-loop μ-loop
-same-length-3 c = let j = c .before .before .before .before .before .before .before .before in let t = start (above j) in sizes j .coefficients-long ∙ sym (zeros-long (t .args .coefficients .now) 28736 (t .pre .1 .0 .1 .1))
+same-length-3 c =
+    let j = c .before .before .before .before .before .before .before .before in
+    let t = start (above j) in
+    sizes j .coefficients-long ∙ sym (zeros-long (t .args .coefficients .now) 28736 (t .pre .1 .0 .1 .1))
 
 same-length-4 : tie.Need-same-length-4 Inv-loop μ-loop
-same-length-4 c = let j = c .before .before .before .before .before .before .before .before in let t = start (above j) in sizes j .rows-long ∙ sym (zeros-long (t .args .rows .now) 8192 (t .pre .1 .1 .0))
+same-length-4 c =
+    let j = c .before .before .before .before .before .before .before .before in
+    let t = start (above j) in
+    sizes j .rows-long ∙ sym (zeros-long (t .args .rows .now) 8192 (t .pre .1 .1 .0))
 
 same-length-5 : tie.Need-same-length-5 Inv-loop μ-loop
-same-length-5 c = let j = c .before .before .before .before .before .before .before .before in sizes j .pivots-long ∙ sym (start (above j) .pre .1 .1 .1)
+same-length-5 c =
+    let j = c .before .before .before .before .before .before .before .before in
+    sizes j .pivots-long ∙ sym (start (above j) .pre .1 .1 .1)
 
 returns : tie.Need-returns Inv-loop μ-loop
 returns c =
