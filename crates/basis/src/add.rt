@@ -3,11 +3,14 @@ use crate::bytes;
 use crate::correct;
 use crate::insert;
 use crate::rows;
+use residue::inverse::inverse;
 ghost use mathlib.Core.Path.{_≡_};
 ghost use Prim.Native.Nat.{ℕ, _+_, _*_, _<_, _≤_};
-ghost use lib.ListN.{length, getD};
+ghost use lib.ListN.{length, getD, replicate};
+ghost use mathlib.Core.Bool.{true};
+ghost use Rattle.residue.specs.Modulus.{isModulus};
 ghost use Rattle.residue.specs.Vector.{Below};
-ghost use Rattle.basis.specs.Insertions.{withRowAt, correctedRow, reducedRow};
+ghost use Rattle.basis.specs.Insertions.{rowAt, withRowAt, correctedRow, reducedRow, grown, productPut, productsPut, othersOf, othersCorrected, standardGrown, grownBy};
 
 // The row of a monomial put into the table of coefficients before row i of k: its values at the n points are eliminated, and what they leave is corrected.
 fn put_row(
@@ -50,4 +53,225 @@ fn put_row(
         &mut work[n..n + 64],
         &mut table[from..from + 64],
     );
+}
+
+// A product of the lost lead put in with its row, unless one of k other leads divides it. Answers how many leads there are then.
+fn add_product(
+    p: u16,
+    order: u8,
+    n: usize,
+    points: &[u8],
+    rows: &[u16],
+    pivots: &[u8],
+    place: usize,
+    inverse: u16,
+    gone: &[u16],
+    point: &[u8],
+    values: &[u16],
+    k: usize,
+    others: &[u8],
+    a: &[u8],
+    count: usize,
+    leads: &mut [u8],
+    coefficients: &mut [u8],
+) -> usize
+    requires { ⌜ (2 ≤ p) × (p ≤ 61) × (n < 64) × (place < 64) × (inverse < p) ⌝ }
+    requires { ⌜ (length (now points) ≡ 512) × (length (now rows) ≡ 8192) × (length (now pivots) ≡ 64) ⌝ }
+    requires { ⌜ (length (now gone) ≡ 64) × (length (now point) ≡ 8) × (length (now values) ≡ 64) × (length (now a) ≡ 8) ⌝ }
+    requires { ⌜ (8 * k ≤ length (now others)) × (count ≤ 448) × (length (now leads) ≡ 3592) × (length (now coefficients) ≡ 28736) ⌝ }
+    requires { ⌜ Below p (now points) × Below p (now rows) × Below p (now gone) × Below p (now point) × Below p (now values) ⌝ }
+    requires { ⌜ ((t : ℕ) → t < n → getD (now pivots) t 0 < n) ⌝ }
+    ensures { λ r. ⌜ grown r (now (leads .exit)) (now (coefficients .exit)) ≡ productPut p order n (now (points .entry)) (now (rows .entry)) (now (pivots .entry)) place inverse (now (gone .entry)) (now (point .entry)) (now (values .entry)) k (now (others .entry)) (now (a .entry)) (grown count (now (leads .entry)) (now (coefficients .entry))) ⌝ }
+{
+    if insert::divided(k, others, a) {
+        return count;
+    }
+    let i = insert::put_in(order, count, leads, a);
+    put_row(
+        p,
+        n,
+        points,
+        rows,
+        pivots,
+        place,
+        inverse,
+        gone,
+        point,
+        values,
+        a,
+        count,
+        i,
+        coefficients,
+    );
+    count + 1
+}
+
+// The products of the lost lead with the m variables. Answers how many leads there are then; before, the k others alone.
+fn add_products(
+    p: u16,
+    m: usize,
+    order: u8,
+    n: usize,
+    points: &[u8],
+    rows: &[u16],
+    pivots: &[u8],
+    place: usize,
+    inverse: u16,
+    gone: &[u16],
+    point: &[u8],
+    values: &[u16],
+    k: usize,
+    others: &[u8],
+    lead: &[u8],
+    leads: &mut [u8],
+    coefficients: &mut [u8],
+) -> usize
+    requires { ⌜ (2 ≤ p) × (p ≤ 61) × (n < 64) × (place < 64) × (inverse < p) ⌝ }
+    requires { ⌜ (length (now points) ≡ 512) × (length (now rows) ≡ 8192) × (length (now pivots) ≡ 64) × (length (now others) ≡ 3592) ⌝ }
+    requires { ⌜ (length (now gone) ≡ 64) × (length (now point) ≡ 8) × (length (now values) ≡ 64) × (length (now lead) ≡ 8) ⌝ }
+    requires { ⌜ (m ≤ 8) × (k + m ≤ 449) × (length (now leads) ≡ 3592) × (length (now coefficients) ≡ 28736) ⌝ }
+    requires { ⌜ Below p (now points) × Below p (now rows) × Below p (now gone) × Below p (now point) × Below p (now values) ⌝ }
+    requires { ⌜ ((t : ℕ) → t < n → getD (now pivots) t 0 < n) ⌝ }
+    requires { ⌜ ((v : ℕ) → getD (now lead) v 0 < 255) ⌝ }
+    ensures { λ r. ⌜ grown r (now (leads .exit)) (now (coefficients .exit)) ≡ productsPut p order n (now (points .entry)) (now (rows .entry)) (now (pivots .entry)) place inverse (now (gone .entry)) (now (point .entry)) (now (values .entry)) k (now (others .entry)) (now (lead .entry)) m (grown k (now (leads .entry)) (now (coefficients .entry))) ⌝ }
+{
+    let mut count = k;
+    for v in 0..m {
+        let mut a = [0u8; 8];
+        bytes::copy(lead, &mut a);
+        a[v] += 1;
+        count = add_product(
+            p,
+            order,
+            n,
+            points,
+            rows,
+            pivots,
+            place,
+            inverse,
+            gone,
+            point,
+            values,
+            k,
+            others,
+            &a,
+            count,
+            leads,
+            coefficients,
+        );
+    }
+    count
+}
+
+// The leads but that of row j, and their rows corrected.
+fn keep_others(
+    p: u16,
+    place: usize,
+    inverse: u16,
+    gone: &[u16],
+    point: &[u8],
+    values: &[u16],
+    r: usize,
+    j: usize,
+    leads: &[u8],
+    coefficients: &[u8],
+    new_leads: &mut [u8],
+    new_coefficients: &mut [u8],
+)
+    requires { ⌜ (2 ≤ p) × (p ≤ 61) × (place < 64) × (inverse < p) ⌝ }
+    requires { ⌜ (length (now gone) ≡ 64) × (length (now point) ≡ 8) × (length (now values) ≡ 64) ⌝ }
+    requires { ⌜ (j < r) × (r ≤ 449) × (length (now leads) ≡ 3592) × (length (now coefficients) ≡ 28736) ⌝ }
+    requires { ⌜ Below p (now gone) × Below p (now point) × Below p (now values) × Below p (now coefficients) ⌝ }
+    requires { ⌜ (now «new_leads» ≡ replicate 3592 0) × (now «new_coefficients» ≡ replicate 28736 0) ⌝ }
+    ensures { λ _. ⌜ now («new_leads» .exit) ≡ othersOf r j (now (leads .entry)) ⌝ }
+    ensures { λ _. ⌜ now («new_coefficients» .exit) ≡ othersCorrected p place inverse (now (gone .entry)) (now (point .entry)) (now (values .entry)) r j (now (leads .entry)) (now (coefficients .entry)) ⌝ }
+{
+    insert::take_out(8, r, j, leads, new_leads);
+    insert::take_out(64, r, j, coefficients, new_coefficients);
+    correct::correct_rows(
+        p,
+        place,
+        inverse,
+        gone,
+        point,
+        values,
+        r - 1,
+        new_leads,
+        new_coefficients,
+    );
+}
+
+// The tables of n points and r rows once row j, which is not 0 at the new point, is lost. Answers how many rows there are then.
+fn grow(
+    p: u16,
+    m: usize,
+    order: u8,
+    n: usize,
+    r: usize,
+    points: &[u8],
+    standard: &[u8],
+    leads: &[u8],
+    coefficients: &[u8],
+    rows: &[u16],
+    pivots: &[u8],
+    point: &[u8],
+    values: &[u16],
+    j: usize,
+    new_standard: &mut [u8],
+    new_leads: &mut [u8],
+    new_coefficients: &mut [u8],
+) -> usize
+    requires { ⌜ (2 ≤ p) × (p ≤ 61) × (m ≤ 8) × (n < 64) × (isModulus p ≡ true) ⌝ }
+    requires { ⌜ (j < r) × (r ≤ 449) × (r + m ≤ 450) × (length (now points) ≡ 512) × (length (now rows) ≡ 8192) ⌝ }
+    requires { ⌜ (length (now standard) ≡ 512) × (length (now leads) ≡ 3592) × (length (now coefficients) ≡ 28736) × (length (now point) ≡ 8) × (length (now values) ≡ 64) ⌝ }
+    requires { ⌜ Below p (now points) × Below p (now coefficients) × Below p (now rows) × Below p (now point) × Below p (now values) ⌝ }
+    requires { ⌜ (length (now pivots) ≡ 64) × ((t : ℕ) → t < n → getD (now pivots) t 0 < n) ⌝ }
+    requires { ⌜ ((i : ℕ) → getD (now leads) i 0 < 255) ⌝ }
+    requires { ⌜ (now «new_standard» ≡ replicate 512 0) × (now «new_leads» ≡ replicate 3592 0) × (now «new_coefficients» ≡ replicate 28736 0) ⌝ }
+    ensures { λ _. ⌜ now («new_standard» .exit) ≡ standardGrown order n (now (standard .entry)) (rowAt 8 j (now (leads .entry))) ⌝ }
+    ensures { λ k. ⌜ grown k (now («new_leads» .exit)) (now («new_coefficients» .exit)) ≡ grownBy p m order n r (now (points .entry)) (now (standard .entry)) (now (leads .entry)) (now (coefficients .entry)) (now (rows .entry)) (now (pivots .entry)) (now (point .entry)) (now (values .entry)) j ⌝ }
+{
+    let from = 8 * j;
+    let lead = &leads[from..from + 8];
+    let first = 64 * j;
+    let mut gone = [0u16; 64];
+    bytes::widen(&coefficients[first..first + 64], &mut gone);
+    let i = inverse(p, correct::row_value(p, point, values, lead, &gone));
+    bytes::copy(standard, new_standard);
+    let place = insert::put_in(order, n, new_standard, lead);
+    keep_others(
+        p,
+        place,
+        i,
+        &gone,
+        point,
+        values,
+        r,
+        j,
+        leads,
+        coefficients,
+        new_leads,
+        new_coefficients,
+    );
+    let mut others = [0u8; 3592];
+    bytes::copy(new_leads, &mut others);
+    add_products(
+        p,
+        m,
+        order,
+        n,
+        points,
+        rows,
+        pivots,
+        place,
+        i,
+        &gone,
+        point,
+        values,
+        r - 1,
+        &others,
+        lead,
+        new_leads,
+        new_coefficients,
+    )
 }

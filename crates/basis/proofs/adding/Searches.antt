@@ -2,8 +2,10 @@
 use mathlib.Core.Path.{_≡_, sym, _∙_, ap}
 use mathlib.Core.Bool.{Bool, true, false, cond, true≢false, _||_}
 use mathlib.Core.List.{List}
+use mathlib.Core.Logic.{_≢_}
 use Prim.Native.Nat.{ℕ, zero, suc, _+_, _*_, _-_, _<_, _≤_, Ordering, Ordering·lt, Ordering·eq, Ordering·gt}
 use native.Mathlib.Omega.{arith}
+use native.Mathlib.Decide.{ℕ-discrete}
 use lib.ListN.{take, drop}
 use lib.Dec.{eqb, isLe}
 use borrow.Author.Tests.{eq-eqb, ne-eqb}
@@ -83,3 +85,19 @@ module _ (f : ℕ → ℕ) where
   first-hit i r h e =
       let z : r - i ≡ suc (r - (i + 1)) = omega arith in
       ap (firstFrom f i) z ∙ simp (ne-eqb (f i) 0 e)
+
+  -- what the search finds
+  pub first-found : (i k : ℕ) → let j = firstFrom f i k in (i ≤ j) × (j ≤ i + k) × ((t : ℕ) → i ≤ t → t < j → f t ≡ 0) × (j < i + k → f j ≢ 0)
+  unfolding firstFrom
+  first-found i zero = (omega arith, omega arith, (λ t h l. absurd (omega arith)), λ l. absurd (omega arith))
+  first-found i (suc k) = go (ℕ-discrete (f i) 0) (first-found (i + 1) k)
+    where
+      go : Dec (f i ≡ 0)
+          → (let j = firstFrom f (i + 1) k in (i + 1 ≤ j) × (j ≤ i + 1 + k) × ((t : ℕ) → i + 1 ≤ t → t < j → f t ≡ 0) × (j < i + 1 + k → f j ≢ 0))
+          → let j = cond (eqb (f i) 0) (firstFrom f (i + 1) k) i in (i ≤ j) × (j ≤ i + suc k) × ((t : ℕ) → i ≤ t → t < j → f t ≡ 0) × (j < i + suc k → f j ≢ 0)
+      go (yes e) ih = rw (eq-eqb (f i) 0 e) (omega (arith, ih .0), omega (arith, ih .1), (λ t h l. here t h l (ℕ-discrete i t)), λ l. ih .3 (omega arith))
+        where
+          here : (t : ℕ) → i ≤ t → t < firstFrom f (i + 1) k → Dec (i ≡ t) → f t ≡ 0
+          here t h l (yes u) = rw (← u) e
+          here t h l (no u) = ih .2 t (omega arith) l
+      go (no e) ih = rw (ne-eqb (f i) 0 e) (omega arith, omega arith, (λ t h l. absurd (omega arith)), λ l. e)

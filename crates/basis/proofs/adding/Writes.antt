@@ -2,15 +2,16 @@
 use mathlib.Core.Path.{_≡_, refl, sym, _∙_, ap, ap₂, subst}
 use mathlib.Core.List.{List, [], _∷_, _++_, map, append-assoc, append-nil}
 use Prim.Native.Nat.{ℕ, zero, suc, _+_, _*_, _-_, _%_, _<_, _≤_}
+use native.Mathlib.Decide.{decLt}
 use native.Mathlib.Omega.{arith}
 use native.Mathlib.Nat.{le-of-suc-le-suc, mod-lt}
 use native.Mathlib.Numerals.{add-one}
-use lib.ListN.{length, getD, set, take, drop, replicate, length-append, length-drop, drop-of-length-le}
-use lib.Seq.{length-take-le, take-all, take-take, take-append-le, drop-drop, drop-cons, take-at, drop-at, set-at}
+use lib.ListN.{length, getD, set, take, drop, replicate, length-append, length-take, List·getD-eq-default, length-drop, drop-of-length-le}
+use lib.Seq.{getD-take, getD-drop, length-take-le, take-all, take-take, take-append-le, drop-drop, drop-cons, take-at, drop-at, set-at}
 use Rattle.residue.specs.Vector.{Below}
-use Rattle.residue.proofs.Vectors.{below-append, below-drop, below-zeros}
+use Rattle.residue.proofs.Vectors.{below-append, below-take, below-drop, below-zeros}
 use Rattle.basis.specs.Layout.{fill, inPlaces, over}
-use Rattle.basis.specs.Insertions.{rowAt, insertedAt, movedOn, takenOut, rowValueAt, correctedBy, correctedRow, correctedRows, withRowAt}
+use Rattle.basis.specs.Insertions.{rowAt, insertedAt, movedOn, takenOut, rowValueAt, correctedBy, correctedRow, correctedRows, withRowAt, rowsLeft}
 use Rattle.basis.proofs.Layouts.{length-fill, fill-whole, fill-append, length-places, length-over, over-all}
 use Rattle.basis.proofs.Places.{places-append}
 
@@ -159,3 +160,21 @@ module _ (p place i : ℕ) (gone point values leads table : List ℕ) where
 pub length-row : (p place i : ℕ) (gone point values lead cs : List ℕ) → length (correctedRow p place i gone point values lead cs) ≡ 64
 unfolding correctedRow
 length-row p place i gone point values lead cs = length-corrected p place _ gone cs
+
+-- the rows left are residues where all rows were
+pub left-below : (p r j : ℕ) (t : List ℕ) → 0 < p → Below p t → Below p (rowsLeft r j t)
+unfolding rowsLeft over takenOut
+left-below p r j t z b =
+    let A : List ℕ = take (64 * j) t in
+    let B : List ℕ = take (64 * r - (64 * j + 64)) (drop (64 * j + 64) t) in
+    below-append p (A ++ B) (drop (length (A ++ B)) (replicate 28736 0))
+    (below-append p A B (below-take p (64 * j) t b) (below-take p (64 * r - (64 * j + 64)) (drop (64 * j + 64) t) (below-drop p (64 * j + 64) t b)))
+    (below-drop p (length (A ++ B)) (replicate 28736 0) (below-zeros p 28736 z))
+
+-- a bound on all numbers is one on those of a part
+pub part-small : (b k at : ℕ) (l : List ℕ) → 0 < b → ((i : ℕ) → getD l i 0 < b) → (v : ℕ) → getD (take k (drop at l)) v 0 < b
+part-small b k at l z h v = go (decLt v k)
+  where
+    go : Dec (v < k) → getD (take k (drop at l)) v 0 < b
+    go (yes u) = rw (getD-take k (drop at l) v 0 u, getD-drop at l v 0) (h (at + v))
+    go (no u) = let e : length (take k (drop at l)) ≤ v = omega (arith, length-take k (drop at l)) in rw (List·getD-eq-default (take k (drop at l)) 0 e) z

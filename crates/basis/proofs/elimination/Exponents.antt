@@ -21,7 +21,7 @@ use Rattle.basis.proofs.Instance.{degree-timesVariable}
 use Rattle.basis.proofs.Layouts.{fill-at, fill-append, fill-zeros}
 use Rattle.basis.proofs.elimination.Occurring.{Occurs}
 
-fill-pad : (a : List ℕ) → length a ≤ 8 → fill 8 a ≡ pad a
+pub fill-pad : (a : List ℕ) → length a ≤ 8 → fill 8 a ≡ pad a
 fill-pad a l =
     let e : length a + (8 - length a) ≡ 8 = omega arith in
     rw (e, append-nil, fill-zeros) at (fill-append a [] (8 - length a))

@@ -1,0 +1,108 @@
+-- Rows of the tables when a point is added: the row that elimination makes of a monomial's values, and the rows that stay, corrected.
+use mathlib.Core.Path.{_≡_, refl, sym, _∙_, ap, ap₂, subst}
+use mathlib.Core.List.{List, [], _∷_, _++_, map, append-assoc}
+use mathlib.Core.Logic.{inl, inr, _≢_}
+use Prim.Native.Nat.{ℕ, zero, suc, _+_, _*_, _-_, _%_, _<_, _≤_, suc-le-suc, zero-le}
+use native.Mathlib.Nat.{mod-lt, le-of-suc-le-suc}
+use native.Mathlib.Omega.{arith}
+use lib.ListN.{length, getD, take, drop, replicate, length-map, length-replicate}
+use lib.Seq.{take-suc, drop-at, take-all}
+use Rattle.residue.specs.Congruence.{Mod}
+use Rattle.residue.specs.Lists.{Among}
+use Rattle.residue.specs.Vector.{Below}
+use Rattle.residue.proofs.Congruence.{rfl, of, flip, _then_, reduce, negative, ring, scale}
+use Rattle.residue.proofs.Vectors.{map-at}
+use Rattle.monomial.specs.Monomial.{valueAt}
+use Rattle.monomial.specs.Order.{Order}
+use Rattle.monomial.proofs.Padding.{value-pad}
+use Rattle.basis.specs.Levels.{groups}
+use Rattle.basis.specs.Layout.{fill, inPlaces, over}
+use Rattle.basis.specs.Space.{Space}
+use Rattle.basis.specs.Polynomial.{Distinct}
+use Rattle.basis.specs.BasisOf.{basisOf, standardOf, leadsOf, rowOf, rowsOf, interpolantOf}
+use Rattle.basis.specs.Instance.{Monomial, Point, spaceOf}
+use Rattle.basis.specs.Working.{eliminated}
+use Rattle.basis.specs.Insertions.{rowAt, reducedRow}
+use Rattle.basis.proofs.Layouts.{length-fill, fill-append, fill-zeros, length-places, table-split}
+use Rattle.basis.proofs.Places.{table-groups, over-zeros}
+use Rattle.basis.proofs.ideal.Laws.{Laws}
+use Rattle.basis.proofs.ideal.Lists.{getD-among, index-of}
+use Rattle.basis.proofs.ideal.Basis.{value-at, interpolant-fits, interpolant-agree}
+use Rattle.basis.proofs.elimination.Exponents.{fill-pad}
+use Rattle.basis.proofs.elimination.Pivots.{interpolant-minus}
+use Rattle.basis.specs.BasisOf as B
+
+pub map-map : {A B C : Type 0} (f : A → B) (g : B → C) (l : List A) → map g (map f l) ≡ map (λ a. g (f a)) l
+map-map f g [] = refl
+map-map {C = C} f g (a ∷ l) = ap (λ (z : List C). g (f a) ∷ z) (map-map f g l)
+
+map-same : {A B : Type 0} (f g : A → B) (l : List A) → ((a : A) → Among a l → f a ≡ g a) → map f l ≡ map g l
+map-same f g [] h = refl
+map-same {B = B} f g (a ∷ l) h = ap₂ (λ (x : B) (z : List B). x ∷ z) (h a (inl refl)) (map-same f g l (λ b mem. h b (inr mem)))
+
+-- zeros at the front dropped
+fill-front : (j k : ℕ) (l : List ℕ) → j ≤ k → take j (fill k l) ≡ fill j l
+unfolding fill
+fill-front zero k l h = refl
+fill-front (suc j) zero l h = absurd (omega arith)
+fill-front (suc j) (suc k) [] h = ap (λ (z : List ℕ). 0 ∷ z) (fill-front j k [] (le-of-suc-le-suc h))
+fill-front (suc j) (suc k) (a ∷ l) h = ap (λ (z : List ℕ). a ∷ z) (fill-front j k l (le-of-suc-le-suc h))
+
+drop-zeros : (n k : ℕ) (l : List ℕ) → n + 64 ≤ k → take 64 (drop n (fill k (replicate n 0 ++ l))) ≡ fill 64 l
+unfolding fill
+drop-zeros zero k l h = fill-front 64 k l (omega arith)
+drop-zeros (suc n) zero l h = absurd (omega arith)
+drop-zeros (suc n) (suc k) l h = drop-zeros n k l (omega arith)
+
+module _ (q m : ℕ) (order : Order) (few : m ≤ 8) (L : Laws (spaceOf q m order)) (S : List (Point (suc q) m)) (d : Distinct (spaceOf q m order) S) where
+  abbrev D : Space
+  D = spaceOf q m order
+
+  -- the values of a monomial at the points
+  abbrev valuesOf : Monomial m → List ℕ
+  valuesOf a = map (λ (Q : Point (suc q) m). valueAt (Q .0) (a .0) % suc q) S
+
+  interpolant-values : (a : Monomial m) → interpolantOf D S (valuesOf a) ≡ basisOf D S .interpolant (D .val a)
+  interpolant-values a = interpolant-agree D L S d (B.valueAt D S (valuesOf a)) (D .val a) at
+    where
+      at : (Q : Point (suc q) m) → Among Q S → Mod (suc q) (B.valueAt D S (valuesOf a) Q) (D .val a Q)
+      at Q mem = let t = index-of S Q Q mem in
+          of (ap (B.valueAt D S (valuesOf a)) (sym (t .2)) ∙ value-at D L S (valuesOf a) (t .0) Q d (t .1) (rw (length-map S (λ (R : Point (suc q) m). valueAt (R .0) (a .0) % suc q)) (t .1))
+          ∙ map-at (λ (R : Point (suc q) m). valueAt (R .0) (a .0) % suc q) S Q 0 (t .0) (t .1) ∙ ap (λ (R : Point (suc q) m). valueAt (R .0) (a .0) % suc q) (t .2))
+          then reduce (suc q) (valueAt (Q .0) (a .0))
+
+  -- minus the interpolant of its values is its row
+  row-from : (a : Monomial m) → map (λ c. (suc q - c) % suc q) (interpolantOf D S (valuesOf a)) ≡ rowOf D S a
+  row-from a = ap (map (λ c. (suc q - c) % suc q)) (interpolant-values a)
+      ∙ map-same (λ c. (suc q - c) % suc q) (λ c. (q * c) % suc q) (basisOf D S .interpolant (D .val a)) (λ c mem. let h = interpolant-fits D L S d (D .val a) .residues c mem in negative q c (omega arith) .same)
+      ∙ ap (map (λ c. (q * c) % suc q)) (interpolant-agree D L S d (D .val a) (λ Q. q * (q * D .val a Q)) (λ Q mem. ring (q * D .val a Q) (D .val a Q) (omega arith)))
+      ∙ interpolant-minus D L S d (λ Q. q * D .val a Q)
+
+  module _ (short : length S ≤ 64) (rows pivots : List ℕ)
+      (solves : (vs : List ℕ) → length vs ≡ length S → Below (suc q) vs
+      → eliminated (suc q) (length S) rows pivots (length S) (fill 128 vs) ≡ fill 128 (replicate (length S) 0 ++ map (λ c. (suc q - c) % suc q) (interpolantOf D S vs))) where
+    pub reduced-is : (a : Monomial m) → reducedRow (suc q) (length S) (fill 512 (inPlaces 8 (map (λ (Q : Point (suc q) m). Q .0) S))) rows pivots (fill 8 (a .0)) ≡ fill 64 (rowOf D S a)
+    unfolding reducedRow
+    reduced-is a =
+        let f : Point (suc q) m → List ℕ = λ Q. Q .0 in
+        let n = length-map S f in
+        let read : groups 8 (length S) (fill 512 (inPlaces 8 (map f S))) ≡ map (fill 8) (map f S) = ap (λ (k : ℕ). groups 8 k (fill 512 (inPlaces 8 (map f S)))) (sym n) ∙ table-groups 8 512 (map f S) (omega arith) in
+        let value : (Q : Point (suc q) m) → valueAt (fill 8 (Q .0)) (fill 8 (a .0)) ≡ valueAt (Q .0) (a .0) =
+        λ Q. ap₂ valueAt (fill-pad (Q .0) (rw (Q .1 .0) few)) (fill-pad (a .0) (rw (a .1) few)) ∙ value-pad (Q .0) (a .0) (Q .1 .0 ∙ sym (a .1)) in
+        let vs : map (λ point. valueAt point (fill 8 (a .0)) % suc q) (groups 8 (length S) (fill 512 (inPlaces 8 (map f S)))) ≡ valuesOf a =
+        ap (map (λ point. valueAt point (fill 8 (a .0)) % suc q)) read ∙ map-map (fill 8) (λ point. valueAt point (fill 8 (a .0)) % suc q) (map f S) ∙ map-map f (λ point. valueAt (fill 8 point) (fill 8 (a .0)) % suc q) S
+        ∙ map-same (λ (Q : Point (suc q) m). valueAt (fill 8 (Q .0)) (fill 8 (a .0)) % suc q) (λ Q. valueAt (Q .0) (a .0) % suc q) S (λ Q mem. ap (λ (z : ℕ). z % suc q) (value Q)) in
+        let long : length (valuesOf a) ≡ length S = length-map S _ in
+        ap (λ (z : List ℕ). take 64 (drop (length S) (eliminated (suc q) (length S) rows pivots (length S) z))) (ap (λ (z : List ℕ). over z (replicate 128 0)) vs ∙ over-zeros (valuesOf a) 128 (omega arith))
+        ∙ ap (λ (z : List ℕ). take 64 (drop (length S) z)) (solves (valuesOf a) long (residues a))
+        ∙ drop-zeros (length S) 128 (map (λ c. (suc q - c) % suc q) (interpolantOf D S (valuesOf a))) (omega arith) ∙ ap (fill 64) (row-from a)
+      where
+        residues : (a : Monomial m) → Below (suc q) (valuesOf a)
+        residues a i h =
+            let k : i < length S = rw (length-map S (λ (R : Point (suc q) m). valueAt (R .0) (a .0) % suc q)) at h in
+            go S i k
+          where
+            go : (T : List (Point (suc q) m)) (i : ℕ) → i < length T → getD (map (λ (Q : Point (suc q) m). valueAt (Q .0) (a .0) % suc q) T) i 0 < suc q
+            go [] i h = absurd (omega arith)
+            go (Q ∷ T) zero h = mod-lt (valueAt (Q .0) (a .0)) (suc-le-suc zero-le)
+            go (Q ∷ T) (suc i) h = go T i (le-of-suc-le-suc h)
