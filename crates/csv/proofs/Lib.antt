@@ -17,3 +17,7 @@ pub mod Gathering
 pub mod Appended
 pub mod Decimals
 pub mod Printed
+pub mod Repeating
+pub mod Refusing
+pub mod Concluding
+pub mod Whole

@@ -1,16 +1,16 @@
 -- What the readers of residues answer, in the terms of the definitions.
 use mathlib.Core.Path.{_≡_}
 use mathlib.Core.Bool.{Bool, cond}
-use mathlib.Core.List.{List, [], map}
+use mathlib.Core.List.{List, [], _∷_, map}
 use mathlib.Core.Option.{Option·getD}
-use Prim.Native.Nat.{ℕ, _≤_}
+use Prim.Native.Nat.{ℕ, zero, suc, _*_, _≤_}
 use lib.IntN.{ℤ, pos}
-use lib.ListN.{length, drop}
+use lib.ListN.{length, take, drop}
 use lib.Dec.{eqb}
 use Rattle.residue.specs.Level.{residueOf}
 use Rattle.basis.specs.Levels.{isResidue, residueOr0, inRange}
 use Rattle.csv.specs.Fields.{Field, field, broken, Part, part, faulty}
-use Rattle.csv.specs.Reading.{valueOf}
+use Rattle.csv.specs.Reading.{Entries, valueOf}
 use Rattle.csv.specs.Records.{entriesAt}
 use Rattle.csv.specs.declared.points.Placed.{Placed}
 use Rattle.csv.specs.declared.points.Filled.{Filled}
@@ -51,6 +51,18 @@ pub record FilledAs (p m : ℕ) (text : List ℕ) (e : Part (List ℤ)) (r : Fil
 unfoldable pub levelsAt : ℕ → List ℕ → List (List ℤ)
 levelsAt m l = map (λ e. Option·getD e []) (entriesAt m l)
 
+-- what a text says with these settings in its header and these entries behind it
+unfoldable pub saying : ℕ → ℕ → ℕ → List ℕ → Entries
+saying p m order l = record { header = record { variables = m; modulus = p; order = order }; entries = levelsAt m l }
+
 -- the first place found, or this one if it has a fault
 unfoldable pub firstPlace : ℕ → Bool → ℕ → ℕ
 firstPlace found inside place = cond (eqb found 0) (cond inside 0 place) found
+
+-- the jth row of a table of rows of 8, and the rows before the jth, the last first
+unfoldable pub rowAt : ℕ → List ℕ → List ℕ
+rowAt j t = take 8 (drop (8 * j) t)
+
+unfoldable pub earlier : ℕ → List ℕ → List (List ℕ)
+earlier zero t = []
+earlier (suc j) t = rowAt j t ∷ earlier j t

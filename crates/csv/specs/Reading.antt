@@ -1,6 +1,6 @@
 -- Reading a text: its refusals with the record at fault, in document 01's order of checking, and what an accepted text leaves.
 use mathlib.Core.Bool.{Bool, true, false, not, cond, _&&_, _||_}
-use mathlib.Core.List.{List, [], _∷_, map}
+use mathlib.Core.List.{List, [], _∷_, _++_, map}
 use mathlib.Core.Option.{Option, some, none, Option·getD}
 use Prim.Native.Nat.{ℕ, suc}
 use lib.IntN.{ℤ}
@@ -9,6 +9,7 @@ use lib.Dec.{eqb, leb, ltb}
 use Rattle.residue.specs.Modulus.{isModulus}
 use Rattle.basis.specs.Levels.{inRange, residues, isAmong}
 use Rattle.basis.specs.Layout.{fill, inPlaces, over}
+use Rattle.csv.specs.declared.reading.Refusal.{Refusal}
 use Rattle.csv.specs.declared.reading.Read.{Read}
 use Rattle.csv.specs.Fields.{recordsOf}
 use Rattle.csv.specs.Forms.{Header, headerOf, entryOf}
@@ -83,18 +84,32 @@ firstRepeat seen (P ∷ S) = cond (isAmong P seen) 1 (further (firstRepeat (P �
 abbrev pub Case : Type 0
 Case = Bool × ℕ × ℕ
 
--- "In text, 3 and 4 give record 1, and 6 gives record 0"; record 66 is the 65th behind the header
-unfoldable pub casesOf : Entries → ℕ → ℕ → List Case
-casesOf e states values =
-    (not (isModulus (e .header .modulus)), 3, 1)
-    ∷ (not (leb 1 (e .header .variables) && leb (e .header .variables) 8), 4, 1)
+-- what the settings, the number of entries and the lent lengths decide: "In text, 3 and 4 give record 1, and 6 gives record 0"; record 66 is the 65th behind
+-- the header
+unfoldable pub settingsCases : ℕ → ℕ → ℕ → ℕ → ℕ → List Case
+settingsCases p m n states values =
+    (not (isModulus p), 3, 1)
+    ∷ (not (leb 1 m && leb m 8), 4, 1)
     ∷ (ltb states 512 || ltb values 64, 6, 0)
-    ∷ (ltb 64 (length (e .entries)), 8, 66)
-    ∷ (not (eqb (firstOutside e) 0), 9, suc (firstOutside e))
+    ∷ (ltb 64 n, 8, 66) ∷ []
+
+-- what the entries decide, the header being record 1
+unfoldable pub entriesCases : Entries → List Case
+entriesCases e =
+    (not (eqb (firstOutside e) 0), 9, suc (firstOutside e))
     ∷ (not (eqb (firstRepeat [] (pointsOf e)) 0), 11, suc (firstRepeat [] (pointsOf e))) ∷ []
 
+-- all of them, in the order of checking
 unfoldable pub readCases : List ℕ → ℕ → Entries → ℕ → ℕ → List Case
-readCases text fault e states values = (ltb 16384 (length text), 1, 0) ∷ (not (eqb fault 0), 2, fault) ∷ casesOf e states values
+readCases text fault e states values =
+    (ltb 16384 (length text), 1, 0)
+    ∷ (not (eqb fault 0), 2, fault)
+    ∷ (settingsCases (e .header .modulus) (e .header .variables) (length (e .entries)) states values ++ entriesCases e)
+
+-- the first case that holds; 0 where none does
+unfoldable pub firstCase : List Case → Refusal
+firstCase [] = record { refusal = 0; at = 0 }
+firstCase (c ∷ l) = cond (c .0) (record { refusal = c .1; at = c .2 }) (firstCase l)
 
 -- the answer, and the lent buffers at exit
 pub record Outcome : Type 0 where
@@ -113,16 +128,14 @@ accepted e states values =
     (over (fill 64 (valuesOf e)) values)
 
 -- A refusal comes with its record and changes nothing.
-unfoldable pub refused : ℕ → ℕ → List ℕ → List ℕ → Outcome
-refused k at states values = ended (record { refusal = k; at = at; modulus = 0; variables = 0; order = 0; n = 0 }) states values
+unfoldable pub refused : Refusal → List ℕ → List ℕ → Outcome
+refused r states values = ended (record { refusal = r .refusal; at = r .at; modulus = 0; variables = 0; order = 0; n = 0 }) states values
 
--- the first case that holds decides
-unfoldable pub byCases : List Case → Outcome → List ℕ → List ℕ → Outcome
-byCases [] done states values = done
-byCases (c ∷ l) done states values = cond (c .0) (refused (c .1) (c .2) states values) (byCases l done states values)
+unfoldable pub decided : Refusal → Outcome → List ℕ → List ℕ → Outcome
+decided r done states values = cond (eqb (r .refusal) 0) done (refused r states values)
 
 unfoldable pub readOutcome : List ℕ → List ℕ → List ℕ → Outcome
 readOutcome text states values =
     let t = recordsOf text in
     let e = entriesOf (Option·getD (headerIn t) (record { variables = 0; modulus = 0; order = 0 })) t in
-    byCases (readCases text (formFault (headerIn t) t) e (length states) (length values)) (accepted e states values) states values
+    decided (firstCase (readCases text (formFault (headerIn t) t) e (length states) (length values))) (accepted e states values) states values

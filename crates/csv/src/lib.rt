@@ -5,3 +5,4 @@ pub mod points;
 pub mod printing;
 pub mod reading;
 pub mod records;
+pub mod tables;

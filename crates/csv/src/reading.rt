@@ -1,4 +1,23 @@
 // The text reader.
+ghost use mathlib.Core.Path.{_≡_};
+ghost use mathlib.Core.List.{_++_};
+ghost use Prim.Native.Nat.{_≤_};
+ghost use lib.ListN.{length, drop};
+ghost use Rattle.csv.specs.Reading.{settingsCases, entriesCases, firstCase, ended, accepted, decided, readOutcome};
+ghost use Rattle.csv.specs.Records.{entriesAt, counted};
+ghost use Rattle.csv.specs.Points.{saying};
+ghost use Rattle.csv.specs.declared.records.Entries.the-variants.{Count};
+use crate::points;
+use crate::records;
+use crate::records::Entries;
+use crate::records::HeaderAt;
+use crate::tables;
+
+// The number of a refusal, or 0, with the record at fault.
+pub struct Refusal {
+    pub refusal: u8,
+    pub at: u16,
+}
 
 // The refusal with the record at fault, the header being 1; or 0 with the settings and the number of points.
 pub struct Read {
@@ -8,4 +27,121 @@ pub struct Read {
     pub variables: u8,
     pub order: u8,
     pub n: u8,
+}
+
+// What the settings, the number of entries and the lent lengths decide.
+fn settings_refusal(
+    modulus: u16,
+    variables: usize,
+    n: usize,
+    states: usize,
+    values: usize,
+) -> Refusal
+    ensures { λ r. ⌜ r ≡ firstCase (settingsCases modulus variables n states values) ⌝ }
+{
+    if !residue::level::is_modulus(modulus as u64) {
+        return Refusal { refusal: 3, at: 1 };
+    }
+    if variables < 1 {
+        return Refusal { refusal: 4, at: 1 };
+    }
+    if 8 < variables {
+        return Refusal { refusal: 4, at: 1 };
+    }
+    if states < 512 {
+        return Refusal { refusal: 6, at: 0 };
+    }
+    if values < 64 {
+        return Refusal { refusal: 6, at: 0 };
+    }
+    if 64 < n {
+        return Refusal { refusal: 8, at: 66 };
+    }
+    Refusal { refusal: 0, at: 0 }
+}
+
+// A refusal comes with its record alone.
+fn refused(refusal: u8, at: u16) -> Read
+    ensures { λ r. ⌜ r ≡ record { refusal = refusal; at = at; modulus = 0; variables = 0; order = 0; n = 0 } ⌝ }
+{
+    Read {
+        refusal,
+        at,
+        modulus: 0,
+        variables: 0,
+        order: 0,
+        n: 0,
+    }
+}
+
+// The n entries from `from` on under these settings. Every refusal is decided before a lent byte is written.
+fn read_entries(
+    text: &[u8],
+    from: usize,
+    modulus: u16,
+    variables: usize,
+    order: u8,
+    n: usize,
+    states: &mut [u8],
+    values: &mut [u8],
+) -> Read
+    requires { ⌜ from ≤ length (now text) ⌝ }
+    requires { ⌜ counted 0 (entriesAt variables (drop from (now text))) ≡ Count n ⌝ }
+    ensures { λ r. ⌜ ended r (now (states .exit)) (now (values .exit)) ≡ decided (firstCase (settingsCases modulus variables n (length (now (states .entry))) (length (now (values .entry))) ++ entriesCases (saying modulus variables order (drop from (now (text .entry)))))) (accepted (saying modulus variables order (drop from (now (text .entry)))) (now (states .entry)) (now (values .entry))) (now (states .entry)) (now (values .entry)) ⌝ }
+{
+    let first = settings_refusal(modulus, variables, n, states.len(), values.len());
+    let refusal = first.refusal;
+    if refusal != 0 {
+        return refused(refusal, first.at);
+    }
+    let mut rows = [0u8; 512];
+    let mut residues = [0u8; 64];
+    let outside = points::fill_entries(
+        text,
+        from,
+        modulus as u8,
+        variables,
+        n,
+        &mut rows,
+        &mut residues,
+    );
+    if outside != 0 {
+        return refused(9, outside as u16 + 1);
+    }
+    let repeated = tables::first_repeat(&rows, n);
+    if repeated != 0 {
+        return refused(11, repeated as u16 + 1);
+    }
+    tables::copy_over(&rows, states);
+    tables::copy_over(&residues, values);
+    Read {
+        refusal: 0,
+        at: 0,
+        modulus,
+        variables: variables as u8,
+        order,
+        n: n as u8,
+    }
+}
+
+// The settings and the number of points of a text, the points and values into the lent buffers.
+pub fn read_text(text: &[u8], states: &mut [u8], values: &mut [u8]) -> Read
+    ensures { λ r. ⌜ ended r (now (states .exit)) (now (values .exit)) ≡ readOutcome (now (text .entry)) (now (states .entry)) (now (values .entry)) ⌝ }
+{
+    if 16384 < text.len() {
+        return refused(1, 0);
+    }
+    let HeaderAt::Header {
+        modulus,
+        variables,
+        order,
+        next,
+    } = records::read_header(text)
+    else {
+        return refused(2, 1);
+    };
+    match records::check_entries(text, next, variables) {
+        Entries::Refused { refusal, at } => refused(refusal, at as u16),
+        Entries::Count(n) => read_entries(text, next, modulus, variables, order, n, states, values),
+    }
 }

@@ -1,0 +1,225 @@
+-- `reading::read_entries` meets its contract: each refusal is the first case that holds, and an accepted text leaves the filled tables.
+use borrow.Author.Needs.{needs}
+use mathlib.Core.Path.{_≡_, sym, ap, _∙_}
+use mathlib.Core.List.{List, [], _++_, map}
+use Prim.Native.Nat.{ℕ, _≤_}
+use native.Mathlib.Omega.{arith}
+use lib.IntN.{ℤ}
+use lib.ListN.{length, drop, length-map}
+use Rattle.residue.proofs.Moduli.{modulus-range}
+use Rattle.basis.specs.Levels.{groups}
+use Rattle.basis.specs.Layout.{inPlaces, over}
+use Rattle.basis.proofs.Layouts.{length-fill, fill-zeros}
+use Rattle.csv.specs.Reading.{Case, Entries, pointOf, valueOf, isOutside, pointsOf, firstOutside, firstRepeat, entriesCases, settingsCases, firstCase, ended, refused}
+use Rattle.csv.specs.Points.{levelsAt, saying}
+use Rattle.csv.specs.declared.reading.Read.{Read}
+use Rattle.csv.proofs.Refusing.{Room, room, first-of-both, refuse-9, refuse-11, entries-pass, settings-over, when-refused, when-accepted, fault-le, repeat-le}
+use Rattle.csv.proofs.Concluding.{entries-count, points-repeat, assembled}
+use Rattle.csv.proofs.reading.read_entries.Statement.{statement}
+use Rattle.csv.proofs.reading.read_entries.Tie as tie
+
+abbrev text : tie.Start → List ℕ
+text s = drop (s .args .from) (s .args .text .now)
+
+abbrev says : tie.Start → Entries
+says s = saying (s .args .modulus) (s .args .variables) (s .args .order) (text s)
+
+space : (c : tie.Else1) → Room (c .before .before .before .before .before .args .modulus) (c .before .before .before .before .before .args .variables) (c .before .before .before .before .before .args .n) (length (c .before .before .before .before .before .args .states .now)) (length (c .before .before .before .before .before .args .values .now))
+space c = room _ _ _ _ _ (c .before .settings-refusal .result) (c .before .settings-refusal .ensures) (c .if1 .left)
+
+past : (c : tie.Else1) (l : List Case) → firstCase (settingsCases (c .before .before .before .before .before .args .modulus) (c .before .before .before .before .before .args .variables) (c .before .before .before .before .before .args .n) (length (c .before .before .before .before .before .args .states .now)) (length (c .before .before .before .before .before .args .values .now)) ++ l) ≡ firstCase l
+past c l =
+    let h = space c in
+    settings-over _ _ _ _ _ (h .modulus) (h .some) (h .few) (h .states) (h .values) (h .count) l
+
+-- the entries are filled in
+abbrev F : Type 0
+F = tie.After-fill-entries
+
+abbrev entries : tie.Start → List (List ℤ)
+entries s = levelsAt (s .args .variables) (text s)
+
+count : (s : tie.Start) → length (entries s) ≡ s .args .n
+count s = entries-count (s .args .modulus) (s .args .variables) (s .args .n) (text s) (s .pre .1)
+
+outside-is : (c : F) → c .fill-entries .result ≡ firstOutside (says (c .before .before .before .before .before .before .before .before))
+unfolding firstOutside saying
+outside-is c = c .fill-entries .ensures .0
+
+outside-small : (c : F) → c .fill-entries .result ≤ 64
+outside-small c =
+    let h = fault-le (isOutside (c .before .before .before .before .before .before .before .before .args .modulus)) (entries (c .before .before .before .before .before .before .before .before)) in
+    let e = count (c .before .before .before .before .before .before .before .before) in
+    let k = space (c .before .before .before) .count in
+    omega (arith, c .fill-entries .ensures .0)
+
+rows-length : (c : F) → length (c .fill-entries .last .1 .1 .1 .1 .1 .0) ≡ 512
+rows-length c = ap length (c .fill-entries .ensures .1 .0) ∙ length-fill 512 (inPlaces 8 (map (pointOf (c .before .before .before .before .before .before .before .before .args .modulus) (c .before .before .before .before .before .before .before .before .args .variables)) (entries (c .before .before .before .before .before .before .before .before))))
+
+residues-length : (c : F) → length (c .fill-entries .last .1 .1 .1 .1 .1 .1 .0) ≡ 64
+residues-length c = ap length (c .fill-entries .ensures .1 .1) ∙ length-fill 64 (map (valueOf (c .before .before .before .before .before .before .before .before .args .modulus) (c .before .before .before .before .before .before .before .before .args .variables)) (entries (c .before .before .before .before .before .before .before .before)))
+
+-- repeats are looked for
+repeated-is : (c : tie.After-first-repeat) → c .first-repeat .result ≡ firstRepeat [] (pointsOf (says (c .before .before .before .before .before .before .before .before .before .before .before .before .before)))
+unfolding pointsOf saying
+repeated-is c =
+    let s = c .before .before .before .before .before .before .before .before .before .before .before .before .before in
+    let h = space (c .before .before .before .before .before .before .before .before) in
+    c .first-repeat .ensures ∙ ap (λ (t : List ℕ). firstRepeat [] (groups 8 (s .args .n) t)) (c .before .before .before .before .before .fill-entries .ensures .1 .0)
+    ∙ points-repeat (s .args .modulus) (s .args .variables) (s .args .n) (text s) (s .pre .1) (h .few) (h .count)
+
+repeated-small : (c : tie.After-first-repeat) → c .first-repeat .result ≤ 64
+unfolding pointsOf saying
+repeated-small c =
+    let s = c .before .before .before .before .before .before .before .before .before .before .before .before .before in
+    let f = pointOf (s .args .modulus) (s .args .variables) in
+    let h = repeat-le [] (map f (entries s)) in
+    let e = length-map (entries s) f in
+    let n = count s in
+    let k = space (c .before .before .before .before .before .before .before .before) .count in
+    omega (arith, repeated-is c)
+
+settings-refusal-requires : tie.Need-settings-refusal-requires
+settings-refusal-requires c κs = search needs
+
+refused-requires : tie.Need-refused-requires
+refused-requires c κs = search needs
+
+returns : tie.Need-returns
+unfolding refused
+returns c =
+    let s = c .before .before .before .before .before .before in
+    let r = c .before .before .settings-refusal .result in
+    ap (λ (x : Read). ended x (s .args .states .now) (s .args .values .now)) (c .refused .ensures)
+    ∙ when-refused _ _ _ _ r (first-of-both _ (entriesCases (says s)) r (c .before .if1 .taken) (c .before .before .settings-refusal .ensures)) (c .before .if1 .taken)
+
+cast-fill-entries : tie.Need-cast-fill-entries
+cast-fill-entries c = let h = modulus-range _ (space c .modulus) in omega arith
+
+slice-aggregate-fill-entries : tie.Need-slice-aggregate-fill-entries
+slice-aggregate-fill-entries c = search needs
+
+slice-aggregate-fill-entries-2 : tie.Need-slice-aggregate-fill-entries-2
+slice-aggregate-fill-entries-2 c = search needs
+
+fill-entries-requires : tie.Need-fill-entries-requires
+fill-entries-requires c κs =
+    let h = space (c .before .before) in
+    ((c .before .before .before .before .before .before .before .pre .0, h .few, h .count), (c .before .before .before .before .before .before .before .pre .1, (sym (fill-zeros 512), sym (fill-zeros 64))))
+
+cast-refused : tie.Need-cast-refused
+cast-refused c = let h = outside-small (c .before .before .before) in omega arith
+
+add-refused : tie.Need-add-refused
+add-refused c = let h = outside-small (c .before .before .before) in omega arith
+
+refused-requires-2 : tie.Need-refused-requires-2
+refused-requires-2 c κs = tt
+
+returns-2 : tie.Need-returns-2
+unfolding refused
+returns-2 c =
+    let s = c .before .before .before .before .before .before .before .before .before .before .before .before in
+    ap (λ (x : Read). ended x (s .args .states .now) (s .args .values .now)) (c .refused2 .ensures)
+    ∙ when-refused _ _ _ _ _ (refuse-9 (says s) (c .before .before .before .before .fill-entries .result) (outside-is (c .before .before .before .before)) (c .before .if2 .taken) ∙ sym (past (c .before .before .before .before .before .before .before) (entriesCases (says s))))
+    (λ e. omega arith)
+
+slice-aggregate-first-repeat : tie.Need-slice-aggregate-first-repeat
+slice-aggregate-first-repeat c = search needs
+
+first-repeat-requires : tie.Need-first-repeat-requires
+first-repeat-requires c κs =
+    let h = space (c .before .before .before .before .before .before .before) .count in
+    let e = rows-length (c .before .before .before .before) in
+    (h, omega arith)
+
+cast-refused-2 : tie.Need-cast-refused-2
+cast-refused-2 c = let h = repeated-small (c .before) in omega arith
+
+add-refused-2 : tie.Need-add-refused-2
+add-refused-2 c = let h = repeated-small (c .before) in omega arith
+
+refused-requires-3 : tie.Need-refused-requires-3
+refused-requires-3 c κs = tt
+
+returns-3 : tie.Need-returns-3
+unfolding refused
+returns-3 c =
+    let s = c .before .before .before .before .before .before .before .before .before .before .before .before .before .before .before in
+    ap (λ (x : Read). ended x (s .args .states .now) (s .args .values .now)) (c .refused3 .ensures)
+    ∙ when-refused _ _ _ _ _
+    (refuse-11 (says s) (sym (outside-is (c .before .before .before .before .before .before .before)) ∙ c .before .before .before .before .if2 .left) (c .before .before .first-repeat .result) (repeated-is (c .before .before)) (c .before .if3 .taken)
+    ∙ sym (past (c .before .before .before .before .before .before .before .before .before .before) (entriesCases (says s))))
+    (λ e. omega arith)
+
+slice-aggregate-copy-over : tie.Need-slice-aggregate-copy-over
+slice-aggregate-copy-over c = search needs
+
+copy-over-requires : tie.Need-copy-over-requires
+copy-over-requires c κs =
+    let h = space (c .before .before .before .before .before .before .before .before .before .before .before) .states in
+    let e = rows-length (c .before .before .before .before .before .before .before .before) in
+    omega arith
+
+slice-aggregate-copy-over-2 : tie.Need-slice-aggregate-copy-over-2
+slice-aggregate-copy-over-2 c = search needs
+
+copy-over-requires-2 : tie.Need-copy-over-requires-2
+copy-over-requires-2 c κs =
+    let h = space (c .before .before .before .before .before .before .before .before .before .before .before .before .before .before .before .before) .values in
+    let e = residues-length (c .before .before .before .before .before .before .before .before .before .before .before .before .before) in
+    omega arith
+
+cast-t18 : tie.Need-cast-t18
+cast-t18 c = let h = space (c .before .before .before .before .before .before .before .before .before .before .before .before .before .before .before .before .before .before .before) .few in omega arith
+
+cast-t38 : tie.Need-cast-t38
+cast-t38 c = let h = space (c .before .before .before .before .before .before .before .before .before .before .before .before .before .before .before .before .before .before .before) .count in omega arith
+
+same-length : tie.Need-same-length
+same-length c = search needs
+
+same-length-2 : tie.Need-same-length-2
+same-length-2 c = search needs
+
+returns-4 : tie.Need-returns-4
+returns-4 c =
+    let s = c .before .before .before .before .before .before .before .before .before .before .before .before .before .before .before .before .before .before .before .before .before .before .before .before in
+    let f = c .before .before .before .before .before .before .before .before .before .before .before .before .before .before .before .before .fill-entries .ensures .1 in
+    assembled (s .args .modulus) (s .args .variables) (s .args .order) (s .args .n) (text s) (s .args .states .now) (s .args .values .now) _ _ (count s)
+    (c .before .before .before .before .before .before .before .copy-over .ensures ∙ ap (λ (t : List ℕ). over t (s .args .states .now)) (f .0))
+    (c .before .before .copy-over2 .ensures ∙ ap (λ (t : List ℕ). over t (s .args .values .now)) (f .1))
+    ∙ when-accepted _ _ _ _
+    (entries-pass (says s) (sym (outside-is (c .before .before .before .before .before .before .before .before .before .before .before .before .before .before .before .before)) ∙ c .before .before .before .before .before .before .before .before .before .before .before .before .before .if2 .left) (sym (repeated-is (c .before .before .before .before .before .before .before .before .before .before .before)) ∙ c .before .before .before .before .before .before .before .before .before .before .if3 .left)
+    ∙ sym (past (c .before .before .before .before .before .before .before .before .before .before .before .before .before .before .before .before .before .before .before) (entriesCases (says s))))
+
+pub read-entries-spec : {M : Type 1} → statement M
+read-entries-spec =
+    tie.close
+    (tie.spec
+    settings-refusal-requires
+    refused-requires
+    returns
+    cast-fill-entries
+    slice-aggregate-fill-entries
+    slice-aggregate-fill-entries-2
+    fill-entries-requires
+    cast-refused
+    add-refused
+    refused-requires-2
+    returns-2
+    slice-aggregate-first-repeat
+    first-repeat-requires
+    cast-refused-2
+    add-refused-2
+    refused-requires-3
+    returns-3
+    slice-aggregate-copy-over
+    copy-over-requires
+    slice-aggregate-copy-over-2
+    copy-over-requires-2
+    cast-t18
+    cast-t38
+    same-length
+    same-length-2
+    returns-4)

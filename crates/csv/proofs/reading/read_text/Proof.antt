@@ -1,0 +1,134 @@
+-- `reading::read_text` meets its contract: the length, the header, the entries, and what they decide.
+use borrow.Author.Needs.{needs}
+use mathlib.Core.Path.{_≡_, sym, ap, _∙_, subst}
+use mathlib.Core.List.{List}
+use Prim.Native.Nat.{ℕ, _≤_}
+use native.Mathlib.Omega.{arith}
+use lib.ListN.{length, drop, length-drop}
+use Rattle.csv.specs.Fields.{part}
+use Rattle.csv.specs.Forms.{Header}
+use Rattle.csv.specs.Reading.{ended, refused}
+use Rattle.csv.specs.Records.{headerPart, headerSaid, HeaderWithin}
+use Rattle.csv.specs.declared.reading.Read.{Read}
+use Rattle.csv.proofs.Whole.{too-long, header-broken, entry-broken, form-right, record-small}
+use Rattle.csv.proofs.reading.read_text.Statement.{statement}
+use Rattle.csv.proofs.reading.read_text.Tie as tie
+
+abbrev text : tie.Start → List ℕ
+text s = s .args .text .now
+
+-- the header that was read
+abbrev K : Type 0
+K = tie.After-known-told
+
+abbrev next : K → ℕ
+next c = c .before .modulus .given .0 .1 .1 .1 .0
+
+abbrev header : K → Header
+header c = record { variables = c .before .modulus .given .0 .1 .0; modulus = c .before .modulus .given .0 .0; order = c .before .modulus .given .0 .1 .1 .0 }
+
+said : (c : K) → headerPart (text (c .before .before .before .before .before .before .before .before)) ≡ part (header c) (drop (next c) (text (c .before .before .before .before .before .before .before .before)))
+unfolding headerSaid
+said c = sym (ap (headerSaid (text (c .before .before .before .before .before .before .before .before))) (sym (c .before .modulus .given .1)) ∙ c .before .before .before .read-header .ensures .0)
+
+within : (c : K) → next c ≤ length (text (c .before .before .before .before .before .before .before .before))
+within c = subst (HeaderWithin (length (text (c .before .before .before .before .before .before .before .before)))) (c .before .modulus .given .1) (c .before .before .before .read-header .ensures .1)
+
+refused-requires : tie.Need-refused-requires
+refused-requires c κs = search needs
+
+returns : tie.Need-returns
+unfolding refused
+returns c =
+    let s = c .before .before .before .before .before in
+    ap (λ (x : Read). ended x (s .args .states .now) (s .args .values .now)) (c .refused .ensures) ∙ too-long (text s) (s .args .states .now) (s .args .values .now) (c .before .if1 .taken)
+
+read-header-requires : tie.Need-read-header-requires
+read-header-requires c κs = search needs
+
+enum-known-modulus : tie.Need-enum-known-modulus
+enum-known-modulus c = search needs
+
+enum-told : tie.Need-enum-told
+enum-told c = search needs
+
+refused-requires-2 : tie.Need-refused-requires-2
+refused-requires-2 c κs = search needs
+
+returns-2 : tie.Need-returns-2
+unfolding refused headerSaid
+returns-2 c =
+    let s = c .before .before .before .before .before .before .before .before in
+    ap (λ (x : Read). ended x (s .args .states .now) (s .args .values .now)) (c .refused2 .ensures)
+    ∙ header-broken (text s) (s .args .states .now) (s .args .values .now) (c .before .before .before .before .if1 .left)
+    (sym (ap (headerSaid (text s)) (sym (c .before .enum-told .given .1)) ∙ c .before .before .before .read-header .ensures .0))
+
+check-entries-requires : tie.Need-check-entries-requires
+check-entries-requires c κs = (within c, c .before .before .before .before .if1 .left)
+
+enum-known-refusal : tie.Need-enum-known-refusal
+enum-known-refusal c = search needs
+
+cast-refused : tie.Need-cast-refused
+cast-refused c =
+    let d = c .before .before .before .before in
+    let s = d .before .before .before .before .before .before .before .before in
+    let l = length-drop (next d) (text s) in
+    let b = d .before .before .before .before .if1 .left in
+    let h = record-small (header d .variables) (c .before .refusal .given .0 .0) (c .before .refusal .given .0 .1 .0) (drop (next d) (text s)) (omega arith)
+    (sym (c .before .refusal .given .1) ∙ c .before .before .before .check-entries .ensures) in
+    omega arith
+
+refused-requires-3 : tie.Need-refused-requires-3
+refused-requires-3 c κs = search needs
+
+enum-known-n : tie.Need-enum-known-n
+enum-known-n c = search needs
+
+read-entries-requires : tie.Need-read-entries-requires
+read-entries-requires c κs = (within (c .before .before .before .before .before .before), sym (c .before .before .before .before .before .check-entries .ensures) ∙ c .before .before .before .n .given .1)
+
+returns-3 : tie.Need-returns-3
+unfolding refused
+returns-3 c =
+    let d = c .before .before .before .before .before in
+    let s = d .before .before .before .before .before .before .before .before in
+    ap (λ (x : Read). ended x (s .args .states .now) (s .args .values .now)) (c .refused3 .ensures)
+    ∙ entry-broken (text s) (s .args .states .now) (s .args .values .now) (d .before .before .before .before .if1 .left) (header d) (drop (next d) (text s)) (said d) _ _
+    (sym (c .before .before .refusal .given .1) ∙ c .before .before .before .before .check-entries .ensures)
+
+same-length : tie.Need-same-length
+same-length c = search needs
+
+same-length-2 : tie.Need-same-length-2
+same-length-2 c = search needs
+
+returns-4 : tie.Need-returns-4
+returns-4 c =
+    let d = c .before .before .before .before .before .before .before .before .before .before .before in
+    let s = d .before .before .before .before .before .before .before .before in
+    c .before .before .before .before .read-entries .ensures
+    ∙ form-right (text s) (s .args .states .now) (s .args .values .now) (d .before .before .before .before .if1 .left) (header d) (drop (next d) (text s)) (said d) _
+    (sym (c .before .before .before .before .before .before .before .before .n .given .1) ∙ c .before .before .before .before .before .before .before .before .before .before .check-entries .ensures)
+
+pub read-text-spec : {M : Type 1} → statement M
+read-text-spec =
+    tie.close
+    (tie.spec
+    refused-requires
+    returns
+    read-header-requires
+    enum-known-modulus
+    enum-told
+    refused-requires-2
+    returns-2
+    check-entries-requires
+    enum-known-refusal
+    cast-refused
+    refused-requires-3
+    enum-known-n
+    read-entries-requires
+    returns-3
+    same-length
+    same-length-2
+    returns-4)
