@@ -14,6 +14,5 @@ pub mod ideal
 pub mod elimination
 pub mod adding
 pub mod agreement
-pub mod calls
 pub mod Instance
 pub mod Examples

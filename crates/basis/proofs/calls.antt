@@ -2,3 +2,4 @@
 pub mod Given
 pub mod Refusing
 pub mod Answers
+pub mod Outcomes

@@ -3,10 +3,10 @@ use mathlib.Core.Path.{_≡_}
 use mathlib.Core.Bool.{Bool, true, false, not, cond, _&&_, _||_}
 use mathlib.Core.List.{List, [], _∷_, _++_, map}
 use mathlib.Core.Logic.{_↔_, _≢_}
-use Prim.Native.Nat.{ℕ, zero, suc, _*_, _<_, _≤_}
+use Prim.Native.Nat.{ℕ, suc, _*_, _<_}
 use lib.IntN.{ℤ}
-use lib.ListN.{length, getD, drop, take, replicate}
-use lib.Dec.{T, eqb, leb, ltb}
+use lib.ListN.{length, getD, drop}
+use lib.Dec.{T, eqb, ltb}
 use Rattle.residue.specs.Lists.{Among}
 use Rattle.basis.specs.declared.settings.Settings.{Settings}
 use Rattle.basis.specs.declared.settings.Wired.{Wired}
@@ -26,6 +26,9 @@ checkRefusal s n r t = firstOf (settingsCases s ++ ((tooShort t, 6) ∷ (ltb 64 
 pub record Filled : Type 0 where
   pub refusal : ℕ
   pub buffer : List ℕ
+
+abbrev pub answering : ℕ → List ℕ → Filled
+answering k buffer = record { refusal = k; buffer = buffer }
 
 unfoldable pub filling : ℕ → List ℕ → List ℕ → Filled
 filling k new buffer = record { refusal = k; buffer = cond (eqb k 0) (over new buffer) buffer }

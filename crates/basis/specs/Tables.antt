@@ -1,6 +1,6 @@
 -- The four lent tables of a list of points under settings: document 01, 'The sheet'.
 use mathlib.Core.Bool.{Bool, _&&_, _||_}
-use mathlib.Core.List.{List, [], _∷_, _++_, map}
+use mathlib.Core.List.{List, map}
 use Prim.Native.Nat.{ℕ, suc, _-_}
 use lib.ListN.{length}
 use lib.Dec.{ltb, eqb}
@@ -24,6 +24,9 @@ pub record Tables : Type 0 where
   pub standard : List ℕ
   pub leads : List ℕ
   pub coefficients : List ℕ
+
+abbrev pub fourTables : List ℕ → List ℕ → List ℕ → List ℕ → Tables
+fourTables a b c d = record { states = a; standard = b; leads = c; coefficients = d }
 
 -- The row count r.
 unfoldable pub rowCount : Settings → List (List ℕ) → ℕ

@@ -1,6 +1,7 @@
 // The reduced Gröbner basis, with its standard monomials, of the ideal of all polynomials that vanish at a list of points.
 pub mod add;
 pub mod bytes;
+pub mod calls;
 pub mod candidate;
 pub mod correct;
 pub mod draw;

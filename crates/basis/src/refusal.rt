@@ -2,10 +2,10 @@
 use crate::settings::Settings;
 use crate::settings::settings_refusal;
 ghost use mathlib.Core.Path.{_≡_};
-ghost use mathlib.Core.Bool.{_||_};
+ghost use mathlib.Core.Bool.{not, false, _||_};
 ghost use mathlib.Core.List.{[], _∷_, _++_};
-ghost use Prim.Native.Nat.{_/_, _%_};
-ghost use lib.Dec.{ltb};
+ghost use Prim.Native.Nat.{_*_, _/_, _%_};
+ghost use lib.Dec.{eqb, ltb};
 ghost use Rattle.basis.specs.Refusal.{firstOf};
 ghost use Rattle.basis.specs.Settings.{settingsCases};
 
@@ -62,4 +62,79 @@ pub fn rest(k: usize, m: u64) -> usize
         return k;
     }
     k % m as usize
+}
+
+// Drawing up from this many levels.
+pub fn draw_sizes(
+    settings: Settings,
+    states: usize,
+    standard: usize,
+    leads: usize,
+    coefficients: usize,
+    levels: usize,
+) -> u8
+    ensures { λ k. ⌜ k ≡ firstOf (settingsCases settings ++ ((ltb states 512 || ltb standard 512 || ltb leads 3592 || ltb coefficients 28736, 6) ∷ (not (eqb (levels % settings .variables) 0), 7) ∷ (ltb 64 (levels / settings .variables), 8) ∷ [])) ⌝ }
+{
+    let m = settings.variables;
+    let short = too_short(states, standard, leads, coefficients);
+    let left = rest(levels, m);
+    let points = quotient(levels, m);
+    by_sizes(settings, short, left != 0, 64 < points)
+}
+
+// Checking the tables of n points.
+pub fn check_sizes(
+    settings: Settings,
+    states: usize,
+    standard: usize,
+    leads: usize,
+    coefficients: usize,
+    n: u64,
+) -> u8
+    ensures { λ k. ⌜ k ≡ firstOf (settingsCases settings ++ ((ltb states 512 || ltb standard 512 || ltb leads 3592 || ltb coefficients 28736, 6) ∷ (false, 7) ∷ (ltb 64 n, 8) ∷ [])) ⌝ }
+{
+    let short = too_short(states, standard, leads, coefficients);
+    by_sizes(settings, short, false, 64 < n)
+}
+
+// An answer of the given size, from this many values at n points.
+pub fn values_sizes(
+    settings: Settings,
+    states: usize,
+    standard: usize,
+    leads: usize,
+    coefficients: usize,
+    buffer: usize,
+    size: usize,
+    values: usize,
+    n: u64,
+) -> u8
+    ensures { λ k. ⌜ k ≡ firstOf (settingsCases settings ++ ((ltb states 512 || ltb standard 512 || ltb leads 3592 || ltb coefficients 28736 || ltb buffer size, 6) ∷ (not (eqb values n), 7) ∷ (ltb 64 n, 8) ∷ [])) ⌝ }
+{
+    let short = too_short(states, standard, leads, coefficients);
+    by_sizes(settings, short || buffer < size, values as u64 != n, 64 < n)
+}
+
+// The remainder of a polynomial of so many terms and exponents.
+pub fn remainder_sizes(
+    settings: Settings,
+    states: usize,
+    standard: usize,
+    leads: usize,
+    coefficients: usize,
+    buffer: usize,
+    terms: usize,
+    exponents: usize,
+    n: u64,
+) -> u8
+    ensures { λ k. ⌜ k ≡ firstOf (settingsCases settings ++ ((ltb states 512 || ltb standard 512 || ltb leads 3592 || ltb coefficients 28736 || ltb buffer 64, 6) ∷ (not (eqb exponents (8 * terms)), 7) ∷ (ltb 64 n || ltb 256 terms, 8) ∷ [])) ⌝ }
+{
+    let short = too_short(states, standard, leads, coefficients);
+    let whole = exponents / 8 == terms && exponents % 8 == 0;
+    by_sizes(
+        settings,
+        short || buffer < 64,
+        !whole,
+        64 < n || 256 < terms,
+    )
 }

@@ -15,11 +15,11 @@ use Rattle.basis.specs.declared.settings.Settings.{Settings}
 use Rattle.basis.specs.Levels.{inRange, residues, groups, noRepeat}
 use Rattle.basis.specs.Layout.{fill, inPlaces}
 use Rattle.basis.specs.Instance.{Point, reduced, pointOf}
-use Rattle.basis.specs.Tables.{pointsUnder, pointsIn}
+use Rattle.basis.specs.Tables.{pointsUnder, tablesOf, pointsIn}
 use Rattle.basis.specs.Adding.{pointsOffered}
-use Rattle.basis.specs.Drawing.{PointsGiven}
+use Rattle.basis.specs.Drawing.{PointsGiven, DrawnUp}
 use Rattle.basis.proofs.Instance.{point-of}
-use Rattle.basis.proofs.Layouts.{fill-whole, over-all}
+use Rattle.basis.proofs.Layouts.{length-fill, fill-whole, over-all}
 use Rattle.basis.proofs.Places.{length-groups, table-groups, repeat-filled}
 use Rattle.basis.proofs.PointTables.{map-take, map-drop, length-points, points-in}
 use Rattle.basis.proofs.agreement.Points.{IsPoint, Points, points-back, residues-same, length-residues}
@@ -42,19 +42,24 @@ rows-of q m (suc k) R e l P (inr w) =
 
 module _ (s : Settings) (ok : Accepted s) where
   -- Points offered.
-  pub offered : (levels : List ℤ) → length levels % s .variables ≡ 0 → length levels / s .variables ≤ 64 → T (inRange (s .modulus) levels) → T (noRepeat (pointsOffered s levels))
-      → Points s (pointsOffered s levels)
-  unfolding pointsOffered
-  offered levels whole few range once =
-      let k : ℕ = length levels / s .variables in
-      let R : List ℕ = residues (s .modulus) levels in
-      let p = modulus-range (s .modulus) (ok .modulus) in
-      let n : length R ≡ s .variables * k = length-residues (s .modulus) levels ∙ sym (div-add-mod' (length levels) (s .variables)) ∙ omega (arith, mul-comm k (s .variables)) in
-      record {
-        points = λ P w. let g = rows-of (s .modulus - 1) (s .variables) k R (residues-same (s .modulus) levels (omega arith) range) n P w in record { long = g .0; same = g .1 };
-        once = once;
-        few = omega (arith, length-groups (s .variables) k R);
-      }
+  module _ (levels : List ℤ) (whole : length levels % s .variables ≡ 0) (few : length levels / s .variables ≤ 64) (range : T (inRange (s .modulus) levels)) where
+    pub whole-levels : length levels ≡ s .variables * (length levels / s .variables)
+    whole-levels = sym (div-add-mod' (length levels) (s .variables)) ∙ omega (arith, mul-comm (length levels / s .variables) (s .variables))
+
+    pub length-offered : length (pointsOffered s levels) ≡ length levels / s .variables
+    unfolding pointsOffered
+    length-offered = length-groups (s .variables) (length levels / s .variables) (residues (s .modulus) levels)
+
+    pub offered-each : (P : List ℕ) → Among P (pointsOffered s levels) → IsPoint s P
+    unfolding pointsOffered
+    offered-each P w =
+        let p = modulus-range (s .modulus) (ok .modulus) in
+        let g = rows-of (s .modulus - 1) (s .variables) (length levels / s .variables) (residues (s .modulus) levels) (residues-same (s .modulus) levels (omega arith) range)
+        (length-residues (s .modulus) levels ∙ whole-levels) P w in
+        record { long = g .0; same = g .1 }
+
+    pub offered : T (noRepeat (pointsOffered s levels)) → Points s (pointsOffered s levels)
+    offered once = record { points = offered-each; once = once; few = omega (arith, length-offered) }
 
   -- Points read.
   is-read : (X : Point (suc (s .modulus - 1)) (s .variables)) → IsPoint s (X .0)
@@ -94,3 +99,10 @@ module _ (s : Settings) (ok : Accepted s) where
       table = ap (λ (S : List (List ℕ)). fill 512 (inPlaces 8 S)) (sym table-points);
       once = subst (λ (S : List (List ℕ)). T (noRepeat S)) (sym table-points) (h .once);
     }
+
+-- the sizes of the tables drawn up
+pub drawn-long : (s : Settings) (S : List (List ℕ)) (r : ℕ) (standard leads coefficients rows pivots : List ℕ) → DrawnUp s S r standard leads coefficients rows pivots
+    → (length standard ≡ 512) × ((length leads ≡ 3592) × (length coefficients ≡ 28736))
+unfolding tablesOf
+drawn-long s S r standard leads coefficients rows pivots h =
+    (ap length (h .standard-table) ∙ length-fill 512 _, (ap length (h .leads-table) ∙ length-fill 3592 _, ap length (h .coefficients-table) ∙ length-fill 28736 _))

@@ -1,0 +1,115 @@
+// The public calls. Every refusal is decided before a lent byte is written.
+use crate::draw::draw;
+use crate::points;
+use crate::refusal;
+use crate::settings::Answer;
+use crate::settings::Settings;
+use crate::tables;
+ghost use mathlib.Core.Path.{_≡_};
+ghost use Prim.Native.Nat.{_≤_};
+ghost use lib.ListN.{length};
+ghost use Rattle.basis.specs.Layout.{over};
+ghost use Rattle.basis.specs.Tables.{fourTables, rowCount, tablesOf, pointsIn};
+ghost use Rattle.basis.specs.Adding.{ended, drawOutcome};
+ghost use Rattle.basis.specs.Drawing.{PointsGiven};
+
+// The basis of the n points of a table, written to lent tables: the row count.
+fn draw_points(
+    settings: Settings,
+    n: usize,
+    points: &[u8],
+    states: &mut [u8],
+    standard: &mut [u8],
+    leads: &mut [u8],
+    coefficients: &mut [u8],
+) -> usize
+    requires { ⌜ PointsGiven settings n (now points) ⌝ }
+    requires { ⌜ (512 ≤ length (now states)) × ((512 ≤ length (now standard)) × ((3592 ≤ length (now leads)) × (28736 ≤ length (now coefficients)))) ⌝ }
+    ensures { λ r. ⌜ r ≡ rowCount settings (pointsIn settings n (now (points .entry))) ⌝ }
+    ensures { λ r. ⌜ now (states .exit) ≡ over (now (points .entry)) (now (states .entry)) ⌝ }
+    ensures { λ r. ⌜ now (standard .exit) ≡ over (tablesOf settings (pointsIn settings n (now (points .entry))) .standard) (now (standard .entry)) ⌝ }
+    ensures { λ r. ⌜ now (leads .exit) ≡ over (tablesOf settings (pointsIn settings n (now (points .entry))) .leads) (now (leads .entry)) ⌝ }
+    ensures { λ r. ⌜ now (coefficients .exit) ≡ over (tablesOf settings (pointsIn settings n (now (points .entry))) .coefficients) (now (coefficients .entry)) ⌝ }
+{
+    let mut new_standard = [0u8; 512];
+    let mut new_leads = [0u8; 3592];
+    let mut new_coefficients = [0u8; 28736];
+    let mut rows = [0u16; 8192];
+    let mut pivots = [0u8; 64];
+    let r = draw(
+        settings.modulus as u16,
+        settings.variables as usize,
+        settings.order as u8,
+        n,
+        points,
+        &mut new_standard,
+        &mut new_leads,
+        &mut new_coefficients,
+        &mut rows,
+        &mut pivots,
+    );
+    tables::write(
+        points,
+        &new_standard,
+        &new_leads,
+        &new_coefficients,
+        states,
+        standard,
+        leads,
+        coefficients,
+    );
+    r
+}
+
+// Drawing up from all points at once.
+pub fn draw_up(
+    settings: Settings,
+    states: &mut [u8],
+    standard: &mut [u8],
+    leads: &mut [u8],
+    coefficients: &mut [u8],
+    levels: &[i8],
+) -> Answer
+    ensures { λ a. ⌜ ended a (now (states .exit)) (now (standard .exit)) (now (leads .exit)) (now (coefficients .exit)) ≡ drawOutcome settings (fourTables (now (states .entry)) (now (standard .entry)) (now (leads .entry)) (now (coefficients .entry))) (now (levels .entry)) ⌝ }
+{
+    let refusal = refusal::draw_sizes(
+        settings,
+        states.len(),
+        standard.len(),
+        leads.len(),
+        coefficients.len(),
+        levels.len(),
+    );
+    if refusal != 0 {
+        return Answer {
+            refusal,
+            n: 0,
+            r: 0,
+        };
+    }
+    let p = settings.modulus as u8;
+    if !points::in_range(p, levels) {
+        return Answer {
+            refusal: 9,
+            n: 0,
+            r: 0,
+        };
+    }
+    let m = settings.variables as usize;
+    let n = levels.len() / m;
+    let mut points = [0u8; 512];
+    points::put_points(p, m, n, levels, &mut points);
+    if !points::no_repeat(n, &points) {
+        return Answer {
+            refusal: 11,
+            n: 0,
+            r: 0,
+        };
+    }
+    let r = draw_points(settings, n, &points, states, standard, leads, coefficients);
+    Answer {
+        refusal: 0,
+        n: n as u8,
+        r: r as u16,
+    }
+}
