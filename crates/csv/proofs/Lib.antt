@@ -21,3 +21,4 @@ pub mod Repeating
 pub mod Refusing
 pub mod Concluding
 pub mod Whole
+pub mod Lengths
