@@ -22,3 +22,5 @@ pub mod Refusing
 pub mod Concluding
 pub mod Whole
 pub mod Lengths
+pub mod Drawn
+pub mod Told

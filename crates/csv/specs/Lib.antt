@@ -6,5 +6,5 @@ pub mod Spans
 pub mod Said
 pub mod Records
 pub mod Points
-pub mod Printing
 pub mod Appending
+pub mod Printing

@@ -4,6 +4,11 @@ use mathlib.Core.List.{List, [], _∷_, _++_, map, flatten, zipWith}
 use Prim.Native.Nat.{ℕ, zero, suc, _+_, _/_, _%_}
 use lib.Dec.{ltb}
 use lib.ListN.{length}
+use Rattle.basis.specs.declared.settings.Settings.{Settings}
+use Rattle.basis.specs.BasisOf.{standardOf, leadsOf, rowsOf, interpolantOf}
+use Rattle.basis.specs.Tables.{spaceUnder, pointsUnder}
+use Rattle.basis.specs.Solving.{Names}
+use Rattle.csv.specs.Appending.{Put}
 
 -- a number in decimal, with more turns than it has digits
 unfoldable pub digitsOf : ℕ → ℕ → List ℕ
@@ -79,3 +84,19 @@ basisLines standard leads rows interpolant names =
 -- 'A refusal prints only one line: `refused`, the number, the record.'
 unfoldable pub refusalLine : ℕ → ℕ → List ℕ
 refusalLine refusal at = labelled refused-word refusal ++ (spaced at ++ lineEnd)
+
+-- The lines of the basis of points under settings, of the interpolant of values at them, and of a wiring list.
+unfoldable pub linesOf : Settings → List (List ℕ) → List ℕ → List ℕ → List ℕ
+linesOf s S values names =
+    basisLines
+    (map (λ a. a .0) (standardOf (spaceUnder s) (pointsUnder s S)))
+    (map (λ a. a .0) (leadsOf (spaceUnder s) (pointsUnder s S)))
+    (rowsOf (spaceUnder s) (pointsUnder s S))
+    (interpolantOf (spaceUnder s) (pointsUnder s S) values)
+    names
+
+-- They are printed at the front of a lent buffer; the order in the wiring list is free.
+pub record Prints (s : Settings) (S : List (List ℕ)) (values before after : List ℕ) (end : ℕ) : Type 0 where
+  pub names : List ℕ
+  pub wiring : Names (s .variables) (interpolantOf (spaceUnder s) (pointsUnder s S) values) (map (λ a. a .0) (standardOf (spaceUnder s) (pointsUnder s S))) names
+  pub lines : Put 0 (linesOf s S values names) before after end

@@ -1,10 +1,18 @@
 // Printing into a lent buffer: each function writes from a place on, and answers the place behind what it wrote.
 use basis::bytes;
+use basis::draw::draw;
+use basis::solve::put_names;
+use basis::solve::solve;
 ghost use mathlib.Core.Path.{_≡_};
 ghost use mathlib.Core.List.{[], _∷_};
-ghost use Prim.Native.Nat.{_+_, _*_, _≤_};
-ghost use lib.ListN.{length};
-ghost use Rattle.csv.specs.Printing.{decimal, spaced, numbers, labelled, line, firstLine, standardLines, rowLine, rowLines, basisLines, refusalLine};
+ghost use Prim.Native.Nat.{ℕ, _+_, _*_, _<_, _≤_};
+ghost use lib.ListN.{length, getD, replicate};
+ghost use Rattle.residue.specs.Vector.{Below};
+ghost use Rattle.basis.specs.Layout.{fill};
+ghost use Rattle.basis.specs.Tables.{pointsIn};
+ghost use Rattle.basis.specs.Drawing.{settingsOf, PointsGiven};
+ghost use Rattle.basis.specs.Interpolants.{solution};
+ghost use Rattle.csv.specs.Printing.{decimal, spaced, numbers, labelled, line, firstLine, standardLines, rowLine, rowLines, basisLines, refusalLine, Prints};
 ghost use Rattle.csv.specs.Appending.{Room, Put, inTable};
 
 fn put_byte(out: &mut [u8], at: usize, b: u8) -> usize
@@ -168,4 +176,67 @@ fn print_basis(
     let rows = put_rows(out, middle, m, n, r, leads, coefficients);
     let last = put_line(out, rows, b"interpolant", interpolant);
     put_line(out, last, b"wiring", names)
+}
+
+// The interpolant of n values, in 64 bytes of zeros.
+fn solve_bytes(p: u16, n: usize, values: &[u8], rows: &[u16], pivots: &[u8], out: &mut [u8])
+    requires { ⌜ (2 ≤ p) × (p ≤ 61) ⌝ }
+    requires { ⌜ (length (now values) ≡ n) × (Below p (now values)) ⌝ }
+    requires { ⌜ (n ≤ 64) × (length (now rows) ≡ 8192) × (length (now pivots) ≡ 64) ⌝ }
+    requires { ⌜ (Below p (now rows)) × ((t : ℕ) → t < n → getD (now pivots) t 0 < n) ⌝ }
+    requires { ⌜ now out ≡ replicate 64 0 ⌝ }
+    ensures { λ _. ⌜ now (out .exit) ≡ fill 64 (solution p n (now (rows .entry)) (now (pivots .entry)) (fill 128 (now (values .entry)))) ⌝ }
+{
+    let mut work = [0u16; 128];
+    bytes::widen(values, &mut work);
+    solve(p, n, rows, pivots, &mut work, out);
+}
+
+// The basis of the n points of a table, the interpolant of n values at them and its wiring list, printed.
+fn print_points(
+    p: u16,
+    m: usize,
+    order: u8,
+    n: usize,
+    points: &[u8],
+    values: &[u8],
+    out: &mut [u8],
+) -> usize
+    requires { ⌜ PointsGiven (settingsOf p m order) n (now points) ⌝ }
+    requires { ⌜ (length (now values) ≡ n) × (Below p (now values)) ⌝ }
+    requires { ⌜ 102048 ≤ length (now out) ⌝ }
+    ensures { λ e. ⌜ Prints (settingsOf p m order) (pointsIn (settingsOf p m order) n (now (points .entry))) (now (values .entry)) (now (out .entry)) (now (out .exit)) e ⌝ }
+{
+    let mut standard = [0u8; 512];
+    let mut leads = [0u8; 3592];
+    let mut coefficients = [0u8; 28736];
+    let mut rows = [0u16; 8192];
+    let mut pivots = [0u8; 64];
+    let r = draw(
+        p,
+        m,
+        order,
+        n,
+        points,
+        &mut standard,
+        &mut leads,
+        &mut coefficients,
+        &mut rows,
+        &mut pivots,
+    );
+    let mut interpolant = [0u8; 64];
+    solve_bytes(p, n, values, &rows, &pivots, &mut interpolant);
+    let mut names = [0u8; 8];
+    let count = put_names(m, n, &interpolant, &standard, &mut names) as usize;
+    print_basis(
+        m,
+        n,
+        r,
+        &standard,
+        &leads,
+        &coefficients,
+        &interpolant[..n],
+        &names[..count],
+        out,
+    )
 }

@@ -1,0 +1,154 @@
+-- The tables of a drawn-up basis read back as its lists, and what is printed of them: it fits the buffer.
+use mathlib.Core.Path.{_≡_, refl, sym, _∙_, ap, ap₂, subst}
+use mathlib.Core.Bool.{true}
+use mathlib.Core.List.{List, [], _∷_, map}
+use mathlib.Core.Logic.{inl, inr}
+use Prim.Native.Nat.{ℕ, zero, suc, _-_, _*_, _<_, _≤_}
+use native.Mathlib.Omega.{arith}
+use lib.ListN.{length, getD, take, length-map}
+use Rattle.residue.specs.Lists.{Among}
+use Rattle.residue.specs.Modulus.{isModulus}
+use Rattle.residue.specs.Vector.{Below}
+use Rattle.residue.proofs.Moduli.{modulus-range}
+use Rattle.monomial.specs.Order.{orderOf}
+use Rattle.basis.specs.declared.settings.Settings.{Settings}
+use Rattle.basis.specs.Levels.{groups}
+use Rattle.basis.specs.Layout.{fill, inPlaces}
+use Rattle.basis.specs.Polynomial.{Distinct}
+use Rattle.basis.specs.BasisOf.{basisOf, standardOf, leadsOf, rowOf, rowsOf, interpolantOf}
+use Rattle.basis.specs.Instance.{Monomial, Point, pointOf}
+use Rattle.basis.specs.Tables.{spaceUnder, pointsUnder, rowCount, tablesOf}
+use Rattle.basis.specs.Solving.{Names}
+use Rattle.basis.proofs.Instance.{standard-exponent, lead-exponent}
+use Rattle.basis.proofs.Places.{table-groups}
+use Rattle.basis.proofs.ideal.Lists.{getD-among}
+use Rattle.basis.proofs.ideal.Basis.{interpolant-fits}
+use Rattle.basis.proofs.ideal.Counts.{standard-length}
+use Rattle.basis.proofs.agreement.Points.{Points}
+use Rattle.basis.proofs.agreement.Refusals.{Accepted}
+use Rattle.basis.proofs.agreement.Drawings.{laws-under, distinct-points, few-rows}
+use Rattle.csv.specs.Printing.{linesOf}
+use Rattle.csv.specs.Appending.{inTable}
+use Rattle.csv.proofs.Lengths.{Short, EachShort, printed-length}
+
+pub take-fill : (m w : ℕ) (a : List ℕ) → length a ≡ m → m ≤ w → take m (fill w a) ≡ a
+unfolding fill
+take-fill zero w [] e h = refl
+take-fill zero w (x ∷ a) e h = absurd (omega arith)
+take-fill (suc m) zero a e h = absurd (omega arith)
+take-fill (suc m) (suc w) [] e h = absurd (omega arith)
+take-fill (suc m) (suc w) (x ∷ a) e h = ap (λ (z : List ℕ). x ∷ z) (take-fill m w a (omega arith) (omega arith))
+
+each-back : (m w : ℕ) (L : List (List ℕ)) → m ≤ w → ((a : List ℕ) → Among a L → length a ≡ m) → map (take m) (map (fill w) L) ≡ L
+each-back m w [] h e = refl
+each-back m w (a ∷ L) h e = ap₂ (λ (x : List ℕ) (l : List (List ℕ)). x ∷ l) (take-fill m w a (e a (inl refl)) h) (each-back m w L h (λ b q. e b (inr q)))
+
+-- lists of m numbers in the places of a table
+table-back : (w N n m : ℕ) (L : List (List ℕ)) → length L ≡ n → w * n ≤ N → m ≤ w → ((a : List ℕ) → Among a L → length a ≡ m) → inTable w n m (fill N (inPlaces w L)) ≡ L
+unfolding inTable
+table-back w N n m L l k h e =
+    ap (λ (j : ℕ). map (take m) (groups w j (fill N (inPlaces w L)))) (sym l)
+    ∙ ap (map (take m)) (table-groups w N L (subst (λ (j : ℕ). w * j ≤ N) (sym l) k)) ∙ each-back m w L h e
+
+image : {A : Type 0} (f : A → List ℕ) (l : List A) (b : List ℕ) → Among b (map f l) → (a : A) × Among a l × (b ≡ f a)
+image f (x ∷ l) b (inl e) = (x, inl refl, e)
+image f (x ∷ l) b (inr q) = let t = image f l b q in (t .0, inr (t .1), t .2)
+
+below-of : (p : ℕ) (l : List ℕ) → ((c : ℕ) → Among c l → c < p) → Below p l
+below-of p l h i k = h (getD l i 0) (getD-among l i 0 k)
+
+-- numbers of at most 8 variables
+pub names-below : (m : ℕ) (cs : List ℕ) (l : List (List ℕ)) (names : List ℕ) → Names m cs l names → m ≤ 8 → Below 10 names
+names-below m cs l names N h = below-of 10 names each
+  where
+    each : (c : ℕ) → Among c names → c < 10
+    each zero w = absurd (N .positive w)
+    each (suc k) w = omega (arith, N .members k .0 w .0)
+
+module _ (s : Settings) (ok : Accepted s) (S : List (List ℕ)) (h : Points s S) where
+  abbrev pub standards : List (List ℕ)
+  standards = map (λ a. a .0) (standardOf (spaceUnder s) (pointsUnder s S))
+
+  abbrev pub leads : List (List ℕ)
+  leads = map (λ a. a .0) (leadsOf (spaceUnder s) (pointsUnder s S))
+
+  d : Distinct (spaceUnder s) (pointsUnder s S)
+  d = distinct-points s ok S h
+
+  prime : isModulus (suc (s .modulus - 1)) ≡ true
+  prime =
+      let e : s .modulus ≡ suc (s .modulus - 1) = omega (arith, modulus-range (s .modulus) (ok .modulus)) in
+      subst (λ (p : ℕ). isModulus p ≡ true) e (ok .modulus)
+
+  standard-count : length (standardOf (spaceUnder s) (pointsUnder s S)) ≡ length S
+  standard-count = standard-length (spaceUnder s) (laws-under s ok) (pointsUnder s S) d ∙ length-map S _
+
+  lead-count : length leads ≡ rowCount s S
+  unfolding rowCount
+  lead-count = length-map (leadsOf (spaceUnder s) (pointsUnder s S)) _
+
+  row-count : length (rowsOf (spaceUnder s) (pointsUnder s S)) ≡ rowCount s S
+  unfolding rowCount
+  row-count = length-map (leadsOf (spaceUnder s) (pointsUnder s S)) _
+
+  -- m exponents
+  long : (l : List (Monomial (s .variables))) (a : List ℕ) → Among a (map (λ b. b .0) l) → length a ≡ s .variables
+  long l a w = let t = image (λ (b : Monomial (s .variables)). b .0) l a w in ap (λ (z : List ℕ). length z) (t .2) ∙ t .0 .1
+
+  -- n residues
+  solved-long : (φ : Point (suc (s .modulus - 1)) (s .variables) → ℕ) → length (basisOf (spaceUnder s) (pointsUnder s S) .interpolant φ) ≡ length S
+  solved-long φ = interpolant-fits (spaceUnder s) (laws-under s ok) (pointsUnder s S) d φ .long ∙ standard-count
+
+  solved-short : (φ : Point (suc (s .modulus - 1)) (s .variables) → ℕ) → Short 64 (basisOf (spaceUnder s) (pointsUnder s S) .interpolant φ)
+  solved-short φ = (
+    omega (arith, solved-long φ, h .few),
+    below-of 100 (basisOf (spaceUnder s) (pointsUnder s S) .interpolant φ) (λ c w. omega (arith, interpolant-fits (spaceUnder s) (laws-under s ok) (pointsUnder s S) d φ .residues c w, modulus-range (s .modulus) (ok .modulus))),
+  )
+
+  rows-long : (a : List ℕ) → Among a (rowsOf (spaceUnder s) (pointsUnder s S)) → length a ≡ length S
+  rows-long a w =
+      let t = image (rowOf (spaceUnder s) (pointsUnder s S)) (leadsOf (spaceUnder s) (pointsUnder s S)) a w in
+      ap (λ (z : List ℕ). length z) (t .2) ∙ solved-long _
+
+  -- The tables read back.
+  pub standard-back : inTable 8 (length S) (s .variables) (tablesOf s S .standard) ≡ standards
+  unfolding tablesOf
+  standard-back = table-back 8 512 (length S) (s .variables) standards (length-map (standardOf (spaceUnder s) (pointsUnder s S)) _ ∙ standard-count) (omega (arith, h .few)) (ok .few) (long (standardOf (spaceUnder s) (pointsUnder s S)))
+
+  pub leads-back : inTable 8 (rowCount s S) (s .variables) (tablesOf s S .leads) ≡ leads
+  unfolding tablesOf
+  leads-back = table-back 8 3592 (rowCount s S) (s .variables) leads lead-count (omega (arith, few-rows s ok S h)) (ok .few) (long (leadsOf (spaceUnder s) (pointsUnder s S)))
+
+  pub rows-back : inTable 64 (rowCount s S) (length S) (tablesOf s S .coefficients) ≡ rowsOf (spaceUnder s) (pointsUnder s S)
+  unfolding tablesOf
+  rows-back = table-back 64 28736 (rowCount s S) (length S) (rowsOf (spaceUnder s) (pointsUnder s S)) row-count (omega (arith, few-rows s ok S h)) (h .few) rows-long
+
+  -- What is printed fits.
+  standards-short : EachShort 8 standards
+  standards-short a w =
+      let t = image (λ (b : Monomial (s .variables)). b .0) (standardOf (spaceUnder s) (pointsUnder s S)) a w in (
+        omega (arith, long (standardOf (spaceUnder s) (pointsUnder s S)) a w, ok .few),
+        λ i k. subst (λ (z : List ℕ). getD z i 0 < 100) (sym (t .2))
+            (omega (arith, standard-exponent (s .modulus - 1) (s .variables) (orderOf (s .order)) prime (pointsUnder s S) d (t .0) (t .1) i, length-map S (pointOf (s .modulus - 1) (s .variables)), h .few)),
+      )
+
+  leads-short : EachShort 8 leads
+  leads-short a w =
+      let t = image (λ (b : Monomial (s .variables)). b .0) (leadsOf (spaceUnder s) (pointsUnder s S)) a w in (
+        omega (arith, long (leadsOf (spaceUnder s) (pointsUnder s S)) a w, ok .few),
+        λ i k. subst (λ (z : List ℕ). getD z i 0 < 100) (sym (t .2))
+            (omega (arith, lead-exponent (s .modulus - 1) (s .variables) (orderOf (s .order)) prime (pointsUnder s S) d (t .0) (t .1) i, length-map S (pointOf (s .modulus - 1) (s .variables)), h .few)),
+      )
+
+  rows-short : EachShort 64 (rowsOf (spaceUnder s) (pointsUnder s S))
+  rows-short a w =
+      let t = image (rowOf (spaceUnder s) (pointsUnder s S)) (leadsOf (spaceUnder s) (pointsUnder s S)) a w in
+      subst (Short 64) (sym (t .2)) (solved-short _)
+
+  pub lines-length : (values names : List ℕ) → length names ≤ 8 → Below 10 names → length (linesOf s S values names) ≤ 102048
+  unfolding linesOf
+  lines-length values names few below =
+      printed-length standards leads (rowsOf (spaceUnder s) (pointsUnder s S)) (interpolantOf (spaceUnder s) (pointsUnder s S) values) names
+      (omega (arith, length-map (standardOf (spaceUnder s) (pointsUnder s S)) (λ (b : Monomial (s .variables)). b .0), standard-count, h .few))
+      (omega (arith, lead-count, few-rows s ok S h))
+      standards-short leads-short rows-short (solved-short _) (few, below)

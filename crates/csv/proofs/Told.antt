@@ -1,0 +1,116 @@
+-- Points and values printed: the tables, the interpolant and the wiring list that the calls leave give the lines of the definitions.
+use mathlib.Core.Path.{_≡_, refl, sym, _∙_, ap, ap₂}
+use mathlib.Core.List.{List, map}
+use Prim.Native.Nat.{ℕ, _<_, _≤_}
+use native.Mathlib.Omega.{arith}
+use lib.ListN.{length, getD, take}
+use Rattle.residue.specs.Vector.{Below}
+use Rattle.basis.specs.declared.settings.Settings.{Settings}
+use Rattle.basis.specs.Levels.{groups}
+use Rattle.basis.specs.Layout.{fill, length-fill}
+use Rattle.basis.specs.BasisOf.{standardOf, interpolantOf}
+use Rattle.basis.specs.Tables.{spaceUnder, pointsUnder, pointsIn, rowCount, tablesOf}
+use Rattle.basis.specs.Interpolants.{solution}
+use Rattle.basis.specs.Interpolants as I
+use Rattle.basis.specs.Drawing.{PointsGiven, DrawnUp}
+use Rattle.basis.proofs.PointTables.{length-points, points-in}
+use Rattle.basis.proofs.Wiring.{names-length, names-are}
+use Rattle.basis.proofs.agreement.Points.{Points}
+use Rattle.basis.proofs.agreement.Refusals.{Accepted}
+use Rattle.basis.proofs.agreement.Drawings.{few-rows}
+use Rattle.basis.proofs.calls.Given.{read}
+use Rattle.basis.proofs.calls.Answers.{length-interpolant, solution-is, names-in}
+use Rattle.csv.specs.Appending.{Room, Put, inTable}
+use Rattle.csv.specs.Printing.{basisLines, linesOf, Prints}
+use Rattle.csv.proofs.Drawn.{take-fill, standard-back, leads-back, rows-back, names-below, lines-length}
+
+module _ (s : Settings) (n : ℕ) (points values : List ℕ) (g : PointsGiven s n points) (lv : length values ≡ n) (bv : Below (s .modulus) values) where
+  abbrev pub S : List (List ℕ)
+  S = pointsIn s n points
+
+  ok : Accepted s
+  ok = record { modulus = g .modulus; some = g .some; few = g .few; order = g .order }
+
+  pub given : Points s S
+  given = read s ok n points (g .most) (g .once)
+
+  pub count-points : length S ≡ n
+  count-points = omega (arith, length-points (s .modulus) (s .variables) n points, ap length (points-in s n points))
+
+  abbrev cs : List ℕ
+  cs = interpolantOf (spaceUnder s) (pointsUnder s S) values
+
+  abbrev named : List ℕ
+  named = I.names (s .variables) cs (map (λ a. a .0) (standardOf (spaceUnder s) (pointsUnder s S)))
+
+  module _ (r : ℕ) (standard leads coefficients rows pivots : List ℕ) (u : DrawnUp s S r standard leads coefficients rows pivots) where
+    pub few : r ≤ 449
+    few = omega (arith, u .row-count, few-rows s ok S given)
+
+    pub inside : (t : ℕ) → t < n → getD pivots t 0 < n
+    inside t k = omega (arith, u .pivot-rows .inside t (omega (arith, count-points)), count-points)
+
+    pub long-standard : length standard ≡ 512
+    unfolding tablesOf
+    long-standard = ap length (u .standard-table) ∙ length-fill 512 _
+
+    pub long-leads : length leads ≡ 3592
+    unfolding tablesOf
+    long-leads = ap length (u .leads-table) ∙ length-fill 3592 _
+
+    pub long-coefficients : length coefficients ≡ 28736
+    unfolding tablesOf
+    long-coefficients = ap length (u .coefficients-table) ∙ length-fill 28736 _
+
+    module _ (interpolant : List ℕ) (i : interpolant ≡ fill 64 (solution (s .modulus) n rows pivots (fill 128 values))) where
+      filled : interpolant ≡ fill 64 cs
+      filled =
+          i ∙ ap (λ (j : ℕ). fill 64 (solution (s .modulus) j rows pivots (fill 128 values))) (sym count-points)
+          ∙ ap (fill 64) (solution-is s ok S given rows pivots (u .pivot-rows) values (lv ∙ sym count-points) bv)
+
+      solved : take n interpolant ≡ cs
+      solved = ap (take n) filled ∙ take-fill n 64 cs (length-interpolant s ok S given values ∙ count-points) (g .most)
+
+      module _ (count : ℕ) (names : List ℕ) (c : count ≡ length (I.names (s .variables) (take n interpolant) (groups 8 n standard)))
+          (f : names ≡ fill 8 (I.names (s .variables) (take n interpolant) (groups 8 n standard))) where
+        same-names : I.names (s .variables) (take n interpolant) (groups 8 n standard) ≡ named
+        same-names =
+            ap₂ (λ (l : List ℕ) (t : List ℕ). I.names (s .variables) (take n l) (groups 8 n t)) filled (u .standard-table)
+            ∙ ap (λ (j : ℕ). I.names (s .variables) (take j (fill 64 cs)) (groups 8 j (tablesOf s S .standard))) (sym count-points)
+            ∙ names-in s ok S given values
+
+        short : length named ≤ 8
+        short = omega (arith, names-length cs (map (λ a. a .0) (standardOf (spaceUnder s) (pointsUnder s S))) (s .variables), g .few)
+
+        listed : take count names ≡ named
+        listed =
+            ap₂ (λ (k : ℕ) (l : List ℕ). take k l) (c ∙ ap length same-names) (f ∙ ap (fill 8) same-names)
+            ∙ take-fill (length named) 8 named refl short
+
+        text : basisLines (inTable 8 n (s .variables) standard) (inTable 8 r (s .variables) leads) (inTable 64 r n coefficients) (take n interpolant) (take count names)
+            ≡ linesOf s S values named
+        unfolding linesOf
+        text =
+            let x = ap₂ (λ (j : ℕ) (t : List ℕ). inTable 8 j (s .variables) t) (sym count-points) (u .standard-table) ∙ standard-back s ok S given in
+            let y = ap₂ (λ (j : ℕ) (t : List ℕ). inTable 8 j (s .variables) t) (u .row-count) (u .leads-table) ∙ leads-back s ok S given in
+            let z =
+            ap₂ (λ (j k : ℕ). inTable 64 j k coefficients) (u .row-count) (sym count-points) ∙ ap (inTable 64 (rowCount s S) (length S)) (u .coefficients-table) ∙ rows-back s ok S given in
+            let v = solved in
+            let w = listed in
+            cc
+
+        pub told-room : (o : List ℕ) → 102048 ≤ length o
+            → Room 0 (basisLines (inTable 8 n (s .variables) standard) (inTable 8 r (s .variables) leads) (inTable 64 r n coefficients) (take n interpolant) (take count names)) o
+        told-room o h =
+            let e = ap length text in
+            let b = names-below (s .variables) cs (map (λ a. a .0) (standardOf (spaceUnder s) (pointsUnder s S))) named (names-are cs (map (λ a. a .0) (standardOf (spaceUnder s) (pointsUnder s S))) (s .variables)) (g .few) in
+            omega (arith, lines-length s ok S given values named short b)
+
+        pub told : {o after : List ℕ} {end : ℕ}
+            → Put 0 (basisLines (inTable 8 n (s .variables) standard) (inTable 8 r (s .variables) leads) (inTable 64 r n coefficients) (take n interpolant) (take count names)) o after end
+            → Prints s S values o after end
+        told p = record {
+          names = named;
+          wiring = names-are cs (map (λ a. a .0) (standardOf (spaceUnder s) (pointsUnder s S))) (s .variables);
+          lines = rw text at p;
+        }

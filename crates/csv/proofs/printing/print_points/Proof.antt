@@ -1,0 +1,161 @@
+-- `printing::print_points` meets its contract: the tables, the interpolant and the wiring list are those of the points.
+use mathlib.Core.Path.{refl, sym, _∙_, ap}
+use mathlib.Core.List.{List}
+use Prim.Native.Nat.{ℕ}
+use native.Mathlib.Omega.{arith}
+use lib.ListN.{length, take}
+use lib.Seq.{length-take-le}
+use Rattle.residue.proofs.Moduli.{modulus-range}
+use Rattle.basis.specs.Levels.{groups}
+use Rattle.basis.specs.Layout.{length-fill}
+use Rattle.basis.proofs.Wiring.{names-length}
+use Rattle.csv.proofs.Told.{few, inside, long-standard, long-leads, long-coefficients, told-room, told}
+use borrow.Author.Needs.{needs}
+use Rattle.csv.proofs.printing.print_points.Statement.{statement}
+use Rattle.csv.proofs.printing.print_points.Tie as tie
+
+slice-aggregate-draw : tie.Need-slice-aggregate-draw
+slice-aggregate-draw c = search needs
+
+slice-aggregate-draw-2 : tie.Need-slice-aggregate-draw-2
+slice-aggregate-draw-2 c = search needs
+
+slice-aggregate-draw-3 : tie.Need-slice-aggregate-draw-3
+slice-aggregate-draw-3 c = search needs
+
+slice-aggregate-draw-4 : tie.Need-slice-aggregate-draw-4
+slice-aggregate-draw-4 c = search needs
+
+slice-aggregate-draw-5 : tie.Need-slice-aggregate-draw-5
+slice-aggregate-draw-5 c = search needs
+
+draw-requires : tie.Need-draw-requires
+draw-requires c κs = (c .before .before .before .before .before .before .before .before .pre .0, ((refl, (refl, refl)), (refl, refl)))
+
+slice-aggregate-solve-bytes : tie.Need-slice-aggregate-solve-bytes
+slice-aggregate-solve-bytes c = search needs
+
+slice-aggregate-solve-bytes-2 : tie.Need-slice-aggregate-solve-bytes-2
+slice-aggregate-solve-bytes-2 c = search needs
+
+slice-aggregate-solve-bytes-3 : tie.Need-slice-aggregate-solve-bytes-3
+slice-aggregate-solve-bytes-3 c = search needs
+
+solve-bytes-requires : tie.Need-solve-bytes-requires
+solve-bytes-requires c κs =
+    let d = c .before .before .before .before .before .before .before .before in
+    let s = d .before .before .before .before .before .before .before .before .before in
+    let u = d .draw .ensures .pivot-rows in
+    (modulus-range _ (s .pre .0 .modulus), (s .pre .1 .0, ((s .pre .0 .most, u .long-rows, u .long-pivots), ((u .below, inside _ _ _ (s .args .values .now) (s .pre .0) (s .pre .1 .0 .0) (s .pre .1 .0 .1) _ _ _ _ _ _ (d .draw .ensures)), refl))))
+
+slice-aggregate-put-names : tie.Need-slice-aggregate-put-names
+slice-aggregate-put-names c = search needs
+
+slice-aggregate-put-names-2 : tie.Need-slice-aggregate-put-names-2
+slice-aggregate-put-names-2 c = search needs
+
+slice-aggregate-put-names-3 : tie.Need-slice-aggregate-put-names-3
+slice-aggregate-put-names-3 c = search needs
+
+put-names-requires : tie.Need-put-names-requires
+put-names-requires c κs =
+    let d = c .before .before .before .before .before .before .before .before .before .before .before .before .before in
+    let s = d .before .before .before .before .before .before .before .before .before in
+    let i = ap (λ (z : List ℕ). length z) (c .before .before .before .before .solve-bytes .ensures) ∙ length-fill 64 _ in
+    let l = long-standard _ _ _ (s .args .values .now) (s .pre .0) (s .pre .1 .0 .0) (s .pre .1 .0 .1) _ _ _ _ _ _ (d .draw .ensures) in
+    let most = s .pre .0 .most in
+    ((s .pre .0 .few, omega arith, omega arith), refl)
+
+cast-count : tie.Need-cast-count
+cast-count c = search needs
+
+slice-aggregate-print-basis : tie.Need-slice-aggregate-print-basis
+slice-aggregate-print-basis c = search needs
+
+slice-aggregate-print-basis-2 : tie.Need-slice-aggregate-print-basis-2
+slice-aggregate-print-basis-2 c = search needs
+
+slice-aggregate-print-basis-3 : tie.Need-slice-aggregate-print-basis-3
+slice-aggregate-print-basis-3 c = search needs
+
+array-share-prefix-interpolant : tie.Need-array-share-prefix-interpolant
+array-share-prefix-interpolant c =
+    let i = ap (λ (z : List ℕ). length z) (c .before .before .before .before .before .before .before .before .before .solve-bytes .ensures) ∙ length-fill 64 _ in
+    let most = c .before .before .before .before .before .before .before .before .before .before .before .before .before .before .before .before .before .before .before .before .before .before .before .before .before .before .before .pre .0 .most in
+    omega arith
+
+slice-aggregate-print-basis-4 : tie.Need-slice-aggregate-print-basis-4
+slice-aggregate-print-basis-4 c =
+    let i = ap (λ (z : List ℕ). length z) (c .before .before .before .before .before .before .before .before .before .before .solve-bytes .ensures) ∙ length-fill 64 _ in
+    let most = c .before .before .before .before .before .before .before .before .before .before .before .before .before .before .before .before .before .before .before .before .before .before .before .before .before .before .before .before .pre .0 .most in
+    sym (length-take-le _ _ (omega arith))
+
+array-share-prefix-names : tie.Need-array-share-prefix-names
+array-share-prefix-names c =
+    let called = c .before .before .before .before .before .put-names in
+    let n = called .ensures .0 in
+    let l = ap (λ (z : List ℕ). length z) (called .ensures .1) ∙ length-fill 8 _ in
+    let s = c .before .before .before .before .before .before .before .before .before .before .before .before .before .before .before .before .before .before .before .before .before .before .before .before .before .before .before .before in
+    let m = names-length (take (s .args .n) (c .before .before .before .before .before .before .before .before .before .before .solve-bytes .last .1 .1 .1 .1 .1 .0)) (groups 8 (s .args .n) (c .before .before .before .before .before .before .before .before .before .before .before .before .before .before .before .before .before .before .before .draw .last .1 .1 .1 .1 .1 .0)) (s .args .m) in
+    let few = s .pre .0 .few in
+    omega arith
+
+slice-aggregate-print-basis-5 : tie.Need-slice-aggregate-print-basis-5
+slice-aggregate-print-basis-5 c =
+    let called = c .before .before .before .before .before .before .put-names in
+    let n = called .ensures .0 in
+    let l = ap (λ (z : List ℕ). length z) (called .ensures .1) ∙ length-fill 8 _ in
+    let s = c .before .before .before .before .before .before .before .before .before .before .before .before .before .before .before .before .before .before .before .before .before .before .before .before .before .before .before .before .before in
+    let m = names-length (take (s .args .n) (c .before .before .before .before .before .before .before .before .before .before .before .solve-bytes .last .1 .1 .1 .1 .1 .0)) (groups 8 (s .args .n) (c .before .before .before .before .before .before .before .before .before .before .before .before .before .before .before .before .before .before .before .before .draw .last .1 .1 .1 .1 .1 .0)) (s .args .m) in
+    let few = s .pre .0 .few in
+    sym (length-take-le _ _ (omega arith))
+
+print-basis-requires : tie.Need-print-basis-requires
+print-basis-requires c κs =
+    let d = c .before .before .before .before .before .before .before .before .before .before .before .before .before .before .before .before .before .before .before .before .before in
+    let s = d .before .before .before .before .before .before .before .before .before in
+    let r = few _ _ _ (s .args .values .now) (s .pre .0) (s .pre .1 .0 .0) (s .pre .1 .0 .1) _ _ _ _ _ _ (d .draw .ensures) in
+    let most = s .pre .0 .most in
+    let x = long-standard _ _ _ (s .args .values .now) (s .pre .0) (s .pre .1 .0 .0) (s .pre .1 .0 .1) _ _ _ _ _ _ (d .draw .ensures) in
+    let y = long-leads _ _ _ (s .args .values .now) (s .pre .0) (s .pre .1 .0 .0) (s .pre .1 .0 .1) _ _ _ _ _ _ (d .draw .ensures) in
+    let z = long-coefficients _ _ _ (s .args .values .now) (s .pre .0) (s .pre .1 .0 .0) (s .pre .1 .0 .1) _ _ _ _ _ _ (d .draw .ensures) in
+    ((s .pre .0 .few, most, r), ((omega arith, omega arith, omega arith), told-room _ _ _ (s .args .values .now) (s .pre .0) (s .pre .1 .0 .0) (s .pre .1 .0 .1) _ _ _ _ _ _ (d .draw .ensures) _ (c .before .before .before .before .before .before .before .before .before .before .before .before .solve-bytes .ensures) _ _ (c .before .before .before .before .before .before .before .put-names .ensures .0) (c .before .before .before .before .before .before .before .put-names .ensures .1) (s .args .out .now) (s .pre .1 .1)))
+
+same-length : tie.Need-same-length
+same-length c = search needs
+
+returns : tie.Need-returns
+returns c =
+    let d = c .before .before .before .before .before .before .before .before .before .before .before .before .before .before .before .before .before .before .before .before .before .before .before .before in
+    let s = d .before .before .before .before .before .before .before .before .before in
+    told _ _ _ (s .args .values .now) (s .pre .0) (s .pre .1 .0 .0) (s .pre .1 .0 .1) _ _ _ _ _ _ (d .draw .ensures) _ (c .before .before .before .before .before .before .before .before .before .before .before .before .before .before .before .solve-bytes .ensures) _ _ (c .before .before .before .before .before .before .before .before .before .before .put-names .ensures .0) (c .before .before .before .before .before .before .before .before .before .before .put-names .ensures .1) (c .before .before .print-basis .ensures)
+
+pub print-points-spec : {M : Type 1} → statement M
+print-points-spec =
+    tie.close
+    (tie.spec
+    slice-aggregate-draw
+    slice-aggregate-draw-2
+    slice-aggregate-draw-3
+    slice-aggregate-draw-4
+    slice-aggregate-draw-5
+    draw-requires
+    slice-aggregate-solve-bytes
+    slice-aggregate-solve-bytes-2
+    slice-aggregate-solve-bytes-3
+    solve-bytes-requires
+    slice-aggregate-put-names
+    slice-aggregate-put-names-2
+    slice-aggregate-put-names-3
+    put-names-requires
+    cast-count
+    slice-aggregate-print-basis
+    slice-aggregate-print-basis-2
+    slice-aggregate-print-basis-3
+    array-share-prefix-interpolant
+    slice-aggregate-print-basis-4
+    array-share-prefix-names
+    slice-aggregate-print-basis-5
+    print-basis-requires
+    same-length
+    returns)
