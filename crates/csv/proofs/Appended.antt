@@ -72,6 +72,13 @@ module _ {at next : ℕ} {a o mid : List ℕ} (p : Put at a o mid next) where
     holds = q .holds ∙ ap₂ (λ (n : ℕ) (l : List ℕ). putAt n b l) (p .ends) (p .holds) ∙ put-put at a b o (omega arith);
   }
 
+-- what was written stands at the front
+pub put-within : {end : ℕ} {a o after : List ℕ} → Put 0 a o after end → Room 0 a o → (end ≤ length after) × (end ≡ length (take end after))
+put-within {end} {a} {o} {after} p h =
+    let l = put-length p h in
+    let k : end ≤ length after = omega (arith, p .ends) in
+    (k, sym (length-take-le end after k))
+
 pub first-room : (at : ℕ) (a b o : List ℕ) → Room at (a ++ b) o → Room at a o
 first-room at a b o h = omega (arith, length-append a b)
 

@@ -40,7 +40,7 @@ entry-length m fields zs e = go (eqb (length fields) (suc m)) refl e
     go true h k = levels-length fields zs k ∙ eqb-true (length fields) (suc m) h
     go false h k = let z : _≡_ {A = ℕ} 0 1 = cc in absurd (omega arith)
 
-entries-long : (m : ℕ) (records : List (Option (List (List ℕ)))) (S : List (List ℤ)) → map (entryIn m) records ≡ map some S → AllLong (suc m) S
+pub entries-long : (m : ℕ) (records : List (Option (List (List ℕ)))) (S : List (List ℤ)) → map (entryIn m) records ≡ map some S → AllLong (suc m) S
 unfolding entryIn
 entries-long m [] [] e = tt
 entries-long m [] (s ∷ S) e = let z : _≡_ {A = ℕ} 0 1 = cc in absurd (omega arith)
@@ -51,7 +51,7 @@ entries-long m (some fields ∷ records) (s ∷ S) e =
     let k : map (entryIn m) records ≡ map some S = cc in
     (entry-length m fields s h, entries-long m records S k)
 
-points-long : (p m : ℕ) (S : List (List ℤ)) → AllLong (suc m) S → AllLong m (map (pointOf p m) S)
+pub points-long : (p m : ℕ) (S : List (List ℤ)) → AllLong (suc m) S → AllLong m (map (pointOf p m) S)
 unfolding pointOf
 points-long p m [] h = tt
 points-long p m (s ∷ S) h =

@@ -50,7 +50,7 @@ table-back w N n m L l k h e =
     ap (λ (j : ℕ). map (take m) (groups w j (fill N (inPlaces w L)))) (sym l)
     ∙ ap (map (take m)) (table-groups w N L (subst (λ (j : ℕ). w * j ≤ N) (sym l) k)) ∙ each-back m w L h e
 
-image : {A : Type 0} (f : A → List ℕ) (l : List A) (b : List ℕ) → Among b (map f l) → (a : A) × Among a l × (b ≡ f a)
+pub image : {A : Type 0} (f : A → List ℕ) (l : List A) (b : List ℕ) → Among b (map f l) → (a : A) × Among a l × (b ≡ f a)
 image f (x ∷ l) b (inl e) = (x, inl refl, e)
 image f (x ∷ l) b (inr q) = let t = image f l b q in (t .0, inr (t .1), t .2)
 

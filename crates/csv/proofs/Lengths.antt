@@ -10,7 +10,7 @@ use native.Mathlib.Omega.{arith}
 use lib.ListN.{length, length-append}
 use Rattle.residue.specs.Lists.{Among}
 use Rattle.residue.specs.Vector.{Below}
-use Rattle.csv.specs.Printing.{decimal, spaced, numbers, line, labelled, lineEnd, colon, points-word, standard-word, rows-word, row-word, interpolant-word, wiring-word, firstLine, standardLines, rowLine, rowLines, basisLines}
+use Rattle.csv.specs.Printing.{decimal, spaced, numbers, line, labelled, lineEnd, colon, points-word, standard-word, rows-word, row-word, interpolant-word, wiring-word, refused-word, refusalLine, firstLine, standardLines, rowLine, rowLines, basisLines}
 use Rattle.csv.proofs.Decimals.{decimal-digit, decimal-more}
 
 -- a number has at most as many digits as the power of ten that it is below
@@ -119,4 +119,15 @@ printed-length standard leads rows interpolant names n r hs hl hr hi hn =
       rows-length leads rows hl hr,
       line-length 1 interpolant-word interpolant (hi .1),
       line-length 0 wiring-word names (hn .1),
+    )
+
+pub refusal-length : (k at : ℕ) → k < 1000 → at < 100000 → length (refusalLine k at) ≤ 18
+unfolding refusalLine
+refusal-length k at h j =
+    omega (
+      arith,
+      length-append (labelled refused-word k) (spaced at ++ lineEnd),
+      length-append (spaced at) lineEnd,
+      labelled-length 2 refused-word k h,
+      spaced-length 4 at j,
     )

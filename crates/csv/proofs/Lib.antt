@@ -24,3 +24,5 @@ pub mod Whole
 pub mod Lengths
 pub mod Drawn
 pub mod Told
+pub mod Accepting
+pub mod Saying

@@ -1,14 +1,18 @@
 -- What is printed: document 01, 'The program reads standard input and prints'.
+use mathlib.Core.Path.{_≡_}
 use mathlib.Core.Bool.{cond}
 use mathlib.Core.List.{List, [], _∷_, _++_, map, flatten, zipWith}
-use Prim.Native.Nat.{ℕ, zero, suc, _+_, _/_, _%_}
+use mathlib.Core.Logic.{_≢_}
+use Prim.Native.Nat.{ℕ, zero, suc, _+_, _/_, _%_, _<_, _≤_}
 use lib.Dec.{ltb}
-use lib.ListN.{length}
+use lib.ListN.{length, take, replicate}
 use Rattle.basis.specs.declared.settings.Settings.{Settings}
 use Rattle.basis.specs.BasisOf.{standardOf, leadsOf, rowsOf, interpolantOf}
-use Rattle.basis.specs.Tables.{spaceUnder, pointsUnder}
+use Rattle.basis.specs.Tables.{spaceUnder, pointsUnder, pointsIn}
+use Rattle.basis.specs.Drawing.{settingsOf}
 use Rattle.basis.specs.Solving.{Names}
 use Rattle.csv.specs.Appending.{Put}
+use Rattle.csv.specs.Reading.{Outcome, readOutcome}
 
 -- a number in decimal, with more turns than it has digits
 unfoldable pub digitsOf : ℕ → ℕ → List ℕ
@@ -100,3 +104,20 @@ pub record Prints (s : Settings) (S : List (List ℕ)) (values before after : Li
   pub names : List ℕ
   pub wiring : Names (s .variables) (interpolantOf (spaceUnder s) (pointsUnder s S) values) (map (λ a. a .0) (standardOf (spaceUnder s) (pointsUnder s S))) names
   pub lines : Put 0 (linesOf s S values names) before after end
+
+-- What is printed of the reader's answer: the refusal's line, or the lines of the points and values that were read.
+pub record PrintsRead (o : Outcome) (before after : List ℕ) (end : ℕ) : Type 0 where
+  pub refusal : o .answer .refusal ≢ 0 → Put 0 (refusalLine (o .answer .refusal) (o .answer .at)) before after end
+  pub basis : o .answer .refusal ≡ 0
+      → Prints (settingsOf (o .answer .modulus) (o .answer .variables) (o .answer .order))
+      (pointsIn (settingsOf (o .answer .modulus) (o .answer .variables) (o .answer .order)) (o .answer .n) (o .states))
+      (take (o .answer .n) (o .values)) before after end
+
+-- What is printed of a text, into a buffer of at least 131,072 bytes; nothing into a shorter one.
+pub record PrintsText (text before after : List ℕ) (end : ℕ) : Type 0 where
+  pub short : length before < 131072 → (end ≡ 0) × (after ≡ before)
+  pub printed : 131072 ≤ length before → PrintsRead (readOutcome text (replicate 512 0) (replicate 64 0)) before after end
+
+-- so many bytes stand at the front, as lending them asks
+abbrev pub Within : ℕ → List ℕ → Type 0
+Within end out = (end ≤ length out) × (end ≡ length (take end out))

@@ -9,6 +9,7 @@ use Rattle.residue.proofs.Moduli.{modulus-range}
 use Rattle.basis.specs.Levels.{groups}
 use Rattle.basis.specs.Layout.{length-fill}
 use Rattle.basis.proofs.Wiring.{names-length}
+use Rattle.csv.proofs.Appended.{put-within}
 use Rattle.csv.proofs.Told.{few, inside, long-standard, long-leads, long-coefficients, told-room, told}
 use borrow.Author.Needs.{needs}
 use Rattle.csv.proofs.printing.print_points.Statement.{statement}
@@ -128,7 +129,10 @@ returns : tie.Need-returns
 returns c =
     let d = c .before .before .before .before .before .before .before .before .before .before .before .before .before .before .before .before .before .before .before .before .before .before .before .before in
     let s = d .before .before .before .before .before .before .before .before .before in
-    told _ _ _ (s .args .values .now) (s .pre .0) (s .pre .1 .0 .0) (s .pre .1 .0 .1) _ _ _ _ _ _ (d .draw .ensures) _ (c .before .before .before .before .before .before .before .before .before .before .before .before .before .before .before .solve-bytes .ensures) _ _ (c .before .before .before .before .before .before .before .before .before .before .put-names .ensures .0) (c .before .before .before .before .before .before .before .before .before .before .put-names .ensures .1) (c .before .before .print-basis .ensures)
+    let i = c .before .before .before .before .before .before .before .before .before .before .before .before .before .before .before .solve-bytes .ensures in
+    let n = c .before .before .before .before .before .before .before .before .before .before .put-names .ensures in
+    let p = c .before .before .print-basis .ensures in
+    (told _ _ _ (s .args .values .now) (s .pre .0) (s .pre .1 .0 .0) (s .pre .1 .0 .1) _ _ _ _ _ _ (d .draw .ensures) _ i _ _ (n .0) (n .1) p, put-within p (told-room _ _ _ (s .args .values .now) (s .pre .0) (s .pre .1 .0 .0) (s .pre .1 .0 .1) _ _ _ _ _ _ (d .draw .ensures) _ i _ _ (n .0) (n .1) (s .args .out .now) (s .pre .1 .1)))
 
 pub print-points-spec : {M : Type 1} → statement M
 print-points-spec =

@@ -1,0 +1,102 @@
+-- `printing::print_text` meets its contract.
+use mathlib.Core.Path.{refl, sym}
+use native.Mathlib.Omega.{arith}
+use Rattle.csv.specs.Reading.{ended}
+use Rattle.csv.proofs.Appended.{put-within}
+use Rattle.csv.proofs.Lengths.{refusal-length}
+use Rattle.csv.proofs.Saying.{fit, printed-refusal, printed-basis}
+use borrow.Author.Needs.{needs}
+use Rattle.csv.proofs.printing.print_text.Statement.{statement}
+use Rattle.csv.proofs.printing.print_text.Tie as tie
+
+returns : tie.Need-returns
+returns c = (record { short = λ h. (refl, refl); printed = λ h. absurd (omega arith) }, (omega arith, refl))
+
+slice-aggregate-read-text : tie.Need-slice-aggregate-read-text
+slice-aggregate-read-text c = search needs
+
+slice-aggregate-read-text-2 : tie.Need-slice-aggregate-read-text-2
+slice-aggregate-read-text-2 c = search needs
+
+read-text-requires : tie.Need-read-text-requires
+read-text-requires c κs = search needs
+
+put-refusal-requires : tie.Need-put-refusal-requires
+put-refusal-requires c κs =
+    let r = c .before .before .before .before .read-text in
+    let l = refusal-length (r .result .refusal) (r .result .at) (omega arith) (omega arith) in
+    omega arith
+
+same-length : tie.Need-same-length
+same-length c = search needs
+
+returns-2 : tie.Need-returns-2
+returns-2 c =
+    let r = c .before .before .before .before .before .before .before .read-text in
+    let l = refusal-length (r .result .refusal) (r .result .at) (omega arith) (omega arith) in
+    let p = c .before .before .put-refusal .ensures in (
+      record {
+        short = λ h. absurd (omega arith);
+        printed = λ h. printed-refusal (r .ensures) (c .before .before .before .before .if2 .taken) p;
+      },
+      put-within p (omega arith),
+    )
+
+cast-n : tie.Need-cast-n
+cast-n c = search needs
+
+cast-print-points : tie.Need-cast-print-points
+cast-print-points c = search needs
+
+slice-aggregate-print-points : tie.Need-slice-aggregate-print-points
+slice-aggregate-print-points c = search needs
+
+array-share-prefix-values : tie.Need-array-share-prefix-values
+array-share-prefix-values c =
+    let r = c .before .before .before .before .before .before .read-text in
+    fit _ (ended (r .result) (r .last .1 .0) (r .last .1 .1 .0)) (r .ensures) (omega arith) .3
+
+slice-aggregate-print-points-2 : tie.Need-slice-aggregate-print-points-2
+slice-aggregate-print-points-2 c =
+    let r = c .before .before .before .before .before .before .before .read-text in
+    sym (fit _ (ended (r .result) (r .last .1 .0) (r .last .1 .1 .0)) (r .ensures) (omega arith) .1)
+
+print-points-requires : tie.Need-print-points-requires
+print-points-requires c κs =
+    let r = c .before .before .before .before .before .before .before .before .read-text in
+    let f = fit _ (ended (r .result) (r .last .1 .0) (r .last .1 .1 .0)) (r .ensures) (omega arith) in
+    (f .0, ((f .1, f .2), omega arith))
+
+same-length-2 : tie.Need-same-length-2
+same-length-2 c = search needs
+
+returns-3 : tie.Need-returns-3
+returns-3 c =
+    let r = c .before .before .before .before .before .before .before .before .before .before .before .read-text in
+    let p = c .before .before .print-points .ensures in (
+      record {
+        short = λ h. absurd (omega arith);
+        printed = λ h. printed-basis (r .ensures) (omega arith) (p .0);
+      },
+      p .1,
+    )
+
+pub print-text-spec : {M : Type 1} → statement M
+print-text-spec =
+    tie.close
+    (tie.spec
+    returns
+    slice-aggregate-read-text
+    slice-aggregate-read-text-2
+    read-text-requires
+    put-refusal-requires
+    same-length
+    returns-2
+    cast-n
+    cast-print-points
+    slice-aggregate-print-points
+    array-share-prefix-values
+    slice-aggregate-print-points-2
+    print-points-requires
+    same-length-2
+    returns-3)
