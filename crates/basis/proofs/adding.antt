@@ -6,3 +6,5 @@ pub mod Insertion
 pub mod Corrections
 pub mod LostRow
 pub mod NewRows
+pub mod NewTables
+pub mod Added

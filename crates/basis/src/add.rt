@@ -6,11 +6,14 @@ use crate::rows;
 use residue::inverse::inverse;
 ghost use mathlib.Core.Path.{_≡_};
 ghost use Prim.Native.Nat.{ℕ, _+_, _*_, _<_, _≤_};
-ghost use lib.ListN.{length, getD, replicate};
+ghost use lib.ListN.{length, getD, take, replicate};
 ghost use mathlib.Core.Bool.{true};
+ghost use mathlib.Core.List.{[], _∷_, _++_};
 ghost use Rattle.residue.specs.Modulus.{isModulus};
 ghost use Rattle.residue.specs.Vector.{Below};
-ghost use Rattle.basis.specs.Insertions.{rowAt, withRowAt, correctedRow, reducedRow, grown, productPut, productsPut, othersOf, othersCorrected, standardGrown, grownBy};
+ghost use Rattle.basis.specs.Insertions.{rowAt, withRowAt, correctedRow, reducedRow, grown, productPut, productsPut, othersOf, othersCorrected, standardGrown, grownBy, NewPoint, Tabled};
+ghost use Rattle.basis.specs.Tables.{pointsIn};
+ghost use Rattle.basis.specs.Drawing.{settingsOf, PointsGiven, DrawnUp};
 
 // The row of a monomial put into the table of coefficients before row i of k: its values at the n points are eliminated, and what they leave is corrected.
 fn put_row(
@@ -271,6 +274,55 @@ fn grow(
         r - 1,
         &others,
         lead,
+        new_leads,
+        new_coefficients,
+    )
+}
+
+// The tables of n points and r rows with a new point: the first row that is not 0 there is lost. Answers how many rows there are then.
+pub fn add_to(
+    p: u16,
+    m: usize,
+    order: u8,
+    n: usize,
+    r: usize,
+    points: &[u8],
+    standard: &[u8],
+    leads: &[u8],
+    coefficients: &[u8],
+    rows: &[u16],
+    pivots: &[u8],
+    point: &[u8],
+    new_standard: &mut [u8],
+    new_leads: &mut [u8],
+    new_coefficients: &mut [u8],
+) -> usize
+    requires { ⌜ PointsGiven (settingsOf p m order) n (now points) ⌝ }
+    requires { ⌜ DrawnUp (settingsOf p m order) (pointsIn (settingsOf p m order) n (now points)) r (now standard) (now leads) (now coefficients) (now rows) (now pivots) ⌝ }
+    requires { ⌜ n < 64 ⌝ }
+    requires { ⌜ NewPoint (settingsOf p m order) (pointsIn (settingsOf p m order) n (now points)) (now point) ⌝ }
+    requires { ⌜ (now «new_standard» ≡ replicate 512 0) × (now «new_leads» ≡ replicate 3592 0) × (now «new_coefficients» ≡ replicate 28736 0) ⌝ }
+    ensures { λ k. ⌜ Tabled (settingsOf p m order) (pointsIn (settingsOf p m order) n (now (points .entry)) ++ (take m (now (point .entry)) ∷ [])) k (now («new_standard» .exit)) (now («new_leads» .exit)) (now («new_coefficients» .exit)) ⌝ }
+{
+    let mut values = [0u16; 64];
+    correct::values_at(p, n, standard, point, &mut values);
+    let j = correct::first_row(p, n, r, point, &values, leads, coefficients);
+    grow(
+        p,
+        m,
+        order,
+        n,
+        r,
+        points,
+        standard,
+        leads,
+        coefficients,
+        rows,
+        pivots,
+        point,
+        &values,
+        j,
+        new_standard,
         new_leads,
         new_coefficients,
     )

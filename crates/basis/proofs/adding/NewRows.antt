@@ -36,7 +36,7 @@ pub map-map : {A B C : Type 0} (f : A → B) (g : B → C) (l : List A) → map 
 map-map f g [] = refl
 map-map {C = C} f g (a ∷ l) = ap (λ (z : List C). g (f a) ∷ z) (map-map f g l)
 
-map-same : {A B : Type 0} (f g : A → B) (l : List A) → ((a : A) → Among a l → f a ≡ g a) → map f l ≡ map g l
+pub map-same : {A B : Type 0} (f g : A → B) (l : List A) → ((a : A) → Among a l → f a ≡ g a) → map f l ≡ map g l
 map-same f g [] h = refl
 map-same {B = B} f g (a ∷ l) h = ap₂ (λ (x : B) (z : List B). x ∷ z) (h a (inl refl)) (map-same f g l (λ b mem. h b (inr mem)))
 

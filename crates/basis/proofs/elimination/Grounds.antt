@@ -50,7 +50,7 @@ residues-below p [] r i h = absurd (not-suc-le-zero h)
 residues-below p (c ∷ l) r zero h = ltb→lt c p (r .0)
 residues-below p (c ∷ l) r (suc i) h = residues-below p l (r .1) i (omega arith)
 
-places-below : (p w : ℕ) (K : List (List ℕ)) → 0 < p → ((P : List ℕ) → Among P K → Below p P) → Below p (inPlaces w K)
+pub places-below : (p w : ℕ) (K : List (List ℕ)) → 0 < p → ((P : List ℕ) → Among P K → Below p P) → Below p (inPlaces w K)
 unfolding inPlaces
 places-below p w [] z h i l = absurd (not-suc-le-zero l)
 places-below p w (P ∷ K) z h i l =

@@ -1,0 +1,263 @@
+-- From the tables of n points and a new point to those of all of them, under settings: what the functions of the addition are handed, and what they leave.
+use mathlib.Core.Path.{_≡_, refl, sym, _∙_, ap, ap₂, subst}
+use mathlib.Core.Bool.{true, false, true≢false}
+use mathlib.Core.List.{List, [], _∷_, _++_, map, map-append}
+use mathlib.Core.Logic.{inl, inr, _≢_}
+use Prim.Native.Nat.{ℕ, zero, suc, _+_, _*_, _-_, _%_, _<_, _≤_}
+use native.Mathlib.Nat.{mod-eq-of-lt, mul-le-mul}
+use native.Mathlib.Decide.{decLt}
+use native.Mathlib.Omega.{arith}
+use lib.ListN.{length, getD, take, replicate, length-map, List·getD-eq-default}
+use lib.Seq.{length-take-le}
+use lib.Dec.{T}
+use Rattle.residue.specs.Lists.{Among}
+use Rattle.residue.specs.Modulus.{isModulus}
+use Rattle.residue.specs.Vector.{Below}
+use Rattle.residue.proofs.Moduli.{modulus-range}
+use Rattle.monomial.specs.Monomial.{valueAt}
+use Rattle.monomial.specs.Order.{orderOf}
+use Rattle.monomial.proofs.Padding.{value-pad}
+use Rattle.basis.specs.declared.settings.Settings.{Settings}
+use Rattle.basis.specs.Levels.{groups, isAmong}
+use Rattle.basis.specs.Layout.{fill, inPlaces, over}
+use Rattle.basis.specs.Space.{Space}
+use Rattle.basis.specs.Polynomial.{Distinct}
+use Rattle.basis.specs.BasisOf.{standardOf, leadsOf, rowOf, rowsOf, interpolantOf}
+use Rattle.basis.specs.Instance.{Monomial, Point, reduced, pointOf}
+use Rattle.basis.specs.Tables.{spaceUnder, pointsUnder, rowCount, tablesOf, pointsIn}
+use Rattle.basis.specs.Working.{eliminated}
+use Rattle.basis.specs.Drawing.{settingsOf, PointsGiven, DrawnUp}
+use Rattle.basis.specs.Insertions.{rowAt, valueOfRow, firstFrom, Grown, grown, standardGrown, grownBy, NewPoint, Tabled}
+use Rattle.residue.proofs.Vectors.{below-take}
+use Rattle.basis.proofs.Equality.{is-among, true-of}
+use Rattle.basis.proofs.Instance.{laws, point-of, lead-exponent}
+use Rattle.basis.proofs.Layouts.{length-fill, fill-whole, fill-at}
+use Rattle.basis.proofs.Places.{table-groups, over-zeros}
+use Rattle.basis.proofs.ValueRows.{below-fill}
+use Rattle.basis.proofs.ideal.Laws.{Laws}
+use Rattle.basis.proofs.ideal.Lists.{getD-among}
+use Rattle.basis.proofs.ideal.Basis.{row-is}
+use Rattle.basis.proofs.ideal.Counts.{leads-length, standard-length}
+use Rattle.basis.proofs.ideal.Permutation.{basis-snoc}
+use Rattle.basis.proofs.elimination.Exponents.{fill-pad}
+use Rattle.basis.proofs.elimination.Grounds.{ground, places-below}
+use Rattle.basis.proofs.adding.Corrections.{valuesAt}
+use Rattle.basis.proofs.adding.LostRow.{tested, lost, lost-one}
+use Rattle.basis.proofs.adding.NewRows.{map-map, map-same}
+use Rattle.basis.proofs.adding.NewTables.{table, read, few-standard, short, most, grown-are, standard-are}
+
+-- residues are kept
+residues-kept : (q : ℕ) (l : List ℕ) → Below (suc q) l → reduced q l ≡ l
+residues-kept q [] b = refl
+residues-kept q (x ∷ l) b = ap₂ (λ (y : ℕ) (z : List ℕ). y ∷ z) (mod-eq-of-lt (b 0 (omega arith))) (residues-kept q l (λ i h. b (suc i) (omega arith)))
+
+-- points as lists, and back
+module _ (q m : ℕ) where
+  lists-again : (X : List (Point (suc q) m)) → map (λ (Q : Point (suc q) m). Q .0) (map (pointOf q m) (map (λ (Q : Point (suc q) m). Q .0) X)) ≡ map (λ (Q : Point (suc q) m). Q .0) X
+  lists-again [] = refl
+  lists-again (Q ∷ X) = ap₂ (λ (a : List ℕ) (l : List (List ℕ)). a ∷ l) (ap (λ (R : Point (suc q) m). R .0) (point-of q m Q)) (lists-again X)
+
+  among-lists : (X : List (Point (suc q) m)) (Q : Point (suc q) m) → Among Q (map (pointOf q m) (map (λ (R : Point (suc q) m). R .0) X)) → Among (Q .0) (map (λ (R : Point (suc q) m). R .0) X)
+  among-lists (R ∷ X) Q (inl e) = inl (ap (λ (Z : Point (suc q) m). Z .0) (e ∙ point-of q m R))
+  among-lists (R ∷ X) Q (inr mem) = inr (among-lists X Q mem)
+
+among-of : {A B : Type 0} (f : A → B) (l : List A) (b : B) → Among b (map f l) → (a : A) × Among a l × (b ≡ f a)
+among-of f (a ∷ l) b (inl e) = (a, inl refl, e)
+among-of f (a ∷ l) b (inr q) = let w = among-of f l b q in (w .0, inr (w .1), w .2)
+
+-- every number of a table of small numbers is small, beyond its end as well
+table-small : (b w N : ℕ) (K : List (List ℕ)) → 0 < b → ((r : List ℕ) → Among r K → Below b r) → (i : ℕ) → getD (fill N (inPlaces w K)) i 0 < b
+table-small b w N K z h i = go (decLt i (length (fill N (inPlaces w K))))
+  where
+    go : Dec (i < length (fill N (inPlaces w K))) → getD (fill N (inPlaces w K)) i 0 < b
+    go (yes u) = below-fill b N (inPlaces w K) z (places-below b w K z h) i u
+    go (no u) = let e : length (fill N (inPlaces w K)) ≤ i = omega (arith, u) in rw (List·getD-eq-default (fill N (inPlaces w K)) 0 e) z
+
+-- equal arguments
+same-search : {p p′ n n′ r r′ : ℕ} {point point′ vs vs′ leads leads′ rows rows′ : List ℕ} → p ≡ p′ → n ≡ n′ → r ≡ r′ → point ≡ point′ → vs ≡ vs′ → leads ≡ leads′ → rows ≡ rows′
+    → firstFrom (valueOfRow p n point vs leads rows) 0 r ≡ firstFrom (valueOfRow p′ n′ point′ vs′ leads′ rows′) 0 r′
+same-search a b c d e f g = cc
+
+same-grown : (m o : ℕ) (rows pivots : List ℕ) {p p′ n n′ r r′ j j′ : ℕ} {points points′ standard standard′ leads leads′ table table′ point point′ vs vs′ : List ℕ} → p ≡ p′ → n ≡ n′ → r ≡ r′ → points ≡ points′
+    → standard ≡ standard′ → leads ≡ leads′ → table ≡ table′ → point ≡ point′ → vs ≡ vs′ → j ≡ j′
+    → grownBy p m o n r points standard leads table rows pivots point vs j ≡ grownBy p′ m o n′ r′ points′ standard′ leads′ table′ rows pivots point′ vs′ j′
+same-grown m o rows pivots a b c d e f g h i k = cc
+
+same-standard : (o : ℕ) {n n′ j j′ : ℕ} {standard standard′ leads leads′ : List ℕ} → n ≡ n′ → standard ≡ standard′ → leads ≡ leads′ → j ≡ j′
+    → standardGrown o n standard (rowAt 8 j leads) ≡ standardGrown o n′ standard′ (rowAt 8 j′ leads′)
+same-standard o a b c d = cc
+
+module _ {p m o n r : ℕ} {points standard leads coefficients rows pivots point : List ℕ} (given : PointsGiven (settingsOf p m o) n points)
+    (drawn : DrawnUp (settingsOf p m o) (pointsIn (settingsOf p m o) n points) r standard leads coefficients rows pivots) (room : n < 64)
+    (new : NewPoint (settingsOf p m o) (pointsIn (settingsOf p m o) n points) point) where
+  abbrev s : Settings
+  s = settingsOf p m o
+
+  abbrev q : ℕ
+  q = p - 1
+
+  abbrev K : List (List ℕ)
+  K = pointsIn s n points
+
+  abbrev S : List (Point (suc q) m)
+  S = pointsUnder s K
+
+  abbrev D : Space
+  D = spaceUnder s
+
+  L : Laws D
+  L = laws q m (orderOf o) (ground given .prime)
+
+  d : Distinct D S
+  d = ground given .distinct
+
+  raised : p ≡ suc q
+  raised = ground given .modulus
+
+  abbrev P : Point (suc q) m
+  P = pointOf q m (take m point)
+
+  long : length point ≡ 8
+  long = ap length (new .filled) ∙ length-fill 8 _
+
+  coordinates : P .0 ≡ take m point
+  unfolding pointOf
+  coordinates =
+      let e : length (take m point) ≡ m = length-take-le m point (omega (arith, long, given .few)) in
+      ap (reduced q) (subst (λ (k : ℕ). fill k (take m point) ≡ take m point) e (fill-whole (take m point)))
+      ∙ residues-kept q (take m point) (below-take (suc q) m point (subst (λ (z : ℕ). Below z point) raised (new .below)))
+
+  lists : map (λ (Q : Point (suc q) m). Q .0) S ≡ K
+  unfolding pointsIn
+  lists = lists-again q m (map (pointOf q m) (groups 8 n points))
+
+  far : (Q : Point (suc q) m) → Among Q S → P ≢ Q
+  unfolding pointsIn
+  far Q mem e = true≢false (sym (true-of (isAmong (take m point) K) (is-among (take m point) K
+      (subst (λ (z : List ℕ). Among z K) (sym (ap (λ (R : Point (suc q) m). R .0) e) ∙ coordinates) (among-lists q m (map (pointOf q m) (groups 8 n points)) Q mem)))) ∙ new .new)
+
+  -- bounds
+  count : length S ≡ n
+  count = ground given .count
+
+  many : length S < 64
+  many = omega (arith, count)
+
+  rows-many : r ≡ length (leadsOf D S)
+  unfolding rowCount
+  rows-many = drawn .row-count
+
+  fits : length (leadsOf D S) + m ≤ 450
+  fits = bound (length (leadsOf D S)) (length S) m many (given .some) (given .few) (leads-length D L S d)
+    where
+      bound : (r n m : ℕ) → n < 64 → 1 ≤ m → m ≤ 8 → r + n ≤ 1 + n * m → r + m ≤ 450
+      bound r n zero a b c e = absurd (omega arith)
+      bound r n (suc m) a b c e = let u : n ≤ 63 = omega arith in let v : m ≤ m = omega arith in let k : n * m ≤ 63 * m = mul-le-mul u v in omega arith
+
+  pub few-rows : r + m ≤ 450
+  few-rows = rw rows-many fits
+
+  pub most-rows : r ≤ 449
+  most-rows = omega (arith, few-rows, given .some)
+
+  -- the tables
+  standard-is : standard ≡ table q m o (given .few) L 512 (standardOf D S)
+  unfolding tablesOf
+  standard-is = drawn .standard-table
+
+  leads-are : leads ≡ table q m o (given .few) L 3592 (leadsOf D S)
+  unfolding tablesOf
+  leads-are = drawn .leads-table
+
+  rows-are : coefficients ≡ fill 28736 (inPlaces 64 (rowsOf D S))
+  unfolding tablesOf
+  rows-are = drawn .coefficients-table
+
+  point-is : point ≡ fill 8 (P .0)
+  point-is = new .filled ∙ ap (fill 8) (sym coordinates)
+
+  pub standard-long : length standard ≡ 512
+  standard-long = ap length standard-is ∙ length-fill 512 _
+
+  pub leads-long : length leads ≡ 3592
+  leads-long = ap length leads-are ∙ length-fill 3592 _
+
+  pub rows-long : length coefficients ≡ 28736
+  rows-long = ap length rows-are ∙ length-fill 28736 _
+
+  pub point-long : length point ≡ 8
+  point-long = long
+
+  pub pivots-inside : (t : ℕ) → t < n → getD pivots t 0 < n
+  pivots-inside = subst (λ (k : ℕ). (t : ℕ) → t < k → getD pivots t 0 < k) (sym (length-map K (pointOf q m)) ∙ count) (drawn .pivot-rows .inside)
+
+  -- coefficients are residues, and exponents small
+  pub rows-below : Below p coefficients
+  rows-below = λ i h. subst (λ (t : List ℕ). getD t i 0 < p) (sym rows-are) (table-small p 64 28736 (rowsOf D S) (omega (arith, raised)) row-below i)
+    where
+      row-below : (c : List ℕ) → Among c (rowsOf D S) → Below p c
+      row-below c mem i h = let w = among-of (rowOf D S) (leadsOf D S) c mem in
+          rw raised (row-is D L S d (w .0) .residues (getD c i 0) (subst (λ (z : List ℕ). Among (getD c i 0) z) (w .2) (getD-among c i 0 h)))
+
+  pub leads-small : (i : ℕ) → getD leads i 0 < 255
+  leads-small i = subst (λ (t : List ℕ). getD t i 0 < 255) (sym leads-are) (table-small 255 8 3592 (map (λ (a : Monomial m). a .0) (leadsOf D S)) (omega arith) lead-below i)
+    where
+      lead-below : (a : List ℕ) → Among a (map (λ (a : Monomial m). a .0) (leadsOf D S)) → Below 255 a
+      lead-below a mem i h = let w = among-of (λ (a : Monomial m). a .0) (leadsOf D S) a mem in
+          rw (w .2) (omega (arith, lead-exponent q m (orderOf o) (ground given .prime) S d (w .0) (w .1) i, many))
+
+  -- the values of the standard monomials
+  abbrev due : List ℕ
+  due = valuesAt q m (orderOf o) (given .few) (standardOf D S) P (few-standard q m o (given .few) L S d many (given .some) fits P far)
+
+  standard-count : length (standardOf D S) ≡ n
+  standard-count = standard-length D L S d ∙ count
+
+  values-are : over (map (λ a. valueAt point a % p) (groups 8 n standard)) (replicate 64 0) ≡ due
+  values-are =
+      let f : Monomial m → List ℕ = λ b. fill 8 (b .0) in
+      let back : groups 8 n standard ≡ map f (standardOf D S) = ap₂ (λ (k : ℕ) (t : List ℕ). groups 8 k t) (sym standard-count) standard-is ∙ read q m o (given .few) L 512 (standardOf D S) (omega (arith, standard-count)) in
+      let value : (b : Monomial m) → valueAt (fill 8 (P .0)) (fill 8 (b .0)) % suc q ≡ valueAt (P .0) (b .0) % suc q =
+      λ b. ap (λ (z : ℕ). z % suc q) (ap₂ valueAt (fill-pad (P .0) (rw (P .1 .0) (given .few))) (fill-pad (b .0) (rw (b .1) (given .few))) ∙ value-pad (P .0) (b .0) (P .1 .0 ∙ sym (b .1))) in
+      let n64 = length-map (standardOf D S) (λ (b : Monomial m). valueAt (P .0) (b .0) % suc q) in
+      ap (λ (z : List ℕ). over z (replicate 64 0))
+      (ap (map (λ a. valueAt point a % p)) back ∙ map-map f (λ a. valueAt point a % p) (standardOf D S)
+      ∙ ap₂ (λ (z : List ℕ) (k : ℕ). map (λ (b : Monomial m). valueAt z (fill 8 (b .0)) % k) (standardOf D S)) point-is raised
+      ∙ map-same (λ (b : Monomial m). valueAt (fill 8 (P .0)) (fill 8 (b .0)) % suc q) (λ b. valueAt (P .0) (b .0) % suc q) (standardOf D S) (λ b mem. value b))
+      ∙ over-zeros (map (λ (b : Monomial m). valueAt (P .0) (b .0) % suc q) (standardOf D S)) 64 (omega (arith, standard-count))
+
+  solves-it : (vs : List ℕ) → length vs ≡ length S → Below (suc q) vs
+      → eliminated (suc q) (length S) rows pivots (length S) (fill 128 vs) ≡ fill 128 (replicate (length S) 0 ++ map (λ c. (suc q - c) % suc q) (interpolantOf D S vs))
+  solves-it = subst (λ (z : ℕ). (vs : List ℕ) → length vs ≡ length S → Below z vs
+      → eliminated z (length S) rows pivots (length S) (fill 128 vs) ≡ fill 128 (replicate (length S) 0 ++ map (λ c. (z - c) % z) (interpolantOf D S vs))) raised
+      (subst (λ (k : ℕ). (vs : List ℕ) → length vs ≡ k → Below p vs → eliminated p k rows pivots k (fill 128 vs) ≡ fill 128 (replicate k 0 ++ map (λ c. (p - c) % p) (interpolantOf D S vs)))
+      (sym (length-map K (pointOf q m))) (drawn .pivot-rows .solves))
+
+  -- what the functions find and leave
+  module _ (vs : List ℕ) (ev : vs ≡ over (map (λ a. valueAt point a % p) (groups 8 n standard)) (replicate 64 0)) (j : ℕ) (ej : j ≡ firstFrom (valueOfRow p n point vs leads coefficients) 0 r) where
+    abbrev wanted : ℕ
+    wanted = lost q m (orderOf o) (given .few) L S d (short q m o (given .few) L S d many (given .some) fits P far) (most q m o (given .few) L S d many (given .some) fits P far) P far
+
+    found : j ≡ wanted
+    found = ej ∙ same-search raised (sym count) rows-many point-is (ev ∙ values-are) leads-are rows-are
+
+    pub inside : j < r
+    inside = rw (found, rows-many) (lost-one q m (orderOf o) (given .few) L S d (short q m o (given .few) L S d many (given .some) fits P far) (most q m o (given .few) L S d many (given .some) fits P far) P far)
+
+    pub added : (k : ℕ) (ns nl nc : List ℕ) → ns ≡ standardGrown o n standard (rowAt 8 j leads) → grown k nl nc ≡ grownBy p m o n r points standard leads coefficients rows pivots point vs j
+        → Tabled s (K ++ (take m point ∷ [])) k ns nl nc
+    unfolding tablesOf rowCount
+    added k ns nl nc es eg =
+        let all : pointsUnder s (K ++ (take m point ∷ [])) ≡ S ++ (P ∷ []) = map-append (pointOf q m) K (take m point ∷ []) in
+        let b = basis-snoc D L S P d far in
+        let l : leadsOf D (P ∷ S) ≡ leadsOf D (pointsUnder s (K ++ (take m point ∷ []))) = sym (b .1) ∙ ap (leadsOf D) (sym all) in
+        let g : grown k nl nc ≡ grown (length (leadsOf D (P ∷ S))) (table q m o (given .few) L 3592 (leadsOf D (P ∷ S))) (fill 28736 (inPlaces 64 (rowsOf D (P ∷ S)))) =
+        eg ∙ same-grown m o rows pivots raised (sym count) rows-many (given .table ∙ ap (λ (z : List (List ℕ)). fill 512 (inPlaces 8 z)) (sym lists)) standard-is leads-are rows-are point-is (ev ∙ values-are) found
+        ∙ grown-are q m o (given .few) L S d many (given .some) fits P far rows pivots solves-it in
+        record {
+          row-count = ap (λ (x : Grown). x .count) g ∙ ap length l;
+          standard-table = es ∙ same-standard o (sym count) standard-is leads-are found ∙ standard-are q m o (given .few) L S d many (given .some) fits P far
+              ∙ ap (λ (z : List (Monomial m)). fill 512 (inPlaces 8 (map (λ (a : Monomial m). a .0) z))) (sym (b .0) ∙ ap (standardOf D) (sym all));
+          leads-table = ap (λ (x : Grown). x .leads) g ∙ ap (λ (z : List (Monomial m)). fill 3592 (inPlaces 8 (map (λ (a : Monomial m). a .0) z))) l;
+          coefficients-table = ap (λ (x : Grown). x .coefficients) g ∙ ap (λ (z : List (List ℕ)). fill 28736 (inPlaces 64 z)) (sym (b .2) ∙ ap (rowsOf D) (sym all));
+        }
