@@ -1,0 +1,96 @@
+#!/usr/bin/env python3
+"""Write the cases of the test program csv_test: stored texts with what the text reader must answer and leave.
+
+usage: tools/text_cases.py VECTORS
+VECTORS holds vectors/, refusals/, edges/ (NAME.csv with the expected print in NAME.txt) and fuzz.txt
+(lines `HEX -> refused N R` and `HEX -> read P M ORDER N`). Points and values are read by Python's own csv module.
+
+A case is 14 bytes, the text, and for an accepted text 8n bytes of points and n of values. The 14 bytes: the text's
+length (3 bytes, the lowest first), the lengths to lend for states (2) and values (1), refusal (1), record (2),
+modulus (2), variables, order and count (1 each).
+"""
+import csv, io, os, re, sys
+
+ORDERS = {"": 0, "lex": 0, "grlex": 1, "grevlex": 2}
+HERE = os.path.join(os.path.dirname(os.path.abspath(__file__)), "..", "crates", "csv_test")
+
+
+def read(text):
+    """What an accepted text says, by Python's csv module."""
+    rows = list(csv.reader(io.StringIO(text.decode("latin-1"), newline=""), strict=True))
+    modulus, word = re.fullmatch(r"mod ([0-9]{1,3})(?: (.*))?", rows[0][-1]).groups("")
+    p, m = int(modulus), len(rows[0]) - 1
+    levels = [[int(field) for field in row] for row in rows[1:]]
+    assert all(len(row) == m + 1 and all(-p < level < p for level in row) for row in levels)
+    points = b"".join(bytes(level % p for level in row[:m]) + bytes(8 - m) for row in levels)
+    return (p, m, ORDERS[word], len(levels)), points + bytes(row[m] % p for row in levels)
+
+
+def case(text, settings=None, refusal=0, record=0, states=520, values=70):
+    """One case; settings are what an accepted text must have, where they are stored too."""
+    said, behind = (0, 0, 0, 0), b""
+    if refusal == 0:
+        said, behind = read(text)
+        assert settings is None or settings == said, (settings, said)
+    p, m, order, n = said
+    head = len(text).to_bytes(3, "little") + states.to_bytes(2, "little") + bytes([values, refusal])
+    return head + record.to_bytes(2, "little") + p.to_bytes(2, "little") + bytes([m, order, n]) + text + behind
+
+
+def stored(folder):
+    for name in sorted(os.listdir(folder)):
+        if not name.endswith(".csv"):
+            continue
+        with open(os.path.join(folder, name), "rb") as file:
+            text = file.read()
+        with open(os.path.join(folder, name[:-4] + ".txt")) as file:
+            words = file.readline().split()
+        if words[0] == "refused":
+            yield case(text, refusal=int(words[1]), record=int(words[2]))
+            continue
+        told = re.search(r"-p(\d+)-m(\d+)-n(\d+)-(\w+)$", name[:-4])
+        settings = told and (int(told[1]), int(told[2]), ORDERS[told[4]], int(told[3]))
+        assert read(text)[0][3] == int(words[1])
+        yield case(text, settings or None)
+
+
+def fuzz(path):
+    with open(path) as file:
+        for line in file:
+            text, told = line.split(" -> ") if not line.startswith("-> ") else ("", line[3:])
+            words = told.split()
+            numbers = tuple(int(word) for word in words[1:])
+            if words[0] == "refused":
+                yield case(bytes.fromhex(text), refusal=numbers[0], record=numbers[1])
+            else:
+                yield case(bytes.fromhex(text), numbers)
+
+
+def lengths():
+    """Short and long buffers: refusal 6, with what comes before and behind it."""
+    good = b"g1,g2,mod 5 grlex\n0,0,1\n1,2,0\n"
+    for states, values in ((512, 64), (520, 64), (512, 70)):
+        yield case(good, states=states, values=values)
+    many = b"a,mod 61\n" + b"".join(b"%d,1\n" % (k % 61) for k in range(65))
+    for states, values in ((511, 64), (512, 63), (0, 0), (520, 0), (0, 70)):
+        for text in (good, b"a,mod 5\n5,1\n", b"a,mod 5\n4,1\n-1,1\n", many):
+            yield case(text, refusal=6, states=states, values=values)
+        yield case(b"a,mod 6\n", refusal=3, record=1, states=states, values=values)
+        yield case(b"mod 5\n", refusal=4, record=1, states=states, values=values)
+        yield case(b"a,mod 5\n1\n", refusal=2, record=2, states=states, values=values)
+    yield case(many, refusal=8, record=66)
+
+
+def main():
+    root = sys.argv[1]
+    cases = [c for name in ("vectors", "refusals", "edges") for c in stored(os.path.join(root, name))]
+    cases += fuzz(os.path.join(root, "fuzz.txt"))
+    cases += lengths()
+    os.makedirs(os.path.join(HERE, "data"), exist_ok=True)
+    with open(os.path.join(HERE, "data", "texts"), "wb") as file:
+        file.write(b"".join(cases))
+    with open(os.path.join(HERE, "stdout"), "w") as file:
+        file.write("%d passed\n" % len(cases))
+
+
+main()
