@@ -3,6 +3,8 @@ use crate::bytes;
 use crate::correct;
 use crate::insert;
 use crate::rows;
+use crate::settings::Settings;
+use crate::tables;
 use residue::inverse::inverse;
 ghost use mathlib.Core.Path.{_≡_};
 ghost use Prim.Native.Nat.{ℕ, _+_, _*_, _<_, _≤_};
@@ -12,7 +14,8 @@ ghost use mathlib.Core.List.{[], _∷_, _++_};
 ghost use Rattle.residue.specs.Modulus.{isModulus};
 ghost use Rattle.residue.specs.Vector.{Below};
 ghost use Rattle.basis.specs.Insertions.{rowAt, withRowAt, correctedRow, reducedRow, grown, productPut, productsPut, othersOf, othersCorrected, standardGrown, grownBy, NewPoint, Tabled};
-ghost use Rattle.basis.specs.Tables.{pointsIn};
+ghost use Rattle.basis.specs.Tables.{rowCount, tablesOf, pointsIn};
+ghost use Rattle.basis.specs.Layout.{over};
 ghost use Rattle.basis.specs.Drawing.{settingsOf, PointsGiven, DrawnUp};
 
 // The row of a monomial put into the table of coefficients before row i of k: its values at the n points are eliminated, and what they leave is corrected.
@@ -326,4 +329,66 @@ pub fn add_to(
         new_leads,
         new_coefficients,
     )
+}
+
+// The new point and the tables of all points, written to lent tables that hold those of the points before. Answers the row count.
+pub fn add_accepted(
+    settings: Settings,
+    n: usize,
+    r: usize,
+    points: &[u8],
+    rows: &[u16],
+    pivots: &[u8],
+    point: &[u8],
+    states: &mut [u8],
+    standard: &mut [u8],
+    leads: &mut [u8],
+    coefficients: &mut [u8],
+) -> usize
+    requires { ⌜ PointsGiven settings n (now points) ⌝ }
+    requires { ⌜ (512 ≤ length (now states)) × (512 ≤ length (now standard)) × (3592 ≤ length (now leads)) × (28736 ≤ length (now coefficients)) ⌝ }
+    requires { ⌜ DrawnUp settings (pointsIn settings n (now points)) r (take 512 (now standard)) (take 3592 (now leads)) (take 28736 (now coefficients)) (now rows) (now pivots) ⌝ }
+    requires { ⌜ n < 64 ⌝ }
+    requires { ⌜ NewPoint settings (pointsIn settings n (now points)) (now point) ⌝ }
+    ensures { λ k. ⌜ k ≡ rowCount settings (pointsIn settings n (now (points .entry)) ++ (take (settings .variables) (now (point .entry)) ∷ [])) ⌝ }
+    ensures { λ k. ⌜ now (states .exit) ≡ over (tablesOf settings (pointsIn settings n (now (points .entry)) ++ (take (settings .variables) (now (point .entry)) ∷ [])) .states) (now (states .entry)) ⌝ }
+    ensures { λ k. ⌜ now (standard .exit) ≡ over (tablesOf settings (pointsIn settings n (now (points .entry)) ++ (take (settings .variables) (now (point .entry)) ∷ [])) .standard) (now (standard .entry)) ⌝ }
+    ensures { λ k. ⌜ now (leads .exit) ≡ over (tablesOf settings (pointsIn settings n (now (points .entry)) ++ (take (settings .variables) (now (point .entry)) ∷ [])) .leads) (now (leads .entry)) ⌝ }
+    ensures { λ k. ⌜ now (coefficients .exit) ≡ over (tablesOf settings (pointsIn settings n (now (points .entry)) ++ (take (settings .variables) (now (point .entry)) ∷ [])) .coefficients) (now (coefficients .entry)) ⌝ }
+{
+    let mut new_states = [0u8; 512];
+    bytes::copy(points, &mut new_states);
+    let from = 8 * n;
+    bytes::copy(point, &mut new_states[from..from + 8]);
+    let mut new_standard = [0u8; 512];
+    let mut new_leads = [0u8; 3592];
+    let mut new_coefficients = [0u8; 28736];
+    let k = add_to(
+        settings.modulus as u16,
+        settings.variables as usize,
+        settings.order as u8,
+        n,
+        r,
+        points,
+        &standard[..512],
+        &leads[..3592],
+        &coefficients[..28736],
+        rows,
+        pivots,
+        point,
+        &mut new_standard,
+        &mut new_leads,
+        &mut new_coefficients,
+    );
+    tables::write(
+        &new_states,
+        &new_standard,
+        &new_leads,
+        &new_coefficients,
+        states,
+        standard,
+        leads,
+        coefficients,
+    );
+    k
 }

@@ -7,7 +7,7 @@ use Prim.Native.Nat.{ℕ, zero, suc, _+_, _*_, _-_, _%_, _<_, _≤_}
 use native.Mathlib.Nat.{mod-eq-of-lt, mul-le-mul}
 use native.Mathlib.Decide.{decLt}
 use native.Mathlib.Omega.{arith}
-use lib.ListN.{length, getD, take, replicate, length-map, List·getD-eq-default}
+use lib.ListN.{length, getD, take, drop, replicate, length-map, List·getD-eq-default}
 use lib.Seq.{length-take-le}
 use lib.Dec.{T}
 use Rattle.residue.specs.Lists.{Among}
@@ -32,7 +32,8 @@ use Rattle.residue.proofs.Vectors.{below-take}
 use Rattle.basis.proofs.Equality.{is-among, true-of}
 use Rattle.basis.proofs.Instance.{laws, point-of, lead-exponent}
 use Rattle.basis.proofs.Layouts.{length-fill, fill-whole, fill-at}
-use Rattle.basis.proofs.Places.{table-groups, over-zeros}
+use Rattle.basis.proofs.Places.{places-append, over-zeros, place-more}
+use Rattle.basis.proofs.PointTables.{length-points, points-in}
 use Rattle.basis.proofs.ValueRows.{below-fill}
 use Rattle.basis.proofs.ideal.Laws.{Laws}
 use Rattle.basis.proofs.ideal.Lists.{getD-among}
@@ -261,3 +262,20 @@ module _ {p m o n r : ℕ} {points standard leads coefficients rows pivots point
           leads-table = ap (λ (x : Grown). x .leads) g ∙ ap (λ (z : List (Monomial m)). fill 3592 (inPlaces 8 (map (λ (a : Monomial m). a .0) z))) l;
           coefficients-table = ap (λ (x : Grown). x .coefficients) g ∙ ap (λ (z : List (List ℕ)). fill 28736 (inPlaces 64 z)) (sym (b .2) ∙ ap (rowsOf D) (sym all));
         }
+
+-- the table of points with the new one in its place
+pub states-more : (s : Settings) (n : ℕ) {points point : List ℕ} → PointsGiven s n points → n < 64 → NewPoint s (pointsIn s n points) point → (t ys : List ℕ) (k : ℕ) → t ≡ points → k ≡ 8
+    → ys ≡ over point (take k (drop (8 * n) t)) → take (8 * n) t ++ (ys ++ drop k (drop (8 * n) t)) ≡ tablesOf s (pointsIn s n points ++ (take (s .variables) point ∷ [])) .states
+unfolding tablesOf inPlaces
+states-more s n {points} {point} given room new t ys k et ek ey =
+    let K : List (List ℕ) = pointsIn s n points in
+    let P : List ℕ = take (s .variables) point in
+    let count : length K ≡ n = ap length (sym (points-in s n points)) ∙ length-points (s .modulus) (s .variables) n points in
+    let long : length point ≡ 8 = ap length (new .filled) ∙ length-fill 8 P in
+    let same : fill 8 point ≡ fill 8 P = subst (λ (j : ℕ). fill j point ≡ point) long (fill-whole point) ∙ new .filled in
+    place-more 8 512 K point t ys (8 * n) k (et ∙ given .table) (ap (λ (j : ℕ). 8 * j) (sym count)) ek (omega arith) (omega arith) ey
+    ∙ ap (fill 512) (places-append 8 K (point ∷ []) ∙ ap (λ (z : List ℕ). inPlaces 8 K ++ (z ++ [])) same ∙ sym (places-append 8 K (P ∷ [])))
+
+pub states-long : (s : Settings) (S : List (List ℕ)) → length (tablesOf s S .states) ≡ 512
+unfolding tablesOf
+states-long s S = length-fill 512 (inPlaces 8 S)
