@@ -3,3 +3,4 @@ pub mod Given
 pub mod Refusing
 pub mod Answers
 pub mod Outcomes
+pub mod Known

@@ -1,6 +1,7 @@
-// The public calls. Every refusal is decided before a lent byte is written.
+// The public calls that draw up and check tables. Every refusal is decided before a lent byte is written.
 use crate::draw::draw;
 use crate::points;
+use crate::recognise::recognise;
 use crate::refusal;
 use crate::settings::Answer;
 use crate::settings::Settings;
@@ -11,6 +12,7 @@ ghost use lib.ListN.{length};
 ghost use Rattle.basis.specs.Layout.{over};
 ghost use Rattle.basis.specs.Tables.{fourTables, rowCount, tablesOf, pointsIn};
 ghost use Rattle.basis.specs.Adding.{ended, drawOutcome};
+ghost use Rattle.basis.specs.Solving.{checkRefusal};
 ghost use Rattle.basis.specs.Drawing.{PointsGiven};
 
 // The basis of the n points of a table, written to lent tables: the row count.
@@ -112,4 +114,48 @@ pub fn draw_up(
         n: n as u8,
         r: r as u16,
     }
+}
+
+// Checking lent tables.
+pub fn check(
+    settings: Settings,
+    n: u64,
+    r: u64,
+    states: &[u8],
+    standard: &[u8],
+    leads: &[u8],
+    coefficients: &[u8],
+) -> u8
+    ensures { λ k. ⌜ k ≡ checkRefusal settings n r (fourTables (now (states .entry)) (now (standard .entry)) (now (leads .entry)) (now (coefficients .entry))) ⌝ }
+{
+    let refusal = refusal::check_sizes(
+        settings,
+        states.len(),
+        standard.len(),
+        leads.len(),
+        coefficients.len(),
+        n,
+    );
+    if refusal != 0 {
+        return refusal;
+    }
+    let mut points = [0u8; 512];
+    let mut rows = [0u16; 8192];
+    let mut pivots = [0u8; 64];
+    let known = recognise(
+        settings,
+        n as usize,
+        r,
+        states,
+        standard,
+        leads,
+        coefficients,
+        &mut points,
+        &mut rows,
+        &mut pivots,
+    );
+    if known {
+        return 0;
+    }
+    10
 }

@@ -9,6 +9,7 @@ ghost use Rattle.residue.specs.Vector.{Below, dotOf};
 ghost use Rattle.monomial.specs.Monomial.{valueAt};
 ghost use Rattle.basis.specs.Levels.{groups};
 ghost use Rattle.basis.specs.Layout.{over};
+ghost use Rattle.basis.specs.Interpolants.{termValues};
 ghost use Rattle.basis.specs.Solving.{allZero, withinVariables};
 
 pub fn all_zero(a: &[u8]) -> bool
@@ -70,7 +71,7 @@ pub fn put_values(
     requires { ⌜ length (now exponents) ≡ 8 * length (now coefficients) ⌝ }
     requires { ⌜ (8 * n ≤ length (now points)) × Below p (now points) ⌝ }
     requires { ⌜ n ≤ length (now work) ⌝ }
-    ensures { λ _. ⌜ now (work .exit) ≡ over (map (λ P. dotOf (now (coefficients .entry)) (map (valueAt P) (groups 8 (length (now (coefficients .entry))) (now (exponents .entry)))) % p) (groups 8 n (now (points .entry)))) (now (work .entry)) ⌝ }
+    ensures { λ _. ⌜ now (work .exit) ≡ over (termValues p (now (coefficients .entry)) (now (exponents .entry)) n (now (points .entry))) (now (work .entry)) ⌝ }
 {
     for i in 0..n {
         let place = 8 * i;

@@ -1,5 +1,7 @@
 // What elimination of the values at all points gives: the interpolant, and the variables that occur in it.
 use crate::bytes;
+use crate::points;
+use crate::polynomial::put_values;
 use crate::rows;
 use residue::arithmetic;
 ghost use mathlib.Core.Path.{_≡_};
@@ -7,11 +9,11 @@ ghost use mathlib.Core.List.{map};
 ghost use Prim.Native.Nat.{ℕ, _+_, _-_, _*_, _%_, _<_, _≤_};
 ghost use lib.ListN.{length, getD, take, replicate};
 ghost use Rattle.residue.specs.Vector.{Below};
-ghost use Rattle.basis.specs.Levels.{groups};
+ghost use Rattle.basis.specs.Levels.{residues, groups};
 ghost use Rattle.basis.specs.Layout.{fill, over};
 ghost use Rattle.basis.specs.Solving.{occurs};
 ghost use Rattle.basis.specs.Working.{eliminated};
-ghost use Rattle.basis.specs.Interpolants.{solution, names};
+ghost use Rattle.basis.specs.Interpolants.{solution, termValues, names};
 
 // Minus residues, as bytes.
 pub fn put_negatives(p: u16, from: &[u16], to: &mut [u8])
@@ -48,6 +50,49 @@ pub fn solve(p: u16, n: usize, rows: &[u16], pivots: &[u8], work: &mut [u16], ou
 {
     rows::eliminate(p, n, n, rows, pivots, work);
     put_answer(p, &work[n..n + n], &mut out[..64]);
+}
+
+// The interpolant of the residues of levels, by the pivot rows of all n points.
+pub fn solve_values(p: u16, n: usize, values: &[i8], rows: &[u16], pivots: &[u8], out: &mut [u8])
+    requires { ⌜ (2 ≤ p) × (p ≤ 61) ⌝ }
+    requires { ⌜ (n ≤ 64) × ((length (now values) ≡ n) × (64 ≤ length (now out))) ⌝ }
+    requires { ⌜ (128 * n ≤ length (now rows)) × (n ≤ length (now pivots)) ⌝ }
+    requires { ⌜ (Below p (now rows)) × (Below p (residues p (now values))) ⌝ }
+    requires { ⌜ ((t : ℕ) → t < n → getD (now pivots) t 0 < n) ⌝ }
+    ensures { λ _. ⌜ now (out .exit) ≡ over (fill 64 (solution p n (now (rows .entry)) (now (pivots .entry)) (fill 128 (residues p (now (values .entry)))))) (now (out .entry)) ⌝ }
+{
+    let mut found = [0u8; 64];
+    points::put_residues(p as u8, values, &mut found);
+    let mut work = [0u16; 128];
+    bytes::widen(&found[..n], &mut work);
+    solve(p, n, rows, pivots, &mut work, out);
+}
+
+// The interpolant of a polynomial's values at the n points of a table.
+pub fn solve_terms(
+    p: u16,
+    coefficients: &[i8],
+    exponents: &[u8],
+    n: usize,
+    points: &[u8],
+    rows: &[u16],
+    pivots: &[u8],
+    out: &mut [u8],
+)
+    requires { ⌜ (2 ≤ p) × (p ≤ 61) ⌝ }
+    requires { ⌜ (length (now coefficients) ≤ 256) × (length (now exponents) ≡ 8 * length (now coefficients)) ⌝ }
+    requires { ⌜ (n ≤ 64) × ((length (now points) ≡ 512) × (64 ≤ length (now out))) ⌝ }
+    requires { ⌜ (128 * n ≤ length (now rows)) × (n ≤ length (now pivots)) ⌝ }
+    requires { ⌜ (Below p (now rows)) × ((Below p (residues p (now coefficients))) × (Below p (now points))) ⌝ }
+    requires { ⌜ ((t : ℕ) → t < n → getD (now pivots) t 0 < n) ⌝ }
+    ensures { λ _. ⌜ now (out .exit) ≡ over (fill 64 (solution p n (now (rows .entry)) (now (pivots .entry)) (fill 128 (termValues p (residues p (now (coefficients .entry))) (now (exponents .entry)) n (now (points .entry)))))) (now (out .entry)) ⌝ }
+{
+    let mut found = [0u8; 256];
+    points::put_residues(p as u8, coefficients, &mut found);
+    let count = coefficients.len();
+    let mut work = [0u16; 128];
+    put_values(p, &found[..count], exponents, n, points, &mut work);
+    solve(p, n, rows, pivots, &mut work, out);
 }
 
 // Whether variable k+1 occurs in the combination of n standard monomials with these coefficients.

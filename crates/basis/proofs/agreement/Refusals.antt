@@ -15,7 +15,7 @@ use Rattle.basis.specs.Levels.{noRepeat}
 use Rattle.basis.specs.Layout.{fill, over, begins}
 use Rattle.basis.specs.Tables.{Tables, rowCount, tablesOf, written, tooShort, pointsIn, recognised}
 use Rattle.basis.proofs.Cases.{none-holds, first-on}
-use Rattle.basis.proofs.Equality.{true-of, of-true, and-left, and-right}
+use Rattle.basis.proofs.Equality.{true-of, of-true, neither, and-left, and-right}
 use Rattle.basis.proofs.Layouts.{length-fill, length-over, begins-over}
 use Rattle.basis.proofs.agreement.Points.{Points, points-back}
 
@@ -57,19 +57,15 @@ not-short t h = simp (le-ltb (length (t .states)) 512 (h .states), le-ltb (lengt
 pub large-of : (t : Tables) → tooShort t ≡ false → Large t
 unfolding tooShort
 large-of t e =
-    let a = none (ltb (length (t .states)) 512 || ltb (length (t .standard)) 512 || ltb (length (t .leads)) 3592) (ltb (length (t .coefficients)) 28736) e in
-    let b = none (ltb (length (t .states)) 512 || ltb (length (t .standard)) 512) (ltb (length (t .leads)) 3592) (a .0) in
-    let c = none (ltb (length (t .states)) 512) (ltb (length (t .standard)) 512) (b .0) in
+    let a = neither (ltb (length (t .states)) 512 || ltb (length (t .standard)) 512 || ltb (length (t .leads)) 3592) (ltb (length (t .coefficients)) 28736) e in
+    let b = neither (ltb (length (t .states)) 512 || ltb (length (t .standard)) 512) (ltb (length (t .leads)) 3592) (a .0) in
+    let c = neither (ltb (length (t .states)) 512) (ltb (length (t .standard)) 512) (b .0) in
     record {
       states = ltb-false (length (t .states)) 512 (c .0);
       standard = ltb-false (length (t .standard)) 512 (c .1);
       leads = ltb-false (length (t .leads)) 3592 (b .1);
       coefficients = ltb-false (length (t .coefficients)) 28736 (a .1);
     }
-  where
-    none : (a b : Bool) → (a || b) ≡ false → (a ≡ false) × (b ≡ false)
-    none true b z = absurd (true≢false z)
-    none false b z = (refl, z)
 
 -- writing keeps the lengths
 kept : (k : ℕ) (l t : List ℕ) → k ≤ length t → k ≤ length (over (fill k l) t)

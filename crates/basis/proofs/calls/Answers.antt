@@ -2,9 +2,10 @@
 use mathlib.Core.Path.{_≡_, refl, sym, _∙_, ap, ap₂, subst}
 use mathlib.Core.List.{List, [], _∷_, _++_, map, append-assoc, append-nil}
 use mathlib.Core.Logic.{inl, inr}
-use Prim.Native.Nat.{ℕ, zero, suc, _+_, _-_, _%_, _<_, _≤_}
-use native.Mathlib.Nat.{mod-self, mod-eq-of-lt}
+use Prim.Native.Nat.{ℕ, zero, suc, _+_, _-_, _*_, _%_, _<_, _≤_}
+use native.Mathlib.Nat.{mod-lt, mod-self, mod-eq-of-lt}
 use native.Mathlib.Omega.{arith}
+use lib.IntN.{ℤ}
 use lib.ListN.{length, getD, take, drop, replicate, length-map, length-replicate, length-append}
 use lib.Seq.{take-at, drop-at}
 use lib.Dec.{T}
@@ -17,12 +18,12 @@ use Rattle.residue.proofs.Moduli.{modulus-range}
 use Rattle.monomial.specs.Monomial.{valueAt as valueOf}
 use Rattle.monomial.specs.Order.{orderOf}
 use Rattle.basis.specs.declared.settings.Settings.{Settings}
-use Rattle.basis.specs.Layout.{fill, inPlaces}
+use Rattle.basis.specs.Layout.{fill, inPlaces, over}
 use Rattle.basis.specs.BasisOf.{standardOf, valueAt, interpolantOf, remainderOf}
 use Rattle.basis.specs.Tables.{spaceUnder, pointsUnder, tablesOf}
 use Rattle.basis.specs.Polynomial.{Polynomial, eval}
-use Rattle.basis.specs.Instance.{Point, pointOf}
-use Rattle.basis.specs.Levels.{groups}
+use Rattle.basis.specs.Instance.{Point, reduced, pointOf}
+use Rattle.basis.specs.Levels.{inRange, residues, groups}
 use Rattle.basis.specs.Solving.{withinVariables, polynomialOf}
 use Rattle.basis.specs.Interpolants.{solution, names}
 use Rattle.basis.specs.Drawing.{Solves}
@@ -33,13 +34,27 @@ use Rattle.basis.proofs.Wiring.{names-filled}
 use Rattle.basis.proofs.ideal.Lists.{getD-among, index-of}
 use Rattle.basis.proofs.ideal.Basis.{interpolant-fits, interpolant-agree, value-at}
 use Rattle.basis.proofs.ideal.Counts.{standard-length}
-use Rattle.basis.proofs.agreement.Points.{Points, point-same}
+use Rattle.basis.proofs.agreement.Points.{Points, point-same, residues-same}
 use Rattle.basis.proofs.agreement.Refusals.{Accepted}
 use Rattle.basis.proofs.agreement.Drawings.{laws-under, distinct-points}
 
 -- a point of the space
 abbrev pub pointUnder : (s : Settings) → List ℕ → Point (suc (s .modulus - 1)) (s .variables)
 pointUnder s = pointOf (s .modulus - 1) (s .variables)
+
+-- residues are below p
+pub below-reduced : (q : ℕ) (l : List ℕ) → reduced q l ≡ l → Below (suc q) l
+below-reduced q l e i h = subst (λ (x : ℕ). x < suc q) (sym (map-at (λ x. x % suc q) l 0 0 i h) ∙ ap (λ (k : List ℕ). getD k i 0) e) (mod-lt (getD l i 0) (omega arith))
+
+pub residues-below : (p : ℕ) (zs : List ℤ) → 0 < p → T (inRange p zs) → Below p (residues p zs)
+residues-below p zs z t =
+    let e : suc (p - 1) ≡ p = omega arith in
+    subst (λ (n : ℕ). Below n (residues p zs)) e (below-reduced (p - 1) (residues p zs) (residues-same p zs z t))
+
+-- the front of a list of zeros, written over
+pub front-of : (l found : List ℕ) (k n : ℕ) → found ≡ over l (replicate k 0) → length l ≡ n → take n found ≡ l
+unfolding over
+front-of l found k n e h = ap (take n) e ∙ take-at l _ n h
 
 -- minus minus a residue
 twice : (p c : ℕ) → c < p → (p - (p - c) % p) % p ≡ c
@@ -88,6 +103,17 @@ module _ (s : Settings) (ok : Accepted s) (S : List (List ℕ)) (h : Points s S)
       ap (λ (w : List ℕ). map (λ x. (s .modulus - x) % s .modulus) (take n (drop n w))) (e .solves vs l b)
       ∙ ap (map (λ x. (s .modulus - x) % s .modulus)) (behind n 128 _ (length-map (interpolant vs) _ ∙ length-interpolant vs) (omega (arith, h .few)))
       ∙ back (s .modulus) (interpolant vs) (λ c w. rw p (f .residues c w))
+
+  -- n pivot rows, for n points
+  module _ (n : ℕ) (is : length S ≡ n) (rows pivots : List ℕ) (e : Solves s S rows pivots) where
+    pub room-rows : (128 * n ≤ length rows) × (n ≤ length pivots)
+    room-rows = let a = e .long-rows in let b = e .long-pivots in let c = h .few in (omega arith, omega arith)
+
+    pub inside-rows : (t : ℕ) → t < n → getD pivots t 0 < n
+    inside-rows = subst (λ (k : ℕ). (t : ℕ) → t < k → getD pivots t 0 < k) is (e .inside)
+
+    pub solved : (vs : List ℕ) → length vs ≡ n → Below (s .modulus) vs → solution (s .modulus) n rows pivots (fill 128 vs) ≡ interpolant vs
+    solved vs l b = ap (λ (k : ℕ). solution (s .modulus) k rows pivots (fill 128 vs)) (sym is) ∙ solution-is rows pivots e vs (l ∙ sym is) b
 
   -- The remainder: the polynomial's values at the points, reduced.
   module _ (f : Polynomial (spaceUnder s)) where

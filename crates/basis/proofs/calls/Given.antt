@@ -106,3 +106,8 @@ pub drawn-long : (s : Settings) (S : List (List ℕ)) (r : ℕ) (standard leads 
 unfolding tablesOf
 drawn-long s S r standard leads coefficients rows pivots h =
     (ap length (h .standard-table) ∙ length-fill 512 _, (ap length (h .leads-table) ∙ length-fill 3592 _, ap length (h .coefficients-table) ∙ length-fill 28736 _))
+
+-- of the same points
+pub drawn-of : {s : Settings} {S K : List (List ℕ)} {r : ℕ} {standard leads coefficients rows pivots : List ℕ} → S ≡ K → DrawnUp s S r standard leads coefficients rows pivots
+    → DrawnUp s K r standard leads coefficients rows pivots
+drawn-of {s} {S} {K} {r} {standard} {leads} {coefficients} {rows} {pivots} e h = subst (λ (Z : List (List ℕ)). DrawnUp s Z r standard leads coefficients rows pivots) e h

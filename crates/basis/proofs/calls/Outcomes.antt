@@ -1,8 +1,8 @@
 -- The outcome of each call by what its tests found, in the order of checking.
-use mathlib.Core.Path.{_≡_, _∙_}
-use mathlib.Core.Bool.{Bool, true, false, not}
-use mathlib.Core.List.{List, [], _∷_, _++_}
-use Prim.Native.Nat.{ℕ, _/_, _%_}
+use mathlib.Core.Path.{_≡_, refl, ap, _∙_}
+use mathlib.Core.Bool.{Bool, true, false, not, _&&_, _||_}
+use mathlib.Core.List.{List, [], _∷_, _++_, map}
+use Prim.Native.Nat.{ℕ, _*_, _/_, _%_}
 use native.Mathlib.Omega.{arith}
 use lib.IntN.{ℤ}
 use lib.ListN.{length}
@@ -10,10 +10,12 @@ use lib.Dec.{eqb, ltb}
 use Rattle.basis.specs.declared.settings.Settings.{Settings}
 use Rattle.basis.specs.Refusal.{Case, firstOf}
 use Rattle.basis.specs.Settings.{settingsCases}
-use Rattle.basis.specs.Levels.{inRange, noRepeat}
-use Rattle.basis.specs.Tables.{Tables, rowCount, tablesOf, written, tooShort}
-use Rattle.basis.specs.Layout.{over}
+use Rattle.basis.specs.Levels.{inRange, groups, noRepeat}
+use Rattle.basis.specs.BasisOf.{standardOf}
+use Rattle.basis.specs.Tables.{Tables, spaceUnder, pointsUnder, pointsIn, rowCount, tablesOf, written, tooShort, recognised}
+use Rattle.basis.specs.Layout.{fill, over}
 use Rattle.basis.specs.Adding.{ended, refused, holding, pointsOffered, drawCases, drawRefusal, drawOutcome}
+use Rattle.basis.specs.Solving.{checkRefusal, valuesCases, interpolantIn, Names, WiringEnds, withinVariables, remainderCases}
 use Rattle.basis.proofs.calls.Refusing.{sizes, by-size, by-rest, when-refused, when-accepted}
 
 -- two tests after the sizes: the first that fails decides
@@ -70,3 +72,96 @@ module _ (s : Settings) (t : Tables) (levels : List ℤ) where
       → ended (record { refusal = 0; n = n; r = r }) a b c d ≡ holding s (pointsOffered s levels) t
   unfolding holding written
   drawn n r a b c d e f g h i j = rw (e, f, g, h, i, j)
+
+-- Checking.
+module _ (s : Settings) (n r : ℕ) (t : Tables) where
+  abbrev pub checkSizes : ℕ
+  checkSizes = firstOf (settingsCases s ++ sizes s (tooShort t) false (ltb 64 n))
+
+  -- a case that never holds is none
+  whole : firstOf (settingsCases s ++ (sizes s (tooShort t) false (ltb 64 n) ++ ((not (recognised s n r t), 10) ∷ []))) ≡ checkRefusal s n r t
+  unfolding firstOf settingsCases checkRefusal
+  whole = refl
+
+  pub check-size : (k : ℕ) → k ≡ checkSizes → (k ≡ 0 → ⊥) → k ≡ checkRefusal s n r t
+  check-size k e z = by-size s (tooShort t) false (ltb 64 n) _ k e z ∙ whole
+
+  pub check-told : checkSizes ≡ 0 → (k : ℕ) → k ≡ firstOf ((not (recognised s n r t), 10) ∷ []) → k ≡ checkRefusal s n r t
+  check-told e k f = f ∙ by-rest s (tooShort t) false (ltb 64 n) _ e ∙ whole
+
+-- Values at the points.
+module _ (size : ℕ) (s : Settings) (n r : ℕ) (t : Tables) (values : List ℤ) (buffer : List ℕ) where
+  abbrev short : Bool
+  short = tooShort t || ltb (length buffer) size
+
+  abbrev pub valuesSizes : ℕ
+  valuesSizes = firstOf (settingsCases s ++ sizes s short (not (eqb (length values) n)) (ltb 64 n))
+
+  abbrev judged : List Case
+  judged = two 9 (inRange (s .modulus) values) 10 (recognised s n r t)
+
+  after : valuesSizes ≡ 0 → firstOf judged ≡ firstOf (valuesCases size s n r t values buffer)
+  unfolding valuesCases two
+  after e = by-rest s short (not (eqb (length values) n)) (ltb 64 n) judged e
+
+  pub values-size : (k : ℕ) → k ≡ valuesSizes → (k ≡ 0 → ⊥) → k ≡ firstOf (valuesCases size s n r t values buffer)
+  unfolding valuesCases two
+  values-size k e z = by-size s short (not (eqb (length values) n)) (ltb 64 n) judged k e z
+
+  pub values-range : valuesSizes ≡ 0 → inRange (s .modulus) values ≡ false → 9 ≡ firstOf (valuesCases size s n r t values buffer)
+  values-range e f = two-first 9 10 _ f ∙ after e
+
+  pub values-not : valuesSizes ≡ 0 → inRange (s .modulus) values ≡ true → recognised s n r t ≡ false → 10 ≡ firstOf (valuesCases size s n r t values buffer)
+  values-not e f g = two-second 9 10 f g ∙ after e
+
+  pub values-good : valuesSizes ≡ 0 → inRange (s .modulus) values ≡ true → recognised s n r t ≡ true → 0 ≡ firstOf (valuesCases size s n r t values buffer)
+  values-good e f g = two-none 9 10 f g ∙ after e
+
+-- A polynomial.
+module _ (s : Settings) (n r : ℕ) (t : Tables) (coefficients : List ℤ) (exponents buffer : List ℕ) where
+  abbrev small : Bool
+  small = tooShort t || ltb (length buffer) 64
+
+  abbrev many : Bool
+  many = ltb 64 n || ltb 256 (length coefficients)
+
+  abbrev pub remainderSizes : ℕ
+  remainderSizes = firstOf (settingsCases s ++ sizes s small (not (eqb (length exponents) (8 * length coefficients))) many)
+
+  abbrev within : Bool
+  within = withinVariables (s .variables) (groups 8 (length coefficients) exponents)
+
+  abbrev terms : List Case
+  terms = two 9 (inRange (s .modulus) coefficients && within) 10 (recognised s n r t)
+
+  later : remainderSizes ≡ 0 → firstOf terms ≡ firstOf (remainderCases s n r t coefficients exponents buffer)
+  unfolding remainderCases two
+  later e = by-rest s small (not (eqb (length exponents) (8 * length coefficients))) many terms e
+
+  pub remainder-size : (k : ℕ) → k ≡ remainderSizes → (k ≡ 0 → ⊥) → k ≡ firstOf (remainderCases s n r t coefficients exponents buffer)
+  unfolding remainderCases two
+  remainder-size k e z = by-size s small (not (eqb (length exponents) (8 * length coefficients))) many terms k e z
+
+  pub remainder-range : remainderSizes ≡ 0 → inRange (s .modulus) coefficients ≡ false → 9 ≡ firstOf (remainderCases s n r t coefficients exponents buffer)
+  remainder-range e f = two-first 9 10 _ (ap (λ (b : Bool). b && within) f) ∙ later e
+
+  pub remainder-variable : remainderSizes ≡ 0 → inRange (s .modulus) coefficients ≡ true → within ≡ false → 9 ≡ firstOf (remainderCases s n r t coefficients exponents buffer)
+  remainder-variable e f g = two-first 9 10 _ (ap (λ (b : Bool). b && within) f ∙ g) ∙ later e
+
+  pub remainder-not : remainderSizes ≡ 0 → inRange (s .modulus) coefficients ≡ true → within ≡ true → recognised s n r t ≡ false
+      → 10 ≡ firstOf (remainderCases s n r t coefficients exponents buffer)
+  remainder-not e f g h = two-second 9 10 (ap (λ (b : Bool). b && within) f ∙ g) h ∙ later e
+
+  pub remainder-good : remainderSizes ≡ 0 → inRange (s .modulus) coefficients ≡ true → within ≡ true → recognised s n r t ≡ true
+      → 0 ≡ firstOf (remainderCases s n r t coefficients exponents buffer)
+  remainder-good e f g h = two-none 9 10 (ap (λ (b : Bool). b && within) f ∙ g) h ∙ later e
+
+-- The wiring list.
+module _ (s : Settings) (n r : ℕ) (t : Tables) (values : List ℤ) (buffer : List ℕ) where
+  pub wiring-refused : (k : ℕ) → k ≡ firstOf (valuesCases 8 s n r t values buffer) → (k ≡ 0 → ⊥) → WiringEnds s n r t values buffer (record { refusal = k; count = 0 }) buffer
+  wiring-refused k e z = record { number = e; alone = λ y. (refl, refl); list = λ y. absurd (z y) }
+
+  pub wiring-accepted : 0 ≡ firstOf (valuesCases 8 s n r t values buffer) → (l : List ℕ)
+      → Names (s .variables) (interpolantIn s n t values) (map (λ a. a .0) (standardOf (spaceUnder s) (pointsUnder s (pointsIn s n (t .states))))) l
+      → (k : ℕ) → k ≡ length l → (end : List ℕ) → end ≡ over (fill 8 l) buffer → WiringEnds s n r t values buffer (record { refusal = 0; count = k }) end
+  wiring-accepted e l is k f end g = record { number = e; alone = λ y. absurd (y refl); list = λ y. (l, is, f, g) }

@@ -1,16 +1,16 @@
 -- The number of a call: the refusals on numbers first, then its own tests; and its outcome by the number.
 use mathlib.Core.Path.{_≡_, refl, sym, _∙_, ap}
-use mathlib.Core.Bool.{Bool, false, _&&_, and-assoc}
+use mathlib.Core.Bool.{Bool, true, false, _&&_, and-assoc, true≢false}
 use mathlib.Core.List.{List, [], _∷_, _++_, append-assoc}
 use Prim.Native.Nat.{ℕ}
 use native.Mathlib.Decide.{ℕ-discrete}
 use lib.Dec.{eqb}
-use borrow.Author.Tests.{ne-eqb}
+use borrow.Author.Tests.{eq-eqb, ne-eqb}
 use Rattle.basis.specs.declared.settings.Settings.{Settings}
 use Rattle.basis.specs.Refusal.{Case, firstOf}
 use Rattle.basis.specs.Settings.{settingsCases}
 use Rattle.basis.specs.Levels.{noRepeat}
-use Rattle.basis.specs.Tables.{Tables, rowCount, tablesOf, pointsIn, recognised}
+use Rattle.basis.specs.Tables.{Tables, fourTables, rowCount, tablesOf, pointsIn, recognised}
 use Rattle.basis.specs.Adding.{Outcome, refused, byRefusal}
 use Rattle.basis.specs.Solving.{Filled, filling}
 use Rattle.basis.specs.Layout.{over, begins}
@@ -24,6 +24,7 @@ module _ (s : Settings) (short wrong many : Bool) where
 
   -- what it says that none of them holds
   pub record Passed : Type 0 where
+    pub none : firstOf (settingsCases s) ≡ 0
     pub settings : Accepted s
     pub long : short ≡ false
     pub right : wrong ≡ false
@@ -37,7 +38,7 @@ module _ (s : Settings) (short wrong many : Bool) where
       go (no z) = absurd (z (first-stop (settingsCases s) sizes z ∙ e))
 
   pub passed : firstOf (settingsCases s ++ sizes) ≡ 0 → Passed
-  passed e = let n = none-of e in record { settings = accepted s (n .0); long = n .1 .0; right = n .1 .1 .0; few = n .1 .1 .1 .0 }
+  passed e = let n = none-of e in record { none = n .0; settings = accepted s (n .0); long = n .1 .0; right = n .1 .1 .0; few = n .1 .1 .1 .0 }
 
   module _ (rest : List Case) where
     together : (settingsCases s ++ sizes) ++ rest ≡ settingsCases s ++ (sizes ++ rest)
@@ -82,3 +83,28 @@ module _ (s : Settings) (n r : ℕ) (t : Tables) where
   pub recognised-is : recognised s n r t ≡ (noRepeat readIn && (eqb r (rowCount s readIn) && sameTables (tablesOf s readIn)))
   unfolding recognised
   recognised-is = simp and-assoc
+
+  pub not-once : noRepeat readIn ≡ false → false ≡ recognised s n r t
+  not-once e = sym (recognised-is ∙ simp e)
+
+  pub not-count : noRepeat readIn ≡ true → (r ≡ rowCount s readIn → ⊥) → false ≡ recognised s n r t
+  not-count e f = sym (recognised-is ∙ simp (e, ne-eqb r (rowCount s readIn) f))
+
+  pub by-tables : noRepeat readIn ≡ true → r ≡ rowCount s readIn → (a b c d : List ℕ) → a ≡ tablesOf s readIn .states → b ≡ tablesOf s readIn .standard
+      → c ≡ tablesOf s readIn .leads → d ≡ tablesOf s readIn .coefficients → sameTables (fourTables a b c d) ≡ recognised s n r t
+  by-tables e f a b c d g h i j = rw (g, h, i, j) (sym (recognised-is ∙ simp (e, eq-eqb r (rowCount s readIn) f)))
+
+  -- what it says that they are recognised
+  both : (a b : Bool) → (a && b) ≡ true → (a ≡ true) × (b ≡ true)
+  both true b e = (refl, e)
+  both false b e = absurd (true≢false (sym e))
+
+  pub recognised-once : recognised s n r t ≡ true → noRepeat readIn ≡ true
+  recognised-once e = both (noRepeat readIn) (eqb r (rowCount s readIn) && sameTables (tablesOf s readIn)) (sym recognised-is ∙ e) .0
+
+  pub recognised-standard : recognised s n r t ≡ true → begins (tablesOf s readIn .standard) (t .standard) ≡ true
+  recognised-standard e =
+      let a = both (noRepeat readIn) (eqb r (rowCount s readIn) && sameTables (tablesOf s readIn)) (sym recognised-is ∙ e) .1 in
+      let b = both (eqb r (rowCount s readIn)) (sameTables (tablesOf s readIn)) a .1 in
+      let c = both (begins (tablesOf s readIn .states) (t .states)) (begins (tablesOf s readIn .standard) (t .standard) && (begins (tablesOf s readIn .leads) (t .leads) && begins (tablesOf s readIn .coefficients) (t .coefficients))) b .1 in
+      both (begins (tablesOf s readIn .standard) (t .standard)) (begins (tablesOf s readIn .leads) (t .leads) && begins (tablesOf s readIn .coefficients) (t .coefficients)) c .0

@@ -9,6 +9,7 @@ use Rattle.residue.specs.Vector.{dotOf}
 use Rattle.residue.proofs.Filled.{filled, filled-none, kept-length, filled-more}
 use Rattle.residue.proofs.Vectors.{below-take, below-drop}
 use Rattle.basis.specs.Levels.{groups}
+use Rattle.basis.specs.Interpolants.{termValues}
 use Rattle.basis.proofs.Copies.{mapped}
 use Rattle.basis.proofs.Places.{length-groups, groups-at}
 use Rattle.basis.proofs.Terms.{values}
@@ -98,6 +99,7 @@ same-length : tie.Need-same-length Inv-loop μ-loop
 same-length c = long (c .before)
 
 returns : tie.Need-returns Inv-loop μ-loop
+unfolding termValues
 returns c =
     let l = c .before in
     let s = start l in
