@@ -1,0 +1,4 @@
+-- The lemmas of the crate misqafur.
+pub mod SignedBytes
+pub mod Sizes
+pub mod Packed

@@ -1,0 +1,3 @@
+-- The definitions of the crate misqafur.
+pub mod Bytes
+pub mod Packing

@@ -1,0 +1,79 @@
+// Drawing up and checking the four lent tables.
+use crate::packing::pack;
+use crate::signed::put_signed;
+use basis::calls;
+use basis::refusal;
+use basis::settings::Settings;
+ghost use mathlib.Core.Path.{_≡_};
+ghost use Rattle.basis.specs.Tables.{fourTables};
+ghost use Rattle.basis.specs.Adding.{drawOutcome};
+ghost use Rattle.basis.specs.Solving.{checkRefusal};
+ghost use Rattle.misqafur.specs.Bytes.{signedBytes};
+ghost use Rattle.misqafur.specs.Packing.{left, packedOutcome};
+
+// Drawing up from all points at once.
+#[no_mangle]
+pub extern "C" fn misqafur_draw_up(
+    modulus: u64,
+    variables: u64,
+    order: u64,
+    states: &mut [u8],
+    standard: &mut [u8],
+    leads: &mut [u8],
+    coefficients: &mut [u8],
+    levels: &[u8],
+) -> u32
+    ensures { λ a. ⌜ left a (now (states .exit)) (now (standard .exit)) (now (leads .exit)) (now (coefficients .exit)) ≡ packedOutcome (drawOutcome (record { modulus = modulus; variables = variables; order = order }) (fourTables (now (states .entry)) (now (standard .entry)) (now (leads .entry)) (now (coefficients .entry))) (signedBytes (now (levels .entry)))) ⌝ }
+{
+    let settings = Settings {
+        modulus,
+        variables,
+        order,
+    };
+    let count = levels.len();
+    let refusal = refusal::draw_sizes(
+        settings,
+        states.len(),
+        standard.len(),
+        leads.len(),
+        coefficients.len(),
+        count,
+    );
+    if refusal != 0 {
+        return refusal as u32;
+    }
+    let mut signed = [0i8; 512];
+    put_signed(levels, &mut signed);
+    let a = calls::draw_up(
+        settings,
+        states,
+        standard,
+        leads,
+        coefficients,
+        &signed[..count],
+    );
+    pack(a)
+}
+
+// Checking lent tables.
+#[no_mangle]
+pub extern "C" fn misqafur_check(
+    modulus: u64,
+    variables: u64,
+    order: u64,
+    n: u64,
+    r: u64,
+    states: &[u8],
+    standard: &[u8],
+    leads: &[u8],
+    coefficients: &[u8],
+) -> u32
+    ensures { λ a. ⌜ a ≡ checkRefusal (record { modulus = modulus; variables = variables; order = order }) n r (fourTables (now (states .entry)) (now (standard .entry)) (now (leads .entry)) (now (coefficients .entry))) ⌝ }
+{
+    let settings = Settings {
+        modulus,
+        variables,
+        order,
+    };
+    calls::check(settings, n, r, states, standard, leads, coefficients) as u32
+}
