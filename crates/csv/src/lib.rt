@@ -1,8 +1,8 @@
 // Comma-separated text: the reader, and the printed basis.
-pub mod fields;
+mod fields;
 pub mod forms;
-pub mod points;
+mod points;
 pub mod printing;
 pub mod reading;
-pub mod records;
-pub mod tables;
+mod records;
+mod tables;
