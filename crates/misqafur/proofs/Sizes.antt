@@ -1,8 +1,8 @@
 -- Refusals 3 to 8 look at lengths alone, and signed bytes are as many as the plain ones; where none holds, the local copies have room.
 use mathlib.Core.Path.{_≡_, sym, ap, _∙_}
-use mathlib.Core.Bool.{not}
+use mathlib.Core.Bool.{not, _||_}
 use mathlib.Core.List.{List, _++_}
-use Prim.Native.Nat.{ℕ, _+_, _/_, _%_, _≤_}
+use Prim.Native.Nat.{ℕ, _+_, _*_, _/_, _%_, _≤_}
 use native.Mathlib.Nat.{div-add-mod', mul-le-mul}
 use native.Mathlib.Omega.{arith}
 use lib.ListN.{length}
@@ -13,10 +13,12 @@ use Rattle.basis.specs.Refusal.{firstOf}
 use Rattle.basis.specs.Settings.{settingsCases}
 use Rattle.basis.specs.Tables.{Tables, tooShort}
 use Rattle.basis.specs.Adding.{refused, drawOutcome}
+use Rattle.basis.specs.Solving.{valuesCases, remainderCases}
+use Rattle.basis.proofs.Equality.{neither}
 use Rattle.basis.proofs.calls.Refusing.{sizes, passed}
-use Rattle.basis.proofs.calls.Outcomes.{draw-size}
+use Rattle.basis.proofs.calls.Outcomes.{draw-size, values-size, wiring-refused, remainder-size}
 use Rattle.misqafur.specs.Bytes.{signedBytes}
-use Rattle.misqafur.specs.Packing.{Left, packedOutcome}
+use Rattle.misqafur.specs.Packing.{Left, packedOutcome, PackedWiring}
 use Rattle.misqafur.proofs.SignedBytes.{length-signed}
 
 -- Drawing up.
@@ -36,3 +38,39 @@ module _ (s : Settings) (t : Tables) (levels : List ℕ) where
       let whole = eqb-true (length levels % s .variables) 0 (not-false _ (ok .right)) in
       let most = mul-le-mul (ltb-false 64 (length levels / s .variables) (ok .few)) (ok .settings .few) in
       omega (arith, div-add-mod' (length levels) (s .variables))
+
+-- Values at the points.
+abbrev pub valuesBySize : ℕ → Settings → ℕ → Tables → List ℕ → ℕ → ℕ
+valuesBySize size s n t buffer count = firstOf (settingsCases s ++ sizes s (tooShort t || ltb (length buffer) size) (not (eqb count n)) (ltb 64 n))
+
+module _ (size : ℕ) (s : Settings) (n r : ℕ) (t : Tables) (values buffer : List ℕ) where
+  pub values-refused : (k : ℕ) → k ≡ valuesBySize size s n t buffer (length values) → (k ≡ 0 → ⊥) → k ≡ firstOf (valuesCases size s n r t (signedBytes values) buffer)
+  values-refused k e z = values-size size s n r t (signedBytes values) buffer k (e ∙ ap (valuesBySize size s n t buffer) (sym (length-signed values))) z
+
+  pub values-few : valuesBySize size s n t buffer (length values) ≡ 0 → length values ≤ 64
+  values-few e =
+      let ok = passed s (tooShort t || ltb (length buffer) size) (not (eqb (length values) n)) (ltb 64 n) e in
+      omega (arith, eqb-true (length values) n (not-false _ (ok .right)), ltb-false 64 n (ok .few))
+
+module _ (s : Settings) (n r : ℕ) (t : Tables) (values buffer : List ℕ) where
+  pub wiring-alone : (k : ℕ) → k ≡ valuesBySize 8 s n t buffer (length values) → (k ≡ 0 → ⊥) → PackedWiring s n r t (signedBytes values) buffer k buffer
+  wiring-alone k e z =
+      record {
+        answer = record { refusal = k; count = 0 };
+        ends = wiring-refused s n r t (signedBytes values) buffer k (values-refused 8 s n r t values buffer k e z) z;
+        number = omega arith;
+      }
+
+-- A polynomial.
+abbrev pub termsBySize : Settings → ℕ → Tables → List ℕ → List ℕ → ℕ → ℕ
+termsBySize s n t exponents buffer count = firstOf (settingsCases s ++ sizes s (tooShort t || ltb (length buffer) 64) (not (eqb (length exponents) (8 * count))) (ltb 64 n || ltb 256 count))
+
+module _ (s : Settings) (n r : ℕ) (t : Tables) (coefficients exponents buffer : List ℕ) where
+  pub terms-refused : (k : ℕ) → k ≡ termsBySize s n t exponents buffer (length coefficients) → (k ≡ 0 → ⊥)
+      → k ≡ firstOf (remainderCases s n r t (signedBytes coefficients) exponents buffer)
+  terms-refused k e z = remainder-size s n r t (signedBytes coefficients) exponents buffer k (e ∙ ap (termsBySize s n t exponents buffer) (sym (length-signed coefficients))) z
+
+  pub terms-few : termsBySize s n t exponents buffer (length coefficients) ≡ 0 → length coefficients ≤ 256
+  terms-few e =
+      let ok = passed s (tooShort t || ltb (length buffer) 64) (not (eqb (length exponents) (8 * length coefficients))) (ltb 64 n || ltb 256 (length coefficients)) e in
+      ltb-false 256 (length coefficients) (neither (ltb 64 n) (ltb 256 (length coefficients)) (ok .few) .1)

@@ -1,15 +1,37 @@
--- What C sees of a call: one number that holds the refusal and the counts, and the lent tables.
+-- What C sees of a call: one number that holds the refusal and the counts, and the lent bytes. A call that answers a refusal alone answers it as it is.
+use mathlib.Core.Path.{_≡_}
+use mathlib.Core.Bool.{cond}
 use mathlib.Core.List.{List, [], _∷_}
 use Prim.Native.Nat.{ℕ, _+_, _*_}
+use lib.IntN.{ℤ}
+use lib.Dec.{eqb}
+use Rattle.basis.specs.declared.settings.Settings.{Settings}
+use Rattle.basis.specs.declared.settings.Answer.{Answer}
+use Rattle.basis.specs.declared.settings.Wired.{Wired}
 use Rattle.basis.specs.Tables.{Tables, fourTables}
 use Rattle.basis.specs.Adding.{Outcome}
+use Rattle.basis.specs.Solving.{WiringEnds}
+use Rattle.csv.specs.declared.reading.Read.{Read}
+use Rattle.csv.specs.Reading.{Outcome as ReadOutcome}
 
--- Numbers in one, the first in the lowest byte, each further one 256 times the one before: refusal, n and r are refusal + 256 n + 65536 r.
+-- Numbers in one, each 256 times higher than the one before it.
 abbrev pub packed : List ℕ → ℕ
 packed [] = 0
 packed (a ∷ l) = a + 256 * packed l
 
--- the number returned, and the lent tables at exit
+-- refusal + 256 n + 65536 r
+abbrev pub packedAnswer : Answer → ℕ
+packedAnswer a = packed (a .refusal ∷ a .n ∷ a .r ∷ [])
+
+-- refusal + 256 count
+abbrev pub packedWired : Wired → ℕ
+packedWired w = packed (w .refusal ∷ w .count ∷ [])
+
+-- refused: refusal + 256 record; else 256 n + 65536 modulus + 2^24 variables + 2^32 order
+abbrev pub packedRead : Read → ℕ
+packedRead r = cond (eqb (r .refusal) 0) (packed (0 ∷ r .n ∷ r .modulus ∷ r .variables ∷ r .order ∷ [])) (packed (r .refusal ∷ r .at ∷ []))
+
+-- Adding and drawing up: the number, and the lent tables at exit.
 pub record Left : Type 0 where
   pub number : ℕ
   pub tables : Tables
@@ -17,6 +39,23 @@ pub record Left : Type 0 where
 abbrev pub left : ℕ → List ℕ → List ℕ → List ℕ → List ℕ → Left
 left a states standard leads coefficients = record { number = a; tables = fourTables states standard leads coefficients }
 
--- of an outcome of adding or drawing up
 unfoldable pub packedOutcome : Outcome → Left
-packedOutcome o = record { number = packed (o .answer .refusal ∷ o .answer .n ∷ o .answer .r ∷ []); tables = o .tables }
+packedOutcome o = record { number = packedAnswer (o .answer); tables = o .tables }
+
+-- The wiring call, whose list has a free order: what it answers is some answer that its contract allows, packed.
+pub record PackedWiring (s : Settings) (n r : ℕ) (t : Tables) (values : List ℤ) (buffer : List ℕ) (a : ℕ) (end : List ℕ) : Type 0 where
+  pub answer : Wired
+  pub ends : WiringEnds s n r t values buffer answer end
+  pub number : a ≡ packedWired answer
+
+-- Reading a text: the number, and the lent buffers at exit.
+pub record LeftReading : Type 0 where
+  pub number : ℕ
+  pub states : List ℕ
+  pub values : List ℕ
+
+abbrev pub leftReading : ℕ → List ℕ → List ℕ → LeftReading
+leftReading a states values = record { number = a; states = states; values = values }
+
+unfoldable pub packedReading : ReadOutcome → LeftReading
+packedReading o = record { number = packedRead (o .answer); states = o .states; values = o .values }

@@ -1,12 +1,30 @@
 // Answers as one number.
 use basis::settings::Answer;
+use basis::settings::Wired;
+use csv::reading::Read;
 ghost use mathlib.Core.Path.{_≡_};
-ghost use mathlib.Core.List.{[], _∷_};
-ghost use Rattle.misqafur.specs.Packing.{packed};
+ghost use Rattle.misqafur.specs.Packing.{packedAnswer, packedWired, packedRead};
 
-// The refusal, the number of points and the number of basis elements.
-pub fn pack(a: Answer) -> u32
-    ensures { λ k. ⌜ k ≡ packed (a .refusal ∷ a .n ∷ a .r ∷ []) ⌝ }
+pub fn pack_answer(a: Answer) -> u32
+    ensures { λ k. ⌜ k ≡ packedAnswer a ⌝ }
 {
     a.refusal as u32 + 256 * a.n as u32 + 65536 * a.r as u32
+}
+
+pub fn pack_wired(w: Wired) -> u32
+    ensures { λ k. ⌜ k ≡ packedWired w ⌝ }
+{
+    w.refusal as u32 + 256 * w.count as u32
+}
+
+pub fn pack_read(r: Read) -> u64
+    ensures { λ k. ⌜ k ≡ packedRead r ⌝ }
+{
+    if r.refusal != 0 {
+        return r.refusal as u64 + 256 * r.at as u64;
+    }
+    256 * r.n as u64
+        + 65536 * r.modulus as u64
+        + 16777216 * r.variables as u64
+        + 4294967296 * r.order as u64
 }

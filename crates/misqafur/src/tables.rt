@@ -1,5 +1,5 @@
 // Drawing up and checking the four lent tables.
-use crate::packing::pack;
+use crate::packing::pack_answer;
 use crate::signed::put_signed;
 use basis::calls;
 use basis::refusal;
@@ -52,7 +52,7 @@ pub extern "C" fn misqafur_draw_up(
         coefficients,
         &signed[..count],
     );
-    pack(a)
+    pack_answer(a)
 }
 
 // Checking lent tables.

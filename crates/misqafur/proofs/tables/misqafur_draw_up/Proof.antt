@@ -76,8 +76,8 @@ slice-aggregate-draw-up c =
 draw-up-requires : tie.Need-draw-up-requires
 draw-up-requires c κs = search needs
 
-pack-requires : tie.Need-pack-requires
-pack-requires c κs = search needs
+pack-answer-requires : tie.Need-pack-answer-requires
+pack-answer-requires c κs = search needs
 
 same-length : tie.Need-same-length
 same-length c = search needs
@@ -96,7 +96,7 @@ returns-2 c =
     let d = c .before .before .before .before .before .before .before .before .before in
     let w = d .before .before .before .before .before .before .before in
     let s = start (sizing w) in
-    packs (d .draw-up .ensures) (c .pack .ensures) ∙ ap (λ (z : List ℤ). packedOutcome (drawOutcome (settings s) (tables s) z)) (signed-part (levels (sizing w)) _ (signed w) (w .put-signed .ensures))
+    packs (d .draw-up .ensures) (c .pack-answer .ensures) ∙ ap (λ (z : List ℤ). packedOutcome (drawOutcome (settings s) (tables s) z)) (signed-part (levels (sizing w)) _ (signed w) (w .put-signed .ensures))
 
 pub misqafur-draw-up-spec : {M : Type 1} → statement M
 misqafur-draw-up-spec =
@@ -110,7 +110,7 @@ misqafur-draw-up-spec =
     array-share-prefix-signed
     slice-aggregate-draw-up
     draw-up-requires
-    pack-requires
+    pack-answer-requires
     same-length
     same-length-2
     same-length-3
