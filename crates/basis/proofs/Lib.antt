@@ -12,7 +12,6 @@ pub mod WorkingRows
 pub mod ValueRows
 pub mod ideal
 pub mod elimination
-pub mod adding
 pub mod agreement
 pub mod Instance
 pub mod Examples

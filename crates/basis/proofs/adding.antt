@@ -8,3 +8,4 @@ pub mod LostRow
 pub mod NewRows
 pub mod NewTables
 pub mod Added
+pub mod Addition

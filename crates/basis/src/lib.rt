@@ -1,5 +1,6 @@
 // The reduced Gröbner basis, with its standard monomials, of the ideal of all polynomials that vanish at a list of points.
 mod add;
+pub mod adding;
 pub mod answers;
 pub mod bytes;
 pub mod calls;

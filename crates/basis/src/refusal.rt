@@ -5,7 +5,7 @@ ghost use mathlib.Core.Path.{_≡_};
 ghost use mathlib.Core.Bool.{not, false, _||_};
 ghost use mathlib.Core.List.{[], _∷_, _++_};
 ghost use Prim.Native.Nat.{_*_, _/_, _%_};
-ghost use lib.Dec.{eqb, ltb};
+ghost use lib.Dec.{eqb, leb, ltb};
 ghost use Rattle.basis.specs.Refusal.{firstOf};
 ghost use Rattle.basis.specs.Settings.{settingsCases};
 
@@ -62,6 +62,27 @@ pub fn rest(k: usize, m: u64) -> usize
         return k;
     }
     k % m as usize
+}
+
+// Adding one point of this many levels to n points.
+pub fn add_sizes(
+    settings: Settings,
+    states: usize,
+    standard: usize,
+    leads: usize,
+    coefficients: usize,
+    levels: usize,
+    n: u64,
+) -> u8
+    ensures { λ k. ⌜ k ≡ firstOf (settingsCases settings ++ ((ltb states 512 || ltb standard 512 || ltb leads 3592 || ltb coefficients 28736, 6) ∷ (not (eqb levels (settings .variables)), 7) ∷ (leb 64 n, 8) ∷ [])) ⌝ }
+{
+    let short = too_short(states, standard, leads, coefficients);
+    by_sizes(
+        settings,
+        short,
+        levels as u64 != settings.variables,
+        64 <= n,
+    )
 }
 
 // Drawing up from this many levels.

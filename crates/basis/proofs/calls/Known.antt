@@ -1,7 +1,7 @@
 -- What a call that answers from recognised tables stands on when nothing refuses it.
-use mathlib.Core.Path.{_≡_, refl, sym, ap, ap₂, subst, _∙_}
-use mathlib.Core.Bool.{Bool, true, false, not, _||_}
-use mathlib.Core.List.{List, [], _∷_, map}
+use mathlib.Core.Path.{_≡_, sym, ap, ap₂, subst, _∙_}
+use mathlib.Core.Bool.{true, not, _||_}
+use mathlib.Core.List.{List, [], map}
 use mathlib.Core.Logic.{inl, inr}
 use Prim.Native.Nat.{ℕ, zero, suc, _*_, _-_, _%_, _<_, _≤_}
 use native.Mathlib.Nat.{mod-lt}
@@ -9,7 +9,7 @@ use native.Mathlib.Omega.{arith}
 use lib.IntN.{ℤ}
 use lib.ListN.{length, take, drop, getD, length-map, length-drop}
 use lib.Seq.{length-take-le}
-use lib.Dec.{T, eqb, ltb}
+use lib.Dec.{eqb, ltb}
 use borrow.Author.Tests.{ltb-false, eqb-true, not-false}
 use Rattle.residue.specs.Lists.{Among}
 use Rattle.residue.specs.Vector.{Below, dotOf}
@@ -32,8 +32,8 @@ use Rattle.basis.proofs.ValueRows.{below-fill}
 use Rattle.basis.proofs.elimination.Grounds.{places-below}
 use Rattle.basis.proofs.agreement.Points.{IsPoint, Points, length-residues}
 use Rattle.basis.proofs.agreement.Refusals.{Accepted, Large, large-of}
-use Rattle.basis.proofs.calls.Given.{read-each, read}
-use Rattle.basis.proofs.calls.Refusing.{Passed, passed, recognised-once, recognised-standard}
+use Rattle.basis.proofs.calls.Given.{read}
+use Rattle.basis.proofs.calls.Refusing.{Passed, passed, Parts, recognised-parts}
 use Rattle.basis.proofs.calls.Answers.{below-reduced, residues-below, room-rows, inside-rows, solved, remainder-is, valuesIn, value-in, names-in}
 use Rattle.basis.proofs.calls.Outcomes.{valuesSizes, remainderSizes}
 
@@ -54,6 +54,11 @@ module _ (p : ℕ) (cs exponents : List ℕ) (n : ℕ) (points : List ℕ) where
   unfolding termValues
   terms-below z i h = rw (map-at (λ P. dotOf cs (map (valueAt P) (groups 8 (length cs) exponents)) % p) (groups 8 n points) [] 0 i (omega (arith, length-map (groups 8 n points) (λ P. dotOf cs (map (valueAt P) (groups 8 (length cs) exponents)) % p)))) (mod-lt _ z)
 
+-- what a lent table begins with
+front : (k : ℕ) (l t : List ℕ) → begins (fill k l) t ≡ true → take k t ≡ fill k l
+unfolding begins
+front k l t e = sym (same-is _ _ (of-true e) ∙ ap (λ (j : ℕ). take j t) (length-fill k l))
+
 -- Recognised tables.
 module _ (s : Settings) (ok : Accepted s) (n r : ℕ) (t : Tables) (few : n ≤ 64) (known : recognised s n r t ≡ true) where
   abbrev pub S : List (List ℕ)
@@ -62,8 +67,11 @@ module _ (s : Settings) (ok : Accepted s) (n r : ℕ) (t : Tables) (few : n ≤ 
   pub count : length S ≡ n
   count = ap length (sym (points-in s n (t .states))) ∙ length-points (s .modulus) (s .variables) n (t .states)
 
+  pub parts : Parts s n r t
+  parts = recognised-parts s n r t known
+
   pub points : Points s S
-  points = read s ok n (t .states) few (of-true (recognised-once s n r t known))
+  points = read s ok n (t .states) few (of-true (parts .once))
 
   positive : 0 < s .modulus
   positive = omega (arith, modulus-range (s .modulus) (ok .modulus))
@@ -74,11 +82,18 @@ module _ (s : Settings) (ok : Accepted s) (n r : ℕ) (t : Tables) (few : n ≤ 
       low : (P : List ℕ) → IsPoint s P → Below (s .modulus) P
       low P h = let e : suc (s .modulus - 1) ≡ s .modulus = omega (arith, positive) in subst (λ (k : ℕ). Below k P) e (below-reduced (s .modulus - 1) P (h .same))
 
-  -- the lent standard table has the standard monomials
+  -- the lent tables have the standard monomials, the leads and their rows
   pub standard-there : take 512 (t .standard) ≡ tablesOf s S .standard
-  unfolding begins tablesOf
-  standard-there =
-      sym (same-is _ _ (of-true (recognised-standard s n r t known)) ∙ ap (λ (k : ℕ). take k (t .standard)) (length-fill 512 _))
+  unfolding tablesOf
+  standard-there = front 512 _ (t .standard) (parts .standard)
+
+  pub leads-there : take 3592 (t .leads) ≡ tablesOf s S .leads
+  unfolding tablesOf
+  leads-there = front 3592 _ (t .leads) (parts .leads)
+
+  pub coefficients-there : take 28736 (t .coefficients) ≡ tablesOf s S .coefficients
+  unfolding tablesOf
+  coefficients-there = front 28736 _ (t .coefficients) (parts .coefficients)
 
 -- Values at the points: the sizes are right.
 module _ (size : ℕ) (s : Settings) (n r : ℕ) (t : Tables) (values : List ℤ) (buffer : List ℕ) (fine : valuesSizes size s n r t values buffer ≡ 0) where

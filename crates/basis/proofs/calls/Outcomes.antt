@@ -35,6 +35,13 @@ module _ (i j : ℕ) where
   unfolding firstOf two
   two-none e f = rw (e, f)
 
+-- what the writers of the tables of S left
+pub all-written : (s : Settings) (S : List (List ℕ)) (t : Tables) (n r : ℕ) (a b c d : List ℕ) → n ≡ length S → r ≡ rowCount s S
+    → a ≡ over (tablesOf s S .states) (t .states) → b ≡ over (tablesOf s S .standard) (t .standard) → c ≡ over (tablesOf s S .leads) (t .leads)
+    → d ≡ over (tablesOf s S .coefficients) (t .coefficients) → ended (record { refusal = 0; n = n; r = r }) a b c d ≡ holding s S t
+unfolding holding written
+all-written s S t n r a b c d e f g h i j = rw (e, f, g, h, i, j)
+
 -- Drawing up.
 module _ (s : Settings) (t : Tables) (levels : List ℤ) where
   -- the refusals on numbers
@@ -64,14 +71,6 @@ module _ (s : Settings) (t : Tables) (levels : List ℤ) where
       → holding s (pointsOffered s levels) t ≡ drawOutcome s t levels
   unfolding drawOutcome
   draw-good e f g = when-accepted t _ _ (two-none 9 11 f g ∙ behind e)
-
-  -- what the writers left
-  pub drawn : (n r : ℕ) (a b c d : List ℕ) → n ≡ length (pointsOffered s levels) → r ≡ rowCount s (pointsOffered s levels)
-      → a ≡ over (tablesOf s (pointsOffered s levels) .states) (t .states) → b ≡ over (tablesOf s (pointsOffered s levels) .standard) (t .standard)
-      → c ≡ over (tablesOf s (pointsOffered s levels) .leads) (t .leads) → d ≡ over (tablesOf s (pointsOffered s levels) .coefficients) (t .coefficients)
-      → ended (record { refusal = 0; n = n; r = r }) a b c d ≡ holding s (pointsOffered s levels) t
-  unfolding holding written
-  drawn n r a b c d e f g h i j = rw (e, f, g, h, i, j)
 
 -- Checking.
 module _ (s : Settings) (n r : ℕ) (t : Tables) where

@@ -4,8 +4,8 @@ use mathlib.Core.Bool.{Bool, true, false, _&&_, and-assoc, true≢false}
 use mathlib.Core.List.{List, [], _∷_, _++_, append-assoc}
 use Prim.Native.Nat.{ℕ}
 use native.Mathlib.Decide.{ℕ-discrete}
-use lib.Dec.{eqb}
-use borrow.Author.Tests.{eq-eqb, ne-eqb}
+use lib.Dec.{T, eqb}
+use borrow.Author.Tests.{eq-eqb, ne-eqb, eqb-true}
 use Rattle.basis.specs.declared.settings.Settings.{Settings}
 use Rattle.basis.specs.Refusal.{Case, firstOf}
 use Rattle.basis.specs.Settings.{settingsCases}
@@ -14,8 +14,16 @@ use Rattle.basis.specs.Tables.{Tables, fourTables, rowCount, tablesOf, p
 use Rattle.basis.specs.Adding.{Outcome, refused, byRefusal}
 use Rattle.basis.specs.Solving.{Filled, filling}
 use Rattle.basis.specs.Layout.{over, begins}
-use Rattle.basis.proofs.Cases.{None, none-holds, first-stop, first-on}
+use Rattle.basis.proofs.Cases.{numbered, None, none-holds, first-stop, first-on}
 use Rattle.basis.proofs.agreement.Refusals.{Accepted, accepted, settings-pass}
+
+-- no case of the settings holds, and none of those behind them
+pub none-of : (s : Settings) (l : List Case) → T (numbered l) → firstOf (settingsCases s ++ l) ≡ 0 → (firstOf (settingsCases s) ≡ 0) × None l
+none-of s l t e = go (ℕ-discrete (firstOf (settingsCases s)) 0)
+  where
+    go : Dec (firstOf (settingsCases s) ≡ 0) → (firstOf (settingsCases s) ≡ 0) × None l
+    go (yes z) = (z, none-holds l t (sym (settings-pass s z l) ∙ e))
+    go (no z) = absurd (z (first-stop (settingsCases s) l z ∙ e))
 
 module _ (s : Settings) (short wrong many : Bool) where
   -- the cases that look at numbers alone
@@ -30,15 +38,8 @@ module _ (s : Settings) (short wrong many : Bool) where
     pub right : wrong ≡ false
     pub few : many ≡ false
 
-  none-of : firstOf (settingsCases s ++ sizes) ≡ 0 → (firstOf (settingsCases s) ≡ 0) × None sizes
-  none-of e = go (ℕ-discrete (firstOf (settingsCases s)) 0)
-    where
-      go : Dec (firstOf (settingsCases s) ≡ 0) → (firstOf (settingsCases s) ≡ 0) × None sizes
-      go (yes z) = (z, none-holds sizes tt (sym (settings-pass s z sizes) ∙ e))
-      go (no z) = absurd (z (first-stop (settingsCases s) sizes z ∙ e))
-
   pub passed : firstOf (settingsCases s ++ sizes) ≡ 0 → Passed
-  passed e = let n = none-of e in record { none = n .0; settings = accepted s (n .0); long = n .1 .0; right = n .1 .1 .0; few = n .1 .1 .1 .0 }
+  passed e = let n = none-of s sizes tt e in record { none = n .0; settings = accepted s (n .0); long = n .1 .0; right = n .1 .1 .0; few = n .1 .1 .1 .0 }
 
   module _ (rest : List Case) where
     together : (settingsCases s ++ sizes) ++ rest ≡ settingsCases s ++ (sizes ++ rest)
@@ -50,7 +51,7 @@ module _ (s : Settings) (short wrong many : Bool) where
 
     -- none does: the call's own tests decide
     pub by-rest : firstOf (settingsCases s ++ sizes) ≡ 0 → firstOf rest ≡ firstOf (settingsCases s ++ (sizes ++ rest))
-    by-rest e = let n = none-of e in first-on sizes rest (n .1) ∙ sym (settings-pass s (n .0) (sizes ++ rest))
+    by-rest e = let n = none-of s sizes tt e in first-on sizes rest (n .1) ∙ sym (settings-pass s (n .0) (sizes ++ rest))
 
 -- the outcome of a call that writes tables
 module _ (t : Tables) (new : Outcome) (k : ℕ) where
@@ -95,16 +96,23 @@ module _ (s : Settings) (n r : ℕ) (t : Tables) where
   by-tables e f a b c d g h i j = rw (g, h, i, j) (sym (recognised-is ∙ simp (e, eq-eqb r (rowCount s readIn) f)))
 
   -- what it says that they are recognised
+  pub record Parts : Type 0 where
+    pub once : noRepeat readIn ≡ true
+    pub rows : r ≡ rowCount s readIn
+    pub states : begins (tablesOf s readIn .states) (t .states) ≡ true
+    pub standard : begins (tablesOf s readIn .standard) (t .standard) ≡ true
+    pub leads : begins (tablesOf s readIn .leads) (t .leads) ≡ true
+    pub coefficients : begins (tablesOf s readIn .coefficients) (t .coefficients) ≡ true
+
   both : (a b : Bool) → (a && b) ≡ true → (a ≡ true) × (b ≡ true)
   both true b e = (refl, e)
   both false b e = absurd (true≢false (sym e))
 
-  pub recognised-once : recognised s n r t ≡ true → noRepeat readIn ≡ true
-  recognised-once e = both (noRepeat readIn) (eqb r (rowCount s readIn) && sameTables (tablesOf s readIn)) (sym recognised-is ∙ e) .0
-
-  pub recognised-standard : recognised s n r t ≡ true → begins (tablesOf s readIn .standard) (t .standard) ≡ true
-  recognised-standard e =
-      let a = both (noRepeat readIn) (eqb r (rowCount s readIn) && sameTables (tablesOf s readIn)) (sym recognised-is ∙ e) .1 in
-      let b = both (eqb r (rowCount s readIn)) (sameTables (tablesOf s readIn)) a .1 in
-      let c = both (begins (tablesOf s readIn .states) (t .states)) (begins (tablesOf s readIn .standard) (t .standard) && (begins (tablesOf s readIn .leads) (t .leads) && begins (tablesOf s readIn .coefficients) (t .coefficients))) b .1 in
-      both (begins (tablesOf s readIn .standard) (t .standard)) (begins (tablesOf s readIn .leads) (t .leads) && begins (tablesOf s readIn .coefficients) (t .coefficients)) c .0
+  pub recognised-parts : recognised s n r t ≡ true → Parts
+  recognised-parts e =
+      let a = both (noRepeat readIn) _ (sym recognised-is ∙ e) in
+      let b = both (eqb r (rowCount s readIn)) _ (a .1) in
+      let c = both (begins (tablesOf s readIn .states) (t .states)) _ (b .1) in
+      let d = both (begins (tablesOf s readIn .standard) (t .standard)) _ (c .1) in
+      let f = both (begins (tablesOf s readIn .leads) (t .leads)) _ (d .1) in
+      record { once = a .0; rows = eqb-true r (rowCount s readIn) (b .0); states = c .0; standard = d .0; leads = f .0; coefficients = f .1 }

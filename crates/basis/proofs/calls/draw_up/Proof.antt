@@ -22,7 +22,7 @@ use Rattle.basis.proofs.agreement.Refusals.{large-of}
 use Rattle.basis.proofs.agreement.Drawings.{few-rows}
 use Rattle.basis.proofs.calls.Given.{whole-levels, length-offered, offered-each, offered, table-repeat, table-points, given}
 use Rattle.basis.proofs.calls.Refusing.{Passed, passed}
-use Rattle.basis.proofs.calls.Outcomes.{drawSizes, draw-size, draw-range, draw-repeat, draw-good, drawn}
+use Rattle.basis.proofs.calls.Outcomes.{drawSizes, draw-size, draw-range, draw-repeat, draw-good, all-written}
 use Rattle.basis.proofs.calls.draw_up.Statement.{statement}
 use Rattle.basis.proofs.calls.draw_up.Tie as tie
 
@@ -209,7 +209,7 @@ returns-4 c =
     let d = c .before .before .before .before .before .before .before .before .draw-points .ensures in
     let z = s (x g) in
     let o = z .args .settings in
-    drawn o (tables z) (levels (x g)) _ _ _ _ _ _ (sym (count (w g))) (d .0 ∙ rows g)
+    all-written o (S (w g)) (tables z) _ _ _ _ _ _ (sym (count (w g))) (d .0 ∙ rows g)
     (d .1 .0 ∙ ap (λ (t : List ℕ). over t (z .args .states .now)) (is-table (w g)))
     (d .1 .1 .0 ∙ ap (λ (K : List (List ℕ)). over (tablesOf o K .standard) (z .args .standard .now)) (back g))
     (d .1 .1 .1 .0 ∙ ap (λ (K : List (List ℕ)). over (tablesOf o K .leads) (z .args .leads .now)) (back g))

@@ -1,0 +1,158 @@
+-- `adding::add_point` meets its contract: it is refused with the number of its refusal, or the tables are written.
+use borrow.Author.Needs.{needs}
+use mathlib.Core.Path.{_≡_, sym, _∙_}
+use mathlib.Core.List.{List}
+use Prim.Native.Nat.{ℕ}
+use native.Mathlib.Omega.{arith}
+use Rattle.basis.specs.Tables.{Tables, fourTables}
+use Rattle.basis.specs.Adding.{refused, addRefusal, addOutcome}
+use Rattle.basis.proofs.calls.Refusing.{when-refused}
+use Rattle.basis.proofs.adding.Addition.{Ready, ready, added}
+use Rattle.basis.proofs.adding.add_point.Statement.{statement}
+use Rattle.basis.proofs.adding.add_point.Tie as tie
+
+-- the lent tables
+abbrev tables : tie.Start → Tables
+tables s = fourTables (s .args .states .now) (s .args .standard .now) (s .args .leads .now) (s .args .coefficients .now)
+
+abbrev start : tie.After-add-refusal → tie.Start
+start d = d .before .before .before .before .before .before .before .before .before .before .before .before .before
+
+-- nothing refuses
+module _ (e : tie.Else1) where
+  abbrev d : tie.After-add-refusal
+  d = e .before .before .before .before .before
+
+  abbrev s : tie.Start
+  s = start d
+
+  none : addRefusal (s .args .settings) (s .args .n) (s .args .r) (tables s) (s .args .levels .now) ≡ 0
+  none = sym (d .add-refusal .ensures .0) ∙ e .if1 .left
+
+  abbrev points : List ℕ
+  points = d .add-refusal .last .1 .1 .1 .1 .1 .1 .1 .1 .0
+
+  abbrev rows : List ℕ
+  rows = d .add-refusal .last .1 .1 .1 .1 .1 .1 .1 .1 .1 .0
+
+  abbrev pivots : List ℕ
+  pivots = d .add-refusal .last .1 .1 .1 .1 .1 .1 .1 .1 .1 .1 .0
+
+  abbrev point : List ℕ
+  point = d .add-refusal .last .1 .1 .1 .1 .1 .1 .1 .1 .1 .1 .1 .0
+
+  handed : Ready (s .args .settings) (s .args .n) (s .args .r) (tables s) (s .args .levels .now) points rows pivots point
+  handed =
+      let f = d .add-refusal .ensures .1 in
+      let z = e .if1 .left in
+      ready (s .args .settings) (s .args .n) (s .args .r) (tables s) (s .args .levels .now) none points rows pivots point (f .0 z) (f .1 .0 z) (f .1 .1 z)
+
+-- where the tables are written
+abbrev writing : tie.After-slice-known8 → tie.Else1
+writing c = c .before .before .before .before .before .before .before .before .before .before .before .before .before .before .before .before .before
+
+slice-aggregate-add-refusal : tie.Need-slice-aggregate-add-refusal
+slice-aggregate-add-refusal c = search needs
+
+slice-aggregate-add-refusal-2 : tie.Need-slice-aggregate-add-refusal-2
+slice-aggregate-add-refusal-2 c = search needs
+
+slice-aggregate-add-refusal-3 : tie.Need-slice-aggregate-add-refusal-3
+slice-aggregate-add-refusal-3 c = search needs
+
+slice-aggregate-add-refusal-4 : tie.Need-slice-aggregate-add-refusal-4
+slice-aggregate-add-refusal-4 c = search needs
+
+add-refusal-requires : tie.Need-add-refusal-requires
+add-refusal-requires c κs = search needs
+
+same-length : tie.Need-same-length
+same-length c = search needs
+
+same-length-2 : tie.Need-same-length-2
+same-length-2 c = search needs
+
+same-length-3 : tie.Need-same-length-3
+same-length-3 c = search needs
+
+same-length-4 : tie.Need-same-length-4
+same-length-4 c = search needs
+
+returns : tie.Need-returns
+unfolding addOutcome refused
+returns c =
+    let d = c .before .before .before .before .before in
+    when-refused (tables (start d)) _ _ (d .add-refusal .result) (d .add-refusal .ensures .0) (c .if1 .taken)
+
+slice-aggregate-add-accepted : tie.Need-slice-aggregate-add-accepted
+slice-aggregate-add-accepted c = search needs
+
+slice-aggregate-add-accepted-2 : tie.Need-slice-aggregate-add-accepted-2
+slice-aggregate-add-accepted-2 c = search needs
+
+slice-aggregate-add-accepted-3 : tie.Need-slice-aggregate-add-accepted-3
+slice-aggregate-add-accepted-3 c = search needs
+
+slice-aggregate-add-accepted-4 : tie.Need-slice-aggregate-add-accepted-4
+slice-aggregate-add-accepted-4 c = search needs
+
+add-accepted-requires : tie.Need-add-accepted-requires
+add-accepted-requires c κs =
+    let y = handed (c .before .before .before .before .before .before .before .before) in
+    (y .given, ((y .large .states, y .large .standard, y .large .leads, y .large .coefficients), (y .drawn, (y .room, y .point))))
+
+cast-t50 : tie.Need-cast-t50
+cast-t50 c = omega (arith, handed (writing c) .room)
+
+add-t51 : tie.Need-add-t51
+add-t51 c = omega (arith, handed (writing c) .room)
+
+cast-t52 : tie.Need-cast-t52
+cast-t52 c = omega (arith, c .before .before .before .before .before .before .before .before .add-accepted .ensures .0, handed (writing c) .few)
+
+same-length-5 : tie.Need-same-length-5
+same-length-5 c = search needs
+
+same-length-6 : tie.Need-same-length-6
+same-length-6 c = search needs
+
+same-length-7 : tie.Need-same-length-7
+same-length-7 c = search needs
+
+same-length-8 : tie.Need-same-length-8
+same-length-8 c = search needs
+
+returns-2 : tie.Need-returns-2
+returns-2 c =
+    let e = writing c in
+    let z = s e in
+    let w = c .before .before .before .before .before .before .before .before .add-accepted .ensures in
+    added (z .args .settings) (z .args .n) (z .args .r) (tables z) (z .args .levels .now) (points e) (rows e) (pivots e) (point e) (none e) (handed e) _ _ _ _ _ (w .0) (w .1 .0) (w .1 .1 .0) (w .1 .1 .1 .0) (w .1 .1 .1 .1)
+
+pub add-point-spec : {M : Type 1} → statement M
+add-point-spec =
+    tie.close
+    (tie.spec
+    slice-aggregate-add-refusal
+    slice-aggregate-add-refusal-2
+    slice-aggregate-add-refusal-3
+    slice-aggregate-add-refusal-4
+    add-refusal-requires
+    same-length
+    same-length-2
+    same-length-3
+    same-length-4
+    returns
+    slice-aggregate-add-accepted
+    slice-aggregate-add-accepted-2
+    slice-aggregate-add-accepted-3
+    slice-aggregate-add-accepted-4
+    add-accepted-requires
+    cast-t50
+    add-t51
+    cast-t52
+    same-length-5
+    same-length-6
+    same-length-7
+    same-length-8
+    returns-2)

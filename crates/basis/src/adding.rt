@@ -1,0 +1,131 @@
+// The public call that adds a point to tables. Every refusal is decided before a lent byte is written.
+use crate::add::add_accepted;
+use crate::points;
+use crate::recognise::recognise;
+use crate::refusal;
+use crate::settings::Answer;
+use crate::settings::Settings;
+ghost use mathlib.Core.Path.{_≡_};
+ghost use lib.ListN.{length, replicate};
+ghost use Rattle.basis.specs.Levels.{residues};
+ghost use Rattle.basis.specs.Layout.{fill, inPlaces};
+ghost use Rattle.basis.specs.Tables.{fourTables, pointsIn};
+ghost use Rattle.basis.specs.Adding.{ended, addRefusal, addOutcome};
+ghost use Rattle.basis.specs.Drawing.{Solves};
+
+// The refusal of an addition, or 0; then the points, their pivot rows and the new point are left in working arrays.
+fn add_refusal(
+    settings: Settings,
+    n: u64,
+    r: u64,
+    states: &[u8],
+    standard: &[u8],
+    leads: &[u8],
+    coefficients: &[u8],
+    levels: &[i8],
+    points: &mut [u8],
+    rows: &mut [u16],
+    pivots: &mut [u8],
+    point: &mut [u8],
+) -> u8
+    requires { ⌜ (now points ≡ replicate 512 0) × (now rows ≡ replicate 8192 0) × (length (now pivots) ≡ 64) × (now point ≡ replicate 8 0) ⌝ }
+    ensures { λ k. ⌜ k ≡ addRefusal settings n r (fourTables (now (states .entry)) (now (standard .entry)) (now (leads .entry)) (now (coefficients .entry))) (now (levels .entry)) ⌝ }
+    ensures { λ k. ⌜ (k ≡ 0 → now (points .exit) ≡ fill 512 (inPlaces 8 (pointsIn settings n (now (states .entry))))) ⌝ }
+    ensures { λ k. ⌜ (k ≡ 0 → Solves settings (pointsIn settings n (now (states .entry))) (now (rows .exit)) (now (pivots .exit))) ⌝ }
+    ensures { λ k. ⌜ (k ≡ 0 → now (point .exit) ≡ fill 8 (residues (settings .modulus) (now (levels .entry)))) ⌝ }
+{
+    let refusal = refusal::add_sizes(
+        settings,
+        states.len(),
+        standard.len(),
+        leads.len(),
+        coefficients.len(),
+        levels.len(),
+        n,
+    );
+    if refusal != 0 {
+        return refusal;
+    }
+    let p = settings.modulus as u8;
+    if !points::in_range(p, levels) {
+        return 9;
+    }
+    let count = n as usize;
+    if !recognise(
+        settings,
+        count,
+        r,
+        states,
+        standard,
+        leads,
+        coefficients,
+        points,
+        rows,
+        pivots,
+    ) {
+        return 10;
+    }
+    points::put_residues(p, levels, point);
+    if points::is_among(count, points, point) {
+        return 11;
+    }
+    0
+}
+
+// Adding one point to the n points of the tables.
+pub fn add_point(
+    settings: Settings,
+    n: u64,
+    r: u64,
+    states: &mut [u8],
+    standard: &mut [u8],
+    leads: &mut [u8],
+    coefficients: &mut [u8],
+    levels: &[i8],
+) -> Answer
+    ensures { λ a. ⌜ ended a (now (states .exit)) (now (standard .exit)) (now (leads .exit)) (now (coefficients .exit)) ≡ addOutcome settings n r (fourTables (now (states .entry)) (now (standard .entry)) (now (leads .entry)) (now (coefficients .entry))) (now (levels .entry)) ⌝ }
+{
+    let mut points = [0u8; 512];
+    let mut rows = [0u16; 8192];
+    let mut pivots = [0u8; 64];
+    let mut point = [0u8; 8];
+    let refusal = add_refusal(
+        settings,
+        n,
+        r,
+        states,
+        standard,
+        leads,
+        coefficients,
+        levels,
+        &mut points,
+        &mut rows,
+        &mut pivots,
+        &mut point,
+    );
+    if refusal != 0 {
+        return Answer {
+            refusal,
+            n: 0,
+            r: 0,
+        };
+    }
+    let k = add_accepted(
+        settings,
+        n as usize,
+        r as usize,
+        &points,
+        &rows,
+        &pivots,
+        &point,
+        states,
+        standard,
+        leads,
+        coefficients,
+    );
+    Answer {
+        refusal: 0,
+        n: n as u8 + 1,
+        r: k as u16,
+    }
+}
