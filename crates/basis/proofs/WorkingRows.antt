@@ -1,4 +1,4 @@
--- Laws of working rows: lengths and residues, what a cancellation does to each entry, and the search for the first number that is not 0.
+-- Laws of pivot rows, and the search for the first number that is not 0.
 use mathlib.Core.Path.{_≡_, refl, sym, ap, ap₂, _∙_}
 use mathlib.Core.Bool.{Bool, true, false, cond}
 use mathlib.Core.List.{List, _++_}
@@ -15,7 +15,7 @@ use Rattle.residue.specs.Congruence.{Mod}
 use Rattle.residue.specs.Vector.{Below, addScaled, scaled}
 use Rattle.residue.proofs.Congruence.{rfl, of, reduce, negative, _then_, _plus_, _times_}
 use Rattle.residue.proofs.Vectors.{addScaled-length, addScaled-at, addScaled-below, scaled-length, scaled-at, scaled-below, below-take, below-drop, below-append, below-set}
-use Rattle.basis.specs.Working.{cancelled, eliminated, firstNonzero, pivotRow, withRow}
+use Rattle.basis.specs.Working.{firstNonzero, pivotRow, withRow}
 
 -- what lies behind a new front is the row's own
 past-front : (f w : List ℕ) (k i : ℕ) → length f ≡ k → k ≤ i → getD (f ++ drop k w) i 0 ≡ getD w i 0
@@ -23,101 +23,6 @@ past-front f w k i l h =
     let e : i ≡ length f + (i - k) = omega arith in
     let g : k + (i - k) ≡ i = omega arith in
     ap (λ (j : ℕ). getD (f ++ drop k w) j 0) e ∙ getD-append-add f (drop k w) (i - k) 0 ∙ getD-drop k w (i - k) 0 ∙ ap (λ (j : ℕ). getD w j 0) g
-
--- A cancellation.
-module _ (p : ℕ) (row : List ℕ) (at : ℕ) (w : List ℕ) where
-  -- the front of the row, as far as the row that is added goes
-  abbrev front : List ℕ
-  front = addScaled p (p - getD w at 0) (take (length row) w) row
-
-  pub cancel-none : getD w at 0 ≡ 0 → cancelled p row at w ≡ w
-  unfolding cancelled
-  cancel-none e = simp (eq-eqb (getD w at 0) 0 e)
-
-  pub cancel-some : (getD w at 0 ≡ 0 → ⊥) → cancelled p row at w ≡ front ++ drop (length row) w
-  unfolding cancelled
-  cancel-some e = simp (ne-eqb (getD w at 0) 0 e)
-
-  -- what holds of both holds of the result
-  either : (P : List ℕ → Type 0) → (getD w at 0 ≡ 0 → P w) → P (front ++ drop (length row) w) → P (cancelled p row at w)
-  either P h k = go (eqb (getD w at 0) 0) refl
-    where
-      go : (b : Bool) → eqb (getD w at 0) 0 ≡ b → P (cancelled p row at w)
-      go true e = rw (cancel-none (eqb-true (getD w at 0) 0 e)) (h (eqb-true (getD w at 0) 0 e))
-      go false e = rw (cancel-some (eqb-false (getD w at 0) 0 e)) k
-
-  module _ (fits : length row ≤ length w) where
-    same : length (take (length row) w) ≡ length row
-    same = length-take-le (length row) w fits
-
-    front-length : length front ≡ length row
-    front-length = addScaled-length p (p - getD w at 0) (take (length row) w) row same ∙ same
-
-    pub cancelled-length : length (cancelled p row at w) ≡ length w
-    cancelled-length = either (λ l. length l ≡ length w) (λ z. refl) (simp (length-append, length-drop, front-length) (omega arith))
-
-    pub cancelled-below : 0 < p → Below p w → Below p (cancelled p row at w)
-    cancelled-below z b =
-        either (Below p) (λ e. b) (below-append p front (drop (length row) w) (addScaled-below p (p - getD w at 0) (take (length row) w) row same z) (below-drop p (length row) w b))
-
-    front-at : (i : ℕ) → i < length row → getD (front ++ drop (length row) w) i 0 ≡ (getD w i 0 + (p - getD w at 0) * getD row i 0) % p
-    front-at i h =
-        let e = front-length in
-        let s = same in
-        List·getD-append front (drop (length row) w) 0 i (omega arith) ∙ addScaled-at p (p - getD w at 0) (take (length row) w) row same i (omega arith)
-        ∙ ap (λ (y : ℕ). (y + (p - getD w at 0) * getD row i 0) % p) (getD-take (length row) w i 0 h)
-
--- Each entry gains the row's, times minus the entry to be cancelled; where p is suc q, minus 1 is q.
-gain : (q x y z : ℕ) → x ≤ suc q → Mod (suc q) ((y + (suc q - x) * z) % suc q) (y + q * x * z)
-gain q x y z h = reduce (suc q) (y + (suc q - x) * z) then (rfl {x = y} plus (negative q x h times rfl {x = z}))
-
-pub cancelled-at : (q : ℕ) (row : List ℕ) (at : ℕ) (w : List ℕ) → length row ≤ length w → getD w at 0 ≤ suc q
-    → (i : ℕ) → Mod (suc q) (getD (cancelled (suc q) row at w) i 0) (getD w i 0 + q * getD w at 0 * getD row i 0)
-cancelled-at q row at w fits h i = either (suc q) row at w Gained (λ z. of (none (getD w at 0) z)) (some (decLt i (length row)))
-  where
-    Gained : List ℕ → Type 0
-    Gained l = Mod (suc q) (getD l i 0) (getD w i 0 + q * getD w at 0 * getD row i 0)
-
-    none : (x : ℕ) → x ≡ 0 → getD w i 0 ≡ getD w i 0 + q * x * getD row i 0
-    none x z = rw z (omega arith)
-
-    some : Dec (i < length row) → Gained (front (suc q) row at w ++ drop (length row) w)
-    some (yes l) = of (front-at (suc q) row at w fits i l) then gain q (getD w at 0) (getD w i 0) (getD row i 0) h
-    some (no l) =
-        let k : length row ≤ i = omega (arith, l) in
-        let z : getD row i 0 ≡ 0 = List·getD-eq-default row 0 k in
-        of (past-front (front (suc q) row at w) w (length row) i (front-length (suc q) row at w fits) k ∙ rw z (omega arith))
-
--- The elimination. Of pivot row t its first n + t + 1 entries are added.
-pub part-short : (n t : ℕ) (rows : List ℕ) → length (take (n + t + 1) (drop (128 * t) rows)) ≤ n + t + 1
-part-short n t rows = simp length-take (omega arith)
-
-module _ (p n : ℕ) (rows pivots : List ℕ) (w : List ℕ) where
-  pub eliminated-none : eliminated p n rows pivots 0 w ≡ w
-  unfolding eliminated
-  eliminated-none = refl
-
-  pub eliminated-more : (t : ℕ)
-      → eliminated p n rows pivots (t + 1) w ≡ cancelled p (take (n + t + 1) (drop (128 * t) rows)) (getD pivots t 0) (eliminated p n rows pivots t w)
-  unfolding eliminated
-  eliminated-more t = ap (λ (k : ℕ). eliminated p n rows pivots k w) (add-one t)
-
-  module _ (long : length w ≡ 128) where
-    pub eliminated-length : (t : ℕ) → n + t ≤ 128 → length (eliminated p n rows pivots t w) ≡ 128
-    unfolding eliminated
-    eliminated-length zero h = long
-    eliminated-length (suc t) h =
-        let e = eliminated-length t (omega arith) in
-        let s = part-short n t rows in
-        cancelled-length p (take (n + t + 1) (drop (128 * t) rows)) (getD pivots t 0) (eliminated p n rows pivots t w) (omega arith) ∙ e
-
-    pub eliminated-below : 0 < p → Below p w → (t : ℕ) → n + t ≤ 128 → Below p (eliminated p n rows pivots t w)
-    unfolding eliminated
-    eliminated-below z b zero h = b
-    eliminated-below z b (suc t) h =
-        let e = eliminated-length t (omega arith) in
-        let s = part-short n t rows in
-        cancelled-below p (take (n + t + 1) (drop (128 * t) rows)) (getD pivots t 0) (eliminated p n rows pivots t w) (omega arith) z (eliminated-below z b t (omega arith))
 
 -- A pivot row is c times the working row with its own coefficient at 1. Behind it the row is 0.
 module _ (p own c : ℕ) (w : List ℕ) (inside : own < length w) where

@@ -7,6 +7,7 @@ use lib.ListN.{length, getD, take, replicate}
 use lib.Dec.{T}
 use Rattle.residue.specs.Modulus.{isModulus}
 use Rattle.residue.specs.Vector.{Below, pointwise}
+use Rattle.residue.specs.Elimination.{eliminated}
 use Rattle.monomial.specs.Order.{Order}
 use Rattle.monomial.specs.Rank.{variableRank}
 use Rattle.basis.specs.declared.settings.Settings.{Settings}
@@ -14,7 +15,6 @@ use Rattle.basis.specs.Levels.{groups, noRepeat}
 use Rattle.basis.specs.Layout.{fill, inPlaces, over}
 use Rattle.basis.specs.BasisOf.{interpolantOf}
 use Rattle.basis.specs.Tables.{spaceUnder, pointsUnder, rowCount, tablesOf, pointsIn}
-use Rattle.basis.specs.Working.{eliminated}
 
 -- the ranks of x1 to x8
 unfoldable pub stepsOf : Order → List ℕ
@@ -48,7 +48,7 @@ pub record Solves (s : Settings) (S : List (List ℕ)) (rows pivots : List ℕ) 
   pub below : Below (s .modulus) rows
   pub inside : (t : ℕ) → t < length S → getD pivots t 0 < length S
   pub solves : (vs : List ℕ) → length vs ≡ length S → Below (s .modulus) vs
-      → eliminated (s .modulus) (length S) rows pivots (length S) (fill 128 vs)
+      → eliminated (s .modulus) rows pivots (length S) (fill 128 vs)
       ≡ fill 128 (replicate (length S) 0 ++ map (λ c. (s .modulus - c) % s .modulus) (interpolantOf (spaceUnder s) (pointsUnder s S) vs))
 
 -- The row count, the three tables, and the pivot rows, of the points' basis.

@@ -4,14 +4,14 @@ use mathlib.Core.List.{List, [], _∷_, _++_, map}
 use Prim.Native.Nat.{ℕ, zero, suc, _-_, _%_}
 use lib.ListN.{length, take, drop}
 use Rattle.residue.specs.Vector.{dotOf}
+use Rattle.residue.specs.Elimination.{eliminated}
 use Rattle.monomial.specs.Monomial.{valueAt}
 use Rattle.basis.specs.Levels.{groups}
 use Rattle.basis.specs.Solving.{occurs}
-use Rattle.basis.specs.Working.{eliminated}
 
 -- minus the coefficients of a working row, after it met the pivot rows of all n points
 unfoldable pub solution : ℕ → ℕ → List ℕ → List ℕ → List ℕ → List ℕ
-solution p n rows pivots w = map (λ x. (p - x) % p) (take n (drop n (eliminated p n rows pivots n w)))
+solution p n rows pivots w = map (λ x. (p - x) % p) (take n (drop n (eliminated p rows pivots n w)))
 
 -- the values of terms, with the coefficients cs and 8 exponents each, at the first n points of a table
 unfoldable pub termValues : ℕ → List ℕ → List ℕ → ℕ → List ℕ → List ℕ

@@ -2,20 +2,11 @@
 -- n values at the points, then one coefficient for each standard monomial found, then zeros. Pivot row t lies at 128 t in a table of such rows.
 use mathlib.Core.Bool.{cond}
 use mathlib.Core.List.{List, _++_}
-use Prim.Native.Nat.{ℕ, zero, suc, _+_, _*_, _-_}
+use Prim.Native.Nat.{ℕ, zero, suc, _+_, _*_}
 use lib.ListN.{length, getD, set, take, drop}
 use lib.Dec.{eqb}
-use Rattle.residue.specs.Vector.{addScaled, scaled}
+use Rattle.residue.specs.Vector.{scaled}
 use Rattle.basis.specs.Layout.{over}
-
--- the row w with its entry at the given point cancelled, by adding a multiple of a row that is 1 there
-unfoldable pub cancelled : ℕ → List ℕ → ℕ → List ℕ → List ℕ
-cancelled p row at w = cond (eqb (getD w at 0) 0) w (addScaled p (p - getD w at 0) (take (length row) w) row ++ drop (length row) w)
-
--- the row w after it met the first t pivot rows, in the order in which they were found; the coefficients of pivot row t are 0 after the first t + 1
-unfoldable pub eliminated : ℕ → ℕ → List ℕ → List ℕ → ℕ → List ℕ → List ℕ
-eliminated p n rows pivots zero w = w
-eliminated p n rows pivots (suc t) w = cancelled p (take (n + t + 1) (drop (128 * t) rows)) (getD pivots t 0) (eliminated p n rows pivots t w)
 
 -- the index of the first of the first n numbers that is not 0, or n
 unfoldable pub firstNonzero : ℕ → List ℕ → ℕ

@@ -2,9 +2,9 @@
 use crate::bytes;
 use crate::correct;
 use crate::insert;
-use crate::rows;
 use crate::settings::Settings;
 use crate::tables;
+use residue::elimination::eliminate;
 use residue::inverse::inverse;
 ghost use mathlib.Core.Path.{_≡_};
 ghost use Prim.Native.Nat.{ℕ, _+_, _*_, _<_, _≤_};
@@ -45,7 +45,7 @@ fn put_row(
 {
     let mut work = [0u16; 128];
     correct::values_of(p, n, points, a, &mut work);
-    rows::eliminate(p, n, n, rows, pivots, &mut work);
+    eliminate(p, n, rows, pivots, &mut work);
     let from = 64 * i;
     insert::move_on(64, from, 64 * k, table);
     correct::correct(

@@ -5,16 +5,18 @@ use crate::candidate::Candidate;
 use crate::candidate::next;
 use crate::rows;
 use monomial::rank::variable_rank;
+use residue::elimination::eliminate;
 use residue::vector::multiply;
 ghost use mathlib.Core.Path.{_≡_};
 ghost use Prim.Native.Nat.{ℕ, _+_, _*_, _<_, _≤_};
 ghost use lib.ListN.{length, getD, take, drop, set, replicate};
 ghost use Rattle.residue.specs.Vector.{Below};
+ghost use Rattle.residue.specs.Elimination.{eliminated};
 ghost use Rattle.monomial.specs.Monomial.{timesVariable};
 ghost use Rattle.monomial.specs.Order.{orderOf};
 ghost use Rattle.basis.specs.Layout.{fill, over};
 ghost use Rattle.basis.specs.Tables.{pointsIn};
-ghost use Rattle.basis.specs.Working.{eliminated, firstNonzero, withPlace};
+ghost use Rattle.basis.specs.Working.{firstNonzero, withPlace};
 ghost use Rattle.basis.specs.Drawing.{stepsOf, columnOf, productValues, settingsOf, PointsGiven, DrawnUp};
 
 // The ranks of the variables.
@@ -52,11 +54,11 @@ fn reduce(
     requires { ⌜ (Below p (now own)) × (Below p (now rows)) ⌝ }
     requires { ⌜ ((t : ℕ) → t < found → getD (now pivots) t 0 < n) ⌝ }
     requires { ⌜ now work ≡ replicate 128 0 ⌝ }
-    ensures { λ q. ⌜ now (work .exit) ≡ eliminated p n (now (rows .entry)) (now (pivots .entry)) found (fill 128 (take n (now (own .entry)))) ⌝ }
+    ensures { λ q. ⌜ now (work .exit) ≡ eliminated p (now (rows .entry)) (now (pivots .entry)) found (fill 128 (take n (now (own .entry)))) ⌝ }
     ensures { λ q. ⌜ q ≡ firstNonzero n (now (work .exit)) ⌝ }
 {
     rows::copy(&own[..n], &mut work[..n]);
-    rows::eliminate(p, n, found, rows, pivots, work);
+    eliminate(p, found, rows, pivots, work);
     rows::first_nonzero(work, n)
 }
 

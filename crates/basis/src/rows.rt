@@ -1,45 +1,12 @@
-// Elimination. A working row has n values at the points, then one coefficient for each standard monomial found, and is 128 numbers long.
+// Working rows. Each has n values at the points, then one coefficient for each standard monomial found, and is 128 numbers long.
 use residue::inverse::inverse;
-use residue::vector::add_scaled;
 use residue::vector::scale;
 ghost use mathlib.Core.Path.{_≡_};
 ghost use Prim.Native.Nat.{ℕ, _+_, _*_, _<_, _≤_};
 ghost use lib.ListN.{length, getD, set};
 ghost use Rattle.residue.specs.Inverse.{inverseOf};
 ghost use Rattle.residue.specs.Vector.{Below};
-ghost use Rattle.basis.specs.Working.{cancelled, eliminated, firstNonzero, pivotRow, withRow};
-
-// Cancels the working row's entry at a point by a row that is 1 there.
-fn cancel(p: u16, row: &[u16], at: usize, work: &mut [u16])
-    requires { ⌜ (2 ≤ p) × (p ≤ 61) ⌝ }
-    requires { ⌜ (at < length (now work)) × (length (now row) ≤ length (now work)) ⌝ }
-    requires { ⌜ Below p (now row) ⌝ }
-    requires { ⌜ Below p (now work) ⌝ }
-    ensures { λ _. ⌜ now (work .exit) ≡ cancelled p (now (row .entry)) at (now (work .entry)) ⌝ }
-{
-    let x = work[at];
-    if x == 0 {
-        return;
-    }
-    let len = row.len();
-    add_scaled(p, &mut work[..len], p - x, row);
-}
-
-// The working row meets the pivot rows in the order in which they were found; each cancels its entry at that row's pivot.
-pub fn eliminate(p: u16, n: usize, found: usize, rows: &[u16], pivots: &[u8], work: &mut [u16])
-    requires { ⌜ (2 ≤ p) × (p ≤ 61) ⌝ }
-    requires { ⌜ (n + found ≤ 128) × (length (now work) ≡ 128) ⌝ }
-    requires { ⌜ (128 * found ≤ length (now rows)) × (found ≤ length (now pivots)) ⌝ }
-    requires { ⌜ (Below p (now rows)) × (Below p (now work)) ⌝ }
-    requires { ⌜ ((t : ℕ) → t < found → getD (now pivots) t 0 < n) ⌝ }
-    ensures { λ _. ⌜ now (work .exit) ≡ eliminated p n (now (rows .entry)) (now (pivots .entry)) found (now (work .entry)) ⌝ }
-{
-    for t in 0..found {
-        let from = 128 * t;
-        let len = n + t + 1;
-        cancel(p, &rows[from..from + len], pivots[t] as usize, work);
-    }
-}
+ghost use Rattle.basis.specs.Working.{firstNonzero, pivotRow, withRow};
 
 // The first of the n values that is not 0, or n.
 pub fn first_nonzero(work: &[u16], n: usize) -> usize

@@ -2,17 +2,17 @@
 use crate::bytes;
 use crate::points;
 use crate::polynomial::put_values;
-use crate::rows;
 use residue::arithmetic;
+use residue::elimination::eliminate;
 ghost use mathlib.Core.Path.{_≡_};
 ghost use mathlib.Core.List.{map};
 ghost use Prim.Native.Nat.{ℕ, _+_, _-_, _*_, _%_, _<_, _≤_};
 ghost use lib.ListN.{length, getD, take, replicate};
 ghost use Rattle.residue.specs.Vector.{Below};
+ghost use Rattle.residue.specs.Elimination.{eliminated};
 ghost use Rattle.basis.specs.Levels.{residues, groups};
 ghost use Rattle.basis.specs.Layout.{fill, over};
 ghost use Rattle.basis.specs.Solving.{occurs};
-ghost use Rattle.basis.specs.Working.{eliminated};
 ghost use Rattle.basis.specs.Interpolants.{solution, termValues, names};
 
 // Minus residues, as bytes.
@@ -45,10 +45,10 @@ pub fn solve(p: u16, n: usize, rows: &[u16], pivots: &[u8], work: &mut [u16], ou
     requires { ⌜ (128 * n ≤ length (now rows)) × (n ≤ length (now pivots)) ⌝ }
     requires { ⌜ (Below p (now rows)) × (Below p (now work)) ⌝ }
     requires { ⌜ ((t : ℕ) → t < n → getD (now pivots) t 0 < n) ⌝ }
-    ensures { λ _. ⌜ now (work .exit) ≡ eliminated p n (now (rows .entry)) (now (pivots .entry)) n (now (work .entry)) ⌝ }
+    ensures { λ _. ⌜ now (work .exit) ≡ eliminated p (now (rows .entry)) (now (pivots .entry)) n (now (work .entry)) ⌝ }
     ensures { λ _. ⌜ now (out .exit) ≡ over (fill 64 (solution p n (now (rows .entry)) (now (pivots .entry)) (now (work .entry)))) (now (out .entry)) ⌝ }
 {
-    rows::eliminate(p, n, n, rows, pivots, work);
+    eliminate(p, n, rows, pivots, work);
     put_answer(p, &work[n..n + n], &mut out[..64]);
 }
 

@@ -9,3 +9,4 @@ pub mod Powers
 pub mod Inverses
 pub mod Filled
 pub mod Vectors
+pub mod Eliminated

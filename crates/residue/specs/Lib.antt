@@ -5,3 +5,4 @@ pub mod Modulus
 pub mod Level
 pub mod Inverse
 pub mod Vector
+pub mod Elimination

@@ -1,5 +1,6 @@
 // Residues modulo one of the 18 primes of document 01.
 pub mod arithmetic;
+pub mod elimination;
 pub mod inverse;
 pub mod level;
 pub mod vector;

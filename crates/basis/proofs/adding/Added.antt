@@ -13,6 +13,7 @@ use lib.Dec.{T}
 use Rattle.residue.specs.Lists.{Among}
 use Rattle.residue.specs.Modulus.{isModulus}
 use Rattle.residue.specs.Vector.{Below}
+use Rattle.residue.specs.Elimination.{eliminated}
 use Rattle.residue.proofs.Moduli.{modulus-range}
 use Rattle.monomial.specs.Monomial.{valueAt}
 use Rattle.monomial.specs.Order.{orderOf}
@@ -25,7 +26,6 @@ use Rattle.basis.specs.Polynomial.{Distinct}
 use Rattle.basis.specs.BasisOf.{standardOf, leadsOf, rowOf, rowsOf, interpolantOf}
 use Rattle.basis.specs.Instance.{Monomial, Point, reduced, pointOf}
 use Rattle.basis.specs.Tables.{spaceUnder, pointsUnder, rowCount, tablesOf, pointsIn}
-use Rattle.basis.specs.Working.{eliminated}
 use Rattle.basis.specs.Drawing.{settingsOf, PointsGiven, DrawnUp}
 use Rattle.basis.specs.Insertions.{rowAt, valueOfRow, firstFrom, Grown, grown, standardGrown, grownBy, NewPoint, Tabled}
 use Rattle.residue.proofs.Vectors.{below-take}
@@ -228,10 +228,10 @@ module _ {p m o n r : ℕ} {points standard leads coefficients rows pivots point
       ∙ over-zeros (map (λ (b : Monomial m). valueAt (P .0) (b .0) % suc q) (standardOf D S)) 64 (omega (arith, standard-count))
 
   solves-it : (vs : List ℕ) → length vs ≡ length S → Below (suc q) vs
-      → eliminated (suc q) (length S) rows pivots (length S) (fill 128 vs) ≡ fill 128 (replicate (length S) 0 ++ map (λ c. (suc q - c) % suc q) (interpolantOf D S vs))
+      → eliminated (suc q) rows pivots (length S) (fill 128 vs) ≡ fill 128 (replicate (length S) 0 ++ map (λ c. (suc q - c) % suc q) (interpolantOf D S vs))
   solves-it = subst (λ (z : ℕ). (vs : List ℕ) → length vs ≡ length S → Below z vs
-      → eliminated z (length S) rows pivots (length S) (fill 128 vs) ≡ fill 128 (replicate (length S) 0 ++ map (λ c. (z - c) % z) (interpolantOf D S vs))) raised
-      (subst (λ (k : ℕ). (vs : List ℕ) → length vs ≡ k → Below p vs → eliminated p k rows pivots k (fill 128 vs) ≡ fill 128 (replicate k 0 ++ map (λ c. (p - c) % p) (interpolantOf D S vs)))
+      → eliminated z rows pivots (length S) (fill 128 vs) ≡ fill 128 (replicate (length S) 0 ++ map (λ c. (z - c) % z) (interpolantOf D S vs))) raised
+      (subst (λ (k : ℕ). (vs : List ℕ) → length vs ≡ k → Below p vs → eliminated p rows pivots k (fill 128 vs) ≡ fill 128 (replicate k 0 ++ map (λ c. (p - c) % p) (interpolantOf D S vs)))
       (sym (length-map K (pointOf q m))) (drawn .pivot-rows .solves))
 
   -- what the functions find and leave

@@ -10,6 +10,7 @@ use lib.Seq.{take-suc, drop-at, take-all}
 use Rattle.residue.specs.Congruence.{Mod}
 use Rattle.residue.specs.Lists.{Among}
 use Rattle.residue.specs.Vector.{Below}
+use Rattle.residue.specs.Elimination.{eliminated}
 use Rattle.residue.proofs.Congruence.{rfl, of, flip, _then_, reduce, negative, ring, scale}
 use Rattle.residue.proofs.Vectors.{map-at}
 use Rattle.monomial.specs.Monomial.{valueAt}
@@ -21,7 +22,6 @@ use Rattle.basis.specs.Space.{Space}
 use Rattle.basis.specs.Polynomial.{Distinct}
 use Rattle.basis.specs.BasisOf.{basisOf, standardOf, leadsOf, rowOf, rowsOf, interpolantOf}
 use Rattle.basis.specs.Instance.{Monomial, Point, spaceOf}
-use Rattle.basis.specs.Working.{eliminated}
 use Rattle.basis.specs.Insertions.{rowAt, reducedRow}
 use Rattle.basis.proofs.Layouts.{length-fill, fill-append, fill-zeros, length-places, table-split}
 use Rattle.basis.proofs.Places.{table-groups, over-zeros}
@@ -80,7 +80,7 @@ module _ (q m : ℕ) (order : Order) (few : m ≤ 8) (L : Laws (spaceOf q m orde
 
   module _ (short : length S ≤ 64) (rows pivots : List ℕ)
       (solves : (vs : List ℕ) → length vs ≡ length S → Below (suc q) vs
-      → eliminated (suc q) (length S) rows pivots (length S) (fill 128 vs) ≡ fill 128 (replicate (length S) 0 ++ map (λ c. (suc q - c) % suc q) (interpolantOf D S vs))) where
+      → eliminated (suc q) rows pivots (length S) (fill 128 vs) ≡ fill 128 (replicate (length S) 0 ++ map (λ c. (suc q - c) % suc q) (interpolantOf D S vs))) where
     pub reduced-is : (a : Monomial m) → reducedRow (suc q) (length S) (fill 512 (inPlaces 8 (map (λ (Q : Point (suc q) m). Q .0) S))) rows pivots (fill 8 (a .0)) ≡ fill 64 (rowOf D S a)
     unfolding reducedRow
     reduced-is a =
@@ -93,7 +93,7 @@ module _ (q m : ℕ) (order : Order) (few : m ≤ 8) (L : Laws (spaceOf q m orde
         ap (map (λ point. valueAt point (fill 8 (a .0)) % suc q)) read ∙ map-map (fill 8) (λ point. valueAt point (fill 8 (a .0)) % suc q) (map f S) ∙ map-map f (λ point. valueAt (fill 8 point) (fill 8 (a .0)) % suc q) S
         ∙ map-same (λ (Q : Point (suc q) m). valueAt (fill 8 (Q .0)) (fill 8 (a .0)) % suc q) (λ Q. valueAt (Q .0) (a .0) % suc q) S (λ Q mem. ap (λ (z : ℕ). z % suc q) (value Q)) in
         let long : length (valuesOf a) ≡ length S = length-map S _ in
-        ap (λ (z : List ℕ). take 64 (drop (length S) (eliminated (suc q) (length S) rows pivots (length S) z))) (ap (λ (z : List ℕ). over z (replicate 128 0)) vs ∙ over-zeros (valuesOf a) 128 (omega arith))
+        ap (λ (z : List ℕ). take 64 (drop (length S) (eliminated (suc q) rows pivots (length S) z))) (ap (λ (z : List ℕ). over z (replicate 128 0)) vs ∙ over-zeros (valuesOf a) 128 (omega arith))
         ∙ ap (λ (z : List ℕ). take 64 (drop (length S) z)) (solves (valuesOf a) long (residues a))
         ∙ drop-zeros (length S) 128 (map (λ c. (suc q - c) % suc q) (interpolantOf D S (valuesOf a))) (omega arith) ∙ ap (fill 64) (row-from a)
       where

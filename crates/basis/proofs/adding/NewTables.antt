@@ -13,6 +13,7 @@ use Rattle.residue.specs.Congruence.{Mod}
 use Rattle.residue.specs.Lists.{Among}
 use Rattle.residue.specs.Inverse.{inverseOf}
 use Rattle.residue.specs.Vector.{Below}
+use Rattle.residue.specs.Elimination.{eliminated}
 use Rattle.residue.proofs.Vectors.{map-at}
 use Rattle.monomial.specs.Monomial.{timesVariable, divides, valueAt}
 use Rattle.monomial.specs.Order.{Order, orderOf, cmp}
@@ -26,7 +27,6 @@ use Rattle.basis.specs.Polynomial.{Distinct}
 use Rattle.basis.specs.Extension.{without, divided, extended}
 use Rattle.basis.specs.BasisOf.{standardOf, leadsOf, rowOf, rowsOf, interpolantOf}
 use Rattle.basis.specs.Instance.{Monomial, Point, spaceOf}
-use Rattle.basis.specs.Working.{eliminated}
 use Rattle.basis.specs.Insertions.{rowAt, insertedAt, removedAt, placeOf, dividedBy, rowValueAt, takenOut, correctedRow, correctedRows, Grown, grown, putWithRow, productPut, productsPut, othersOf, rowsLeft, othersCorrected, standardGrown, grownBy, withRowAt, reducedRow}
 use Rattle.basis.proofs.Layouts.{length-places, table-split}
 use Rattle.basis.proofs.Places.{table-groups, place-at}
@@ -229,7 +229,7 @@ module _ (q m o : ℕ) (few : m ≤ 8) (L : Laws (spaceOf q m (orderOf o))) wher
     -- the products
     module _ (rows pivots : List ℕ)
         (solves : (vs : List ℕ) → length vs ≡ length S → Below (suc q) vs
-        → eliminated (suc q) (length S) rows pivots (length S) (fill 128 vs) ≡ fill 128 (replicate (length S) 0 ++ map (λ c. (suc q - c) % suc q) (interpolantOf D S vs))) where
+        → eliminated (suc q) rows pivots (length S) (fill 128 vs) ≡ fill 128 (replicate (length S) 0 ++ map (λ c. (suc q - c) % suc q) (interpolantOf D S vs))) where
       abbrev points : List ℕ
       points = fill 512 (inPlaces 8 (map (λ (Q : Point (suc q) m). Q .0) S))
 

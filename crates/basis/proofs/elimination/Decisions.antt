@@ -11,6 +11,7 @@ use Rattle.residue.specs.Congruence.{Mod}
 use Rattle.residue.specs.Inverse.{inverseOf}
 use Rattle.residue.specs.Lists.{Among}
 use Rattle.residue.specs.Vector.{Below}
+use Rattle.residue.specs.Elimination.{eliminated}
 use Rattle.residue.proofs.Congruence.{of, _then_}
 use Rattle.residue.proofs.Inverses.{inverse-mod}
 use Rattle.residue.proofs.Moduli.{modulus-range}
@@ -21,7 +22,7 @@ use Rattle.basis.specs.Space.{Space}
 use Rattle.basis.specs.Basis.{Row}
 use Rattle.basis.specs.BasisOf.{standardOf, leadsOf}
 use Rattle.basis.specs.Instance.{Monomial, Point, spaceOf, pointOf}
-use Rattle.basis.specs.Working.{eliminated, firstNonzero, pivotRow, withRow, withPlace}
+use Rattle.basis.specs.Working.{firstNonzero, pivotRow, withRow, withPlace}
 use Rattle.basis.proofs.Instance.{laws, standard-total}
 use Rattle.basis.proofs.Layouts.{length-fill}
 use Rattle.basis.proofs.WorkingRows.{zero-before, not-zero-there}
@@ -69,7 +70,7 @@ module _ {q m n : ℕ} {order : Order} {S : List (Point (suc q) m)} {p : ℕ} (G
   module _ {std lds : List (Monomial m)} {css : List (List ℕ)} {standard leads coefficients rows pivots values ranks steps : List ℕ}
       (H : Held q m n order S std lds css standard leads coefficients rows pivots values ranks steps) {b : Monomial m} {at exponents : List ℕ} {rank : ℕ} {own : List ℕ}
       (B : InHand q m n order S std lds b at exponents rank own) {work : List ℕ}
-      (left : work ≡ eliminated p n rows pivots (length std) (fill 128 (take n own))) where
+      (left : work ≡ eliminated p rows pivots (length std) (fill 128 (take n own))) where
     abbrev found : ℕ
     found = length std
 
@@ -79,8 +80,8 @@ module _ {q m n : ℕ} {order : Order} {S : List (Point (suc q) m)} {p : ℕ} (G
     front-long : length (take n own) ≡ n
     front-long = length-take-le n own (omega (arith, B .own-long, G .most))
 
-    left′ : work ≡ eliminated (suc q) n rows pivots found (fill 128 (take n own))
-    left′ = left ∙ ap (λ (z : ℕ). eliminated z n rows pivots found (fill 128 (take n own))) (G .modulus)
+    left′ : work ≡ eliminated (suc q) rows pivots found (fill 128 (take n own))
+    left′ = left ∙ ap (λ (z : ℕ). eliminated z rows pivots found (fill 128 (take n own))) (G .modulus)
 
     -- the working row, over any matrix that the pivot rows are rows of
     module _ (v : ℕ → ℕ → ℕ) (P : PivotRows q n found v rows pivots) where

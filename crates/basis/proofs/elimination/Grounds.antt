@@ -13,6 +13,7 @@ use Rattle.residue.specs.Congruence.{Mod}
 use Rattle.residue.specs.Lists.{Among}
 use Rattle.residue.specs.Modulus.{isModulus}
 use Rattle.residue.specs.Vector.{Below}
+use Rattle.residue.specs.Elimination.{eliminated}
 use Rattle.residue.proofs.Congruence.{of, flip, reduce, _then_}
 use Rattle.residue.proofs.Moduli.{modulus-range}
 use Rattle.residue.proofs.Vectors.{map-at, below-append}
@@ -25,7 +26,6 @@ use Rattle.basis.specs.Basis.{Fits}
 use Rattle.basis.specs.BasisOf.{standardOf, leadsOf, valueAt, interpolantOf}
 use Rattle.basis.specs.Instance.{Residues, Point, reduced, pointOf}
 use Rattle.basis.specs.Tables.{spaceUnder, pointsUnder, rowCount, tablesOf, pointsIn}
-use Rattle.basis.specs.Working.{eliminated}
 use Rattle.basis.specs.Drawing.{settingsOf, PointsGiven, DrawnUp}
 use Rattle.basis.proofs.Instance.{laws, residues-reduced, point-of}
 use Rattle.basis.proofs.Layouts.{length-fill, fill-at}
@@ -150,9 +150,9 @@ module _ {p m order n : ℕ} {points : List ℕ} (given : PointsGiven (settingsO
     P = subst (λ (k : ℕ). PivotRows q n k (valuesOf D (standardOf D S) S (pointOf q m [])) rows pivots) full (H .pivot-rows)
 
     solved : (vs : List ℕ) → length vs ≡ n → Below p vs
-        → eliminated p n rows pivots n (fill 128 vs) ≡ fill 128 (replicate n 0 ++ map (λ c. (p - c) % p) (interpolantOf D S vs))
+        → eliminated p rows pivots n (fill 128 vs) ≡ fill 128 (replicate n 0 ++ map (λ c. (p - c) % p) (interpolantOf D S vs))
     solved vs l b =
-        ap (λ (z : ℕ). eliminated z n rows pivots n (fill 128 vs)) raised
+        ap (λ (z : ℕ). eliminated z rows pivots n (fill 128 vs)) raised
         ∙ solves q n n (valuesOf D (standardOf D S) S (pointOf q m [])) rows pivots P (λ i. getD vs i 0) cs (fits .long ∙ full)
         (λ i h. fits .residues (getD cs i 0) (getD-among cs i 0 h)) value vs l (subst (λ (z : ℕ). Below z vs) raised b) (λ i h. of refl)
         ∙ sym (ap (λ (z : ℕ). fill 128 (replicate n 0 ++ map (λ c. (z - c) % z) cs)) raised)

@@ -6,6 +6,7 @@ use native.Mathlib.Omega.{arith}
 use lib.ListN.{length, getD, set, take, drop, replicate, length-append}
 use Rattle.residue.specs.Inverse.{inverseOf}
 use Rattle.residue.specs.Vector.{Below}
+use Rattle.residue.specs.Elimination.{eliminated}
 use Rattle.monomial.specs.Monomial.{timesVariable}
 use Rattle.monomial.specs.Order.{Order, orderOf}
 use Rattle.basis.specs.declared.candidate.Candidate.{Candidate}
@@ -15,7 +16,7 @@ use Rattle.basis.specs.Layout.{fill}
 use Rattle.basis.specs.BasisOf.{standardOf}
 use Rattle.basis.specs.Instance.{Monomial, Point}
 use Rattle.basis.specs.Tables.{spaceUnder, pointsUnder, pointsIn}
-use Rattle.basis.specs.Working.{eliminated, firstNonzero, pivotRow, withRow, withPlace}
+use Rattle.basis.specs.Working.{firstNonzero, pivotRow, withRow, withPlace}
 use Rattle.basis.specs.Candidates.{ended, nextOf}
 use Rattle.basis.specs.Drawing.{stepsOf, productValues, settingsOf, PointsGiven, DrawnUp}
 use Rattle.basis.proofs.Layouts.{length-fill}
@@ -134,9 +135,9 @@ module _ {p m order n : ℕ} {points : List ℕ} where
         pub own-below : Below p own
         own-below = residues-of own (h .in-hand .own-below)
 
-        module _ {work : List ℕ} (left : work ≡ eliminated p n rows pivots found (fill 128 (take n own))) where
-          left′ : work ≡ eliminated p n rows pivots (length (h .std)) (fill 128 (take n own))
-          left′ = left ∙ ap (λ (z : ℕ). eliminated p n rows pivots z (fill 128 (take n own))) (h .found-is)
+        module _ {work : List ℕ} (left : work ≡ eliminated p rows pivots found (fill 128 (take n own))) where
+          left′ : work ≡ eliminated p rows pivots (length (h .std)) (fill 128 (take n own))
+          left′ = left ∙ ap (λ (z : ℕ). eliminated p rows pivots z (fill 128 (take n own))) (h .found-is)
 
           pub worked-long : length work ≡ 128
           worked-long = work-long G (h .held) (h .in-hand) left′

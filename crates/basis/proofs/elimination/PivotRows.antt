@@ -10,9 +10,9 @@ use lib.ListN.{length, getD, take, drop, List·getD-eq-default}
 use lib.Seq.{getD-take, getD-drop}
 use Rattle.residue.specs.Congruence.{Mod}
 use Rattle.residue.specs.Vector.{Below}
+use Rattle.residue.specs.Elimination.{cancelled, eliminated}
 use Rattle.residue.proofs.Congruence.{rfl, of, flip, _then_, _plus_, scale, lin, small}
-use Rattle.basis.specs.Working.{cancelled, eliminated}
-use Rattle.basis.proofs.WorkingRows.{cancelled-at, cancelled-length, cancelled-below, part-short}
+use Rattle.residue.proofs.Eliminated.{row-long, cancelled-at, cancelled-length, cancelled-below}
 use Rattle.basis.proofs.elimination.Combinations.{combination, combination-cong, combination-add}
 
 -- entry i of pivot row t
@@ -62,19 +62,12 @@ stays : {q u′ : ℕ} (k u e : ℕ) → u ≡ 0 → e ≡ 0 → Mod (suc q) u�
 stays k u e h z g = g then of (rw (h, z) (omega arith))
 
 module _ (q n found : ℕ) (v : ℕ → ℕ → ℕ) (rows pivots : List ℕ) (P : PivotRows q n found v rows pivots) where
-  -- the part of pivot row t that is added, and its entries
+  -- pivot row t, and its entries
   abbrev part : ℕ → List ℕ
-  part t = take (n + t + 1) (drop (128 * t) rows)
+  part t = take 128 (drop (128 * t) rows)
 
-  part-at : (t i : ℕ) → t < found → i < 128 → getD (part t) i 0 ≡ entry rows t i
-  part-at t i h l = go (decLt i (n + t + 1))
-    where
-      go : Dec (i < n + t + 1) → getD (part t) i 0 ≡ entry rows t i
-      go (yes k) = getD-take (n + t + 1) (drop (128 * t) rows) i 0 k ∙ getD-drop (128 * t) rows i 0
-      go (no k) =
-          let s = part-short n t rows in
-          let e : n + (i - n) ≡ i = omega (arith, k) in
-          List·getD-eq-default (part t) 0 (omega (arith, k)) ∙ sym (subst (λ (j : ℕ). entry rows t j ≡ 0) e (P .beyond t (i - n) h (omega (arith, k)) (omega arith)))
+  part-at : (t i : ℕ) → i < 128 → getD (part t) i 0 ≡ entry rows t i
+  part-at t i l = getD-take 128 (drop (128 * t) rows) i 0 l ∙ getD-drop (128 * t) rows i 0
 
   module _ (φ : ℕ → ℕ) where
     -- the row u meets pivot row t
@@ -85,8 +78,8 @@ module _ (q n found : ℕ) (v : ℕ → ℕ → ℕ) (rows pivots : List ℕ) (P
       abbrev met : List ℕ
       met = cancelled (suc q) (part t) (getD pivots t 0) u
 
-      fits : length (part t) ≤ length u
-      fits = omega (arith, part-short n t rows, W .long, P .room, P .most)
+      fits : length u ≡ length (part t)
+      fits = W .long ∙ sym (row-long t rows (omega (arith, P .long-rows, P .room, P .most)))
 
       inside : (s : ℕ) → s < found → getD pivots s 0 < length u
       inside s l = omega (arith, P .pivot s l, W .long, P .room, P .most)
@@ -95,7 +88,7 @@ module _ (q n found : ℕ) (v : ℕ → ℕ → ℕ) (rows pivots : List ℕ) (P
       x-small = omega (arith, W .below (getD pivots t 0) (inside t h))
 
       gained : (i : ℕ) → i < 128 → Mod (suc q) (getD met i 0) (getD u i 0 + q * x * entry rows t i)
-      gained i l = subst (λ (e : ℕ). Mod (suc q) (getD met i 0) (getD u i 0 + q * x * e)) (part-at t i h l) (cancelled-at q (part t) (getD pivots t 0) u fits x-small i)
+      gained i l = subst (λ (e : ℕ). Mod (suc q) (getD met i 0) (getD u i 0 + q * x * e)) (part-at t i l) (cancelled-at q (part t) (getD pivots t 0) u fits x-small i (rw (W .long) l))
 
       met-long : length met ≡ 128
       met-long = cancelled-length (suc q) (part t) (getD pivots t 0) u fits ∙ W .long
@@ -136,15 +129,15 @@ module _ (q n found : ℕ) (v : ℕ → ℕ → ℕ) (rows pivots : List ℕ) (P
 
     -- the row w after the first t pivot rows
     module _ (w : List ℕ) (W : Working q n found v φ w) where
-      both : (t : ℕ) → t ≤ found → Working q n found v φ (eliminated (suc q) n rows pivots t w) × ZeroAt pivots t (eliminated (suc q) n rows pivots t w)
+      both : (t : ℕ) → t ≤ found → Working q n found v φ (eliminated (suc q) rows pivots t w) × ZeroAt pivots t (eliminated (suc q) rows pivots t w)
       unfolding eliminated
       both zero h = (W, λ s l. absurd (not-suc-le-zero l))
       both (suc t) h =
           let b = both t (omega arith) in
-          let u : List ℕ = eliminated (suc q) n rows pivots t w in (meets t h u (b .0) (b .1), met-zero t h u (b .0) (b .1))
+          let u : List ℕ = eliminated (suc q) rows pivots t w in (meets t h u (b .0) (b .1), met-zero t h u (b .0) (b .1))
 
-      pub eliminated-works : Working q n found v φ (eliminated (suc q) n rows pivots found w)
+      pub eliminated-works : Working q n found v φ (eliminated (suc q) rows pivots found w)
       eliminated-works = both found (omega arith) .0
 
-      pub eliminated-zero : ZeroAt pivots found (eliminated (suc q) n rows pivots found w)
+      pub eliminated-zero : ZeroAt pivots found (eliminated (suc q) rows pivots found w)
       eliminated-zero = both found (omega arith) .1

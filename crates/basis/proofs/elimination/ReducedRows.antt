@@ -9,10 +9,10 @@ use lib.ListN.{length, getD, replicate, length-replicate, getD-replicate, length
 use lib.Seq.{ext-getD, getD-append-add}
 use Rattle.residue.specs.Congruence.{Mod}
 use Rattle.residue.specs.Vector.{Below}
+use Rattle.residue.specs.Elimination.{eliminated}
 use Rattle.residue.proofs.Congruence.{of, flip, reduce, negative, _then_, _plus_, scale, lin, small}
 use Rattle.residue.proofs.Vectors.{map-at}
 use Rattle.basis.specs.Layout.{fill}
-use Rattle.basis.specs.Working.{eliminated}
 use Rattle.basis.proofs.Layouts.{length-fill, fill-at}
 use Rattle.basis.proofs.elimination.Combinations.{combination, combination-add, combination-zero, combination-scale}
 use Rattle.basis.proofs.elimination.PivotRows.{PivotRows, Working, ZeroAt, vanishes, eliminated-works, eliminated-zero}
@@ -107,7 +107,7 @@ module _ (q n found : ℕ) (v : ℕ → ℕ → ℕ) where
               subst (λ (j : ℕ). getD w j 0 ≡ 0) e (W .beyond (i - n) (omega (arith, h, k))) ∙ sym (List·getD-eq-default due 0 m)
 
       pub solves : (vs : List ℕ) → length vs ≡ n → Below (suc q) vs → ((i : ℕ) → i < n → Mod (suc q) (getD vs i 0) (φ i))
-          → eliminated (suc q) n rows pivots found (fill 128 vs) ≡ fill 128 due
+          → eliminated (suc q) rows pivots found (fill 128 vs) ≡ fill 128 due
       solves vs h low e =
           let W = loaded φ vs (omega (arith, P .most)) h low e in
           solved _ (eliminated-works q n found v rows pivots P φ (fill 128 vs) W) (eliminated-zero q n found v rows pivots P φ (fill 128 vs) W)

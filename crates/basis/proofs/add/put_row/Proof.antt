@@ -6,13 +6,13 @@ use native.Mathlib.Omega.{arith}
 use lib.ListN.{length, take, drop, replicate, length-drop}
 use lib.Seq.{length-take-le}
 use Rattle.residue.specs.Vector.{Below}
+use Rattle.residue.specs.Elimination.{eliminated}
 use Rattle.residue.proofs.Vectors.{below-take, below-drop}
+use Rattle.residue.proofs.Eliminated.{eliminated-length, eliminated-below}
 use Rattle.monomial.specs.Monomial.{valueAt}
 use Rattle.basis.specs.Levels.{groups}
 use Rattle.basis.specs.Layout.{over}
-use Rattle.basis.specs.Working.{eliminated}
 use Rattle.basis.specs.Insertions.{correctedRow, reducedRow}
-use Rattle.basis.proofs.WorkingRows.{eliminated-length, eliminated-below}
 use Rattle.basis.proofs.adding.Writes.{row-in, values-below}
 use borrow.Author.Needs.{needs}
 use Rattle.basis.proofs.add.put_row.Statement.{statement}
@@ -36,7 +36,7 @@ slice-aggregate-eliminate c = search needs
 eliminate-requires : tie.Need-eliminate-requires
 eliminate-requires c κs =
     let s = c .before .before .before .before .before .before .before .before .before .before .before .before in
-    ((s .pre .0 .0, s .pre .0 .1), ((omega arith, c .before .before .values-of .kept .1 .1 .1 .1 .0), ((omega arith, omega arith), ((s .pre .1 .1 .1 .1 .0 .1, loaded s _ (c .before .before .values-of .ensures)), s .pre .1 .1 .1 .1 .1))))
+    ((s .pre .0 .0, s .pre .0 .1), (c .before .before .values-of .kept .1 .1 .1 .1 .0, ((omega arith, omega arith), ((s .pre .1 .1 .1 .1 .0 .1, loaded s _ (c .before .before .values-of .ensures)), λ t h. omega (arith, s .pre .1 .1 .1 .1 .1 t h)))))
 
 mul-from : tie.Need-mul-from
 mul-from c = search needs
@@ -83,8 +83,8 @@ correct-requires c κs =
     let long = c .before .before .before .before .move-on .kept .1 .1 .1 .0 in
     let e : n + 64 - n ≡ 64 = omega arith in
     let r = length-take-le (64 * i + 64 - 64 * i) (drop (64 * i) moved) (simp length-drop (omega arith)) in
-    let w = c .before .before .before .before .before .before .before .eliminate .last .1 .1 .1 .1 .1 .0 in
-    let h = c .before .before .before .before .before .before .before .eliminate .kept .1 .1 .1 .1 .1 .0 in
+    let w = c .before .before .before .before .before .before .before .eliminate .last .1 .1 .1 .1 .0 in
+    let h = c .before .before .before .before .before .before .before .eliminate .kept .1 .1 .1 .1 .0 in
     let l = c .before .before .before .before .before .before .before .before .before .before .values-of .kept .1 .1 .1 .1 .0 in
     let d = length-take-le (n + 64 - n) (drop n w) (simp length-drop (omega arith)) in (
       (s .pre .0 .0, s .pre .0 .1, s .pre .0 .3, s .pre .0 .4),
@@ -97,7 +97,7 @@ correct-requires c κs =
             (
               s .pre .1 .1 .1 .1 .0 .2,
               below-take (s .args .p) (n + 64 - n) (drop n w) (below-drop (s .args .p) n w (subst (Below (s .args .p)) (sym (c .before .before .before .before .before .before .before .eliminate .ensures))
-                  (eliminated-below (s .args .p) n (s .args .rows .now) (s .args .pivots .now) _ l (omega arith) (loaded s _ (c .before .before .before .before .before .before .before .before .before .before .values-of .ensures)) n (omega arith)))),
+                  (eliminated-below (s .args .p) (s .args .rows .now) (s .args .pivots .now) _ l (omega arith) (loaded s _ (c .before .before .before .before .before .before .before .before .before .before .values-of .ensures)) n (omega arith)))),
             ),
           ),
         ),
@@ -114,9 +114,9 @@ returns c =
     let n : ℕ = s .args .n in
     let i : ℕ = s .args .i in
     let e : n + 64 - n ≡ 64 = omega arith in
-    let cs : take (n + 64 - n) (drop n (c .before .before .before .before .before .before .before .before .before .before .before .eliminate .last .1 .1 .1 .1 .1 .0)) ≡ reducedRow (s .args .p) n (s .args .points .now) (s .args .rows .now) (s .args .pivots .now) (s .args .a .now) =
-    ap (λ (k : ℕ). take k (drop n (c .before .before .before .before .before .before .before .before .before .before .before .eliminate .last .1 .1 .1 .1 .1 .0))) e
-    ∙ ap (λ (z : List ℕ). take 64 (drop n z)) (c .before .before .before .before .before .before .before .before .before .before .before .eliminate .ensures ∙ ap (eliminated (s .args .p) n (s .args .rows .now) (s .args .pivots .now) n) (c .before .before .before .before .before .before .before .before .before .before .before .before .before .before .values-of .ensures)) in
+    let cs : take (n + 64 - n) (drop n (c .before .before .before .before .before .before .before .before .before .before .before .eliminate .last .1 .1 .1 .1 .0)) ≡ reducedRow (s .args .p) n (s .args .points .now) (s .args .rows .now) (s .args .pivots .now) (s .args .a .now) =
+    ap (λ (k : ℕ). take k (drop n (c .before .before .before .before .before .before .before .before .before .before .before .eliminate .last .1 .1 .1 .1 .0))) e
+    ∙ ap (λ (z : List ℕ). take 64 (drop n z)) (c .before .before .before .before .before .before .before .before .before .before .before .eliminate .ensures ∙ ap (eliminated (s .args .p) (s .args .rows .now) (s .args .pivots .now) n) (c .before .before .before .before .before .before .before .before .before .before .before .before .before .before .values-of .ensures)) in
     row-in 64 (s .args .k) i (64 * i + 64 - 64 * i) _ (s .args .table .now) (c .before .before .before .before .before .before .before .before .move-on .last .1 .1 .1 .0) (c .before .before .before .correct .last .1 .1 .1 .1 .1 .1 .1 .1 .0) (omega arith) (omega arith) (omega arith) (c .before .before .before .before .before .before .before .before .move-on .ensures)
     (c .before .before .before .correct .ensures .1 ∙ ap (correctedRow (s .args .p) (s .args .place) (s .args .inverse) (s .args .gone .now) (s .args .point .now) (s .args .values .now) (s .args .a .now)) cs)
 

@@ -6,9 +6,9 @@ use borrow.Author.Needs.{needs}
 use lib.ListN.{length, take, drop}
 use lib.Seq.{length-take-le}
 use Rattle.residue.specs.Vector.{Below}
+use Rattle.residue.specs.Elimination.{eliminated}
 use Rattle.residue.proofs.Vectors.{below-take}
 use Rattle.basis.specs.Layout.{fill}
-use Rattle.basis.specs.Working.{eliminated}
 use Rattle.basis.proofs.Layouts.{length-fill}
 use Rattle.basis.proofs.ValueRows.{zeros-long, below-fill, load}
 use Rattle.basis.proofs.draw.reduce.Statement.{statement}
@@ -43,7 +43,7 @@ eliminate-requires c κs =
     let s = start q in (
       s .pre .0 .0,
       (
-        (omega arith, ap length (loaded q) ∙ length-fill 128 (take (s .args .n) (s .args .own .now))),
+        ap length (loaded q) ∙ length-fill 128 (take (s .args .n) (s .args .own .now)),
         (
           (omega arith, omega arith),
           (
@@ -52,7 +52,7 @@ eliminate-requires c κs =
               subst (Below (s .args .p)) (sym (loaded q))
                   (below-fill (s .args .p) 128 (take (s .args .n) (s .args .own .now)) (omega arith) (below-take (s .args .p) (s .args .n) (s .args .own .now) (s .pre .1 .1 .0 .0))),
             ),
-            s .pre .1 .1 .1 .0,
+            λ t h. omega (arith, s .pre .1 .1 .1 .0 t h),
           ),
         ),
       ),
@@ -61,7 +61,7 @@ eliminate-requires c κs =
 first-nonzero-requires : tie.Need-first-nonzero-requires
 first-nonzero-requires c κs =
     let q = c .before .before .before .before .before .before .before in
-    omega (arith, c .before .before .before .eliminate .kept .1 .1 .1 .1 .1 .0, ap length (loaded q) ∙ length-fill 128 (take (start q .args .n) (start q .args .own .now)))
+    omega (arith, c .before .before .before .eliminate .kept .1 .1 .1 .1 .0, ap length (loaded q) ∙ length-fill 128 (take (start q .args .n) (start q .args .own .now)))
 
 same-length : tie.Need-same-length
 same-length c = search needs
@@ -70,7 +70,7 @@ returns : tie.Need-returns
 returns c =
     let q = c .before .before .before .before .before .before .before .before in
     let a = start q .args in
-    (c .before .before .before .before .eliminate .ensures ∙ ap (eliminated (a .p) (a .n) (a .rows .now) (a .pivots .now) (a .found)) (loaded q), c .first-nonzero .ensures)
+    (c .before .before .before .before .eliminate .ensures ∙ ap (eliminated (a .p) (a .rows .now) (a .pivots .now) (a .found)) (loaded q), c .first-nonzero .ensures)
 
 pub reduce-spec : {M : Type 1} → statement M
 reduce-spec =

@@ -8,10 +8,10 @@ use borrow.Author.Needs.{needs}
 use lib.Seq.{length-take-le}
 use Rattle.residue.specs.Vector.{Below}
 use Rattle.residue.proofs.Vectors.{below-take, below-drop}
+use Rattle.residue.proofs.Eliminated.{eliminated-below}
 use Rattle.basis.specs.Layout.{fill}
 use Rattle.basis.specs.Interpolants.{solution}
 use Rattle.basis.proofs.Layouts.{answered}
-use Rattle.basis.proofs.WorkingRows.{eliminated-below}
 use Rattle.basis.proofs.solve.solve.Statement.{statement}
 use Rattle.basis.proofs.solve.solve.Tie as tie
 
@@ -19,17 +19,17 @@ use Rattle.basis.proofs.solve.solve.Tie as tie
 abbrev start : tie.After-eliminate → tie.Start
 start e = e .before .before .before .before .before .before
 
-reduced : (e : tie.After-eliminate) → Below (start e .args .p) (e .eliminate .last .1 .1 .1 .1 .1 .0)
+reduced : (e : tie.After-eliminate) → Below (start e .args .p) (e .eliminate .last .1 .1 .1 .1 .0)
 reduced e =
     let s = start e in
     let n : ℕ = s .args .n in
     subst (Below (s .args .p)) (sym (e .eliminate .ensures))
-    (eliminated-below (s .args .p) n (s .args .rows .now) (s .args .pivots .now) (s .args .work .now) (s .pre .1 .0 .1) (omega arith) (s .pre .1 .1 .1 .0 .1) n (omega arith))
+    (eliminated-below (s .args .p) (s .args .rows .now) (s .args .pivots .now) (s .args .work .now) (s .pre .1 .0 .1) (omega arith) (s .pre .1 .1 .1 .0 .1) n (omega arith))
 
 eliminate-requires : tie.Need-eliminate-requires
 eliminate-requires c κs =
     let s = c .before .before .before .before .before in
-    (s .pre .0, ((omega arith, s .pre .1 .0 .1), (s .pre .1 .1 .0, (s .pre .1 .1 .1 .0, s .pre .1 .1 .1 .1))))
+    (s .pre .0, (s .pre .1 .0 .1, (s .pre .1 .1 .0, (s .pre .1 .1 .1 .0, λ t h. omega (arith, s .pre .1 .1 .1 .1 t h)))))
 
 add-put-answer : tie.Need-add-put-answer
 add-put-answer c = search needs
@@ -59,10 +59,10 @@ put-answer-requires c κs =
     let e = c .before .before .before .before .before in
     let s = start e in
     let n : ℕ = s .args .n in
-    let k = length-take (n + n - n) (drop n (e .eliminate .last .1 .1 .1 .1 .1 .0)) in (
+    let k = length-take (n + n - n) (drop n (e .eliminate .last .1 .1 .1 .1 .0)) in (
       s .pre .0 .1,
       (
-        below-take (s .args .p) (n + n - n) (drop n (e .eliminate .last .1 .1 .1 .1 .1 .0)) (below-drop (s .args .p) n (e .eliminate .last .1 .1 .1 .1 .1 .0) (reduced e)),
+        below-take (s .args .p) (n + n - n) (drop n (e .eliminate .last .1 .1 .1 .1 .0)) (below-drop (s .args .p) n (e .eliminate .last .1 .1 .1 .1 .0) (reduced e)),
         (omega arith, length-take-le 64 (s .args .out .now) (s .pre .1 .0 .2)),
       ),
     )

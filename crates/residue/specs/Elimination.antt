@@ -1,0 +1,24 @@
+-- Elimination over a table of pivot rows, 128 numbers each; pivot row t lies at 128 t.
+use mathlib.Core.Bool.{cond}
+use mathlib.Core.List.{List, map, zipWith}
+use Prim.Native.Nat.{ℕ, zero, suc, _+_, _*_, _-_, _%_}
+use lib.ListN.{getD, take, drop}
+use lib.Dec.{eqb}
+use Rattle.residue.specs.Vector.{addScaled}
+
+-- the row w with its entry at the given place cancelled, by adding a multiple of a row that is 1 there
+unfoldable pub cancelled : ℕ → List ℕ → ℕ → List ℕ → List ℕ
+cancelled p row at w = cond (eqb (getD w at 0) 0) w (addScaled p (p - getD w at 0) w row)
+
+-- the row w after it met the first t pivot rows, in the order in which they were found
+unfoldable pub eliminated : ℕ → List ℕ → List ℕ → ℕ → List ℕ → List ℕ
+eliminated p rows pivots zero w = w
+eliminated p rows pivots (suc t) w = cancelled p (take 128 (drop (128 * t) rows)) (getD pivots t 0) (eliminated p rows pivots t w)
+
+-- d + c * s at each place, not reduced
+unfoldable pub gained : ℕ → List ℕ → List ℕ → List ℕ
+gained c = zipWith (λ d s. d + c * s)
+
+-- each entry reduced
+unfoldable pub reduced : ℕ → List ℕ → List ℕ
+reduced p = map (λ x. x % p)
