@@ -27,11 +27,10 @@ use Rattle.monomial.proofs.Padding.{degree-one}
 use Rattle.basis.specs.Space.{Divides}
 use Rattle.basis.specs.Polynomial.{Distinct}
 use Rattle.basis.specs.Levels.{sameList}
-use Rattle.basis.specs.Layout.{fill}
 use Rattle.basis.specs.BasisOf.{standardOf, leadsOf}
 use Rattle.basis.specs.Instance.{Monomial, Residues, Point, reduced, pointOf, spaceOf}
 use Rattle.basis.proofs.Equality.{same-is, same-self}
-use Rattle.basis.proofs.Layouts.{fill-whole}
+use Rattle.basis.proofs.Layouts.{fill-exact}
 use Rattle.basis.proofs.ideal.Laws.{Laws}
 use Rattle.basis.proofs.ideal.Counts.{lead-degree, standard-degree}
 
@@ -123,7 +122,7 @@ residues-reduced q (c ∷ l) r = let e : c % suc q ≡ c = mod-eq-of-lt (ltb→l
 
 pub coordinates-of : (q m : ℕ) (l : List ℕ) → length l ≡ m → Residues (suc q) l → pointOf q m l .0 ≡ l
 unfolding pointOf
-coordinates-of q m l e r = ap (reduced q) (subst (λ (k : ℕ). fill k l ≡ l) e (fill-whole l)) ∙ residues-reduced q l r
+coordinates-of q m l e r = ap (reduced q) (fill-exact m l e) ∙ residues-reduced q l r
 
 pub point-of : (q m : ℕ) (P : Point (suc q) m) → pointOf q m (P .0) ≡ P
 point-of q m P = point-path (coordinates-of q m (P .0) (P .1 .0) (P .1 .1))

@@ -26,6 +26,27 @@ unfolding fill
 fill-whole [] = refl
 fill-whole (a ∷ l) = ap (λ (z : List ℕ). a ∷ z) (fill-whole l)
 
+pub fill-exact : (k : ℕ) (l : List ℕ) → length l ≡ k → fill k l ≡ l
+fill-exact k l e = ap (λ (n : ℕ). fill n l) (sym e) ∙ fill-whole l
+
+-- filled up, and cut or filled up again
+pub fill-twice : (j k : ℕ) (l : List ℕ) → j ≤ k → fill j (fill k l) ≡ fill j l
+unfolding fill
+fill-twice zero k l h = refl
+fill-twice (suc j) zero l h = absurd (not-suc-le-zero h)
+fill-twice (suc j) (suc k) [] h = ap (λ (z : List ℕ). 0 ∷ z) (fill-twice j k [] (le-of-suc-le-suc h))
+fill-twice (suc j) (suc k) (a ∷ l) h = ap (λ (z : List ℕ). a ∷ z) (fill-twice j k l (le-of-suc-le-suc h))
+
+pub fill-front : (j k : ℕ) (l : List ℕ) → j ≤ k → take j (fill k l) ≡ fill j l
+unfolding fill
+fill-front zero k l h = refl
+fill-front (suc j) zero l h = absurd (not-suc-le-zero h)
+fill-front (suc j) (suc k) [] h = ap (λ (z : List ℕ). 0 ∷ z) (fill-front j k [] (le-of-suc-le-suc h))
+fill-front (suc j) (suc k) (a ∷ l) h = ap (λ (z : List ℕ). a ∷ z) (fill-front j k l (le-of-suc-le-suc h))
+
+pub take-fill : (n k : ℕ) (l : List ℕ) → length l ≡ n → n ≤ k → take n (fill k l) ≡ l
+take-fill n k l e h = fill-front n k l h ∙ fill-exact n l e
+
 pub fill-zeros : (k : ℕ) → fill k [] ≡ replicate k 0
 unfolding fill
 fill-zeros zero = refl

@@ -16,7 +16,7 @@ use Rattle.basis.specs.Levels.{groups}
 use Rattle.basis.specs.Layout.{fill, inPlaces, over}
 use Rattle.basis.specs.Working.{withPlace}
 use Rattle.basis.specs.Drawing.{stepsOf, columnOf, productValues}
-use Rattle.basis.proofs.Layouts.{length-fill, fill-at, fill-whole, length-over, over-all}
+use Rattle.basis.proofs.Layouts.{length-fill, fill-at, fill-exact, length-over, over-all}
 use Rattle.basis.proofs.elimination.Exponents.{variable-small}
 use Rattle.basis.proofs.Places.{length-groups, groups-at, over-zeros, place-more}
 
@@ -50,7 +50,7 @@ table-more w N k S r t e c h l = place-more w N S r t (over r (take w (drop (w *
 -- a row that is filled up already
 pub places-filled : (w : ℕ) (S : List (List ℕ)) (r : List ℕ) → inPlaces w (S ++ (fill w r ∷ [])) ≡ inPlaces w (S ++ (r ∷ []))
 unfolding inPlaces
-places-filled w [] r = ap (λ (z : List ℕ). z ++ []) (ap (λ (k : ℕ). fill k (fill w r)) (sym (length-fill w r)) ∙ fill-whole (fill w r))
+places-filled w [] r = ap (λ (z : List ℕ). z ++ []) (fill-exact w (fill w r) (length-fill w r))
 places-filled w (x ∷ S) r = ap (λ (z : List ℕ). fill w x ++ z) (places-filled w S r)
 
 -- a place that is written whole: the table's length, residues, what lies before, and the place itself

@@ -6,7 +6,7 @@ use residue::vector;
 ghost use mathlib.Core.Path.{_≡_};
 ghost use mathlib.Core.List.{map};
 ghost use Prim.Native.Nat.{_*_, _%_, _<_, _≤_};
-ghost use lib.ListN.{length, take};
+ghost use lib.ListN.{length};
 ghost use Rattle.residue.specs.Vector.{Below, addScaled};
 ghost use Rattle.monomial.specs.Monomial.{valueAt};
 ghost use Rattle.basis.specs.Levels.{groups};

@@ -10,6 +10,7 @@ pub mod draw;
 mod insert;
 mod points;
 mod polynomial;
+mod products;
 mod recognise;
 pub mod refusal;
 mod rows;

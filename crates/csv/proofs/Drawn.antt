@@ -19,9 +19,10 @@ use Rattle.basis.specs.BasisOf.{basisOf, standardOf, leadsOf, rowOf, rowsOf, in
 use Rattle.basis.specs.Instance.{Monomial, Point, pointOf}
 use Rattle.basis.specs.Tables.{spaceUnder, pointsUnder, rowCount, tablesOf}
 use Rattle.basis.specs.Solving.{Names}
+use Rattle.basis.proofs.Layouts.{take-fill}
 use Rattle.basis.proofs.Instance.{standard-exponent, lead-exponent}
 use Rattle.basis.proofs.Places.{table-groups}
-use Rattle.basis.proofs.ideal.Lists.{getD-among}
+use Rattle.basis.proofs.ideal.Lists.{getD-among, among-map}
 use Rattle.basis.proofs.ideal.Basis.{interpolant-fits}
 use Rattle.basis.proofs.ideal.Counts.{standard-length}
 use Rattle.basis.proofs.agreement.Points.{Points}
@@ -30,14 +31,6 @@ use Rattle.basis.proofs.agreement.Drawings.{laws-under, distinct-points, few-ro
 use Rattle.csv.specs.Printing.{linesOf}
 use Rattle.csv.specs.Appending.{inTable}
 use Rattle.csv.proofs.Lengths.{Short, EachShort, printed-length}
-
-pub take-fill : (m w : ℕ) (a : List ℕ) → length a ≡ m → m ≤ w → take m (fill w a) ≡ a
-unfolding fill
-take-fill zero w [] e h = refl
-take-fill zero w (x ∷ a) e h = absurd (omega arith)
-take-fill (suc m) zero a e h = absurd (omega arith)
-take-fill (suc m) (suc w) [] e h = absurd (omega arith)
-take-fill (suc m) (suc w) (x ∷ a) e h = ap (λ (z : List ℕ). x ∷ z) (take-fill m w a (omega arith) (omega arith))
 
 each-back : (m w : ℕ) (L : List (List ℕ)) → m ≤ w → ((a : List ℕ) → Among a L → length a ≡ m) → map (take m) (map (fill w) L) ≡ L
 each-back m w [] h e = refl
@@ -49,10 +42,6 @@ unfolding inTable
 table-back w N n m L l k h e =
     ap (λ (j : ℕ). map (take m) (groups w j (fill N (inPlaces w L)))) (sym l)
     ∙ ap (map (take m)) (table-groups w N L (subst (λ (j : ℕ). w * j ≤ N) (sym l) k)) ∙ each-back m w L h e
-
-pub image : {A : Type 0} (f : A → List ℕ) (l : List A) (b : List ℕ) → Among b (map f l) → (a : A) × Among a l × (b ≡ f a)
-image f (x ∷ l) b (inl e) = (x, inl refl, e)
-image f (x ∷ l) b (inr q) = let t = image f l b q in (t .0, inr (t .1), t .2)
 
 below-of : (p : ℕ) (l : List ℕ) → ((c : ℕ) → Among c l → c < p) → Below p l
 below-of p l h i k = h (getD l i 0) (getD-among l i 0 k)
@@ -93,7 +82,7 @@ module _ (s : Settings) (ok : Accepted s) (S : List (List ℕ)) (h : Points s S)
 
   -- m exponents
   long : (l : List (Monomial (s .variables))) (a : List ℕ) → Among a (map (λ b. b .0) l) → length a ≡ s .variables
-  long l a w = let t = image (λ (b : Monomial (s .variables)). b .0) l a w in ap (λ (z : List ℕ). length z) (t .2) ∙ t .0 .1
+  long l a w = let t = among-map (λ (b : Monomial (s .variables)). b .0) l a w in ap (λ (z : List ℕ). length z) (t .2) ∙ t .0 .1
 
   -- n residues
   solved-long : (φ : Point (suc (s .modulus - 1)) (s .variables) → ℕ) → length (basisOf (spaceUnder s) (pointsUnder s S) .interpolant φ) ≡ length S
@@ -107,7 +96,7 @@ module _ (s : Settings) (ok : Accepted s) (S : List (List ℕ)) (h : Points s S)
 
   rows-long : (a : List ℕ) → Among a (rowsOf (spaceUnder s) (pointsUnder s S)) → length a ≡ length S
   rows-long a w =
-      let t = image (rowOf (spaceUnder s) (pointsUnder s S)) (leadsOf (spaceUnder s) (pointsUnder s S)) a w in
+      let t = among-map (rowOf (spaceUnder s) (pointsUnder s S)) (leadsOf (spaceUnder s) (pointsUnder s S)) a w in
       ap (λ (z : List ℕ). length z) (t .2) ∙ solved-long _
 
   -- The tables read back.
@@ -126,7 +115,7 @@ module _ (s : Settings) (ok : Accepted s) (S : List (List ℕ)) (h : Points s S)
   -- What is printed fits.
   standards-short : EachShort 8 standards
   standards-short a w =
-      let t = image (λ (b : Monomial (s .variables)). b .0) (standardOf (spaceUnder s) (pointsUnder s S)) a w in (
+      let t = among-map (λ (b : Monomial (s .variables)). b .0) (standardOf (spaceUnder s) (pointsUnder s S)) a w in (
         omega (arith, long (standardOf (spaceUnder s) (pointsUnder s S)) a w, ok .few),
         λ i k. subst (λ (z : List ℕ). getD z i 0 < 100) (sym (t .2))
             (omega (arith, standard-exponent (s .modulus - 1) (s .variables) (orderOf (s .order)) prime (pointsUnder s S) d (t .0) (t .1) i, length-map S (pointOf (s .modulus - 1) (s .variables)), h .few)),
@@ -134,7 +123,7 @@ module _ (s : Settings) (ok : Accepted s) (S : List (List ℕ)) (h : Points s S)
 
   leads-short : EachShort 8 leads
   leads-short a w =
-      let t = image (λ (b : Monomial (s .variables)). b .0) (leadsOf (spaceUnder s) (pointsUnder s S)) a w in (
+      let t = among-map (λ (b : Monomial (s .variables)). b .0) (leadsOf (spaceUnder s) (pointsUnder s S)) a w in (
         omega (arith, long (leadsOf (spaceUnder s) (pointsUnder s S)) a w, ok .few),
         λ i k. subst (λ (z : List ℕ). getD z i 0 < 100) (sym (t .2))
             (omega (arith, lead-exponent (s .modulus - 1) (s .variables) (orderOf (s .order)) prime (pointsUnder s S) d (t .0) (t .1) i, length-map S (pointOf (s .modulus - 1) (s .variables)), h .few)),
@@ -142,7 +131,7 @@ module _ (s : Settings) (ok : Accepted s) (S : List (List ℕ)) (h : Points s S)
 
   rows-short : EachShort 64 (rowsOf (spaceUnder s) (pointsUnder s S))
   rows-short a w =
-      let t = image (rowOf (spaceUnder s) (pointsUnder s S)) (leadsOf (spaceUnder s) (pointsUnder s S)) a w in
+      let t = among-map (rowOf (spaceUnder s) (pointsUnder s S)) (leadsOf (spaceUnder s) (pointsUnder s S)) a w in
       subst (Short 64) (sym (t .2)) (solved-short _)
 
   pub lines-length : (values names : List ℕ) → length names ≤ 8 → Below 10 names → length (linesOf s S values names) ≤ 102048

@@ -26,8 +26,8 @@ use Rattle.basis.specs.Tables.{pointsIn}
 use Rattle.basis.specs.Drawing as D
 use Rattle.basis.proofs.Equality.{true-of, of-true, and-left, and-right, and-both}
 use Rattle.basis.specs.Instance.{reduced}
-use Rattle.basis.proofs.Layouts.{over-all}
-use Rattle.basis.proofs.ideal.Lists.{getD-among}
+use Rattle.basis.proofs.Layouts.{take-fill, over-all}
+use Rattle.basis.proofs.ideal.Lists.{getD-among, among-map}
 use Rattle.basis.proofs.agreement.Points.{IsPoint, residues-same, length-residues}
 use Rattle.basis.proofs.agreement.Refusals.{Accepted}
 use Rattle.basis.proofs.calls.Given as G
@@ -39,7 +39,6 @@ use Rattle.csv.specs.Appending.{Put}
 use Rattle.csv.specs.Printing.{refusalLine, Prints, PrintsRead}
 use Rattle.csv.proofs.Repeating.{AllLong}
 use Rattle.csv.proofs.Accepting.{passed, in-small, or-small, no-fault, all-long, all-inside, none-again}
-use Rattle.csv.proofs.Drawn.{image, take-fill}
 
 pub record Says (e : Entries) : Type 0 where
   pub modulus : isModulus (e .header .modulus) ≡ true
@@ -112,7 +111,7 @@ module _ (e : Entries) (h : Says e) where
   is-point : (P : List ℕ) → Among P (pointsOf e) → IsPoint under P
   unfolding pointsOf pointOf
   is-point P w =
-      let t = image (pointOf p m) (e .entries) P w in
+      let t = among-map (pointOf p m) (e .entries) P w in
       let l : length (t .0) ≡ suc m = long-at (suc m) (e .entries) (h .long) (t .0) (t .1) in
       let k : m ≤ length (t .0) = omega arith in
       record {

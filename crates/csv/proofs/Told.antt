@@ -13,6 +13,7 @@ use Rattle.basis.specs.Tables.{spaceUnder, pointsUnder, pointsIn, rowCount, tab
 use Rattle.basis.specs.Interpolants.{solution}
 use Rattle.basis.specs.Interpolants as I
 use Rattle.basis.specs.Drawing.{PointsGiven, DrawnUp}
+use Rattle.basis.proofs.Layouts.{take-fill}
 use Rattle.basis.proofs.PointTables.{length-points, points-in}
 use Rattle.basis.proofs.Wiring.{names-length, names-are}
 use Rattle.basis.proofs.agreement.Points.{Points}
@@ -22,7 +23,7 @@ use Rattle.basis.proofs.calls.Given.{read}
 use Rattle.basis.proofs.calls.Answers.{length-interpolant, solution-is, names-in}
 use Rattle.csv.specs.Appending.{Room, Put, inTable}
 use Rattle.csv.specs.Printing.{basisLines, linesOf, Prints}
-use Rattle.csv.proofs.Drawn.{take-fill, standard-back, leads-back, rows-back, names-below, lines-length}
+use Rattle.csv.proofs.Drawn.{standard-back, leads-back, rows-back, names-below, lines-length}
 
 module _ (s : Settings) (n : ℕ) (points values : List ℕ) (g : PointsGiven s n points) (lv : length values ≡ n) (bv : Below (s .modulus) values) where
   abbrev pub S : List (List ℕ)

@@ -1,7 +1,7 @@
 -- From the tables of n points and a new point to those of all of them, under settings: what the functions of the addition are handed, and what they leave.
 use mathlib.Core.Path.{_≡_, refl, sym, _∙_, ap, ap₂, subst}
-use mathlib.Core.Bool.{true, false, true≢false}
-use mathlib.Core.List.{List, [], _∷_, _++_, map, map-append}
+use mathlib.Core.Bool.{true≢false}
+use mathlib.Core.List.{List, [], _∷_, _++_, map, map-map, map-append}
 use mathlib.Core.Logic.{inl, inr, _≢_}
 use Prim.Native.Nat.{ℕ, zero, suc, _+_, _*_, _-_, _%_, _<_, _≤_}
 use native.Mathlib.Nat.{mod-eq-of-lt, mul-le-mul}
@@ -9,12 +9,9 @@ use native.Mathlib.Decide.{decLt}
 use native.Mathlib.Omega.{arith}
 use lib.ListN.{length, getD, take, drop, replicate, length-map, List·getD-eq-default}
 use lib.Seq.{length-take-le}
-use lib.Dec.{T}
 use Rattle.residue.specs.Lists.{Among}
-use Rattle.residue.specs.Modulus.{isModulus}
 use Rattle.residue.specs.Vector.{Below}
 use Rattle.residue.specs.Elimination.{eliminated}
-use Rattle.residue.proofs.Moduli.{modulus-range}
 use Rattle.monomial.specs.Monomial.{valueAt}
 use Rattle.monomial.specs.Order.{orderOf}
 use Rattle.monomial.proofs.Padding.{value-pad}
@@ -31,20 +28,20 @@ use Rattle.basis.specs.Insertions.{rowAt, valueOfRow, firstFrom, Grown, 
 use Rattle.residue.proofs.Vectors.{below-take}
 use Rattle.basis.proofs.Equality.{is-among, true-of}
 use Rattle.basis.proofs.Instance.{laws, point-of, lead-exponent}
-use Rattle.basis.proofs.Layouts.{length-fill, fill-whole, fill-at}
+use Rattle.basis.proofs.Layouts.{length-fill, fill-exact}
 use Rattle.basis.proofs.Places.{places-append, over-zeros, place-more}
 use Rattle.basis.proofs.PointTables.{length-points, points-in}
 use Rattle.basis.proofs.ValueRows.{below-fill}
 use Rattle.basis.proofs.ideal.Laws.{Laws}
-use Rattle.basis.proofs.ideal.Lists.{getD-among}
+use Rattle.basis.proofs.ideal.Lists.{getD-among, among-map}
 use Rattle.basis.proofs.ideal.Basis.{row-is}
 use Rattle.basis.proofs.ideal.Counts.{leads-length, standard-length}
 use Rattle.basis.proofs.ideal.Permutation.{basis-snoc}
 use Rattle.basis.proofs.elimination.Exponents.{fill-pad}
 use Rattle.basis.proofs.elimination.Grounds.{ground, places-below}
 use Rattle.basis.proofs.adding.Corrections.{valuesAt}
-use Rattle.basis.proofs.adding.LostRow.{tested, lost, lost-one}
-use Rattle.basis.proofs.adding.NewRows.{map-map, map-same}
+use Rattle.basis.proofs.adding.LostRow.{lost, lost-one}
+use Rattle.basis.proofs.adding.NewRows.{map-same}
 use Rattle.basis.proofs.adding.NewTables.{table, read, few-standard, short, most, grown-are, standard-are}
 
 -- residues are kept
@@ -61,10 +58,6 @@ module _ (q m : ℕ) where
   among-lists : (X : List (Point (suc q) m)) (Q : Point (suc q) m) → Among Q (map (pointOf q m) (map (λ (R : Point (suc q) m). R .0) X)) → Among (Q .0) (map (λ (R : Point (suc q) m). R .0) X)
   among-lists (R ∷ X) Q (inl e) = inl (ap (λ (Z : Point (suc q) m). Z .0) (e ∙ point-of q m R))
   among-lists (R ∷ X) Q (inr mem) = inr (among-lists X Q mem)
-
-among-of : {A B : Type 0} (f : A → B) (l : List A) (b : B) → Among b (map f l) → (a : A) × Among a l × (b ≡ f a)
-among-of f (a ∷ l) b (inl e) = (a, inl refl, e)
-among-of f (a ∷ l) b (inr q) = let w = among-of f l b q in (w .0, inr (w .1), w .2)
 
 -- every number of a table of small numbers is small, beyond its end as well
 table-small : (b w N : ℕ) (K : List (List ℕ)) → 0 < b → ((r : List ℕ) → Among r K → Below b r) → (i : ℕ) → getD (fill N (inPlaces w K)) i 0 < b
@@ -125,7 +118,7 @@ module _ {p m o n r : ℕ} {points standard leads coefficients rows pivots point
   unfolding pointOf
   coordinates =
       let e : length (take m point) ≡ m = length-take-le m point (omega (arith, long, given .few)) in
-      ap (reduced q) (subst (λ (k : ℕ). fill k (take m point) ≡ take m point) e (fill-whole (take m point)))
+      ap (reduced q) (fill-exact m (take m point) e)
       ∙ residues-kept q (take m point) (below-take (suc q) m point (subst (λ (z : ℕ). Below z point) raised (new .below)))
 
   lists : map (λ (Q : Point (suc q) m). Q .0) S ≡ K
@@ -155,10 +148,10 @@ module _ {p m o n r : ℕ} {points standard leads coefficients rows pivots point
       bound r n zero a b c e = absurd (omega arith)
       bound r n (suc m) a b c e = let u : n ≤ 63 = omega arith in let v : m ≤ m = omega arith in let k : n * m ≤ 63 * m = mul-le-mul u v in omega arith
 
-  pub few-rows : r + m ≤ 450
+  few-rows : r + m ≤ 450
   few-rows = rw rows-many fits
 
-  pub most-rows : r ≤ 449
+  most-rows : r ≤ 449
   most-rows = omega (arith, few-rows, given .some)
 
   -- the tables
@@ -177,35 +170,57 @@ module _ {p m o n r : ℕ} {points standard leads coefficients rows pivots point
   point-is : point ≡ fill 8 (P .0)
   point-is = new .filled ∙ ap (fill 8) (sym coordinates)
 
-  pub standard-long : length standard ≡ 512
+  standard-long : length standard ≡ 512
   standard-long = ap length standard-is ∙ length-fill 512 _
 
-  pub leads-long : length leads ≡ 3592
+  leads-long : length leads ≡ 3592
   leads-long = ap length leads-are ∙ length-fill 3592 _
 
-  pub rows-long : length coefficients ≡ 28736
+  rows-long : length coefficients ≡ 28736
   rows-long = ap length rows-are ∙ length-fill 28736 _
 
-  pub point-long : length point ≡ 8
-  point-long = long
-
-  pub pivots-inside : (t : ℕ) → t < n → getD pivots t 0 < n
+  pivots-inside : (t : ℕ) → t < n → getD pivots t 0 < n
   pivots-inside = subst (λ (k : ℕ). (t : ℕ) → t < k → getD pivots t 0 < k) (sym (length-map K (pointOf q m)) ∙ count) (drawn .pivot-rows .inside)
 
   -- coefficients are residues, and exponents small
-  pub rows-below : Below p coefficients
+  rows-below : Below p coefficients
   rows-below = λ i h. subst (λ (t : List ℕ). getD t i 0 < p) (sym rows-are) (table-small p 64 28736 (rowsOf D S) (omega (arith, raised)) row-below i)
     where
       row-below : (c : List ℕ) → Among c (rowsOf D S) → Below p c
-      row-below c mem i h = let w = among-of (rowOf D S) (leadsOf D S) c mem in
+      row-below c mem i h = let w = among-map (rowOf D S) (leadsOf D S) c mem in
           rw raised (row-is D L S d (w .0) .residues (getD c i 0) (subst (λ (z : List ℕ). Among (getD c i 0) z) (w .2) (getD-among c i 0 h)))
 
-  pub leads-small : (i : ℕ) → getD leads i 0 < 255
+  leads-small : (i : ℕ) → getD leads i 0 < 255
   leads-small i = subst (λ (t : List ℕ). getD t i 0 < 255) (sym leads-are) (table-small 255 8 3592 (map (λ (a : Monomial m). a .0) (leadsOf D S)) (omega arith) lead-below i)
     where
       lead-below : (a : List ℕ) → Among a (map (λ (a : Monomial m). a .0) (leadsOf D S)) → Below 255 a
-      lead-below a mem i h = let w = among-of (λ (a : Monomial m). a .0) (leadsOf D S) a mem in
+      lead-below a mem i h = let w = among-map (λ (a : Monomial m). a .0) (leadsOf D S) a mem in
           rw (w .2) (omega (arith, lead-exponent q m (orderOf o) (ground given .prime) S d (w .0) (w .1) i, many))
+
+  -- what the functions of the addition ask
+  pub record Sound : Type 0 where
+    pub few : r + m ≤ 450
+    pub most : r ≤ 449
+    pub standard-size : length standard ≡ 512
+    pub leads-size : length leads ≡ 3592
+    pub rows-size : length coefficients ≡ 28736
+    pub point-size : length point ≡ 8
+    pub residues : Below p coefficients
+    pub exponents : (i : ℕ) → getD leads i 0 < 255
+    pub within : (t : ℕ) → t < n → getD pivots t 0 < n
+
+  pub sound : Sound
+  sound = record {
+    few = few-rows;
+    most = most-rows;
+    standard-size = standard-long;
+    leads-size = leads-long;
+    rows-size = rows-long;
+    point-size = long;
+    residues = rows-below;
+    exponents = leads-small;
+    within = pivots-inside;
+  }
 
   -- the values of the standard monomials
   abbrev due : List ℕ
@@ -222,7 +237,7 @@ module _ {p m o n r : ℕ} {points standard leads coefficients rows pivots point
       λ b. ap (λ (z : ℕ). z % suc q) (ap₂ valueAt (fill-pad (P .0) (rw (P .1 .0) (given .few))) (fill-pad (b .0) (rw (b .1) (given .few))) ∙ value-pad (P .0) (b .0) (P .1 .0 ∙ sym (b .1))) in
       let n64 = length-map (standardOf D S) (λ (b : Monomial m). valueAt (P .0) (b .0) % suc q) in
       ap (λ (z : List ℕ). over z (replicate 64 0))
-      (ap (map (λ a. valueAt point a % p)) back ∙ map-map f (λ a. valueAt point a % p) (standardOf D S)
+      (ap (map (λ a. valueAt point a % p)) back ∙ map-map (λ a. valueAt point a % p) f (standardOf D S)
       ∙ ap₂ (λ (z : List ℕ) (k : ℕ). map (λ (b : Monomial m). valueAt z (fill 8 (b .0)) % k) (standardOf D S)) point-is raised
       ∙ map-same (λ (b : Monomial m). valueAt (fill 8 (P .0)) (fill 8 (b .0)) % suc q) (λ b. valueAt (P .0) (b .0) % suc q) (standardOf D S) (λ b mem. value b))
       ∙ over-zeros (map (λ (b : Monomial m). valueAt (P .0) (b .0) % suc q) (standardOf D S)) 64 (omega (arith, standard-count))
@@ -272,7 +287,7 @@ states-more s n {points} {point} given room new t ys k et ek ey =
     let P : List ℕ = take (s .variables) point in
     let count : length K ≡ n = ap length (sym (points-in s n points)) ∙ length-points (s .modulus) (s .variables) n points in
     let long : length point ≡ 8 = ap length (new .filled) ∙ length-fill 8 P in
-    let same : fill 8 point ≡ fill 8 P = subst (λ (j : ℕ). fill j point ≡ point) long (fill-whole point) ∙ new .filled in
+    let same : fill 8 point ≡ fill 8 P = fill-exact 8 point long ∙ new .filled in
     place-more 8 512 K point t ys (8 * n) k (et ∙ given .table) (ap (λ (j : ℕ). 8 * j) (sym count)) ek (omega arith) (omega arith) ey
     ∙ ap (fill 512) (places-append 8 K (point ∷ []) ∙ ap (λ (z : List ℕ). inPlaces 8 K ++ (z ++ [])) same ∙ sym (places-append 8 K (P ∷ [])))
 

@@ -20,12 +20,12 @@ use Rattle.basis.specs.Adding.{ended, holding, addCases, addRefusal, add
 use Rattle.basis.specs.Drawing.{PointsGiven, Solves, DrawnUp}
 use Rattle.basis.specs.Insertions.{NewPoint}
 use Rattle.basis.proofs.Equality.{of-true, is-among}
+use Rattle.basis.proofs.Layouts.{take-fill}
 use Rattle.basis.proofs.Places.{table-groups, among-filled}
 use Rattle.basis.proofs.ValueRows.{below-fill}
 use Rattle.basis.proofs.agreement.Points.{IsPoint, Points, length-residues, levels-point, points-more}
 use Rattle.basis.proofs.agreement.Refusals.{Accepted, accepted, Large, large-of}
 use Rattle.basis.proofs.agreement.Drawings.{few-rows}
-use Rattle.basis.proofs.adding.LostRow.{take-fill}
 use Rattle.basis.proofs.calls.Given.{table-points, given, drawn-of}
 use Rattle.basis.proofs.calls.Refusing.{sizes, none-of, by-size, by-rest, when-accepted}
 use Rattle.basis.proofs.calls.Answers.{residues-below}

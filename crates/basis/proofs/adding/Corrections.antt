@@ -1,38 +1,30 @@
 -- A row corrected, in the tables' bytes, is the row that the definitions keep.
 use mathlib.Core.Path.{_≡_, refl, sym, _∙_, ap, ap₂}
-use mathlib.Core.List.{List, [], _∷_, _++_, map, zipWith}
-use mathlib.Core.Logic.{inl, inr, _≢_}
+use mathlib.Core.List.{List, [], _∷_, map, zipWith}
+use mathlib.Core.Logic.{_≢_}
 use Prim.Native.Nat.{ℕ, zero, suc, _+_, _*_, _-_, _%_, _<_, _≤_}
-use native.Mathlib.Nat.{le-of-suc-le-suc, mod-lt, mod-eq-of-lt, zero-mod}
+use native.Mathlib.Nat.{le-of-suc-le-suc, mod-lt, zero-mod}
 use native.Mathlib.Omega.{arith}
-use lib.ListN.{length, take, drop, length-map}
+use lib.ListN.{length, length-map}
 use Rattle.residue.specs.Congruence.{Mod}
 use Rattle.residue.specs.Lists.{Among, sumOver}
 use Rattle.residue.specs.Vector.{addScaled, dotOf}
-use Rattle.residue.proofs.Congruence.{rfl, of, flip, _then_, _plus_, _times_, scale, reduce, negative, small}
-use Rattle.residue.proofs.Vectors.{addScaled-length}
+use Rattle.residue.proofs.Congruence.{rfl, of, _then_, _plus_, _times_, scale, reduce, negative}
 use Rattle.monomial.specs.Monomial.{valueAt}
 use Rattle.monomial.specs.Order.{Order, cmp}
 use Rattle.monomial.proofs.Padding.{value-pad}
 use Rattle.basis.specs.Layout.{fill}
 use Rattle.basis.specs.Space.{Space}
-use Rattle.basis.specs.Polynomial.{eval, terms}
+use Rattle.basis.specs.Polynomial.{terms}
 use Rattle.basis.specs.Extension.{minus}
 use Rattle.basis.specs.Instance.{Monomial, Point, spaceOf}
 use Rattle.basis.specs.Insertions.{insertedAt, placeOf, rowValueAt, factorOf, correctedBy, correctedRow}
+use Rattle.basis.proofs.Layouts.{fill-twice}
 use Rattle.basis.proofs.ideal.Laws.{Laws}
 use Rattle.basis.proofs.ideal.Columns.{minus-length}
 use Rattle.basis.proofs.elimination.Adding.{rowValue, ratio, kept}
 use Rattle.basis.proofs.elimination.Exponents.{fill-pad}
 use Rattle.basis.proofs.adding.Insertion.{place-bound, slot-at}
-
--- filled up twice
-pub fill-twice : (j k : ℕ) (l : List ℕ) → j ≤ k → fill j (fill k l) ≡ fill j l
-unfolding fill
-fill-twice zero k l h = refl
-fill-twice (suc j) zero l h = absurd (omega arith)
-fill-twice (suc j) (suc k) [] h = ap (λ (z : List ℕ). 0 ∷ z) (fill-twice j k [] (le-of-suc-le-suc h))
-fill-twice (suc j) (suc k) (a ∷ l) h = ap (λ (z : List ℕ). a ∷ z) (fill-twice j k l (le-of-suc-le-suc h))
 
 -- put in before it is filled up or after
 pub fill-inserted : (k i f : ℕ) (l : List ℕ) → i ≤ length l → fill k (insertedAt i f (fill k l)) ≡ fill k (insertedAt i f l)

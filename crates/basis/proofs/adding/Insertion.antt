@@ -6,7 +6,7 @@ use mathlib.Core.Logic.{inl, inr, _≢_}
 use Prim.Native.Nat.{ℕ, zero, suc, _+_, _*_, _-_, _<_, _≤_, Ordering, Ordering·lt, Ordering·eq, Ordering·gt}
 use native.Mathlib.Nat.{le-of-suc-le-suc, mul-sub, mul-le-mul-left}
 use native.Mathlib.Omega.{arith}
-use lib.ListN.{length, getD, take, drop, replicate, length-append, length-drop, length-replicate, replicate-append-replicate}
+use lib.ListN.{length, getD, take, drop, replicate, length-append, length-drop, length-replicate, replicate-append-replicate, take-append-drop}
 use lib.Seq.{length-take-le, take-at, drop-at}
 use lib.Dec.{isLe}
 use Rattle.residue.specs.Lists.{Among}
@@ -17,7 +17,7 @@ use Rattle.basis.specs.Layout.{fill, inPlaces, over}
 use Rattle.basis.specs.Space.{Space}
 use Rattle.basis.specs.Extension.{slot, without, divided}
 use Rattle.basis.specs.Insertions.{insertedAt, removedAt, placeOf, dividedBy, takenOut, withRowAt}
-use Rattle.basis.proofs.Layouts.{length-places, table-split}
+use Rattle.basis.proofs.Layouts.{fill-twice, length-places, table-split}
 use Rattle.basis.proofs.Places.{places-append, over-zeros}
 use Rattle.basis.proofs.ideal.Laws.{Laws, Decides, so, not-so, Compares, lt, eq, gt, compared, same-told, less-ne}
 use Rattle.basis.proofs.ideal.Lists.{getD-among}
@@ -134,13 +134,8 @@ module _ (w N : ℕ) (rows : List (List ℕ)) where
   table-cut i h l =
       let e : N ≡ w * length rows + (N - w * length rows) = omega arith in
       ap (λ (n : ℕ). fill n (inPlaces w rows)) e ∙ table-split w rows (N - w * length rows)
-      ∙ ap (λ (z : List (List ℕ)). inPlaces w z ++ replicate (N - w * length rows) 0) (sym (cut rows i)) ∙ ap (λ (z : List ℕ). z ++ replicate (N - w * length rows) 0) (places-append w (take i rows) (drop i rows))
+      ∙ ap (λ (z : List (List ℕ)). inPlaces w z ++ replicate (N - w * length rows) 0) (sym (take-append-drop i rows)) ∙ ap (λ (z : List ℕ). z ++ replicate (N - w * length rows) 0) (places-append w (take i rows) (drop i rows))
       ∙ append-assoc (inPlaces w (take i rows)) (inPlaces w (drop i rows)) (replicate (N - w * length rows) 0)
-    where
-      cut : (l : List (List ℕ)) (i : ℕ) → take i l ++ drop i l ≡ l
-      cut l zero = refl
-      cut [] (suc i) = refl
-      cut (x ∷ l) (suc i) = ap (λ (z : List (List ℕ)). x ∷ z) (cut l i)
 
   front : (i : ℕ) → i ≤ length rows → length (inPlaces w (take i rows)) ≡ w * i
   front i h = length-places w (take i rows) ∙ ap (λ (n : ℕ). w * n) (length-take-le i rows h)
@@ -189,3 +184,22 @@ module _ (w N : ℕ) (rows : List (List ℕ)) where
       ap₂ (λ (u v : List ℕ). u ++ v) head (ap (take (w * k - (w * j + w))) tail ∙ take-at B Z (w * k - (w * j + w)) lB) ∙ sym (places-append w (take j rows) (drop (suc j) rows)) in
       let less : w * suc (length (take j rows ++ drop (suc j) rows)) ≡ w * k = ap (λ (n : ℕ). w * n) (removed-long j rows h) in
       ap (λ (z : List ℕ). over z (replicate M 0)) is ∙ over-zeros (inPlaces w (take j rows ++ drop (suc j) rows)) M (omega (arith, length-places w (take j rows ++ drop (suc j) rows)))
+
+-- rows filled up before
+pub rows-filled : {A : Type 0} (w : ℕ) (f : A → List ℕ) (l : List A) → inPlaces w (map (λ a. fill w (f a)) l) ≡ inPlaces w (map f l)
+unfolding inPlaces
+rows-filled w f [] = refl
+rows-filled w f (a ∷ l) = ap₂ (λ (x y : List ℕ). x ++ y) (fill-twice w w (f a) (omega arith)) (rows-filled w f l)
+
+-- as many rows written over those of a table
+pub over-table : (w N : ℕ) (X Y : List (List ℕ)) → length X ≡ length Y → w * length X ≤ N → over (inPlaces w X) (fill N (inPlaces w Y)) ≡ fill N (inPlaces w X)
+unfolding over
+over-table w N X Y e h =
+    let k : ℕ = N - w * length X in
+    let same : w * length X ≡ w * length Y = ap (λ (n : ℕ). w * n) e in
+    let x : N ≡ w * length X + k = omega arith in
+    let y : N ≡ w * length Y + k = omega arith in
+    let Z : List ℕ = replicate k 0 in
+    let old : fill N (inPlaces w Y) ≡ inPlaces w Y ++ Z = ap (λ (n : ℕ). fill n (inPlaces w Y)) y ∙ table-split w Y k in
+    ap (λ (z : List ℕ). inPlaces w X ++ z) (ap (drop (length (inPlaces w X))) old ∙ drop-at (inPlaces w Y) Z (length (inPlaces w X)) (length-places w Y ∙ sym same ∙ sym (length-places w X)))
+    ∙ sym (ap (λ (n : ℕ). fill n (inPlaces w X)) x ∙ table-split w X k)

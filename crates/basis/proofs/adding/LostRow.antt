@@ -1,15 +1,14 @@
 -- The row that a new point takes away: the first whose value there is not 0, found in the tables.
-use mathlib.Core.Path.{_≡_, refl, sym, _∙_, ap, ap₂, subst}
-use mathlib.Core.List.{List, [], _∷_, _++_, map}
-use mathlib.Core.Logic.{inl, inr, _≢_}
-use Prim.Native.Nat.{ℕ, zero, suc, _+_, _*_, _-_, _%_, _<_, _≤_}
-use native.Mathlib.Nat.{zero-mod, le-of-suc-le-suc}
+use mathlib.Core.Path.{_≡_, refl, sym, _∙_, ap, ap₂}
+use mathlib.Core.List.{List, [], map}
+use mathlib.Core.Logic.{_≢_}
+use Prim.Native.Nat.{ℕ, suc, _%_, _<_, _≤_}
+use native.Mathlib.Nat.{zero-mod}
 use native.Mathlib.Decide.{decLt}
 use native.Mathlib.Omega.{arith}
-use lib.ListN.{length, getD, take, drop, length-map}
+use lib.ListN.{length, getD, take, length-map}
 use Rattle.residue.specs.Congruence.{Mod}
 use Rattle.residue.specs.Lists.{Among}
-use Rattle.residue.proofs.Congruence.{of}
 use Rattle.residue.proofs.Vectors.{map-at}
 use Rattle.monomial.specs.Monomial.{valueAt}
 use Rattle.monomial.specs.Order.{Order}
@@ -24,17 +23,9 @@ use Rattle.basis.proofs.ideal.Counts.{standard-length}
 use Rattle.basis.proofs.ideal.Basis.{rows-at, row-is}
 use Rattle.basis.proofs.elimination.Adding.{rowValue, valueOf, zero-set}
 use Rattle.basis.proofs.adding.Searches.{first-found}
+use Rattle.basis.proofs.Layouts.{take-fill}
 use Rattle.basis.proofs.Places.{place-at}
 use Rattle.basis.proofs.adding.Corrections.{valuesAt, row-value-is}
-
--- filled up and cut
-pub take-fill : (n k : ℕ) (l : List ℕ) → length l ≡ n → n ≤ k → take n (fill k l) ≡ l
-unfolding fill
-take-fill zero k [] e h = refl
-take-fill zero k (a ∷ l) e h = absurd (omega arith)
-take-fill (suc n) zero l e h = absurd (omega arith)
-take-fill (suc n) (suc k) [] e h = absurd (omega arith)
-take-fill (suc n) (suc k) (a ∷ l) e h = ap (λ (z : List ℕ). a ∷ z) (take-fill n k l (omega arith) (le-of-suc-le-suc h))
 
 module _ (q m : ℕ) (order : Order) (few : m ≤ 8) (L : Laws (spaceOf q m order)) (S : List (Point (suc q) m)) (d : Distinct (spaceOf q m order) S) (short : length S ≤ 64)
     (fits : length (leadsOf (spaceOf q m order) S) ≤ 449) (P : Point (suc q) m) where

@@ -1,17 +1,16 @@
 -- Rows of the tables when a point is added: the row that elimination makes of a monomial's values, and the rows that stay, corrected.
-use mathlib.Core.Path.{_≡_, refl, sym, _∙_, ap, ap₂, subst}
-use mathlib.Core.List.{List, [], _∷_, _++_, map, append-assoc}
-use mathlib.Core.Logic.{inl, inr, _≢_}
+use mathlib.Core.Path.{_≡_, refl, sym, _∙_, ap, ap₂}
+use mathlib.Core.List.{List, [], _∷_, _++_, map, map-map}
+use mathlib.Core.Logic.{inl, inr}
 use Prim.Native.Nat.{ℕ, zero, suc, _+_, _*_, _-_, _%_, _<_, _≤_, suc-le-suc, zero-le}
 use native.Mathlib.Nat.{mod-lt, le-of-suc-le-suc}
 use native.Mathlib.Omega.{arith}
-use lib.ListN.{length, getD, take, drop, replicate, length-map, length-replicate}
-use lib.Seq.{take-suc, drop-at, take-all}
+use lib.ListN.{length, getD, take, drop, replicate, length-map}
 use Rattle.residue.specs.Congruence.{Mod}
 use Rattle.residue.specs.Lists.{Among}
 use Rattle.residue.specs.Vector.{Below}
 use Rattle.residue.specs.Elimination.{eliminated}
-use Rattle.residue.proofs.Congruence.{rfl, of, flip, _then_, reduce, negative, ring, scale}
+use Rattle.residue.proofs.Congruence.{of, _then_, reduce, negative, ring}
 use Rattle.residue.proofs.Vectors.{map-at}
 use Rattle.monomial.specs.Monomial.{valueAt}
 use Rattle.monomial.specs.Order.{Order}
@@ -20,34 +19,23 @@ use Rattle.basis.specs.Levels.{groups}
 use Rattle.basis.specs.Layout.{fill, inPlaces, over}
 use Rattle.basis.specs.Space.{Space}
 use Rattle.basis.specs.Polynomial.{Distinct}
-use Rattle.basis.specs.BasisOf.{basisOf, standardOf, leadsOf, rowOf, rowsOf, interpolantOf}
+use Rattle.basis.specs.BasisOf.{basisOf, rowOf, interpolantOf}
 use Rattle.basis.specs.Instance.{Monomial, Point, spaceOf}
-use Rattle.basis.specs.Insertions.{rowAt, reducedRow}
-use Rattle.basis.proofs.Layouts.{length-fill, fill-append, fill-zeros, length-places, table-split}
+use Rattle.basis.specs.Insertions.{reducedRow}
+use Rattle.basis.proofs.Layouts.{fill-front}
 use Rattle.basis.proofs.Places.{table-groups, over-zeros}
 use Rattle.basis.proofs.ideal.Laws.{Laws}
-use Rattle.basis.proofs.ideal.Lists.{getD-among, index-of}
+use Rattle.basis.proofs.ideal.Lists.{index-of}
 use Rattle.basis.proofs.ideal.Basis.{value-at, interpolant-fits, interpolant-agree}
 use Rattle.basis.proofs.elimination.Exponents.{fill-pad}
 use Rattle.basis.proofs.elimination.Pivots.{interpolant-minus}
 use Rattle.basis.specs.BasisOf as B
-
-pub map-map : {A B C : Type 0} (f : A → B) (g : B → C) (l : List A) → map g (map f l) ≡ map (λ a. g (f a)) l
-map-map f g [] = refl
-map-map {C = C} f g (a ∷ l) = ap (λ (z : List C). g (f a) ∷ z) (map-map f g l)
 
 pub map-same : {A B : Type 0} (f g : A → B) (l : List A) → ((a : A) → Among a l → f a ≡ g a) → map f l ≡ map g l
 map-same f g [] h = refl
 map-same {B = B} f g (a ∷ l) h = ap₂ (λ (x : B) (z : List B). x ∷ z) (h a (inl refl)) (map-same f g l (λ b mem. h b (inr mem)))
 
 -- zeros at the front dropped
-fill-front : (j k : ℕ) (l : List ℕ) → j ≤ k → take j (fill k l) ≡ fill j l
-unfolding fill
-fill-front zero k l h = refl
-fill-front (suc j) zero l h = absurd (omega arith)
-fill-front (suc j) (suc k) [] h = ap (λ (z : List ℕ). 0 ∷ z) (fill-front j k [] (le-of-suc-le-suc h))
-fill-front (suc j) (suc k) (a ∷ l) h = ap (λ (z : List ℕ). a ∷ z) (fill-front j k l (le-of-suc-le-suc h))
-
 drop-zeros : (n k : ℕ) (l : List ℕ) → n + 64 ≤ k → take 64 (drop n (fill k (replicate n 0 ++ l))) ≡ fill 64 l
 unfolding fill
 drop-zeros zero k l h = fill-front 64 k l (omega arith)
@@ -90,7 +78,7 @@ module _ (q m : ℕ) (order : Order) (few : m ≤ 8) (L : Laws (spaceOf q m orde
         let value : (Q : Point (suc q) m) → valueAt (fill 8 (Q .0)) (fill 8 (a .0)) ≡ valueAt (Q .0) (a .0) =
         λ Q. ap₂ valueAt (fill-pad (Q .0) (rw (Q .1 .0) few)) (fill-pad (a .0) (rw (a .1) few)) ∙ value-pad (Q .0) (a .0) (Q .1 .0 ∙ sym (a .1)) in
         let vs : map (λ point. valueAt point (fill 8 (a .0)) % suc q) (groups 8 (length S) (fill 512 (inPlaces 8 (map f S)))) ≡ valuesOf a =
-        ap (map (λ point. valueAt point (fill 8 (a .0)) % suc q)) read ∙ map-map (fill 8) (λ point. valueAt point (fill 8 (a .0)) % suc q) (map f S) ∙ map-map f (λ point. valueAt (fill 8 point) (fill 8 (a .0)) % suc q) S
+        ap (map (λ point. valueAt point (fill 8 (a .0)) % suc q)) read ∙ map-map (λ point. valueAt point (fill 8 (a .0)) % suc q) (fill 8) (map f S) ∙ map-map (λ point. valueAt (fill 8 point) (fill 8 (a .0)) % suc q) f S
         ∙ map-same (λ (Q : Point (suc q) m). valueAt (fill 8 (Q .0)) (fill 8 (a .0)) % suc q) (λ Q. valueAt (Q .0) (a .0) % suc q) S (λ Q mem. ap (λ (z : ℕ). z % suc q) (value Q)) in
         let long : length (valuesOf a) ≡ length S = length-map S _ in
         ap (λ (z : List ℕ). take 64 (drop (length S) (eliminated (suc q) rows pivots (length S) z))) (ap (λ (z : List ℕ). over z (replicate 128 0)) vs ∙ over-zeros (valuesOf a) 128 (omega arith))

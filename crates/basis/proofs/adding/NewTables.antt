@@ -1,22 +1,19 @@
 -- The tables when a point is added are those of the points with the new one.
 use mathlib.Core.Path.{_≡_, refl, sym, _∙_, ap, ap₂, subst}
-use mathlib.Core.Bool.{Bool, true, false, cond}
-use mathlib.Core.List.{List, [], _∷_, _++_, map, map-append}
+use mathlib.Core.Bool.{Bool, true, cond}
+use mathlib.Core.List.{List, [], _∷_, _++_, map, map-map, map-append}
 use mathlib.Core.Logic.{inl, inr, _≢_}
-use Prim.Native.Nat.{ℕ, zero, suc, _+_, _*_, _-_, _%_, _<_, _≤_, Ordering}
-use native.Mathlib.Nat.{le-of-suc-le-suc}
-use native.Mathlib.Decide.{ℕ-discrete}
+use Prim.Native.Nat.{ℕ, zero, suc, _+_, _*_, _-_, _%_, _<_, _≤_}
 use native.Mathlib.Omega.{arith}
-use lib.ListN.{length, getD, take, drop, replicate, length-map, length-append}
-use lib.Seq.{take-suc, take-all, drop-at, getD-set-same, getD-set-other}
-use Rattle.residue.specs.Congruence.{Mod}
+use lib.ListN.{length, getD, take, replicate, length-map}
+use lib.Seq.{take-suc, take-all, getD-set-same, getD-set-other}
 use Rattle.residue.specs.Lists.{Among}
 use Rattle.residue.specs.Inverse.{inverseOf}
 use Rattle.residue.specs.Vector.{Below}
 use Rattle.residue.specs.Elimination.{eliminated}
 use Rattle.residue.proofs.Vectors.{map-at}
-use Rattle.monomial.specs.Monomial.{timesVariable, divides, valueAt}
-use Rattle.monomial.specs.Order.{Order, orderOf, cmp}
+use Rattle.monomial.specs.Monomial.{timesVariable, divides}
+use Rattle.monomial.specs.Order.{orderOf, cmp}
 use Rattle.monomial.specs.Increasing.{inserted}
 use Rattle.monomial.proofs.Algebra.Division.{divides-refl}
 use Rattle.monomial.proofs.Padding.{cmp-pad, divides-pad}
@@ -25,10 +22,9 @@ use Rattle.basis.specs.Layout.{fill, inPlaces, over}
 use Rattle.basis.specs.Space.{Space}
 use Rattle.basis.specs.Polynomial.{Distinct}
 use Rattle.basis.specs.Extension.{without, divided, extended}
-use Rattle.basis.specs.BasisOf.{standardOf, leadsOf, rowOf, rowsOf, interpolantOf}
+use Rattle.basis.specs.BasisOf.{standardOf, leadsOf, rowOf, interpolantOf}
 use Rattle.basis.specs.Instance.{Monomial, Point, spaceOf}
-use Rattle.basis.specs.Insertions.{rowAt, insertedAt, removedAt, placeOf, dividedBy, rowValueAt, takenOut, correctedRow, correctedRows, Grown, grown, putWithRow, productPut, productsPut, othersOf, rowsLeft, othersCorrected, standardGrown, grownBy, withRowAt, reducedRow}
-use Rattle.basis.proofs.Layouts.{length-places, table-split}
+use Rattle.basis.specs.Insertions.{rowAt, removedAt, placeOf, dividedBy, rowValueAt, takenOut, correctedRow, correctedRows, Grown, grown, putWithRow, productPut, productsPut, othersOf, rowsLeft, othersCorrected, standardGrown, grownBy, withRowAt, reducedRow}
 use Rattle.basis.proofs.Places.{table-groups, place-at}
 use Rattle.basis.proofs.ideal.Laws.{Laws, Decides, so, not-so}
 use Rattle.basis.proofs.ideal.Lists.{getD-among}
@@ -38,29 +34,10 @@ use Rattle.basis.proofs.ideal.Basis.{staircase, row-is}
 use Rattle.basis.proofs.elimination.Adding.{kept, grow-at, row-grown}
 use Rattle.basis.proofs.elimination.Exponents.{fill-pad, fill-timesVariable}
 use Rattle.basis.proofs.adding.Growth.{product-passed, product-put, grown-by}
-use Rattle.basis.proofs.adding.Insertion.{map-inserted, map-removed, inserted-long, removed-long, place-map, place-bound, inserted-at, without-at, divided-map, table-in, table-out}
-use Rattle.basis.proofs.adding.Corrections.{fill-twice, valuesAt, inverseAt, row-value-filled, corrected-is}
+use Rattle.basis.proofs.adding.Insertion.{map-inserted, map-removed, inserted-long, removed-long, place-map, place-bound, inserted-at, without-at, divided-map, table-in, table-out, rows-filled, over-table}
+use Rattle.basis.proofs.adding.Corrections.{valuesAt, inverseAt, row-value-filled, corrected-is}
 use Rattle.basis.proofs.adding.LostRow.{leadsTable, rowsTable, lead-at, row-at, standard-count, lost, lost-one, lost-first, lost-nonzero}
-use Rattle.basis.proofs.adding.NewRows.{map-map, reduced-is}
-
--- rows filled up before
-places-filled : {A : Type 0} (w : ℕ) (f : A → List ℕ) (l : List A) → inPlaces w (map (λ a. fill w (f a)) l) ≡ inPlaces w (map f l)
-unfolding inPlaces
-places-filled w f [] = refl
-places-filled w f (a ∷ l) = ap₂ (λ (x y : List ℕ). x ++ y) (fill-twice w w (f a) (omega arith)) (places-filled w f l)
-
--- as many rows written over those of a table
-over-table : (w N : ℕ) (X Y : List (List ℕ)) → length X ≡ length Y → w * length X ≤ N → over (inPlaces w X) (fill N (inPlaces w Y)) ≡ fill N (inPlaces w X)
-unfolding over
-over-table w N X Y e h =
-    let k : ℕ = N - w * length X in
-    let same : w * length X ≡ w * length Y = ap (λ (n : ℕ). w * n) e in
-    let x : N ≡ w * length X + k = omega arith in
-    let y : N ≡ w * length Y + k = omega arith in
-    let Z : List ℕ = replicate k 0 in
-    let old : fill N (inPlaces w Y) ≡ inPlaces w Y ++ Z = ap (λ (n : ℕ). fill n (inPlaces w Y)) y ∙ table-split w Y k in
-    ap (λ (z : List ℕ). inPlaces w X ++ z) (ap (drop (length (inPlaces w X))) old ∙ drop-at (inPlaces w Y) Z (length (inPlaces w X)) (length-places w Y ∙ sym same ∙ sym (length-places w X)))
-    ∙ sym (ap (λ (n : ℕ). fill n (inPlaces w X)) x ∙ table-split w X k)
+use Rattle.basis.proofs.adding.NewRows.{reduced-is}
 
 module _ (q m o : ℕ) (few : m ≤ 8) (L : Laws (spaceOf q m (orderOf o))) where
   abbrev D : Space
@@ -82,7 +59,7 @@ module _ (q m o : ℕ) (few : m ≤ 8) (L : Laws (spaceOf q m (orderOf o))) wher
   pub read : (N : ℕ) (l : List (Monomial m)) → 8 * length l ≤ N → groups 8 (length l) (table N l) ≡ map bytes l
   read N l h =
       let n = length-map l (λ (a : Monomial m). a .0) in
-      ap (λ (k : ℕ). groups 8 k (table N l)) (sym n) ∙ table-groups 8 N (map (λ (a : Monomial m). a .0) l) (omega arith) ∙ map-map (λ (a : Monomial m). a .0) (fill 8) l
+      ap (λ (k : ℕ). groups 8 k (table N l)) (sym n) ∙ table-groups 8 N (map (λ (a : Monomial m). a .0) l) (omega arith) ∙ map-map (fill 8) (λ (a : Monomial m). a .0) l
 
   place-bytes : (N : ℕ) (a : Monomial m) (l : List (Monomial m)) → 8 * length l ≤ N → placeOf (cmp (orderOf o)) (bytes a) (groups 8 (length l) (table N l)) ≡ placeOf (D .cmp) a l
   place-bytes N a l h = ap (placeOf (cmp (orderOf o)) (bytes a)) (read N l h) ∙ place-map (D .cmp) (cmp (orderOf o)) bytes a l (λ b mem. cmp-bytes a b)
@@ -223,7 +200,7 @@ module _ (q m o : ℕ) (few : m ≤ 8) (L : Laws (spaceOf q m (orderOf o))) wher
         ∙ ap (λ (z : List (List ℕ)). over (inPlaces 64 z) (rowsOver (rowOf D S) others))
         (ap (correctedRows (suc q) place inverse gone point values (table 3592 others) (rowsOver (rowOf D S) others)) k ∙ corrected-are (length others) (omega arith)
         ∙ ap (map (λ (b : Monomial m). fill 64 (rowOf D (P ∷ S) b))) (take-all (length others) others (omega arith)))
-        ∙ ap (λ (z : List ℕ). over z (rowsOver (rowOf D S) others)) (places-filled 64 (rowOf D (P ∷ S)) others)
+        ∙ ap (λ (z : List ℕ). over z (rowsOver (rowOf D S) others)) (rows-filled 64 (rowOf D (P ∷ S)) others)
         ∙ over-table 64 28736 (map (rowOf D (P ∷ S)) others) (map (rowOf D S) others) (g ∙ sym e) (omega (arith, others-count, most))
 
     -- the products

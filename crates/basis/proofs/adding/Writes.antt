@@ -1,5 +1,5 @@
 -- What the functions of the addition leave of the bytes that they are lent.
-use mathlib.Core.Path.{_≡_, refl, sym, _∙_, ap, ap₂, subst}
+use mathlib.Core.Path.{_≡_, refl, sym, _∙_, ap, ap₂}
 use mathlib.Core.List.{List, [], _∷_, _++_, map, append-assoc, append-nil}
 use Prim.Native.Nat.{ℕ, zero, suc, _+_, _*_, _-_, _%_, _<_, _≤_}
 use native.Mathlib.Decide.{decLt}
@@ -12,7 +12,7 @@ use Rattle.residue.specs.Vector.{Below}
 use Rattle.residue.proofs.Vectors.{below-append, below-take, below-drop, below-zeros}
 use Rattle.basis.specs.Layout.{fill, inPlaces, over}
 use Rattle.basis.specs.Insertions.{rowAt, insertedAt, movedOn, takenOut, rowValueAt, correctedBy, correctedRow, correctedRows, withRowAt, rowsLeft}
-use Rattle.basis.proofs.Layouts.{length-fill, fill-whole, fill-append, length-places, length-over, over-all}
+use Rattle.basis.proofs.Layouts.{length-fill, fill-exact, fill-append, length-places, length-over, over-all}
 use Rattle.basis.proofs.Places.{places-append}
 
 pub fill-cut : (k : ℕ) (l : List ℕ) → k ≤ length l → fill k l ≡ take k l
@@ -135,7 +135,7 @@ unfolding over inPlaces
 rows-more done row old t ys at k e a h ek ey l =
     let P : List ℕ = inPlaces 64 done in
     let lP : length P ≡ at = length-places 64 done ∙ sym a in
-    let whole : fill 64 row ≡ row = subst (λ (n : ℕ). fill n row ≡ row) l (fill-whole row) in
+    let whole : fill 64 row ≡ row = fill-exact 64 row l in
     let all : inPlaces 64 (done ++ (row ∷ [])) ≡ P ++ row = places-append 64 done (row ∷ []) ∙ ap (λ (z : List ℕ). P ++ z) (append-nil (fill 64 row) ∙ whole) in
     let size : length (P ++ row) ≡ at + k = length-append P row ∙ omega arith in
     ap₂ (λ (u v : List ℕ). u ++ v) (ap (take at) e ∙ take-at P (drop (length P) old) at lP)

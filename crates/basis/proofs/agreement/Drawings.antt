@@ -32,6 +32,7 @@ use Rattle.basis.proofs.Equality.{true-of}
 use Rattle.basis.proofs.Layouts.{length-fill, take-over}
 use Rattle.basis.proofs.Places.{length-groups}
 use Rattle.basis.proofs.ideal.Laws.{Laws}
+use Rattle.basis.proofs.ideal.Lists.{among-map}
 use Rattle.basis.proofs.ideal.Counts.{standard-length, leads-length}
 use Rattle.basis.proofs.ideal.Permutation.{basis-permuted, remainder-permuted}
 use Rattle.basis.proofs.agreement.Points.{Points, IsPoint, point-same, once-of}
@@ -53,16 +54,12 @@ module _ (s : Settings) (ok : Accepted s) where
   among-under (Q ∷ K) P (inl e) = inl (ap pt e)
   among-under (Q ∷ K) P (inr q) = inr (among-under K P q)
 
-  under-among : (K : List (List ℕ)) (X : Point (suc (s .modulus - 1)) (s .variables)) → Among X (pointsUnder s K) → (P : List ℕ) × Among P K × (X ≡ pt P)
-  under-among (Q ∷ K) X (inl e) = (Q, inl refl, e)
-  under-among (Q ∷ K) X (inr q) = let t = under-among K X q in (t .0, inr (t .1), t .2)
-
   pub distinct-under : (K : List (List ℕ)) → ((P : List ℕ) → Among P K → IsPoint s P) → T (noRepeat K) → Distinct (spaceUnder s) (pointsUnder s K)
   distinct-under [] h t = tt
   distinct-under (P ∷ K) h t = (far, distinct-under K (λ Q q. h Q (inr q)) (once-of K P t .1))
     where
       far : (X : Point (suc (s .modulus - 1)) (s .variables)) → Among X (pointsUnder s K) → pt P ≢ X
-      far X q e = let w = under-among K X q in
+      far X q e = let w = among-map pt K X q in
           once-of K P t .0 (w .0) (w .1) (sym (point-same s (ok .few) P (h P (inl refl))) ∙ ap (λ (Z : Point (suc (s .modulus - 1)) (s .variables)). Z .0) (e ∙ w .2) ∙ point-same s (ok .few) (w .0) (h (w .0) (inr (w .1))))
 
   pub distinct-points : (K : List (List ℕ)) → Points s K → Distinct (spaceUnder s) (pointsUnder s K)
@@ -80,7 +77,7 @@ module _ (s : Settings) (ok : Accepted s) where
   -- Another arrangement of the same points.
   module _ (L K : List (List ℕ)) (dL : Distinct (spaceUnder s) (pointsUnder s L)) (dK : Distinct (spaceUnder s) (pointsUnder s K)) (to : (P : List ℕ) → Among P K → Among P L) (from : (P : List ℕ) → Among P L → Among P K) where
     carried : (A B : List (List ℕ)) → ((P : List ℕ) → Among P A → Among P B) → (X : Point (suc (s .modulus - 1)) (s .variables)) → Among X (pointsUnder s A) → Among X (pointsUnder s B)
-    carried A B f X q = let w = under-among A X q in subst (λ (Z : Point (suc (s .modulus - 1)) (s .variables)). Among Z (pointsUnder s B)) (sym (w .2)) (among-under B (w .0) (f (w .0) (w .1)))
+    carried A B f X q = let w = among-map pt A X q in subst (λ (Z : Point (suc (s .modulus - 1)) (s .variables)). Among Z (pointsUnder s B)) (sym (w .2)) (among-under B (w .0) (f (w .0) (w .1)))
 
     same-basis : (standardOf (spaceUnder s) (pointsUnder s K) ≡ standardOf (spaceUnder s) (pointsUnder s L))
         × (leadsOf (spaceUnder s) (pointsUnder s K) ≡ leadsOf (spaceUnder s) (pointsUnder s L)) × (rowsOf (spaceUnder s) (pointsUnder s K) ≡ rowsOf (spaceUnder s) (pointsUnder s L))

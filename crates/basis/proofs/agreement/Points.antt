@@ -3,7 +3,7 @@ use mathlib.Core.Path.{_≡_, refl, sym, _∙_, ap, ap₂, subst}
 use mathlib.Core.Bool.{not}
 use mathlib.Core.List.{List, [], _∷_, _++_, map, append-assoc}
 use mathlib.Core.Logic.{inl, inr, _≢_}
-use Prim.Native.Nat.{ℕ, zero, suc, _+_, _-_, _*_, _≤_, _<_}
+use Prim.Native.Nat.{ℕ, suc, _+_, _-_, _*_, _≤_, _<_}
 use native.Mathlib.Omega.{arith}
 use native.Mathlib.Nat.{mod-eq-of-lt}
 use lib.IntN.{ℤ}
@@ -20,7 +20,7 @@ use Rattle.basis.specs.Layout.{fill, inPlaces, over}
 use Rattle.basis.specs.Instance.{reduced, pointOf}
 use Rattle.basis.specs.Tables.{pointsUnder, pointsIn}
 use Rattle.basis.proofs.Equality.{and-left, and-right, and-both, among-is, is-among}
-use Rattle.basis.proofs.Layouts.{fill-whole, places-back, table-split}
+use Rattle.basis.proofs.Layouts.{fill-exact, fill-twice, places-back, table-split}
 use Rattle.basis.proofs.ideal.Lists.{snoc-of}
 
 -- m residues modulo p, as a point under the settings is
@@ -38,15 +38,6 @@ pub no-points : (s : Settings) → Points s []
 unfolding noRepeat
 no-points s = record { points = λ P q. absurd q; once = tt; few = omega arith }
 
--- filled up and cut again
-fill-fill : (m k : ℕ) (l : List ℕ) → length l ≡ m → m ≤ k → fill m (fill k l) ≡ l
-unfolding fill
-fill-fill zero k [] e h = refl
-fill-fill zero k (a ∷ l) e h = absurd (omega arith)
-fill-fill (suc m) zero l e h = absurd (omega arith)
-fill-fill (suc m) (suc k) [] e h = absurd (omega arith)
-fill-fill (suc m) (suc k) (a ∷ l) e h = ap (λ (z : List ℕ). a ∷ z) (fill-fill m k l (omega arith) (omega arith))
-
 module _ (s : Settings) (small : s .variables ≤ 8) where
   abbrev coordinates : List ℕ → List ℕ
   coordinates l = pointOf (s .modulus - 1) (s .variables) l .0
@@ -54,11 +45,11 @@ module _ (s : Settings) (small : s .variables ≤ 8) where
   -- a point is what is read of it, and of its place in a table
   pub point-same : (P : List ℕ) → IsPoint s P → coordinates P ≡ P
   unfolding pointOf
-  point-same P h = ap (reduced (s .modulus - 1)) (ap (λ (m : ℕ). fill m P) (sym (h .long)) ∙ fill-whole P) ∙ h .same
+  point-same P h = ap (reduced (s .modulus - 1)) (fill-exact (s .variables) P (h .long)) ∙ h .same
 
   place-same : (P : List ℕ) → IsPoint s P → coordinates (fill 8 P) ≡ P
   unfolding pointOf
-  place-same P h = ap (reduced (s .modulus - 1)) (fill-fill (s .variables) 8 P (h .long) small) ∙ h .same
+  place-same P h = ap (reduced (s .modulus - 1)) (fill-twice (s .variables) 8 P small ∙ fill-exact (s .variables) P (h .long)) ∙ h .same
 
   all-same : (L : List (List ℕ)) → ((P : List ℕ) → Among P L → IsPoint s P) → map (λ P. P .0) (pointsUnder s (map (fill 8) L)) ≡ L
   all-same [] h = refl

@@ -1,6 +1,6 @@
 -- The points of a call, offered as levels or read from a table, as drawing up is handed them.
 use mathlib.Core.Path.{_≡_, refl, sym, _∙_, ap, subst}
-use mathlib.Core.List.{List, _∷_, map}
+use mathlib.Core.List.{List}
 use mathlib.Core.Logic.{inl, inr}
 use Prim.Native.Nat.{ℕ, zero, suc, _-_, _*_, _/_, _%_, _≤_}
 use native.Mathlib.Nat.{div-add-mod', mul-comm}
@@ -19,16 +19,12 @@ use Rattle.basis.specs.Tables.{pointsUnder, tablesOf, pointsIn}
 use Rattle.basis.specs.Adding.{pointsOffered}
 use Rattle.basis.specs.Drawing.{PointsGiven, DrawnUp}
 use Rattle.basis.proofs.Instance.{point-of}
-use Rattle.basis.proofs.Layouts.{length-fill, fill-whole, over-all}
+use Rattle.basis.proofs.Layouts.{length-fill, fill-exact, over-all}
 use Rattle.basis.proofs.Places.{length-groups, table-groups, repeat-filled}
 use Rattle.basis.proofs.PointTables.{map-take, map-drop, length-points, points-in}
+use Rattle.basis.proofs.ideal.Lists.{among-map}
 use Rattle.basis.proofs.agreement.Points.{IsPoint, Points, points-back, residues-same, length-residues}
 use Rattle.basis.proofs.agreement.Refusals.{Accepted}
-
--- the members of a list that is changed one by one
-among-map : {A B : Type 0} (f : A → B) (l : List A) (b : B) → Among b (map f l) → (a : A) × Among a l × (b ≡ f a)
-among-map f (a ∷ l) b (inl e) = (a, inl refl, e)
-among-map f (a ∷ l) b (inr q) = let w = among-map f l b q in (w .0, inr (w .1), w .2)
 
 -- groups of m residues each
 rows-of : (q m k : ℕ) (R : List ℕ) → reduced q R ≡ R → length R ≡ m * k → (P : List ℕ) → Among P (groups m k R) → (length P ≡ m) × (reduced q P ≡ P)
@@ -67,7 +63,7 @@ module _ (s : Settings) (ok : Accepted s) where
   is-read X = record {
     long = X .1 .0;
     same =
-        ap (reduced (s .modulus - 1)) (sym (subst (λ (k : ℕ). fill k (X .0) ≡ X .0) (X .1 .0) (fill-whole (X .0))))
+        ap (reduced (s .modulus - 1)) (sym (fill-exact (s .variables) (X .0) (X .1 .0)))
         ∙ ap (λ (Y : Point (suc (s .modulus - 1)) (s .variables)). Y .0) (point-of (s .modulus - 1) (s .variables) X);
   }
 

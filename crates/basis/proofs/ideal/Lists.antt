@@ -1,6 +1,6 @@
--- Members of a list by index, and a list with one element put at its end.
+-- Members of a list by index and of a mapped list, and a list with one element put at its end.
 use mathlib.Core.Path.{_≡_, refl, sym, subst}
-use mathlib.Core.List.{List, [], _∷_, _++_}
+use mathlib.Core.List.{List, [], _∷_, _++_, map}
 use mathlib.Core.Logic.{_⊎_, inl, inr}
 use Prim.Native.Nat.{ℕ, zero, suc, _+_, _<_}
 use native.Mathlib.Omega.{arith}
@@ -18,6 +18,10 @@ getD-among (a ∷ l) (suc i) d h = inr (getD-among l i d (omega arith))
 pub index-of : {A : Type 0} (l : List A) (d a : A) → Among a l → (i : ℕ) × (i < length l) × (getD l i d ≡ a)
 index-of (b ∷ l) d a (inl e) = (0, omega arith, sym e)
 index-of (b ∷ l) d a (inr mem) = let t = index-of l d a mem in (suc (t .0), omega (arith, t .1), t .2)
+
+pub among-map : {A B : Type 0} (f : A → B) (l : List A) (b : B) → Among b (map f l) → (a : A) × Among a l × (b ≡ f a)
+among-map f (a ∷ l) b (inl e) = (a, inl refl, e)
+among-map f (a ∷ l) b (inr mem) = let t = among-map f l b mem in (t .0, inr (t .1), t .2)
 
 pub snoc-of : {A : Type 0} (l : List A) (c b : A) → Among b (l ++ (c ∷ [])) → Among b l ⊎ (b ≡ c)
 snoc-of [] c b (inl e) = inr e

@@ -14,6 +14,19 @@ use borrow.Author.Needs.{needs}
 use Rattle.basis.proofs.add.add_accepted.Statement.{statement}
 use Rattle.basis.proofs.add.add_accepted.Tie as tie
 
+-- the calls, one from the next
+abbrev start : tie.After-copy → tie.Start
+start d = d .before .before .before .before .before .before .before .before .before .before
+
+abbrev first-copy : tie.After-copy2 → tie.After-copy
+first-copy d = d .before .before .before
+
+abbrev copies : tie.After-add-to → tie.After-copy2
+copies d = d .before .before .before .before .before .before .before .before .before .before
+
+abbrev addition : tie.After-write → tie.After-add-to
+addition d = d .before .before .before .before .before .before .before .before .before .before .before .before
+
 module _ (s : tie.Start) where
   long : length (s .args .points .now) ≡ 512
   long = ap length (s .pre .0 .table) ∙ length-fill 512 _
@@ -21,11 +34,34 @@ module _ (s : tie.Start) where
   eight : length (s .args .point .now) ≡ 8
   eight = ap length (s .pre .1 .1 .1 .1 .filled) ∙ length-fill 8 _
 
-  -- the table of points as it is left
-  states : (t ys : List ℕ) → t ≡ over (s .args .points .now) (replicate 512 0) → ys ≡ over (s .args .point .now) (take (8 * s .args .n + 8 - 8 * s .args .n) (drop (8 * s .args .n) t))
-      → take (8 * s .args .n) t ++ (ys ++ drop (8 * s .args .n + 8 - 8 * s .args .n) (drop (8 * s .args .n) t))
-      ≡ tablesOf (s .args .settings) (pointsIn (s .args .settings) (s .args .n) (s .args .points .now) ++ (take (s .args .settings .variables) (s .args .point .now) ∷ [])) .states
-  states t ys et ey = states-more (s .args .settings) (s .args .n) (s .pre .0) (s .pre .1 .1 .1 .0) (s .pre .1 .1 .1 .1) t ys (8 * s .args .n + 8 - 8 * s .args .n) (et ∙ over-all (s .args .points .now) (replicate 512 0) long) (omega arith) ey
+  -- all the points
+  abbrev all : List (List ℕ)
+  all = pointsIn (s .args .settings) (s .args .n) (s .args .points .now) ++ (take (s .args .settings .variables) (s .args .point .now) ∷ [])
+
+-- the table of the points with the new one in its place
+module _ (d : tie.After-copy2) where
+  abbrev f : tie.After-copy
+  f = first-copy d
+
+  abbrev o : tie.Start
+  o = start f
+
+  abbrev at : ℕ
+  at = 8 * o .args .n
+
+  abbrev size : ℕ
+  size = at + 8 - at
+
+  abbrev table : List ℕ
+  table = f .copy .last .1 .0
+
+  states : take at table ++ (d .copy2 .last .1 .0 ++ drop size (drop at table)) ≡ tablesOf (o .args .settings) (all o) .states
+  states =
+      states-more (o .args .settings) (o .args .n) (o .pre .0) (o .pre .1 .1 .1 .0) (o .pre .1 .1 .1 .1) table (d .copy2 .last .1 .0) size
+      (f .copy .ensures ∙ over-all (o .args .points .now) (replicate 512 0) (long o)) (omega arith) (d .copy2 .ensures)
+
+  states-512 : length (take at table ++ (d .copy2 .last .1 .0 ++ drop size (drop at table))) ≡ 512
+  states-512 = ap length states ∙ states-long (o .args .settings) (all o)
 
 slice-aggregate-copy : tie.Need-slice-aggregate-copy
 slice-aggregate-copy c = search needs
@@ -50,14 +86,14 @@ part-new-states-end c = search needs
 
 copy-requires-2 : tie.Need-copy-requires-2
 copy-requires-2 c κs =
-    let s = c .before .before .before .before .before .before .before .before .before .before .before .before in
-    let from : ℕ = 8 * s .args .n in
-    let t = c .before .before .copy .last .1 .0 in
-    let part = length-take-le (from + 8 - from) (drop from t) (simp length-drop (omega (arith, s .pre .1 .1 .1 .0, c .before .before .copy .kept .1 .0))) in
+    let f = c .before .before in
+    let s = start f in
+    let at : ℕ = 8 * s .args .n in
+    let part = length-take-le (at + 8 - at) (drop at (f .copy .last .1 .0)) (simp length-drop (omega (arith, s .pre .1 .1 .1 .0, f .copy .kept .1 .0))) in
     omega (arith, eight s)
 
 cast-add-to : tie.Need-cast-add-to
-cast-add-to c = omega (arith, modulus-range ((c .before .before .before .before .before .before .before .before .before .before .before .before .before .before .before) .args .settings .modulus) ((c .before .before .before .before .before .before .before .before .before .before .before .before .before .before .before) .pre .0 .modulus))
+cast-add-to c = let s = o (c .before .before) in omega (arith, modulus-range (s .args .settings .modulus) (s .pre .0 .modulus))
 
 cast-add-to-2 : tie.Need-cast-add-to-2
 cast-add-to-2 c = search needs
@@ -66,19 +102,19 @@ slice-reshare-prefix-add-to : tie.Need-slice-reshare-prefix-add-to
 slice-reshare-prefix-add-to c = search needs
 
 slice-aggregate-add-to : tie.Need-slice-aggregate-add-to
-slice-aggregate-add-to c = sym (length-take-le 512 ((c .before .before .before .before .before .before .before .before .before .before .before .before .before .before .before .before .before) .args .standard .now) ((c .before .before .before .before .before .before .before .before .before .before .before .before .before .before .before .before .before) .pre .1 .0 .1))
+slice-aggregate-add-to c = let s = o (c .before .before .before .before) in sym (length-take-le 512 (s .args .standard .now) (s .pre .1 .0 .1))
 
 slice-reshare-prefix-add-to-2 : tie.Need-slice-reshare-prefix-add-to-2
 slice-reshare-prefix-add-to-2 c = search needs
 
 slice-aggregate-add-to-2 : tie.Need-slice-aggregate-add-to-2
-slice-aggregate-add-to-2 c = sym (length-take-le 3592 ((c .before .before .before .before .before .before .before .before .before .before .before .before .before .before .before .before .before .before) .args .leads .now) ((c .before .before .before .before .before .before .before .before .before .before .before .before .before .before .before .before .before .before) .pre .1 .0 .2))
+slice-aggregate-add-to-2 c = let s = o (c .before .before .before .before .before) in sym (length-take-le 3592 (s .args .leads .now) (s .pre .1 .0 .2))
 
 slice-reshare-prefix-add-to-3 : tie.Need-slice-reshare-prefix-add-to-3
 slice-reshare-prefix-add-to-3 c = search needs
 
 slice-aggregate-add-to-3 : tie.Need-slice-aggregate-add-to-3
-slice-aggregate-add-to-3 c = sym (length-take-le 28736 ((c .before .before .before .before .before .before .before .before .before .before .before .before .before .before .before .before .before .before .before) .args .coefficients .now) ((c .before .before .before .before .before .before .before .before .before .before .before .before .before .before .before .before .before .before .before) .pre .1 .0 .3))
+slice-aggregate-add-to-3 c = let s = o (c .before .before .before .before .before .before) in sym (length-take-le 28736 (s .args .coefficients .now) (s .pre .1 .0 .3))
 
 slice-aggregate-add-to-4 : tie.Need-slice-aggregate-add-to-4
 slice-aggregate-add-to-4 c = search needs
@@ -90,14 +126,10 @@ slice-aggregate-add-to-6 : tie.Need-slice-aggregate-add-to-6
 slice-aggregate-add-to-6 c = search needs
 
 add-to-requires : tie.Need-add-to-requires
-add-to-requires c κs =
-    let s = c .before .before .before .before .before .before .before .before .before .before .before .before .before .before .before .before .before .before .before .before .before .before in
-    (s .pre .0, (s .pre .1 .1 .0, (s .pre .1 .1 .1 .0, (s .pre .1 .1 .1 .1, (refl, refl, refl)))))
+add-to-requires c κs = let s = o (c .before .before .before .before .before .before .before .before .before) in (s .pre .0, (s .pre .1 .1 .0, (s .pre .1 .1 .1 .0, (s .pre .1 .1 .1 .1, (refl, refl, refl)))))
 
 slice-aggregate-write : tie.Need-slice-aggregate-write
-slice-aggregate-write c =
-    let s = c .before .before .before .before .before .before .before .before .before .before .before .before .before .before .before .before .before .before .before .before .before .before .before .before .before .before .before in
-    sym (ap length (states s (c .before .before .before .before .before .before .before .before .before .before .before .before .before .before .before .before .before .copy .last .1 .0) (c .before .before .before .before .before .before .before .before .before .before .before .before .before .before .copy2 .last .1 .0) (c .before .before .before .before .before .before .before .before .before .before .before .before .before .before .before .before .before .copy .ensures) (c .before .before .before .before .before .before .before .before .before .before .before .before .before .before .copy2 .ensures)) ∙ states-long (s .args .settings) _)
+slice-aggregate-write c = sym (states-512 (copies (c .before .before .before .before)))
 
 slice-aggregate-write-2 : tie.Need-slice-aggregate-write-2
 slice-aggregate-write-2 c = search needs
@@ -110,10 +142,10 @@ slice-aggregate-write-4 c = search needs
 
 write-requires : tie.Need-write-requires
 write-requires c κs =
-    let s = c .before .before .before .before .before .before .before .before .before .before .before .before .before .before .before .before .before .before .before .before .before .before .before .before .before .before .before .before .before .before .before .before .before .before in (
-      omega (arith, s .pre .1 .0, ap length (states s (c .before .before .before .before .before .before .before .before .before .before .before .before .before .before .before .before .before .before .before .before .before .before .before .before .copy .last .1 .0) (c .before .before .before .before .before .before .before .before .before .before .before .before .before .before .before .before .before .before .before .before .before .copy2 .last .1 .0) (c .before .before .before .before .before .before .before .before .before .before .before .before .before .before .before .before .before .before .before .before .before .before .before .before .copy .ensures) (c .before .before .before .before .before .before .before .before .before .before .before .before .before .before .before .before .before .before .before .before .before .copy2 .ensures)), states-long (s .args .settings) (pointsIn (s .args .settings) (s .args .n) (s .args .points .now) ++ (take (s .args .settings .variables) (s .args .point .now) ∷ []))),
-      (omega (arith, s .pre .1 .0, c .before .before .before .before .before .before .before .before .before .before .before .add-to .kept .1 .1 .1 .1 .1 .1 .1 .1 .1 .1 .1 .1 .0), (omega (arith, s .pre .1 .0, c .before .before .before .before .before .before .before .before .before .before .before .add-to .kept .1 .1 .1 .1 .1 .1 .1 .1 .1 .1 .1 .1 .1 .0), omega (arith, s .pre .1 .0, c .before .before .before .before .before .before .before .before .before .before .before .add-to .kept .1 .1 .1 .1 .1 .1 .1 .1 .1 .1 .1 .1 .1 .1 .0))),
-    )
+    let a = c .before .before .before .before .before .before .before .before .before .before .before in
+    let h = o (copies a) .pre .1 .0 in
+    let k = a .add-to .kept .1 .1 .1 .1 .1 .1 .1 .1 .1 .1 .1 .1 in
+    (omega (arith, h, states-512 (copies a)), (omega (arith, h, k .0), (omega (arith, h, k .1 .0), omega (arith, h, k .1 .1 .0))))
 
 same-length : tie.Need-same-length
 same-length c = search needs
@@ -129,17 +161,17 @@ same-length-4 c = search needs
 
 returns : tie.Need-returns
 returns c =
-    let s = c .before .before .before .before .before .before .before .before .before .before .before .before .before .before .before .before .before .before .before .before .before .before .before .before .before .before .before .before .before .before .before .before .before .before .before .before .before .before .before .before .before .before .before in
-    let t = c .before .before .before .before .before .before .before .before .before .before .before .before .before .before .before .before .before .before .before .before .add-to .ensures in (
+    let w = c .before .before .before .before .before .before .before .before in
+    let a = addition w in
+    let s = o (copies a) in
+    let t = a .add-to .ensures in
+    let e = w .write .ensures in (
       t .row-count,
       (
-        c .before .before .before .before .before .before .before .before .write .ensures .0 ∙ ap (λ (z : List ℕ). over z (s .args .states .now)) (states s (c .before .before .before .before .before .before .before .before .before .before .before .before .before .before .before .before .before .before .before .before .before .before .before .before .before .before .before .before .before .before .before .before .before .copy .last .1 .0) (c .before .before .before .before .before .before .before .before .before .before .before .before .before .before .before .before .before .before .before .before .before .before .before .before .before .before .before .before .before .before .copy2 .last .1 .0) (c .before .before .before .before .before .before .before .before .before .before .before .before .before .before .before .before .before .before .before .before .before .before .before .before .before .before .before .before .before .before .before .before .before .copy .ensures) (c .before .before .before .before .before .before .before .before .before .before .before .before .before .before .before .before .before .before .before .before .before .before .before .before .before .before .before .before .before .before .copy2 .ensures)),
+        e .0 ∙ ap (λ (z : List ℕ). over z (s .args .states .now)) (states (copies a)),
         (
-          c .before .before .before .before .before .before .before .before .write .ensures .1 .0 ∙ ap (λ (z : List ℕ). over z (s .args .standard .now)) (t .standard-table),
-          (
-            c .before .before .before .before .before .before .before .before .write .ensures .1 .1 .0 ∙ ap (λ (z : List ℕ). over z (s .args .leads .now)) (t .leads-table),
-            c .before .before .before .before .before .before .before .before .write .ensures .1 .1 .1 ∙ ap (λ (z : List ℕ). over z (s .args .coefficients .now)) (t .coefficients-table),
-          ),
+          e .1 .0 ∙ ap (λ (z : List ℕ). over z (s .args .standard .now)) (t .standard-table),
+          (e .1 .1 .0 ∙ ap (λ (z : List ℕ). over z (s .args .leads .now)) (t .leads-table), e .1 .1 .1 ∙ ap (λ (z : List ℕ). over z (s .args .coefficients .now)) (t .coefficients-table)),
         ),
       ),
     )

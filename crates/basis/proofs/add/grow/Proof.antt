@@ -12,7 +12,7 @@ use Rattle.residue.proofs.Inverses.{inverse-below}
 use Rattle.monomial.specs.Order.{orderOf, cmp}
 use Rattle.basis.specs.Levels.{groups}
 use Rattle.basis.specs.Layout.{over}
-use Rattle.basis.specs.Insertions.{rowAt, placeOf, rowValueAt, withRowAt, othersOf, standardGrown}
+use Rattle.basis.specs.Insertions.{rowAt, placeOf, rowValueAt, withRowAt, standardGrown}
 use Rattle.basis.proofs.Layouts.{over-all}
 use Rattle.basis.proofs.ValueRows.{zeros-long}
 use Rattle.basis.proofs.adding.Searches.{place-within}
@@ -22,39 +22,85 @@ use borrow.Author.Needs.{needs}
 use Rattle.basis.proofs.add.grow.Statement.{statement}
 use Rattle.basis.proofs.add.grow.Tie as tie
 
+-- the calls, one from the next
+abbrev start : tie.After-widen → tie.Start
+start d = d .before .before .before .before .before .before .before .before .before .before .before .before .before .before .before
+
+abbrev widened : tie.After-put-in → tie.After-widen
+widened d = d .before .before .before .before .before .before .before .before .before .before
+
+abbrev inverted : tie.After-put-in → tie.After-inverse
+inverted d = d .before .before .before .before .before .before
+
+abbrev copied : tie.After-put-in → tie.After-copy
+copied d = d .before .before .before .before
+
+abbrev placed : tie.After-keep-others → tie.After-put-in
+placed d = d .before .before .before .before .before .before
+
+-- the lead of row j, and its coefficients
 module _ (s : tie.Start) where
-  -- the lead of row j, and its coefficients
-  lead-is : take (8 * s .args .j + 8 - 8 * s .args .j) (drop (8 * s .args .j) (s .args .leads .now)) ≡ rowAt 8 (s .args .j) (s .args .leads .now)
+  abbrev lead : List ℕ
+  lead = take (8 * s .args .j + 8 - 8 * s .args .j) (drop (8 * s .args .j) (s .args .leads .now))
+
+  lead-is : lead ≡ rowAt 8 (s .args .j) (s .args .leads .now)
   lead-is = let e : 8 * s .args .j + 8 - 8 * s .args .j ≡ 8 = omega arith in ap (λ (k : ℕ). take k (drop (8 * s .args .j) (s .args .leads .now))) e
 
-  lead-long : length (take (8 * s .args .j + 8 - 8 * s .args .j) (drop (8 * s .args .j) (s .args .leads .now))) ≡ 8
+  lead-long : length lead ≡ 8
   lead-long = ap length lead-is ∙ length-take-le 8 (drop (8 * s .args .j) (s .args .leads .now)) (simp length-drop (omega (arith, s .pre .1 .0, s .pre .1 .1 .0)))
 
-  gone-long : length (rowAt 64 (s .args .j) (s .args .coefficients .now)) ≡ 64
-  gone-long = length-take-le 64 (drop (64 * s .args .j) (s .args .coefficients .now)) (simp length-drop (omega (arith, s .pre .1 .0, s .pre .1 .1 .0)))
+  row-long : length (rowAt 64 (s .args .j) (s .args .coefficients .now)) ≡ 64
+  row-long = length-take-le 64 (drop (64 * s .args .j) (s .args .coefficients .now)) (simp length-drop (omega (arith, s .pre .1 .0, s .pre .1 .1 .0)))
 
-  module _ (g : List ℕ) (e : g ≡ over (take (64 * s .args .j + 64 - 64 * s .args .j) (drop (64 * s .args .j) (s .args .coefficients .now))) (replicate 64 0)) where
-    gone-is : g ≡ rowAt 64 (s .args .j) (s .args .coefficients .now)
-    gone-is =
-        let d : 64 * s .args .j + 64 - 64 * s .args .j ≡ 64 = omega arith in
-        e ∙ ap (λ (k : ℕ). over (take k (drop (64 * s .args .j) (s .args .coefficients .now))) (replicate 64 0)) d ∙ over-all (rowAt 64 (s .args .j) (s .args .coefficients .now)) (replicate 64 0) gone-long
+module _ (w : tie.After-widen) where
+  abbrev s : tie.Start
+  s = start w
 
-    gone-below : Below (s .args .p) g
-    gone-below = subst (Below (s .args .p)) (sym gone-is) (below-take (s .args .p) 64 (drop (64 * s .args .j) (s .args .coefficients .now)) (below-drop (s .args .p) (64 * s .args .j) (s .args .coefficients .now) (s .pre .1 .1 .1 .0 .1)))
+  abbrev gone : List ℕ
+  gone = w .widen .last .1 .0
 
-  -- the copy of the standard monomials
-  copied : (t : List ℕ) → t ≡ over (s .args .standard .now) (s .args .new-standard .now) → t ≡ s .args .standard .now
-  copied t e = e ∙ over-all (s .args .standard .now) (s .args .new-standard .now) (s .pre .1 .1 .0 .0 ∙ sym (zeros-long _ 512 (s .pre .1 .1 .1 .1 .1 .1 .0)))
+  gone-is : gone ≡ rowAt 64 (s .args .j) (s .args .coefficients .now)
+  gone-is =
+      let d : 64 * s .args .j + 64 - 64 * s .args .j ≡ 64 = omega arith in
+      w .widen .ensures ∙ ap (λ (k : ℕ). over (take k (drop (64 * s .args .j) (s .args .coefficients .now))) (replicate 64 0)) d
+      ∙ over-all (rowAt 64 (s .args .j) (s .args .coefficients .now)) (replicate 64 0) (row-long s)
 
-  -- the copy of the other leads
-  whole : (t l : List ℕ) → length l ≡ length (s .args .new-leads .now) → t ≡ over l (replicate 3592 0) → t ≡ l
-  whole t l h e = e ∙ over-all l (replicate 3592 0) (h ∙ zeros-long _ 3592 (s .pre .1 .1 .1 .1 .1 .1 .1) ∙ sym (length-replicate {A = ℕ} 3592 0))
+  gone-long : length gone ≡ 64
+  gone-long = ap length gone-is ∙ row-long s
 
-  within : (k : ℕ) (t : List ℕ) → k ≡ placeOf (cmp (orderOf (s .args .order))) (take (8 * s .args .j + 8 - 8 * s .args .j) (drop (8 * s .args .j) (s .args .leads .now))) (groups 8 (s .args .n) t) → k ≤ s .args .n
-  within k t e = rw e (place-within (cmp (orderOf (s .args .order))) _ t (s .args .n))
+  gone-below : Below (s .args .p) gone
+  gone-below = subst (Below (s .args .p)) (sym gone-is) (below-take (s .args .p) 64 (drop (64 * s .args .j) (s .args .coefficients .now)) (below-drop (s .args .p) (64 * s .args .j) (s .args .coefficients .now) (s .pre .1 .1 .1 .0 .1)))
 
-  below : (v i : ℕ) → v < s .args .p → i ≡ inverseOf (s .args .p) v → i < s .args .p
-  below v i h e = rw e (inverse-below (s .args .p) v (s .pre .0 .4) h)
+-- the inverse of its value, and its place among the standard monomials
+module _ (d : tie.After-put-in) where
+  abbrev o : tie.Start
+  o = start (widened d)
+
+  abbrev value : ℕ
+  value = rowValueAt (o .args .p) (o .args .point .now) (o .args .values .now) (lead o) (gone (widened d))
+
+  inverse-is : inverted d .inverse .result ≡ inverseOf (o .args .p) value
+  inverse-is = inverted d .inverse .ensures ∙ ap (inverseOf (o .args .p)) (inverted d .before .row-value .ensures)
+
+  below : inverted d .inverse .result < o .args .p
+  below = omega (arith, inverse-is, inverse-below (o .args .p) value (o .pre .0 .4) (value-below _ _ _ _ _ (omega (arith, o .pre .0))))
+
+  old : copied d .copy .last .1 .0 ≡ o .args .standard .now
+  old = copied d .copy .ensures ∙ over-all (o .args .standard .now) (o .args .new-standard .now) (o .pre .1 .1 .0 .0 ∙ sym (zeros-long _ 512 (o .pre .1 .1 .1 .1 .1 .1 .0)))
+
+  place-is : d .put-in .result ≡ placeOf (cmp (orderOf (o .args .order))) (lead o) (groups 8 (o .args .n) (o .args .standard .now))
+  place-is = d .put-in .ensures .0 ∙ ap (λ (t : List ℕ). placeOf (cmp (orderOf (o .args .order))) (lead o) (groups 8 (o .args .n) t)) old
+
+  within : d .put-in .result ≤ o .args .n
+  within = omega (arith, place-is, place-within (cmp (orderOf (o .args .order))) (lead o) (o .args .standard .now) (o .args .n))
+
+-- the tables of the other leads and their rows keep their sizes
+module _ (k : tie.After-keep-others) where
+  leads-long : length (k .keep-others .last .1 .1 .1 .1 .1 .1 .1 .1 .1 .1 .0) ≡ 3592
+  leads-long = k .keep-others .kept .1 .1 .1 .1 .1 .1 .1 .1 .1 .1 .0 ∙ zeros-long _ 3592 (o (placed k) .pre .1 .1 .1 .1 .1 .1 .1)
+
+  rows-long : length (k .keep-others .last .1 .1 .1 .1 .1 .1 .1 .1 .1 .1 .1 .0) ≡ 28736
+  rows-long = k .keep-others .kept .1 .1 .1 .1 .1 .1 .1 .1 .1 .1 .1 .0 ∙ zeros-long _ 28736 (o (placed k) .pre .1 .1 .1 .1 .1 .1 .2)
 
 mul-from : tie.Need-mul-from
 mul-from c = search needs
@@ -69,7 +115,7 @@ part-lead-start : tie.Need-part-lead-start
 part-lead-start c = search needs
 
 part-lead-end : tie.Need-part-lead-end
-part-lead-end c = omega (arith, (c .before .before .before .before .before .before .before .before .before .before .before) .pre .1 .0, (c .before .before .before .before .before .before .before .before .before .before .before) .pre .1 .1 .0)
+part-lead-end c = let s = c .before .before .before .before .before .before .before .before .before .before .before in omega (arith, s .pre .1 .0, s .pre .1 .1 .0)
 
 mul-first : tie.Need-mul-first
 mul-first c = search needs
@@ -84,7 +130,7 @@ part-widen-start : tie.Need-part-widen-start
 part-widen-start c = search needs
 
 part-widen-end : tie.Need-part-widen-end
-part-widen-end c = omega (arith, (c .before .before .before .before .before .before .before .before .before .before .before .before) .pre .1 .0, (c .before .before .before .before .before .before .before .before .before .before .before .before) .pre .1 .1 .0)
+part-widen-end c = let s = c .before .before .before .before .before .before .before .before .before .before .before .before in omega (arith, s .pre .1 .0, s .pre .1 .1 .0)
 
 slice-aggregate-widen : tie.Need-slice-aggregate-widen
 slice-aggregate-widen c = search needs
@@ -97,29 +143,19 @@ slice-aggregate-row-value c = search needs
 
 row-value-requires : tie.Need-row-value-requires
 row-value-requires c κs =
-    let s = c .before .before .before .before .before .before .before .before .before .before .before .before .before .before .before .before .before in
-    let g = gone-is s _ (c .before .before .widen .ensures) in (
-      (s .pre .0 .0, s .pre .0 .1),
-      (
-        (s .pre .1 .1 .0 .3, lead-long s),
-        (
-          (ap length g ∙ gone-long s ∙ sym (s .pre .1 .1 .0 .4), omega (arith, ap length g, gone-long s)),
-          (s .pre .1 .1 .1 .0 .3, (s .pre .1 .1 .1 .0 .4, gone-below s _ (c .before .before .widen .ensures))),
-        ),
-      ),
-    )
+    let w = c .before .before in
+    let s = start w in
+    ((s .pre .0 .0, s .pre .0 .1), ((s .pre .1 .1 .0 .3, lead-long s), ((gone-long w ∙ sym (s .pre .1 .1 .0 .4), omega (arith, gone-long w)), (s .pre .1 .1 .1 .0 .3, (s .pre .1 .1 .1 .0 .4, gone-below w)))))
 
 inverse-requires : tie.Need-inverse-requires
 inverse-requires c κs = search needs
 
 copy-requires : tie.Need-copy-requires
-copy-requires c κs =
-    let s = c .before .before .before .before .before .before .before .before .before .before .before .before .before .before .before .before .before .before .before .before in
-    omega (arith, s .pre .1 .1 .0 .0, zeros-long _ 512 (s .pre .1 .1 .1 .1 .1 .1 .0))
+copy-requires c κs = let s = start (c .before .before .before .before .before) in omega (arith, s .pre .1 .1 .0 .0, zeros-long _ 512 (s .pre .1 .1 .1 .1 .1 .1 .0))
 
 put-in-requires : tie.Need-put-in-requires
 put-in-requires c κs =
-    let s = c .before .before .before .before .before .before .before .before .before .before .before .before .before .before .before .before .before .before .before .before .before .before .before .before in
+    let s = start (c .before .before .before .before .before .before .before .before .before) in
     ((omega (arith, s .pre .0 .3, c .before .before .before .copy .kept .1 .0, zeros-long _ 512 (s .pre .1 .1 .1 .1 .1 .1 .0)), omega (arith, s .pre .0 .3)), lead-long s)
 
 slice-aggregate-keep-others : tie.Need-slice-aggregate-keep-others
@@ -127,15 +163,13 @@ slice-aggregate-keep-others c = search needs
 
 keep-others-requires : tie.Need-keep-others-requires
 keep-others-requires c κs =
-    let s = c .before .before .before .before .before .before .before .before .before .before .before .before .before .before .before .before .before .before .before .before .before .before .before .before .before .before .before .before .before .before in
-    let g = gone-is s _ (c .before .before .before .before .before .before .before .before .before .before .before .before .before .before .before .widen .ensures) in (
-      (s .pre .0 .0, s .pre .0 .1, omega (arith, s .pre .0 .3, within s _ _ (c .before .before .before .before .before .put-in .ensures .0)), below s (c .before .before .before .before .before .before .before .before .before .before .before .before .row-value .result) _ (rw (c .before .before .before .before .before .before .before .before .before .before .before .before .row-value .ensures) (value-below _ _ _ _ _ (omega (arith, s .pre .0)))) (c .before .before .before .before .before .before .before .before .before .before .before .inverse .ensures)),
+    let d = c .before .before .before .before .before in
+    let w = widened d in
+    let s = start w in (
+      (s .pre .0 .0, s .pre .0 .1, omega (arith, s .pre .0 .3, within d), below d),
       (
-        (ap length g ∙ gone-long s, s .pre .1 .1 .0 .3, s .pre .1 .1 .0 .4),
-        (
-          (s .pre .1 .0 .0, s .pre .1 .0 .1, s .pre .1 .1 .0 .1, s .pre .1 .1 .0 .2),
-          ((gone-below s _ (c .before .before .before .before .before .before .before .before .before .before .before .before .before .before .before .widen .ensures), s .pre .1 .1 .1 .0 .3, s .pre .1 .1 .1 .0 .4, s .pre .1 .1 .1 .0 .1), (s .pre .1 .1 .1 .1 .1 .1 .1, s .pre .1 .1 .1 .1 .1 .1 .2)),
-        ),
+        (gone-long w, s .pre .1 .1 .0 .3, s .pre .1 .1 .0 .4),
+        ((s .pre .1 .0 .0, s .pre .1 .0 .1, s .pre .1 .1 .0 .1, s .pre .1 .1 .0 .2), ((gone-below w, s .pre .1 .1 .1 .0 .3, s .pre .1 .1 .1 .0 .4, s .pre .1 .1 .1 .0 .1), (s .pre .1 .1 .1 .1 .1 .1 .1, s .pre .1 .1 .1 .1 .1 .1 .2))),
       ),
     )
 
@@ -143,38 +177,38 @@ slice-aggregate-copy : tie.Need-slice-aggregate-copy
 slice-aggregate-copy c = search needs
 
 copy-requires-2 : tie.Need-copy-requires-2
-copy-requires-2 c κs =
-    let s = c .before .before .before .before .before .before .before .before .before .before .before .before .before .before .before .before .before .before .before .before .before .before .before .before .before .before .before .before .before .before .before .before .before .before .before .before .before in
-    omega (arith, c .before .before .before .before .before .before .keep-others .kept .1 .1 .1 .1 .1 .1 .1 .1 .1 .1 .0, zeros-long _ 3592 (s .pre .1 .1 .1 .1 .1 .1 .1))
+copy-requires-2 c κs = omega (arith, leads-long (c .before .before .before .before .before .before))
 
 slice-aggregate-add-products : tie.Need-slice-aggregate-add-products
 slice-aggregate-add-products c = search needs
 
 sub-add-products : tie.Need-sub-add-products
-sub-add-products c = omega (arith, (c .before .before .before .before .before .before .before .before .before .before .before .before .before .before .before .before .before .before .before .before .before .before .before .before .before .before .before .before .before .before .before .before .before .before .before .before .before .before .before .before) .pre .1 .0)
+sub-add-products c = omega (arith, o (placed (c .before .before .before .before .before .before .before .before .before)) .pre .1 .0)
 
 slice-aggregate-add-products-2 : tie.Need-slice-aggregate-add-products-2
 slice-aggregate-add-products-2 c = search needs
 
 add-products-requires : tie.Need-add-products-requires
 add-products-requires c κs =
-    let s = c .before .before .before .before .before .before .before .before .before .before .before .before .before .before .before .before .before .before .before .before .before .before .before .before .before .before .before .before .before .before .before .before .before .before .before .before .before .before .before .before .before .before .before in
-    let g = gone-is s _ (c .before .before .before .before .before .before .before .before .before .before .before .before .before .before .before .before .before .before .before .before .before .before .before .before .before .before .before .before .widen .ensures) in (
-      (s .pre .0 .0, s .pre .0 .1, s .pre .0 .3, omega (arith, s .pre .0 .3, within s _ _ (c .before .before .before .before .before .before .before .before .before .before .before .before .before .before .before .before .before .before .put-in .ensures .0)), below s (c .before .before .before .before .before .before .before .before .before .before .before .before .before .before .before .before .before .before .before .before .before .before .before .before .before .row-value .result) _ (rw (c .before .before .before .before .before .before .before .before .before .before .before .before .before .before .before .before .before .before .before .before .before .before .before .before .before .row-value .ensures) (value-below _ _ _ _ _ (omega (arith, s .pre .0)))) (c .before .before .before .before .before .before .before .before .before .before .before .before .before .before .before .before .before .before .before .before .before .before .before .before .inverse .ensures)),
+    let k = c .before .before .before .before .before .before .before .before .before .before .before .before in
+    let d = placed k in
+    let w = widened d in
+    let s = start w in (
+      (s .pre .0 .0, s .pre .0 .1, s .pre .0 .3, omega (arith, s .pre .0 .3, within d), below d),
       (
         (s .pre .1 .0 .3, s .pre .1 .0 .4, s .pre .1 .1 .1 .1 .0 .0, c .before .before .before .before .before .copy2 .kept .1 .0),
         (
-          (ap length g ∙ gone-long s, s .pre .1 .1 .0 .3, s .pre .1 .1 .0 .4, lead-long s),
+          (gone-long w, s .pre .1 .1 .0 .3, s .pre .1 .1 .0 .4, lead-long s),
           (
-            (s .pre .0 .2, omega (arith, s .pre .1 .0), c .before .before .before .before .before .before .before .before .before .before .before .before .keep-others .kept .1 .1 .1 .1 .1 .1 .1 .1 .1 .1 .0 ∙ zeros-long _ 3592 (s .pre .1 .1 .1 .1 .1 .1 .1), c .before .before .before .before .before .before .before .before .before .before .before .before .keep-others .kept .1 .1 .1 .1 .1 .1 .1 .1 .1 .1 .1 .0 ∙ zeros-long _ 28736 (s .pre .1 .1 .1 .1 .1 .1 .2)),
-            ((s .pre .1 .1 .1 .0 .0, s .pre .1 .1 .1 .0 .2, gone-below s _ (c .before .before .before .before .before .before .before .before .before .before .before .before .before .before .before .before .before .before .before .before .before .before .before .before .before .before .before .before .widen .ensures), s .pre .1 .1 .1 .0 .3, s .pre .1 .1 .1 .0 .4), (s .pre .1 .1 .1 .1 .0 .1, part-small 255 (8 * s .args .j + 8 - 8 * s .args .j) (8 * s .args .j) (s .args .leads .now) (omega arith) (s .pre .1 .1 .1 .1 .1 .0))),
+            (s .pre .0 .2, omega (arith, s .pre .1 .0), leads-long k, rows-long k),
+            ((s .pre .1 .1 .1 .0 .0, s .pre .1 .1 .1 .0 .2, gone-below w, s .pre .1 .1 .1 .0 .3, s .pre .1 .1 .1 .0 .4), (s .pre .1 .1 .1 .1 .0 .1, part-small 255 (8 * s .args .j + 8 - 8 * s .args .j) (8 * s .args .j) (s .args .leads .now) (omega arith) (s .pre .1 .1 .1 .1 .1 .0))),
           ),
         ),
       ),
     )
 
 same-length : tie.Need-same-length
-same-length c = c .before .before .before .before .before .before .before .before .before .before .before .before .before .before .before .before .before .before .before .before .before .before .before .put-in .kept .1 .1 .0 ∙ c .before .before .before .before .before .before .before .before .before .before .before .before .before .before .before .before .before .before .before .before .before .before .before .before .before .before .before .copy .kept .1 .0
+same-length c = let d = placed (c .before .before .before .before .before .before .before .before .before .before .before .before .before .before .before .before .before) in d .put-in .kept .1 .1 .0 ∙ copied d .copy .kept .1 .0
 
 same-length-2 : tie.Need-same-length-2
 same-length-2 c = search needs
@@ -185,17 +219,14 @@ same-length-3 c = search needs
 returns : tie.Need-returns
 unfolding standardGrown
 returns c =
-    let s = c .before .before .before .before .before .before .before .before .before .before .before .before .before .before .before .before .before .before .before .before .before .before .before .before .before .before .before .before .before .before .before .before .before .before .before .before .before .before .before .before .before .before .before .before .before .before .before .before in
-    let place = c .before .before .before .before .before .before .before .before .before .before .before .before .before .before .before .before .before .before .before .before .before .before .before .put-in .result in
-    let old = copied s _ (c .before .before .before .before .before .before .before .before .before .before .before .before .before .before .before .before .before .before .before .before .before .before .before .before .before .before .before .copy .ensures) in
-    let at : place ≡ placeOf (cmp (orderOf (s .args .order))) (take (8 * s .args .j + 8 - 8 * s .args .j) (drop (8 * s .args .j) (s .args .leads .now))) (groups 8 (s .args .n) (s .args .standard .now)) =
-    c .before .before .before .before .before .before .before .before .before .before .before .before .before .before .before .before .before .before .before .before .before .before .before .put-in .ensures .0 ∙ ap (λ (t : List ℕ). placeOf (cmp (orderOf (s .args .order))) (take (8 * s .args .j + 8 - 8 * s .args .j) (drop (8 * s .args .j) (s .args .leads .now))) (groups 8 (s .args .n) t)) old in
-    let i : c .before .before .before .before .before .before .before .before .before .before .before .before .before .before .before .before .before .before .before .before .before .before .before .before .before .before .before .before .before .inverse .result ≡ inverseOf (s .args .p) (rowValueAt (s .args .p) (s .args .point .now) (s .args .values .now) (take (8 * s .args .j + 8 - 8 * s .args .j) (drop (8 * s .args .j) (s .args .leads .now))) (c .before .before .before .before .before .before .before .before .before .before .before .before .before .before .before .before .before .before .before .before .before .before .before .before .before .before .before .before .before .before .before .before .before .widen .last .1 .0)) =
-    c .before .before .before .before .before .before .before .before .before .before .before .before .before .before .before .before .before .before .before .before .before .before .before .before .before .before .before .before .before .inverse .ensures ∙ ap (inverseOf (s .args .p)) (c .before .before .before .before .before .before .before .before .before .before .before .before .before .before .before .before .before .before .before .before .before .before .before .before .before .before .before .before .before .before .row-value .ensures) in (
-      c .before .before .before .before .before .before .before .before .before .before .before .before .before .before .before .before .before .before .before .before .before .before .before .put-in .ensures .1 ∙ ap₂ (λ (k : ℕ) (t : List ℕ). withRowAt 8 (s .args .n) k (take (8 * s .args .j + 8 - 8 * s .args .j) (drop (8 * s .args .j) (s .args .leads .now))) t) at old ∙ ap (standardGrown (s .args .order) (s .args .n) (s .args .standard .now)) (lead-is s),
+    let k = c .before .before .before .before .before .before .before .before .before .before .before .before .before .before .before .before .before in
+    let d = placed k in
+    let s = o d in (
+      d .put-in .ensures .1 ∙ ap₂ (λ (i : ℕ) (t : List ℕ). withRowAt 8 (s .args .n) i (lead s) t) (place-is d) (old d) ∙ ap (standardGrown (s .args .order) (s .args .n) (s .args .standard .now)) (lead-is s),
       c .before .before .before .before .add-products .ensures
           ∙ grown-by (s .args .p) (s .args .m) (s .args .order) (s .args .n) (s .args .r) (s .args .points .now) (s .args .standard .now) (s .args .leads .now) (s .args .coefficients .now) (s .args .rows .now) (s .args .pivots .now) (s .args .point .now) (s .args .values .now) (s .args .j)
-          _ _ _ _ _ _ _ (lead-is s) (gone-is s _ (c .before .before .before .before .before .before .before .before .before .before .before .before .before .before .before .before .before .before .before .before .before .before .before .before .before .before .before .before .before .before .before .before .before .widen .ensures)) at i (c .before .before .before .before .before .before .before .before .before .before .before .before .before .before .before .before .before .keep-others .ensures .0) (whole s _ _ (c .before .before .before .before .before .before .before .before .before .before .before .before .before .before .before .before .before .keep-others .kept .1 .1 .1 .1 .1 .1 .1 .1 .1 .1 .0) (c .before .before .before .before .before .before .before .before .before .before .copy2 .ensures)) (c .before .before .before .before .before .before .before .before .before .before .before .before .before .before .before .before .before .keep-others .ensures .1),
+          _ _ _ _ _ _ _ (lead-is s) (gone-is (widened d)) (place-is d) (inverse-is d) (k .keep-others .ensures .0)
+          (c .before .before .before .before .before .before .before .before .before .before .copy2 .ensures ∙ over-all _ (replicate 3592 0) (leads-long k ∙ sym (length-replicate {A = ℕ} 3592 0))) (k .keep-others .ensures .1),
     )
 
 pub grow-spec : {M : Type 1} → statement M

@@ -3,7 +3,6 @@ use mathlib.Core.Path.{_≡_, sym, ap, ap₂, subst, _∙_}
 use mathlib.Core.List.{List}
 use Prim.Native.Nat.{ℕ, _-_}
 use native.Mathlib.Omega.{arith}
-use lib.ListN.{length}
 use Rattle.residue.specs.Vector.{Below}
 use Rattle.basis.specs.Layout.{inPlaces, over}
 use Rattle.basis.specs.Insertions.{takenOut, correctedRows, othersOf, rowsLeft, othersCorrected}

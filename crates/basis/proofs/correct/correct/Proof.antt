@@ -3,7 +3,6 @@ use mathlib.Core.Path.{_≡_, sym, ap, _∙_}
 use Prim.Native.Nat.{ℕ, _*_, _-_, _%_}
 use native.Mathlib.Nat.{mod-lt}
 use native.Mathlib.Omega.{arith}
-use lib.ListN.{length}
 use Rattle.residue.specs.Vector.{addScaled}
 use Rattle.basis.specs.Insertions.{rowValueAt, factorOf, correctedBy, correctedRow}
 use Rattle.basis.proofs.adding.Writes.{value-below}

@@ -1,5 +1,5 @@
 -- `correct::row_value` meets its contract.
-use mathlib.Core.Path.{_≡_, sym, ap₂, _∙_}
+use mathlib.Core.Path.{ap₂, _∙_}
 use Prim.Native.Nat.{ℕ, _+_, _%_}
 use native.Mathlib.Nat.{mod-lt, mod-add-mod, add-mod-mod}
 use native.Mathlib.Omega.{arith}

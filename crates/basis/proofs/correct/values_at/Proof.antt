@@ -5,8 +5,6 @@ use Prim.Native.Nat.{ℕ, _+_, _*_, _-_, _%_, _≤_}
 use native.Mathlib.Omega.{arith}
 use lib.ListN.{length, getD, take, drop, length-drop}
 use lib.Seq.{length-take-le}
-use Rattle.residue.specs.Vector.{Below}
-use Rattle.residue.proofs.Vectors.{below-take, below-drop}
 use Rattle.residue.proofs.Filled.{filled, filled-none, kept-length, filled-more}
 use Rattle.monomial.specs.Monomial.{valueAt}
 use Rattle.basis.specs.Levels.{groups}

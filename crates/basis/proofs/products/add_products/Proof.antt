@@ -1,5 +1,5 @@
--- `add::add_products` meets its contract. The products with the first v variables are put in.
-use mathlib.Core.Path.{_≡_, refl, sym, ap, ap₂, _∙_}
+-- `products::add_products` meets its contract. The products with the first v variables are put in.
+use mathlib.Core.Path.{_≡_, sym, ap, ap₂, _∙_}
 use mathlib.Core.List.{List}
 use Prim.Native.Nat.{ℕ, _+_, _-_, _≤_}
 use native.Mathlib.Omega.{arith}
@@ -9,8 +9,8 @@ use Rattle.basis.specs.Layout.{over}
 use Rattle.basis.specs.Insertions.{Grown, grown, productsPut, productPut}
 use Rattle.basis.proofs.Layouts.{over-all}
 use Rattle.basis.proofs.adding.Growth.{Sized, products-none, products-more, products-sized}
-use Rattle.basis.proofs.add.add_products.Statement.{statement}
-use Rattle.basis.proofs.add.add_products.Tie as tie
+use Rattle.basis.proofs.products.add_products.Statement.{statement}
+use Rattle.basis.proofs.products.add_products.Tie as tie
 
 abbrev Inv-loop : tie.InvT-loop
 Inv-loop p m order n points rows pivots place inverse gone point values k others lead leads₀ coefficients₀ count₀ v₀ leads coefficients count v = (v ≤ m) × (grown count leads coefficients ≡ productsPut p order n points rows pivots place inverse gone point values k others lead v (grown k leads₀ coefficients₀))

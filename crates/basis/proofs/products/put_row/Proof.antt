@@ -1,22 +1,22 @@
--- `add::put_row` meets its contract.
-use mathlib.Core.Path.{_≡_, refl, sym, ap, subst, _∙_}
+-- `products::put_row` meets its contract.
+use mathlib.Core.Path.{_≡_, sym, ap, subst, _∙_}
 use mathlib.Core.List.{List, map}
 use Prim.Native.Nat.{ℕ, _+_, _*_, _-_, _%_}
 use native.Mathlib.Omega.{arith}
-use lib.ListN.{length, take, drop, replicate, length-drop}
+use lib.ListN.{take, drop, replicate, length-drop}
 use lib.Seq.{length-take-le}
 use Rattle.residue.specs.Vector.{Below}
 use Rattle.residue.specs.Elimination.{eliminated}
 use Rattle.residue.proofs.Vectors.{below-take, below-drop}
-use Rattle.residue.proofs.Eliminated.{eliminated-length, eliminated-below}
+use Rattle.residue.proofs.Eliminated.{eliminated-below}
 use Rattle.monomial.specs.Monomial.{valueAt}
 use Rattle.basis.specs.Levels.{groups}
 use Rattle.basis.specs.Layout.{over}
 use Rattle.basis.specs.Insertions.{correctedRow, reducedRow}
 use Rattle.basis.proofs.adding.Writes.{row-in, values-below}
 use borrow.Author.Needs.{needs}
-use Rattle.basis.proofs.add.put_row.Statement.{statement}
-use Rattle.basis.proofs.add.put_row.Tie as tie
+use Rattle.basis.proofs.products.put_row.Statement.{statement}
+use Rattle.basis.proofs.products.put_row.Tie as tie
 
 -- the values are residues, and zeros behind
 loaded : (s : tie.Start) (w : List ℕ) → w ≡ over (map (λ point. valueAt point (s .args .a .now) % s .args .p) (groups 8 (s .args .n) (s .args .points .now))) (replicate 128 0) → Below (s .args .p) w

@@ -1,13 +1,13 @@
--- `add::add_product` meets its contract.
-use mathlib.Core.Path.{_≡_, sym, ap, _∙_}
+-- `products::add_product` meets its contract.
+use mathlib.Core.Path.{sym, _∙_}
 use Prim.Native.Nat.{_≤_}
 use native.Mathlib.Omega.{arith}
 use Rattle.monomial.specs.Order.{orderOf, cmp}
 use Rattle.basis.proofs.adding.Searches.{place-within}
 use Rattle.basis.proofs.adding.Growth.{product-passed, product-taken}
 use borrow.Author.Needs.{needs}
-use Rattle.basis.proofs.add.add_product.Statement.{statement}
-use Rattle.basis.proofs.add.add_product.Tie as tie
+use Rattle.basis.proofs.products.add_product.Statement.{statement}
+use Rattle.basis.proofs.products.add_product.Tie as tie
 
 -- the place is one of the table
 within : (c : tie.After-put-in) → c .put-in .result ≤ c .before .before .before .before .before .before .before .before .before .before .before .before .before .before .args .count
