@@ -15,15 +15,21 @@ ORDERS = {"": 0, "lex": 0, "grlex": 1, "grevlex": 2}
 HERE = os.path.join(os.path.dirname(os.path.abspath(__file__)), "..", "crates", "csv_test")
 
 
-def read(text):
-    """What an accepted text says, by Python's csv module."""
+def levels_in(text):
+    """The settings and the levels of an accepted text, the value of each record last, by Python's csv module."""
     rows = list(csv.reader(io.StringIO(text.decode("latin-1"), newline=""), strict=True))
     modulus, word = re.fullmatch(r"mod ([0-9]{1,3})(?: (.*))?", rows[0][-1]).groups("")
     p, m = int(modulus), len(rows[0]) - 1
     levels = [[int(field) for field in row] for row in rows[1:]]
     assert all(len(row) == m + 1 and all(-p < level < p for level in row) for row in levels)
+    return (p, m, ORDERS[word]), levels
+
+
+def read(text):
+    """What an accepted text says."""
+    (p, m, order), levels = levels_in(text)
     points = b"".join(bytes(level % p for level in row[:m]) + bytes(8 - m) for row in levels)
-    return (p, m, ORDERS[word], len(levels)), points + bytes(row[m] % p for row in levels)
+    return (p, m, order, len(levels)), points + bytes(row[m] % p for row in levels)
 
 
 def case(text, settings=None, refusal=0, record=0, states=520, values=70):
@@ -93,4 +99,5 @@ def main():
         file.write("%d passed\n" % len(cases))
 
 
-main()
+if __name__ == "__main__":
+    main()
