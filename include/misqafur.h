@@ -97,7 +97,7 @@
 #define MISQAFUR_GREVLEX 2
 
 /* Bytes of stack that are enough for any call. */
-#define MISQAFUR_STACK 262144
+#define MISQAFUR_STACK 106496
 
 #ifdef __cplusplus
 extern "C" {

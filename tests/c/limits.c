@@ -147,26 +147,31 @@ static size_t depth_of(const struct call *call)
     return PAINTED - clean;
 }
 
-/* The deepest of many calls of each kind. */
+_Static_assert(MISQAFUR_STACK <= 131072, "any call is to do with 128 KiB of stack");
+
+/* The deepest of many calls of each kind, against what the header promises. */
 struct score stack_depth(const struct options *options)
 {
     struct score score = {0, 0};
     struct made *made = malloc(sizeof *made);
-    size_t deepest = 0;
+    size_t deepest[KINDS] = {0};
     if (made == NULL)
         abort();
     for (int i = 0; i < 20 * KINDS; i++) {
+        enum kind kind = (enum kind)(i % KINDS);
         memset(made, 0, sizeof *made);
         made->chance.state = options->seed + (uint64_t)i;
-        if (i % KINDS == READ_TEXT)
+        if (kind == READ_TEXT)
             make_text(made);
         else
-            make_call(made, (enum kind)(i % KINDS));
+            make_call(made, kind);
         size_t depth = depth_of(&made->call);
-        deepest = depth > deepest ? depth : deepest;
+        deepest[kind] = depth > deepest[kind] ? depth : deepest[kind];
     }
     free(made);
-    printf("  the deepest call took %zu bytes of stack; the header promises %d\n", deepest, MISQAFUR_STACK);
-    count(&score, deepest <= MISQAFUR_STACK);
+    for (int kind = 0; kind < KINDS; kind++) {
+        printf("  %-11s took %zu bytes of stack; the header promises %d\n", kind_names[kind], deepest[kind], MISQAFUR_STACK);
+        count(&score, deepest[kind] <= MISQAFUR_STACK);
+    }
     return score;
 }

@@ -6,20 +6,42 @@ use Prim.Native.Nat.{ℕ, _+_, _*_, _/_, _%_, _≤_}
 use native.Mathlib.Nat.{div-add-mod', mul-le-mul}
 use native.Mathlib.Omega.{arith}
 use lib.ListN.{length}
-use lib.Dec.{eqb, ltb}
+use lib.Dec.{eqb, leb, ltb}
 use borrow.Author.Tests.{ltb-false, eqb-true, not-false}
 use Rattle.basis.specs.declared.settings.Settings.{Settings}
 use Rattle.basis.specs.Refusal.{firstOf}
 use Rattle.basis.specs.Settings.{settingsCases}
 use Rattle.basis.specs.Tables.{Tables, tooShort}
-use Rattle.basis.specs.Adding.{refused, drawOutcome}
+use Rattle.basis.specs.Adding.{Outcome, refused, addOutcome, drawOutcome}
 use Rattle.basis.specs.Solving.{valuesCases, remainderCases}
 use Rattle.basis.proofs.Equality.{neither}
-use Rattle.basis.proofs.calls.Refusing.{sizes, passed}
+use Rattle.basis.proofs.adding.Addition.{add-size}
+use Rattle.basis.proofs.calls.Refusing.{sizes, passed, when-refused}
 use Rattle.basis.proofs.calls.Outcomes.{draw-size, values-size, wiring-refused, remainder-size}
 use Rattle.misqafur.specs.Bytes.{signedBytes}
 use Rattle.misqafur.specs.Packing.{Left, packedOutcome, PackedWiring}
 use Rattle.misqafur.proofs.SignedBytes.{length-signed}
+
+-- a refusal alone, of a call that writes the tables
+alone : (k : ℕ) (t : Tables) (o : Outcome) → refused k t ≡ o → _≡_ {A = Left} (record { number = k; tables = t }) (packedOutcome o)
+unfolding packedOutcome refused
+alone k t o e =
+    let n : k ≡ k + 0 = omega arith in
+    ap (λ (j : ℕ). record { number = j; tables = t }) n ∙ ap packedOutcome e
+
+-- Adding a point.
+abbrev pub addBySize : Settings → ℕ → Tables → ℕ → ℕ
+addBySize s n t count = firstOf (settingsCases s ++ sizes s (tooShort t) (not (eqb count (s .variables))) (leb 64 n))
+
+module _ (s : Settings) (n r : ℕ) (t : Tables) (levels : List ℕ) where
+  pub add-refused : (k : ℕ) → k ≡ addBySize s n t (length levels) → (k ≡ 0 → ⊥) → _≡_ {A = Left} (record { number = k; tables = t }) (packedOutcome (addOutcome s n r t (signedBytes levels)))
+  unfolding addOutcome
+  add-refused k e z = alone k t _ (when-refused t _ _ k (add-size s n r t (signedBytes levels) k (e ∙ ap (addBySize s n t) (sym (length-signed levels))) z) z)
+
+  pub add-few : addBySize s n t (length levels) ≡ 0 → length levels ≤ 8
+  add-few e =
+      let ok = passed s (tooShort t) (not (eqb (length levels) (s .variables))) (leb 64 n) e in
+      omega (arith, eqb-true (length levels) (s .variables) (not-false _ (ok .right)), ok .settings .few)
 
 -- Drawing up.
 abbrev pub drawBySize : Settings → Tables → ℕ → ℕ
@@ -27,10 +49,7 @@ drawBySize s t count = firstOf (settingsCases s ++ sizes s (tooShort t) (not (eq
 
 module _ (s : Settings) (t : Tables) (levels : List ℕ) where
   pub draw-refused : (k : ℕ) → k ≡ drawBySize s t (length levels) → (k ≡ 0 → ⊥) → _≡_ {A = Left} (record { number = k; tables = t }) (packedOutcome (drawOutcome s t (signedBytes levels)))
-  unfolding packedOutcome refused
-  draw-refused k e z =
-      let n : k ≡ k + 0 = omega arith in
-      ap (λ (j : ℕ). record { number = j; tables = t }) n ∙ ap packedOutcome (draw-size s t (signedBytes levels) k (e ∙ ap (drawBySize s t) (sym (length-signed levels))) z)
+  draw-refused k e z = alone k t _ (draw-size s t (signedBytes levels) k (e ∙ ap (drawBySize s t) (sym (length-signed levels))) z)
 
   pub draw-few : drawBySize s t (length levels) ≡ 0 → length levels ≤ 512
   draw-few e =

@@ -1,15 +1,65 @@
-// Drawing up and checking the four lent tables.
+// Adding to, drawing up and checking the four lent tables.
 use crate::packing::pack_answer;
 use crate::signed::put_signed;
+use basis::adding;
 use basis::calls;
 use basis::refusal;
 use basis::settings::Settings;
 ghost use mathlib.Core.Path.{_≡_};
 ghost use Rattle.basis.specs.Tables.{fourTables};
-ghost use Rattle.basis.specs.Adding.{drawOutcome};
+ghost use Rattle.basis.specs.Adding.{addOutcome, drawOutcome};
 ghost use Rattle.basis.specs.Solving.{checkRefusal};
 ghost use Rattle.misqafur.specs.Bytes.{signedBytes};
 ghost use Rattle.misqafur.specs.Packing.{left, packedOutcome};
+
+// Adding one point to the n points of the tables.
+#[no_mangle]
+pub extern "C" fn misqafur_add_point(
+    modulus: u64,
+    variables: u64,
+    order: u64,
+    n: u64,
+    r: u64,
+    states: &mut [u8],
+    standard: &mut [u8],
+    leads: &mut [u8],
+    coefficients: &mut [u8],
+    levels: &[u8],
+) -> u32
+    ensures { λ a. ⌜ left a (now (states .exit)) (now (standard .exit)) (now (leads .exit)) (now (coefficients .exit)) ≡ packedOutcome (addOutcome (record { modulus = modulus; variables = variables; order = order }) n r (fourTables (now (states .entry)) (now (standard .entry)) (now (leads .entry)) (now (coefficients .entry))) (signedBytes (now (levels .entry)))) ⌝ }
+{
+    let settings = Settings {
+        modulus,
+        variables,
+        order,
+    };
+    let count = levels.len();
+    let refusal = refusal::add_sizes(
+        settings,
+        states.len(),
+        standard.len(),
+        leads.len(),
+        coefficients.len(),
+        count,
+        n,
+    );
+    if refusal != 0 {
+        return refusal as u32;
+    }
+    let mut signed = [0i8; 8];
+    put_signed(levels, &mut signed);
+    let a = adding::add_point(
+        settings,
+        n,
+        r,
+        states,
+        standard,
+        leads,
+        coefficients,
+        &signed[..count],
+    );
+    pack_answer(a)
+}
 
 // Drawing up from all points at once.
 #[no_mangle]

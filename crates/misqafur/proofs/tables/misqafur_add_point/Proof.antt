@@ -1,0 +1,118 @@
+-- `tables::misqafur_add_point` meets its contract: the refusals on lengths first, then the call over the signed bytes.
+use borrow.Author.Needs.{needs}
+use mathlib.Core.Path.{_≡_, sym, ap, _∙_}
+use mathlib.Core.List.{List}
+use Prim.Native.Nat.{ℕ, _≤_}
+use native.Mathlib.Omega.{arith}
+use lib.IntN.{ℤ}
+use lib.ListN.{length}
+use lib.Seq.{length-take-le}
+use Rattle.basis.specs.declared.settings.Settings.{Settings}
+use Rattle.basis.specs.Tables.{Tables, fourTables, tooShort}
+use Rattle.basis.specs.Adding.{addOutcome}
+use Rattle.misqafur.specs.Packing.{packedOutcome}
+use Rattle.misqafur.proofs.SignedBytes.{signed-part}
+use Rattle.misqafur.proofs.Packed.{packs}
+use Rattle.misqafur.proofs.Sizes.{addBySize, add-refused, add-few}
+use Rattle.misqafur.proofs.tables.misqafur_add_point.Statement.{statement}
+use Rattle.misqafur.proofs.tables.misqafur_add_point.Tie as tie
+
+module _ (s : tie.Start) where
+  abbrev settings : Settings
+  settings = record { modulus = s .args .modulus; variables = s .args .variables; order = s .args .order }
+
+  abbrev tables : Tables
+  tables = fourTables (s .args .states .now) (s .args .standard .now) (s .args .leads .now) (s .args .coefficients .now)
+
+-- the refusals on lengths
+module _ (d : tie.After-add-sizes) where
+  abbrev start : tie.Start
+  start = d .before .before .before .before .before .before
+
+  abbrev levels : List ℕ
+  levels = start .args .levels .now
+
+  sized : d .add-sizes .result ≡ addBySize (settings start) (start .args .n) (tables start) (length levels)
+  unfolding tooShort
+  sized = d .add-sizes .ensures
+
+few : (e : tie.Else1) → length (levels (e .before)) ≤ 8
+few e = add-few _ (start (e .before) .args .n) (start (e .before) .args .r) (tables (start (e .before))) (levels (e .before)) (sym (sized (e .before)) ∙ e .if1 .left)
+
+-- the signed bytes in the local copy
+module _ (w : tie.After-put-signed) where
+  abbrev sizing : tie.After-add-sizes
+  sizing = w .before .before .before
+
+  abbrev signed : List ℤ
+  signed = w .put-signed .last .1 .0
+
+  room : length (levels sizing) ≤ length signed
+  room = let k = w .put-signed .kept .1 .0 in omega (arith, few (w .before .before))
+
+add-sizes-requires : tie.Need-add-sizes-requires
+add-sizes-requires c κs = search needs
+
+cast-result : tie.Need-cast-result
+cast-result c = search needs
+
+returns : tie.Need-returns
+returns c = add-refused _ _ _ _ _ _ (sized (c .before)) (c .if1 .taken)
+
+slice-aggregate-put-signed : tie.Need-slice-aggregate-put-signed
+slice-aggregate-put-signed c = search needs
+
+put-signed-requires : tie.Need-put-signed-requires
+put-signed-requires c κs = few (c .before)
+
+array-share-prefix-signed : tie.Need-array-share-prefix-signed
+array-share-prefix-signed c = room (c .before .before .before .before .before)
+
+slice-aggregate-add-point : tie.Need-slice-aggregate-add-point
+slice-aggregate-add-point c =
+    let w = c .before .before .before .before .before .before in
+    sym (length-take-le (length (levels (sizing w))) (signed w) (room w))
+
+add-point-requires : tie.Need-add-point-requires
+add-point-requires c κs = search needs
+
+pack-answer-requires : tie.Need-pack-answer-requires
+pack-answer-requires c κs = search needs
+
+same-length : tie.Need-same-length
+same-length c = search needs
+
+same-length-2 : tie.Need-same-length-2
+same-length-2 c = search needs
+
+same-length-3 : tie.Need-same-length-3
+same-length-3 c = search needs
+
+same-length-4 : tie.Need-same-length-4
+same-length-4 c = search needs
+
+returns-2 : tie.Need-returns-2
+returns-2 c =
+    let d = c .before .before .before .before .before .before .before .before .before in
+    let w = d .before .before .before .before .before .before .before in
+    let s = start (sizing w) in
+    packs (d .add-point .ensures) (c .pack-answer .ensures) ∙ ap (λ (z : List ℤ). packedOutcome (addOutcome (settings s) (s .args .n) (s .args .r) (tables s) z)) (signed-part (levels (sizing w)) _ (signed w) (w .put-signed .ensures))
+
+pub misqafur-add-point-spec : {M : Type 1} → statement M
+misqafur-add-point-spec =
+    tie.close
+    (tie.spec
+    add-sizes-requires
+    cast-result
+    returns
+    slice-aggregate-put-signed
+    put-signed-requires
+    array-share-prefix-signed
+    slice-aggregate-add-point
+    add-point-requires
+    pack-answer-requires
+    same-length
+    same-length-2
+    same-length-3
+    same-length-4
+    returns-2)
