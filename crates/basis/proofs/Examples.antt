@@ -1,11 +1,13 @@
--- The marked examples of document 01, computed from the definitions: one claim over their list.
-use mathlib.Core.Path.{_≡_, refl, sym, subst}
+-- The marked examples of document 01, computed from the definitions: one claim over their list. What additions return is the reference list's, by the
+-- agreement, so that the examples of additions compute no tables.
+use mathlib.Core.Path.{_≡_, refl, sym, _∙_, subst}
 use mathlib.Core.List.{List, [], _∷_, map}
 use mathlib.Core.Logic.{inl, inr, _↔_}
 use mathlib.Core.Bool.{Bool, true, false, _&&_}
 use Prim.Native.Nat.{ℕ, zero, suc, _-_, _%_, _<_}
 use native.Mathlib.Omega.{arith}
-use lib.IntN.{ℤ, negsuc}
+use lib.IntN.{ℤ, pos, negsuc}
+use lib.ListN.{replicate, length-replicate}
 use lib.Dec.{T}
 use Rattle.residue.specs.Lists.{Among}
 use Rattle.residue.specs.Modulus.{primes, isOneOf, isModulus}
@@ -16,19 +18,19 @@ use Rattle.monomial.specs.Order.{orderOf, cmp}
 use Rattle.basis.specs.declared.settings.Settings.{Settings}
 use Rattle.basis.specs.Refusal.{firstOf}
 use Rattle.basis.specs.Settings.{settingsCases}
-use Rattle.basis.specs.Levels.{isResidue, residueOr0, inRange, residues, groups, sameList, isAmong, noRepeat}
-use Rattle.basis.specs.Layout.{fill, inPlaces, over, begins}
+use Rattle.basis.specs.Levels.{isResidue, residueOr0, inRange, residues, sameList, isAmong}
+use Rattle.basis.specs.Layout.{fill, begins}
 use Rattle.basis.specs.Extension.{slot, minus, without, divided, extended, gap, first, newton, grow}
 use Rattle.basis.specs.BasisOf.{basisOf, valueAt, standardOf, leadsOf, rowsOf}
 use Rattle.basis.specs.Instance.{monomialOf, pointOf}
-use Rattle.basis.specs.Tables.{spaceUnder, pointsUnder, rowCount, tablesOf, written, tooShort, pointsIn, recognised}
-use Rattle.basis.specs.Adding.{refused, holding, byRefusal, addCases, addRefusal, addOutcome}
+use Rattle.basis.specs.Tables.{spaceUnder, pointsUnder}
 use Rattle.basis.specs.Solving.{Names, occurs, polynomialOf}
-use Rattle.basis.specs.Reference.{outcomeAt, heldAfter, numbers}
-use Rattle.basis.specs.Agreement.{freshly}
-use Rattle.basis.specs.Examples.{Example, Holds, Tabled, under, examples}
+use Rattle.basis.specs.Reference.{addition, referenceAnswer, referenceAfter, numbers, fed, dueAt, due, Refuses}
+use Rattle.basis.specs.Examples.{Example, Holds, Tabled, under, fresh, examples}
 use Rattle.residue.proofs.Moduli.{below, below-at}
 use Rattle.basis.proofs.Equality.{and-left, and-right, same-is}
+use Rattle.basis.proofs.Layouts.{length-fill, fill-zeros, over-all, begins-over}
+use Rattle.basis.proofs.agreement.Claim.{agreement}
 
 -- lists of lists are equal where the test says so
 sameLists : List (List ℕ) → List (List ℕ) → Bool
@@ -71,13 +73,23 @@ module _ (s : Settings) (S standard leads rows : List (List ℕ)) where
         rows-are = are-same _ rows (and-right on-leads on-rows u);
       }
 
+-- zeros are fresh tables
+blank : (k : ℕ) → T (begins (fill k []) (replicate k 0))
+blank k = subst (λ (t : List ℕ). T (begins (fill k []) t)) (over-all (fill k []) (replicate k 0) (length-fill k [] ∙ sym (length-replicate k 0)) ∙ fill-zeros k) (begins-over (fill k []) (replicate k 0))
+
+added : (s : Settings) (offered : List (List ℤ)) → firstOf (settingsCases s) ≡ 0 → Refuses s fresh (map addition offered)
+    → numbers s fresh (map addition offered) ≡ due s [] fresh (map addition offered)
+added s offered fine refuses =
+    agreement s fine (record { states = replicate 512 0; standard = replicate 512 0; leads = replicate 3592 0; coefficients = replicate 28736 0 })
+    (record { states = blank 512; standard = blank 512; leads = blank 3592; coefficients = blank 28736 }) (map addition offered) refuses .answers
+
 abbrev All : List Example → Type 0
 All [] = Unit {0}
 All (e ∷ l) = Holds e × All l
 
 all : All examples
-unfolding tested sameLists examples Holds primes isOneOf isModulus inverseBelow inverseOf residueOf orderOf cmp firstOf settingsCases isResidue residueOr0 inRange residues groups sameList isAmong noRepeat fill inPlaces over begins slot minus without divided extended gap first newton grow basisOf valueAt monomialOf pointOf rowCount tablesOf written tooShort pointsIn recognised refused holding byRefusal addCases addRefusal addOutcome occurs polynomialOf outcomeAt heldAfter numbers freshly
-all = (record { standard-are = refl; leads-are = refl; rows-are = refl }, (record { standard-are = refl; leads-are = refl; rows-are = refl }, (record { standard-are = refl; leads-are = refl; rows-are = refl }, ((λ s. (record { standard-are = refl; leads-are = refl; rows-are = refl }, (λ values. refl), λ f. refl)), (single, (record { standard-are = refl; leads-are = refl; rows-are = refl }, ((refl, named), (refl, (lowest, (refl, (refl, tt)))))))))))
+unfolding tested sameLists examples Holds primes isOneOf isModulus inverseBelow inverseOf residueOf orderOf cmp firstOf settingsCases isResidue residueOr0 inRange residues fill sameList isAmong slot minus without divided extended gap first newton grow basisOf valueAt monomialOf pointOf occurs polynomialOf referenceAnswer referenceAfter fed dueAt due Refuses
+all = (record { standard-are = refl; leads-are = refl; rows-are = refl }, (record { standard-are = refl; leads-are = refl; rows-are = refl }, (record { standard-are = refl; leads-are = refl; rows-are = refl }, ((λ s. (record { standard-are = refl; leads-are = refl; rows-are = refl }, (λ values. refl), λ f. refl)), (single, (record { standard-are = refl; leads-are = refl; rows-are = refl }, ((refl, named), (refl, (lowest, (added (under 5 1 0) ((pos 4 ∷ []) ∷ (negsuc 0 ∷ []) ∷ []) refl tt, (added (under 5 1 0) ((negsuc 3 ∷ []) ∷ (negsuc 4 ∷ []) ∷ []) refl tt, tt)))))))))))
   where
     -- each order, and each point (a, b) modulo 5
     one : ℕ → ℕ → ℕ → Bool
