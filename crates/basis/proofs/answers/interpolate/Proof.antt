@@ -103,7 +103,7 @@ slice-aggregate-recognise : tie.Need-slice-aggregate-recognise
 slice-aggregate-recognise c = search needs
 
 slice-aggregate-recognise-2 : tie.Need-slice-aggregate-recognise-2
-slice-aggregate-recognise-2 c = search needs
+slice-aggregate-recognise-2 c = refl
 
 slice-aggregate-recognise-3 : tie.Need-slice-aggregate-recognise-3
 slice-aggregate-recognise-3 c = search needs
@@ -129,10 +129,10 @@ cast-solve-values : tie.Need-cast-solve-values
 cast-solve-values c = omega (arith, modulus-range (s (e (f (c .before))) .args .settings .modulus) (room (e (f (c .before))) .settings .modulus))
 
 slice-aggregate-solve-values : tie.Need-slice-aggregate-solve-values
-slice-aggregate-solve-values c = search needs
+slice-aggregate-solve-values c = sym (c .before .before .before .before .before .before .recognise .kept .1 .1 .1 .1 .1 .1 .1 .1 .0)
 
 slice-aggregate-solve-values-2 : tie.Need-slice-aggregate-solve-values-2
-slice-aggregate-solve-values-2 c = search needs
+slice-aggregate-solve-values-2 c = sym (c .before .before .before .before .before .before .before .recognise .kept .1 .1 .1 .1 .1 .1 .1 .1 .1 .0)
 
 solve-values-requires : tie.Need-solve-values-requires
 solve-values-requires c κs =
@@ -159,7 +159,7 @@ solve-values-requires c κs =
     )
 
 same-length : tie.Need-same-length
-same-length c = search needs
+same-length c = c .before .before .solve-values .kept .1 .1 .1 .1 .1 .0
 
 returns-4 : tie.Need-returns-4
 unfolding interpolateOutcome

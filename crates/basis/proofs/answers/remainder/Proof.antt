@@ -132,7 +132,7 @@ slice-aggregate-recognise : tie.Need-slice-aggregate-recognise
 slice-aggregate-recognise c = search needs
 
 slice-aggregate-recognise-2 : tie.Need-slice-aggregate-recognise-2
-slice-aggregate-recognise-2 c = search needs
+slice-aggregate-recognise-2 c = refl
 
 slice-aggregate-recognise-3 : tie.Need-slice-aggregate-recognise-3
 slice-aggregate-recognise-3 c = search needs
@@ -157,13 +157,13 @@ cast-solve-terms : tie.Need-cast-solve-terms
 cast-solve-terms c = let x = e (f (g (c .before))) in omega (arith, modulus-range (s x .args .settings .modulus) (room x .settings .modulus))
 
 slice-aggregate-solve-terms : tie.Need-slice-aggregate-solve-terms
-slice-aggregate-solve-terms c = search needs
+slice-aggregate-solve-terms c = sym (c .before .before .before .before .before .before .recognise .kept .1 .1 .1 .1 .1 .1 .1 .0)
 
 slice-aggregate-solve-terms-2 : tie.Need-slice-aggregate-solve-terms-2
-slice-aggregate-solve-terms-2 c = search needs
+slice-aggregate-solve-terms-2 c = sym (c .before .before .before .before .before .before .before .recognise .kept .1 .1 .1 .1 .1 .1 .1 .1 .0)
 
 slice-aggregate-solve-terms-3 : tie.Need-slice-aggregate-solve-terms-3
-slice-aggregate-solve-terms-3 c = search needs
+slice-aggregate-solve-terms-3 c = sym (c .before .before .before .before .before .before .before .before .recognise .kept .1 .1 .1 .1 .1 .1 .1 .1 .1 .0)
 
 solve-terms-requires : tie.Need-solve-terms-requires
 solve-terms-requires c κs =
@@ -187,7 +187,7 @@ solve-terms-requires c κs =
     )
 
 same-length : tie.Need-same-length
-same-length c = search needs
+same-length c = c .before .before .solve-terms .kept .1 .1 .1 .1 .1 .1 .1 .0
 
 returns-5 : tie.Need-returns-5
 unfolding remainderOutcome

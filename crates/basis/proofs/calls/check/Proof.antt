@@ -50,7 +50,7 @@ slice-aggregate-recognise : tie.Need-slice-aggregate-recognise
 slice-aggregate-recognise c = search needs
 
 slice-aggregate-recognise-2 : tie.Need-slice-aggregate-recognise-2
-slice-aggregate-recognise-2 c = search needs
+slice-aggregate-recognise-2 c = refl
 
 slice-aggregate-recognise-3 : tie.Need-slice-aggregate-recognise-3
 slice-aggregate-recognise-3 c = search needs

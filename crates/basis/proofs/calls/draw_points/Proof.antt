@@ -1,6 +1,6 @@
 -- `calls::draw_points` meets its contract.
 use borrow.Author.Needs.{needs}
-use mathlib.Core.Path.{refl, ap, _∙_}
+use mathlib.Core.Path.{refl, ap, _∙_, sym}
 use mathlib.Core.List.{List}
 use Prim.Native.Nat.{ℕ}
 use native.Mathlib.Omega.{arith}
@@ -29,10 +29,10 @@ slice-aggregate-draw-2 : tie.Need-slice-aggregate-draw-2
 slice-aggregate-draw-2 c = search needs
 
 slice-aggregate-draw-3 : tie.Need-slice-aggregate-draw-3
-slice-aggregate-draw-3 c = search needs
+slice-aggregate-draw-3 c = refl
 
 slice-aggregate-draw-4 : tie.Need-slice-aggregate-draw-4
-slice-aggregate-draw-4 c = search needs
+slice-aggregate-draw-4 c = refl
 
 slice-aggregate-draw-5 : tie.Need-slice-aggregate-draw-5
 slice-aggregate-draw-5 c = search needs
@@ -43,13 +43,13 @@ draw-requires c κs =
     (s .pre .0, ((refl, (refl, refl)), (refl, refl)))
 
 slice-aggregate-write : tie.Need-slice-aggregate-write
-slice-aggregate-write c = search needs
+slice-aggregate-write c = sym (c .before .before .before .before .before .before .draw .kept .1 .1 .1 .1 .1 .0)
 
 slice-aggregate-write-2 : tie.Need-slice-aggregate-write-2
-slice-aggregate-write-2 c = search needs
+slice-aggregate-write-2 c = sym (c .before .before .before .before .before .before .before .draw .kept .1 .1 .1 .1 .1 .1 .0)
 
 slice-aggregate-write-3 : tie.Need-slice-aggregate-write-3
-slice-aggregate-write-3 c = search needs
+slice-aggregate-write-3 c = sym (c .before .before .before .before .before .before .before .before .draw .kept .1 .1 .1 .1 .1 .1 .1 .0)
 
 write-requires : tie.Need-write-requires
 write-requires c κs =
@@ -60,16 +60,16 @@ write-requires c κs =
     (omega arith, (omega arith, (omega arith, omega arith)))
 
 same-length : tie.Need-same-length
-same-length c = search needs
+same-length c = c .before .before .before .before .before .before .before .before .write .kept .1 .1 .1 .1 .0
 
 same-length-2 : tie.Need-same-length-2
-same-length-2 c = search needs
+same-length-2 c = c .before .before .before .before .before .before .before .before .write .kept .1 .1 .1 .1 .1 .0
 
 same-length-3 : tie.Need-same-length-3
-same-length-3 c = search needs
+same-length-3 c = c .before .before .before .before .before .before .before .before .write .kept .1 .1 .1 .1 .1 .1 .0
 
 same-length-4 : tie.Need-same-length-4
-same-length-4 c = search needs
+same-length-4 c = c .before .before .before .before .before .before .before .before .write .kept .1 .1 .1 .1 .1 .1 .1 .0
 
 returns : tie.Need-returns
 returns c =

@@ -29,13 +29,13 @@ copy-requires : tie.Need-copy-requires
 copy-requires c κs = search needs
 
 mul-from : tie.Need-mul-from
-mul-from c = search needs
+mul-from c = omega arith
 
 add-end : tie.Need-add-end
-add-end c = search needs
+add-end c = omega arith
 
 mul-narrow : tie.Need-mul-narrow
-mul-narrow c = search needs
+mul-narrow c = omega arith
 
 sub-narrow : tie.Need-sub-narrow
 sub-narrow c = search needs
@@ -44,19 +44,19 @@ part-narrow-start : tie.Need-part-narrow-start
 part-narrow-start c = search needs
 
 part-narrow-end : tie.Need-part-narrow-end
-part-narrow-end c = search needs
+part-narrow-end c = omega arith
 
 add-narrow : tie.Need-add-narrow
-add-narrow c = search needs
+add-narrow c = omega arith
 
 sub-narrow-2 : tie.Need-sub-narrow-2
 sub-narrow-2 c = search needs
 
 part-narrow-start-2 : tie.Need-part-narrow-start-2
-part-narrow-start-2 c = search needs
+part-narrow-start-2 c = omega arith
 
 part-narrow-end-2 : tie.Need-part-narrow-end-2
-part-narrow-end-2 c = search needs
+part-narrow-end-2 c = omega arith
 
 narrow-requires : tie.Need-narrow-requires
 narrow-requires c κs =

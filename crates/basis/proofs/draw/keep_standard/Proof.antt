@@ -26,19 +26,19 @@ copy-requires : tie.Need-copy-requires
 copy-requires c κs = search needs
 
 mul-ranks : tie.Need-mul-ranks
-mul-ranks c = search needs
+mul-ranks c = omega arith
 
 slice-write-ranks : tie.Need-slice-write-ranks
-slice-write-ranks c = search needs
+slice-write-ranks c = omega arith
 
 mul-from : tie.Need-mul-from
-mul-from c = search needs
+mul-from c = omega arith
 
 add-copy-2 : tie.Need-add-copy-2
-add-copy-2 c = search needs
+add-copy-2 c = omega arith
 
 mul-copy : tie.Need-mul-copy
-mul-copy c = search needs
+mul-copy c = omega arith
 
 sub-copy-2 : tie.Need-sub-copy-2
 sub-copy-2 c = search needs
@@ -47,7 +47,7 @@ part-copy-start-2 : tie.Need-part-copy-start-2
 part-copy-start-2 c = search needs
 
 part-copy-end-2 : tie.Need-part-copy-end-2
-part-copy-end-2 c = search needs
+part-copy-end-2 c = omega arith
 
 copy-requires-2 : tie.Need-copy-requires-2
 copy-requires-2 c κs = search needs

@@ -49,7 +49,7 @@ add-exponents c =
     omega (arith, ap (λ (l : List ℕ). getD l (a .k) 0) (copied q) ∙ getD-take 8 (drop (8 * a .t) (a .standard .now)) (a .k) 0 (start q .pre .0 .0) ∙ getD-drop (8 * a .t) (a .standard .now) (a .k) 0)
 
 slice-write-exponents : tie.Need-slice-write-exponents
-slice-write-exponents c = search needs
+slice-write-exponents c = omega arith
 
 same-length : tie.Need-same-length
 same-length c = search needs

@@ -53,22 +53,22 @@ part-copy-end : tie.Need-part-copy-end
 part-copy-end c = search needs
 
 copy-requires : tie.Need-copy-requires
-copy-requires c κs = search needs
+copy-requires c κs = omega arith
 
 slice-aggregate-put-column : tie.Need-slice-aggregate-put-column
 slice-aggregate-put-column c = search needs
 
 put-column-requires : tie.Need-put-column-requires
-put-column-requires c κs = search needs
+put-column-requires c κs = omega arith
 
 slice-relend-prefix-multiply : tie.Need-slice-relend-prefix-multiply
-slice-relend-prefix-multiply c = search needs
+slice-relend-prefix-multiply c = omega arith
 
 slice-aggregate-multiply : tie.Need-slice-aggregate-multiply
 slice-aggregate-multiply c = let q = c .before .before .before .before .before .before in sym (front-long q)
 
 array-share-prefix-column : tie.Need-array-share-prefix-column
-array-share-prefix-column c = search needs
+array-share-prefix-column c = omega arith
 
 slice-aggregate-multiply-2 : tie.Need-slice-aggregate-multiply-2
 slice-aggregate-multiply-2 c = let q = c .before .before .before in sym (ap length (column-is q) ∙ column-long _ _ _)

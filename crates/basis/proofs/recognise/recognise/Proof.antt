@@ -120,10 +120,10 @@ slice-aggregate-draw : tie.Need-slice-aggregate-draw
 slice-aggregate-draw c = search needs
 
 slice-aggregate-draw-2 : tie.Need-slice-aggregate-draw-2
-slice-aggregate-draw-2 c = search needs
+slice-aggregate-draw-2 c = refl
 
 slice-aggregate-draw-3 : tie.Need-slice-aggregate-draw-3
-slice-aggregate-draw-3 c = search needs
+slice-aggregate-draw-3 c = refl
 
 draw-requires : tie.Need-draw-requires
 draw-requires c κs =
@@ -131,13 +131,13 @@ draw-requires c κs =
     (ready g, ((refl, (refl, refl)), (s g .pre .1 .1 .1 .0, s g .pre .1 .1 .1 .1)))
 
 same-length-2 : tie.Need-same-length-2
-same-length-2 c = search needs
+same-length-2 c = c .before .before .before .before .before .before .before .before .before .before .before .before .before .before .before .before .before .before .before .before .before .before .read-points .kept .1 .1 .1 .0
 
 same-length-3 : tie.Need-same-length-3
-same-length-3 c = search needs
+same-length-3 c = c .before .before .before .before .before .before .before .before .draw .kept .1 .1 .1 .1 .1 .1 .1 .1 .0
 
 same-length-4 : tie.Need-same-length-4
-same-length-4 c = search needs
+same-length-4 c = c .before .before .before .before .before .before .before .before .draw .kept .1 .1 .1 .1 .1 .1 .1 .1 .1 .0
 
 returns-2 : tie.Need-returns-2
 returns-2 c =
@@ -146,13 +146,13 @@ returns-2 c =
     (not-count (y .args .settings) (y .args .n) (y .args .r) (tables y) (once (g d)) (λ e. c .if2 .taken (drawn d .row-count ∙ sym e)), (is-table (w (g d)), λ e. absurd (true≢false (sym e))))
 
 slice-aggregate-agree : tie.Need-slice-aggregate-agree
-slice-aggregate-agree c = search needs
+slice-aggregate-agree c = sym (c .before .before .before .before .before .before .before .before .before .before .draw .kept .1 .1 .1 .1 .1 .0)
 
 slice-aggregate-agree-2 : tie.Need-slice-aggregate-agree-2
-slice-aggregate-agree-2 c = search needs
+slice-aggregate-agree-2 c = sym (c .before .before .before .before .before .before .before .before .before .before .before .draw .kept .1 .1 .1 .1 .1 .1 .0)
 
 slice-aggregate-agree-3 : tie.Need-slice-aggregate-agree-3
-slice-aggregate-agree-3 c = search needs
+slice-aggregate-agree-3 c = sym (c .before .before .before .before .before .before .before .before .before .before .before .before .draw .kept .1 .1 .1 .1 .1 .1 .1 .0)
 
 agree-requires : tie.Need-agree-requires
 agree-requires c κs =
@@ -161,13 +161,13 @@ agree-requires c κs =
     ((long (w (g d)), t), s (g d) .pre .1 .0)
 
 same-length-5 : tie.Need-same-length-5
-same-length-5 c = search needs
+same-length-5 c = c .before .before .before .before .before .before .before .before .before .before .before .before .before .before .before .before .before .before .before .before .before .before .before .before .before .before .before .read-points .kept .1 .1 .1 .0
 
 same-length-6 : tie.Need-same-length-6
-same-length-6 c = search needs
+same-length-6 c = c .before .before .before .before .before .before .before .before .before .before .before .before .before .draw .kept .1 .1 .1 .1 .1 .1 .1 .1 .0
 
 same-length-7 : tie.Need-same-length-7
-same-length-7 c = search needs
+same-length-7 c = c .before .before .before .before .before .before .before .before .before .before .before .before .before .draw .kept .1 .1 .1 .1 .1 .1 .1 .1 .1 .0
 
 returns-3 : tie.Need-returns-3
 unfolding tablesOf

@@ -35,13 +35,13 @@ copy-requires : tie.Need-copy-requires
 copy-requires c κs = search needs
 
 cast-pivots : tie.Need-cast-pivots
-cast-pivots c = search needs
+cast-pivots c = omega arith
 
 slice-write-pivots : tie.Need-slice-write-pivots
-slice-write-pivots c = search needs
+slice-write-pivots c = omega arith
 
 same-length : tie.Need-same-length
-same-length c = search needs
+same-length c = c .before .before .before .before .before .before .before .normalise .kept .1 .1 .1 .0
 
 same-length-2 : tie.Need-same-length-2
 same-length-2 c = search needs

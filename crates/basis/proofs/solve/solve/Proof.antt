@@ -47,7 +47,7 @@ part-put-answer-end : tie.Need-part-put-answer-end
 part-put-answer-end c = search needs
 
 slice-relend-prefix-put-answer : tie.Need-slice-relend-prefix-put-answer
-slice-relend-prefix-put-answer c = search needs
+slice-relend-prefix-put-answer c = omega arith
 
 slice-aggregate-put-answer : tie.Need-slice-aggregate-put-answer
 slice-aggregate-put-answer c =
@@ -68,7 +68,7 @@ put-answer-requires c κs =
     )
 
 same-length : tie.Need-same-length
-same-length c = search needs
+same-length c = c .before .before .before .before .before .before .before .before .eliminate .kept .1 .1 .1 .1 .1 .0
 
 same-length-2 : tie.Need-same-length-2
 same-length-2 c = search needs

@@ -81,7 +81,7 @@ solve-requires c κs =
     )
 
 same-length : tie.Need-same-length
-same-length c = search needs
+same-length c = c .before .before .before .solve .kept .1 .1 .1 .1 .1 .0
 
 returns : tie.Need-returns
 returns c =
