@@ -1,5 +1,4 @@
 -- `answers::interpolate` meets its contract: at each return the tests that led there decide the outcome.
-use borrow.Author.Needs.{needs}
 use borrow.Author.Tests.{not-true, not-false}
 use mathlib.Core.Path.{_≡_, refl, sym, ap, ap₂, subst, _∙_}
 use mathlib.Core.Bool.{Bool, true, false, not, _||_}
@@ -76,7 +75,7 @@ module _ (h : tie.Else3) where
   solves = k .recognise .ensures .1 .1 (not-false _ (h .if3 .left))
 
 values-sizes-requires : tie.Need-values-sizes-requires
-values-sizes-requires c κs = search needs
+values-sizes-requires c κs = tt
 
 returns : tie.Need-returns
 unfolding interpolateOutcome
@@ -89,7 +88,7 @@ cast-in-range : tie.Need-cast-in-range
 cast-in-range c = omega (arith, modulus-range (s (c .before) .args .settings .modulus) (room (c .before) .settings .modulus))
 
 in-range-requires : tie.Need-in-range-requires
-in-range-requires c κs = search needs
+in-range-requires c κs = tt
 
 returns-2 : tie.Need-returns-2
 unfolding interpolateOutcome
@@ -100,13 +99,13 @@ returns-2 c =
     (values-range 64 (s .args .settings) (s .args .n) (s .args .r) (tables s) (s .args .values .now) (s .args .out .now) (fine e) (sym (c .before .in-range .ensures) ∙ not-true _ (c .if2 .taken))) (λ z. omega arith)
 
 slice-aggregate-recognise : tie.Need-slice-aggregate-recognise
-slice-aggregate-recognise c = search needs
+slice-aggregate-recognise c = refl
 
 slice-aggregate-recognise-2 : tie.Need-slice-aggregate-recognise-2
 slice-aggregate-recognise-2 c = refl
 
 slice-aggregate-recognise-3 : tie.Need-slice-aggregate-recognise-3
-slice-aggregate-recognise-3 c = search needs
+slice-aggregate-recognise-3 c = refl
 
 recognise-requires : tie.Need-recognise-requires
 recognise-requires c κs =

@@ -1,5 +1,4 @@
 -- `answers::remainder` meets its contract: at each return the tests that led there decide the outcome.
-use borrow.Author.Needs.{needs}
 use borrow.Author.Tests.{not-true, not-false}
 use mathlib.Core.Path.{_≡_, refl, sym, ap, ap₂, subst, _∙_}
 use mathlib.Core.Bool.{Bool, true, false, not, _||_}
@@ -94,7 +93,7 @@ module _ (h : tie.Else4) where
   solves = k .recognise .ensures .1 .1 (not-false _ (h .if4 .left))
 
 remainder-sizes-requires : tie.Need-remainder-sizes-requires
-remainder-sizes-requires c κs = search needs
+remainder-sizes-requires c κs = tt
 
 returns : tie.Need-returns
 unfolding remainderOutcome
@@ -106,7 +105,7 @@ cast-in-range : tie.Need-cast-in-range
 cast-in-range c = omega (arith, modulus-range (s (c .before) .args .settings .modulus) (room (c .before) .settings .modulus))
 
 in-range-requires : tie.Need-in-range-requires
-in-range-requires c κs = search needs
+in-range-requires c κs = tt
 
 returns-2 : tie.Need-returns-2
 unfolding remainderOutcome
@@ -129,13 +128,13 @@ returns-3 c =
     fill-refused _ (o .args .out .now) _ 9 (remainder-variable (o .args .settings) (o .args .n) (o .args .r) (tables o) (o .args .term-coefficients .now) (o .args .exponents .now) (o .args .out .now) (fine x) (range (c .before .before)) (sym (c .before .within-variables .ensures) ∙ not-true _ (c .if3 .taken))) (λ z. omega arith)
 
 slice-aggregate-recognise : tie.Need-slice-aggregate-recognise
-slice-aggregate-recognise c = search needs
+slice-aggregate-recognise c = refl
 
 slice-aggregate-recognise-2 : tie.Need-slice-aggregate-recognise-2
 slice-aggregate-recognise-2 c = refl
 
 slice-aggregate-recognise-3 : tie.Need-slice-aggregate-recognise-3
-slice-aggregate-recognise-3 c = search needs
+slice-aggregate-recognise-3 c = refl
 
 recognise-requires : tie.Need-recognise-requires
 recognise-requires c κs =

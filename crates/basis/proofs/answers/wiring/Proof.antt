@@ -98,7 +98,7 @@ module _ (v : tie.After-solve-values) where
   lent = let x = e (f h) in length-take-le 512 (o .args .standard .now) (values-large 8 (o .args .settings) (o .args .n) (o .args .r) (tables o) (o .args .values .now) (o .args .out .now) (fine x) .standard)
 
 values-sizes-requires : tie.Need-values-sizes-requires
-values-sizes-requires c κs = search needs
+values-sizes-requires c κs = tt
 
 returns : tie.Need-returns
 returns c =
@@ -110,7 +110,7 @@ cast-in-range : tie.Need-cast-in-range
 cast-in-range c = omega (arith, modulus-range (s (c .before) .args .settings .modulus) (room (c .before) .settings .modulus))
 
 in-range-requires : tie.Need-in-range-requires
-in-range-requires c κs = search needs
+in-range-requires c κs = tt
 
 returns-2 : tie.Need-returns-2
 returns-2 c =
@@ -120,13 +120,13 @@ returns-2 c =
     (values-range 8 (s .args .settings) (s .args .n) (s .args .r) (tables s) (s .args .values .now) (s .args .out .now) (fine e) (sym (c .before .in-range .ensures) ∙ not-true _ (c .if2 .taken))) (λ z. omega arith)
 
 slice-aggregate-recognise : tie.Need-slice-aggregate-recognise
-slice-aggregate-recognise c = search needs
+slice-aggregate-recognise c = refl
 
 slice-aggregate-recognise-2 : tie.Need-slice-aggregate-recognise-2
 slice-aggregate-recognise-2 c = refl
 
 slice-aggregate-recognise-3 : tie.Need-slice-aggregate-recognise-3
-slice-aggregate-recognise-3 c = search needs
+slice-aggregate-recognise-3 c = refl
 
 recognise-requires : tie.Need-recognise-requires
 recognise-requires c κs =
@@ -153,7 +153,7 @@ slice-aggregate-solve-values-2 : tie.Need-slice-aggregate-solve-values-2
 slice-aggregate-solve-values-2 c = sym (c .before .before .before .before .before .before .before .recognise .kept .1 .1 .1 .1 .1 .1 .1 .1 .1 .0)
 
 slice-aggregate-solve-values-3 : tie.Need-slice-aggregate-solve-values-3
-slice-aggregate-solve-values-3 c = search needs
+slice-aggregate-solve-values-3 c = refl
 
 solve-values-requires : tie.Need-solve-values-requires
 solve-values-requires c κs =
@@ -180,7 +180,7 @@ slice-aggregate-put-names-2 : tie.Need-slice-aggregate-put-names-2
 slice-aggregate-put-names-2 c = sym (lent (c .before .before .before))
 
 slice-aggregate-put-names-3 : tie.Need-slice-aggregate-put-names-3
-slice-aggregate-put-names-3 c = search needs
+slice-aggregate-put-names-3 c = refl
 
 put-names-requires : tie.Need-put-names-requires
 put-names-requires c κs =

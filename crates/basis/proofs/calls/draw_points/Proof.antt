@@ -1,5 +1,4 @@
 -- `calls::draw_points` meets its contract.
-use borrow.Author.Needs.{needs}
 use mathlib.Core.Path.{refl, ap, _∙_, sym}
 use mathlib.Core.List.{List}
 use Prim.Native.Nat.{ℕ}
@@ -20,13 +19,13 @@ cast-draw : tie.Need-cast-draw
 cast-draw c = let s = c .before .before .before .before .before .before in omega (arith, modulus-range (s .args .settings .modulus) (s .pre .0 .modulus))
 
 cast-draw-2 : tie.Need-cast-draw-2
-cast-draw-2 c = search needs
+cast-draw-2 c = omega arith
 
 slice-aggregate-draw : tie.Need-slice-aggregate-draw
-slice-aggregate-draw c = search needs
+slice-aggregate-draw c = refl
 
 slice-aggregate-draw-2 : tie.Need-slice-aggregate-draw-2
-slice-aggregate-draw-2 c = search needs
+slice-aggregate-draw-2 c = refl
 
 slice-aggregate-draw-3 : tie.Need-slice-aggregate-draw-3
 slice-aggregate-draw-3 c = refl
@@ -35,7 +34,7 @@ slice-aggregate-draw-4 : tie.Need-slice-aggregate-draw-4
 slice-aggregate-draw-4 c = refl
 
 slice-aggregate-draw-5 : tie.Need-slice-aggregate-draw-5
-slice-aggregate-draw-5 c = search needs
+slice-aggregate-draw-5 c = refl
 
 draw-requires : tie.Need-draw-requires
 draw-requires c κs =

@@ -1,5 +1,4 @@
 -- `calls::draw_up` meets its contract: at each return the tests that led there decide the outcome.
-use borrow.Author.Needs.{needs}
 use borrow.Author.Tests.{ltb-false, eqb-true, not-true, not-false}
 use mathlib.Core.Path.{_≡_, refl, sym, ap, ap₂, subst, _∙_}
 use mathlib.Core.Bool.{true, not}
@@ -123,7 +122,7 @@ module _ (g : tie.Else3) where
   rows = ap (rowCount (s x .args .settings)) back
 
 draw-sizes-requires : tie.Need-draw-sizes-requires
-draw-sizes-requires c κs = search needs
+draw-sizes-requires c κs = tt
 
 returns : tie.Need-returns
 unfolding refused
@@ -135,7 +134,7 @@ cast-p : tie.Need-cast-p
 cast-p c = let s = start (c .before .before) in omega (arith, modulus-range (s .args .settings .modulus) (room (c .before) .settings .modulus))
 
 in-range-requires : tie.Need-in-range-requires
-in-range-requires c κs = search needs
+in-range-requires c κs = tt
 
 returns-2 : tie.Need-returns-2
 unfolding refused
@@ -148,7 +147,7 @@ div-n : tie.Need-div-n
 div-n c = omega (arith, room (e c) .settings .some)
 
 slice-aggregate-put-points : tie.Need-slice-aggregate-put-points
-slice-aggregate-put-points c = search needs
+slice-aggregate-put-points c = refl
 
 put-points-requires : tie.Need-put-points-requires
 put-points-requires c κs =
@@ -156,7 +155,7 @@ put-points-requires c κs =
     ((room y .settings .few, few y), (whole-levels (s y .args .settings) (room y .settings) (levels y) (whole y) (few y) (of-true (range (c .before))), refl))
 
 slice-aggregate-no-repeat : tie.Need-slice-aggregate-no-repeat
-slice-aggregate-no-repeat c = search needs
+slice-aggregate-no-repeat c = sym (c .before .before .put-points .kept .1 .1 .1 .1 .0)
 
 no-repeat-requires : tie.Need-no-repeat-requires
 no-repeat-requires c κs = let w = c .before .before in omega (arith, long w, few (e (f w)))
@@ -169,7 +168,7 @@ returns-3 c =
     draw-repeat (s y .args .settings) (tables (s y)) (levels y) (fine y) (range (f w)) (sym (asked (c .before)) ∙ not-true _ (c .if3 .taken))
 
 slice-aggregate-draw-points : tie.Need-slice-aggregate-draw-points
-slice-aggregate-draw-points c = search needs
+slice-aggregate-draw-points c = sym (c .before .before .before .before .before .put-points .kept .1 .1 .1 .1 .0)
 
 draw-points-requires : tie.Need-draw-points-requires
 draw-points-requires c κs =
@@ -191,16 +190,16 @@ cast-t36 c =
     omega (arith, d .draw-points .ensures .0, rows g, few-rows (s (x g) .args .settings) (room (x g) .settings) (S (w g)) (points g))
 
 same-length : tie.Need-same-length
-same-length c = search needs
+same-length c = c .before .before .before .before .before .before .before .before .draw-points .kept .1 .1 .1 .0
 
 same-length-2 : tie.Need-same-length-2
-same-length-2 c = search needs
+same-length-2 c = c .before .before .before .before .before .before .before .before .draw-points .kept .1 .1 .1 .1 .0
 
 same-length-3 : tie.Need-same-length-3
-same-length-3 c = search needs
+same-length-3 c = c .before .before .before .before .before .before .before .before .draw-points .kept .1 .1 .1 .1 .1 .0
 
 same-length-4 : tie.Need-same-length-4
-same-length-4 c = search needs
+same-length-4 c = c .before .before .before .before .before .before .before .before .draw-points .kept .1 .1 .1 .1 .1 .1 .0
 
 returns-4 : tie.Need-returns-4
 unfolding tablesOf

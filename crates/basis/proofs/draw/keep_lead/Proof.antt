@@ -11,22 +11,22 @@ use Rattle.basis.proofs.draw.keep_lead.Statement.{statement}
 use Rattle.basis.proofs.draw.keep_lead.Tie as tie
 
 mul-place : tie.Need-mul-place
-mul-place c = search needs
+mul-place c = omega arith
 
 add-copy : tie.Need-add-copy
-add-copy c = search needs
+add-copy c = omega arith
 
 sub-copy : tie.Need-sub-copy
-sub-copy c = search needs
+sub-copy c = omega arith
 
 part-copy-start : tie.Need-part-copy-start
-part-copy-start c = search needs
+part-copy-start c = omega arith
 
 part-copy-end : tie.Need-part-copy-end
-part-copy-end c = search needs
+part-copy-end c = omega arith
 
 copy-requires : tie.Need-copy-requires
-copy-requires c κs = search needs
+copy-requires c κs = omega arith
 
 mul-from : tie.Need-mul-from
 mul-from c = omega arith
@@ -38,10 +38,10 @@ mul-narrow : tie.Need-mul-narrow
 mul-narrow c = omega arith
 
 sub-narrow : tie.Need-sub-narrow
-sub-narrow c = search needs
+sub-narrow c = omega arith
 
 part-narrow-start : tie.Need-part-narrow-start
-part-narrow-start c = search needs
+part-narrow-start c = omega arith
 
 part-narrow-end : tie.Need-part-narrow-end
 part-narrow-end c = omega arith
@@ -50,7 +50,7 @@ add-narrow : tie.Need-add-narrow
 add-narrow c = omega arith
 
 sub-narrow-2 : tie.Need-sub-narrow-2
-sub-narrow-2 c = search needs
+sub-narrow-2 c = omega arith
 
 part-narrow-start-2 : tie.Need-part-narrow-start-2
 part-narrow-start-2 c = omega arith

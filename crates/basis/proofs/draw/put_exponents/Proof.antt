@@ -22,25 +22,25 @@ module _ (q : tie.After-copy) where
       q .copy .ensures ∙ read-whole (8 * a .t) (8 * a .t + 8 - 8 * a .t) 8 (a .standard .now) (a .exponents .now) (omega arith) (omega arith) (start .pre .0 .1 .1 .1)
 
 mul-place : tie.Need-mul-place
-mul-place c = search needs
+mul-place c = omega arith
 
 add-copy : tie.Need-add-copy
-add-copy c = search needs
+add-copy c = omega arith
 
 sub-copy : tie.Need-sub-copy
-sub-copy c = search needs
+sub-copy c = omega arith
 
 part-copy-start : tie.Need-part-copy-start
-part-copy-start c = search needs
+part-copy-start c = omega arith
 
 part-copy-end : tie.Need-part-copy-end
-part-copy-end c = search needs
+part-copy-end c = omega arith
 
 copy-requires : tie.Need-copy-requires
-copy-requires c κs = search needs
+copy-requires c κs = omega arith
 
 slice-read-exponents : tie.Need-slice-read-exponents
-slice-read-exponents c = search needs
+slice-read-exponents c = omega arith
 
 add-exponents : tie.Need-add-exponents
 add-exponents c =

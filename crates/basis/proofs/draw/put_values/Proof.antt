@@ -1,5 +1,5 @@
 -- `draw::put_values` meets its contract.
-use mathlib.Core.Path.{_≡_, sym, ap, subst, _∙_}
+use mathlib.Core.Path.{_≡_, sym, ap, subst, _∙_, refl}
 use Prim.Native.Nat.{ℕ, _+_, _*_, _-_}
 use native.Mathlib.Omega.{arith}
 use borrow.Author.Needs.{needs}
@@ -35,28 +35,28 @@ module _ (q : tie.After-put-column) where
   column-is = let a = start (q .before .before .before .before) .args in column-front (a .k) (a .n) (a .points .now) (q .put-column .last .1 .1 .1 .0) (replicate 64 0) (q .put-column .ensures)
 
 mul-from : tie.Need-mul-from
-mul-from c = search needs
+mul-from c = omega arith
 
 add-copy : tie.Need-add-copy
-add-copy c = search needs
+add-copy c = omega arith
 
 mul-copy : tie.Need-mul-copy
-mul-copy c = search needs
+mul-copy c = omega arith
 
 sub-copy : tie.Need-sub-copy
-sub-copy c = search needs
+sub-copy c = omega arith
 
 part-copy-start : tie.Need-part-copy-start
-part-copy-start c = search needs
+part-copy-start c = omega arith
 
 part-copy-end : tie.Need-part-copy-end
-part-copy-end c = search needs
+part-copy-end c = omega arith
 
 copy-requires : tie.Need-copy-requires
 copy-requires c κs = omega arith
 
 slice-aggregate-put-column : tie.Need-slice-aggregate-put-column
-slice-aggregate-put-column c = search needs
+slice-aggregate-put-column c = refl
 
 put-column-requires : tie.Need-put-column-requires
 put-column-requires c κs = omega arith

@@ -31,7 +31,7 @@ shared-slice-copy-out-residue : tie.Need-shared-slice-copy-out-residue Inv-loop 
 shared-slice-copy-out-residue c = omega arith
 
 residue-requires : tie.Need-residue-requires Inv-loop μ-loop
-residue-requires c κs = search needs
+residue-requires c κs = tt
 
 enum-told : tie.Need-enum-told Inv-loop μ-loop
 enum-told c = search needs

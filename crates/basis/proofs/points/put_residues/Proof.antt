@@ -1,5 +1,4 @@
 -- `points::put_residues` meets its contract. The loop has written the residues before i.
-use borrow.Author.Needs.{needs}
 use mathlib.Core.Path.{_≡_, ap, _∙_}
 use Prim.Native.Nat.{ℕ, _≤_, _-_}
 use native.Mathlib.Omega.{arith}
@@ -40,7 +39,7 @@ shared-slice-copy-out-residue-or-0 : tie.Need-shared-slice-copy-out-residue-or-0
 shared-slice-copy-out-residue-or-0 c = omega arith
 
 residue-or-0-requires : tie.Need-residue-or-0-requires Inv-loop μ-loop
-residue-or-0-requires c κs = search needs
+residue-or-0-requires c κs = tt
 
 slice-write-to : tie.Need-slice-write-to Inv-loop μ-loop
 slice-write-to c = omega (arith, long (c .before .before .before))

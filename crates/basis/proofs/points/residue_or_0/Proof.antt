@@ -9,7 +9,7 @@ use Rattle.basis.proofs.points.residue_or_0.Statement.{statement}
 use Rattle.basis.proofs.points.residue_or_0.Tie as tie
 
 residue-requires : tie.Need-residue-requires
-residue-requires c κs = search needs
+residue-requires c κs = tt
 
 enum-known-x : tie.Need-enum-known-x
 enum-known-x c = search needs

@@ -1,5 +1,4 @@
 -- `recognise::recognise` meets its contract: at each return the tests that led there decide whether the tables are recognised.
-use borrow.Author.Needs.{needs}
 use borrow.Author.Tests.{not-true, not-false}
 use mathlib.Core.Path.{_≡_, refl, sym, ap, ap₂, subst, _∙_}
 use mathlib.Core.Bool.{Bool, true, false, true≢false}
@@ -102,7 +101,7 @@ no-repeat-requires : tie.Need-no-repeat-requires
 no-repeat-requires c κs = let w = c .before .before .before in omega (arith, long w, start w .pre .0 .1)
 
 same-length : tie.Need-same-length
-same-length c = search needs
+same-length c = c .before .before .before .before .before .read-points .kept .1 .1 .1 .0
 
 returns : tie.Need-returns
 returns c =
@@ -117,7 +116,7 @@ cast-draw-2 : tie.Need-cast-draw-2
 cast-draw-2 c = omega (arith, ok (c .before .before) .order)
 
 slice-aggregate-draw : tie.Need-slice-aggregate-draw
-slice-aggregate-draw c = search needs
+slice-aggregate-draw c = refl
 
 slice-aggregate-draw-2 : tie.Need-slice-aggregate-draw-2
 slice-aggregate-draw-2 c = refl

@@ -1,5 +1,4 @@
 -- `refusal::by_sizes` meets its contract: the cases of the settings first, then these three.
-use borrow.Author.Needs.{needs}
 use mathlib.Core.Path.{sym, _∙_}
 use Rattle.basis.specs.Refusal.{firstOf}
 use Rattle.basis.specs.Settings.{settingsCases}
@@ -13,7 +12,7 @@ unfolding settingsCases
 passed c = none-holds _ tt (sym (c .before .settings-refusal .ensures) ∙ c .if1 .left)
 
 settings-refusal-requires : tie.Need-settings-refusal-requires
-settings-refusal-requires c κs = search needs
+settings-refusal-requires c κs = tt
 
 returns : tie.Need-returns
 returns c =

@@ -1,5 +1,4 @@
 -- `refusal::draw_sizes` meets its contract.
-use borrow.Author.Needs.{needs}
 use mathlib.Core.Path.{ap, _∙_}
 use mathlib.Core.Bool.{not}
 use Prim.Native.Nat.{ℕ}
@@ -10,16 +9,16 @@ use Rattle.basis.proofs.refusal.draw_sizes.Statement.{statement}
 use Rattle.basis.proofs.refusal.draw_sizes.Tie as tie
 
 too-short-requires : tie.Need-too-short-requires
-too-short-requires c κs = search needs
+too-short-requires c κs = tt
 
 rest-requires : tie.Need-rest-requires
-rest-requires c κs = search needs
+rest-requires c κs = tt
 
 quotient-requires : tie.Need-quotient-requires
-quotient-requires c κs = search needs
+quotient-requires c κs = tt
 
 by-sizes-requires : tie.Need-by-sizes-requires
-by-sizes-requires c κs = search needs
+by-sizes-requires c κs = tt
 
 returns : tie.Need-returns
 returns c =

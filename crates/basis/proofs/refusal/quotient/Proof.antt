@@ -1,8 +1,8 @@
 -- `refusal::quotient` meets its contract.
-use mathlib.Core.Path.{sym, ap, _∙_}
+use native.Mathlib.Omega.{arith}
+use mathlib.Core.Path.{sym, ap, _∙_, refl}
 use Prim.Native.Nat.{ℕ, _/_}
 use native.Mathlib.Nat.{div-zero}
-use borrow.Author.Needs.{needs}
 use Rattle.basis.proofs.refusal.quotient.Statement.{statement}
 use Rattle.basis.proofs.refusal.quotient.Tie as tie
 
@@ -10,10 +10,10 @@ returns : tie.Need-returns
 returns c = sym (ap (λ (m : ℕ). c .before .args .k / m) (c .if1 .taken) ∙ div-zero (c .before .args .k))
 
 div-result : tie.Need-div-result
-div-result c = search needs
+div-result c = omega arith
 
 returns-2 : tie.Need-returns-2
-returns-2 c = search needs
+returns-2 c = refl
 
 pub quotient-spec : {M : Type 1} → statement M
 quotient-spec = tie.close (tie.spec returns div-result returns-2)

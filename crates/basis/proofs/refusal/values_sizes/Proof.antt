@@ -1,5 +1,4 @@
 -- `refusal::values_sizes` meets its contract.
-use borrow.Author.Needs.{needs}
 use mathlib.Core.Path.{refl, sym, ap, _∙_}
 use mathlib.Core.Bool.{Bool, _||_}
 use lib.Dec.{ltb}
@@ -10,10 +9,10 @@ use Rattle.basis.proofs.refusal.values_sizes.Statement.{statement}
 use Rattle.basis.proofs.refusal.values_sizes.Tie as tie
 
 too-short-requires : tie.Need-too-short-requires
-too-short-requires c κs = search needs
+too-short-requires c κs = tt
 
 by-sizes-requires : tie.Need-by-sizes-requires
-by-sizes-requires c κs = search needs
+by-sizes-requires c κs = tt
 
 returns : tie.Need-returns
 returns c =

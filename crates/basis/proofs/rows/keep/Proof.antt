@@ -8,28 +8,28 @@ use Rattle.basis.proofs.rows.keep.Statement.{statement}
 use Rattle.basis.proofs.rows.keep.Tie as tie
 
 add-normalise : tie.Need-add-normalise
-add-normalise c = search needs
+add-normalise c = omega arith
 
 normalise-requires : tie.Need-normalise-requires
 normalise-requires c κs = let s = c .before .before .before .before in (s .pre .0, ((omega arith, omega arith), s .pre .1 .1 .1))
 
 mul-from : tie.Need-mul-from
-mul-from c = search needs
+mul-from c = omega arith
 
 add-copy : tie.Need-add-copy
-add-copy c = search needs
+add-copy c = omega arith
 
 mul-copy : tie.Need-mul-copy
-mul-copy c = search needs
+mul-copy c = omega arith
 
 sub-copy : tie.Need-sub-copy
-sub-copy c = search needs
+sub-copy c = omega arith
 
 part-copy-start : tie.Need-part-copy-start
-part-copy-start c = search needs
+part-copy-start c = omega arith
 
 part-copy-end : tie.Need-part-copy-end
-part-copy-end c = search needs
+part-copy-end c = omega arith
 
 copy-requires : tie.Need-copy-requires
 copy-requires c κs = search needs

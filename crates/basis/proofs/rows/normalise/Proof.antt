@@ -29,22 +29,22 @@ front-long : (w : List ℕ) (own : ℕ) → own < length w → length (take (own
 front-long w own h = length-take-le (own + 1) (set w own 1) (simp length-set (omega arith))
 
 mul-inverse : tie.Need-mul-inverse
-mul-inverse c = search needs
+mul-inverse c = omega arith
 
 slice-read-inverse : tie.Need-slice-read-inverse
 slice-read-inverse c = search needs
 
 inverse-requires : tie.Need-inverse-requires
-inverse-requires c κs = search needs
+inverse-requires c κs = tt
 
 mul-work : tie.Need-mul-work
-mul-work c = search needs
+mul-work c = omega arith
 
 slice-write-work : tie.Need-slice-write-work
 slice-write-work c = search needs
 
 add-len : tie.Need-add-len
-add-len c = search needs
+add-len c = omega arith
 
 slice-relend-prefix-scale : tie.Need-slice-relend-prefix-scale
 slice-relend-prefix-scale c = simp length-set (omega arith)

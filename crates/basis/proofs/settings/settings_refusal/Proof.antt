@@ -1,5 +1,4 @@
 -- `settings::settings_refusal` meets its contract: at each return the tests that led there decide the cases.
-use borrow.Author.Needs.{needs}
 use borrow.Author.Tests.{lt-ltb, le-ltb, le-leb, lt-leb}
 use mathlib.Core.Path.{sym, _∙_}
 use Rattle.basis.specs.Refusal.{firstOf}
@@ -8,7 +7,7 @@ use Rattle.basis.proofs.settings.settings_refusal.Statement.{statement}
 use Rattle.basis.proofs.settings.settings_refusal.Tie as tie
 
 is-modulus-requires : tie.Need-is-modulus-requires
-is-modulus-requires c κs = search needs
+is-modulus-requires c κs = tt
 
 returns : tie.Need-returns
 unfolding firstOf settingsCases

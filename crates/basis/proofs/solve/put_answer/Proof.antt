@@ -11,7 +11,7 @@ use Rattle.basis.proofs.solve.put_answer.Statement.{statement}
 use Rattle.basis.proofs.solve.put_answer.Tie as tie
 
 clear-requires : tie.Need-clear-requires
-clear-requires c κs = search needs
+clear-requires c κs = tt
 
 put-negatives-requires : tie.Need-put-negatives-requires
 put-negatives-requires c κs = search needs

@@ -32,19 +32,19 @@ eliminate-requires c κs =
     (s .pre .0, (s .pre .1 .0 .1, (s .pre .1 .1 .0, (s .pre .1 .1 .1 .0, λ t h. omega (arith, s .pre .1 .1 .1 .1 t h)))))
 
 add-put-answer : tie.Need-add-put-answer
-add-put-answer c = search needs
+add-put-answer c = omega arith
 
 mul-put-answer : tie.Need-mul-put-answer
-mul-put-answer c = search needs
+mul-put-answer c = omega arith
 
 sub-put-answer : tie.Need-sub-put-answer
-sub-put-answer c = search needs
+sub-put-answer c = omega arith
 
 part-put-answer-start : tie.Need-part-put-answer-start
-part-put-answer-start c = search needs
+part-put-answer-start c = omega arith
 
 part-put-answer-end : tie.Need-part-put-answer-end
-part-put-answer-end c = search needs
+part-put-answer-end c = omega arith
 
 slice-relend-prefix-put-answer : tie.Need-slice-relend-prefix-put-answer
 slice-relend-prefix-put-answer c = omega arith
@@ -68,7 +68,7 @@ put-answer-requires c κs =
     )
 
 same-length : tie.Need-same-length
-same-length c = c .before .before .before .before .before .before .before .before .eliminate .kept .1 .1 .1 .1 .1 .0
+same-length c = c .before .before .before .before .before .before .before .before .eliminate .kept .1 .1 .1 .1 .0
 
 same-length-2 : tie.Need-same-length-2
 same-length-2 c = search needs

@@ -1,5 +1,4 @@
 -- `solve::solve_terms` meets its contract: the working row is loaded with the values.
-use borrow.Author.Needs.{needs}
 use borrow.Author.Tests.{not-true, not-false}
 use mathlib.Core.Path.{_≡_, refl, sym, ap, ap₂, subst, _∙_}
 use mathlib.Core.Bool.{Bool, true, false, not, _||_}
@@ -46,22 +45,22 @@ loaded v =
     ∙ over-zeros vs 128 (omega (arith, length-terms (s .args .p) (R w) (s .args .exponents .now) (s .args .n) (s .args .points .now)))
 
 cast-put-residues : tie.Need-cast-put-residues
-cast-put-residues c = search needs
+cast-put-residues c = omega arith
 
 slice-aggregate-put-residues : tie.Need-slice-aggregate-put-residues
-slice-aggregate-put-residues c = search needs
+slice-aggregate-put-residues c = refl
 
 put-residues-requires : tie.Need-put-residues-requires
-put-residues-requires c κs = search needs
+put-residues-requires c κs = omega arith
 
 array-share-prefix-found : tie.Need-array-share-prefix-found
-array-share-prefix-found c = search needs
+array-share-prefix-found c = omega arith
 
 slice-aggregate-put-values : tie.Need-slice-aggregate-put-values
 slice-aggregate-put-values c = let w = c .before .before in sym (ap length (front w) ∙ long w)
 
 slice-aggregate-put-values-2 : tie.Need-slice-aggregate-put-values-2
-slice-aggregate-put-values-2 c = search needs
+slice-aggregate-put-values-2 c = refl
 
 put-values-requires : tie.Need-put-values-requires
 put-values-requires c κs =
@@ -78,7 +77,7 @@ put-values-requires c κs =
     )
 
 slice-aggregate-solve : tie.Need-slice-aggregate-solve
-slice-aggregate-solve c = search needs
+slice-aggregate-solve c = sym (c .before .before .put-values .kept .1 .1 .1 .1 .1 .0)
 
 solve-requires : tie.Need-solve-requires
 solve-requires c κs =

@@ -43,13 +43,13 @@ loaded v =
     v .widen .ensures ∙ ap (λ (l : List ℕ). over l (replicate 128 0)) (front w) ∙ over-zeros (R w) 128 (omega (arith, long w, start w .pre .1 .0 .0))
 
 cast-put-residues : tie.Need-cast-put-residues
-cast-put-residues c = search needs
+cast-put-residues c = omega arith
 
 slice-aggregate-put-residues : tie.Need-slice-aggregate-put-residues
-slice-aggregate-put-residues c = search needs
+slice-aggregate-put-residues c = refl
 
 put-residues-requires : tie.Need-put-residues-requires
-put-residues-requires c κs = search needs
+put-residues-requires c κs = omega arith
 
 array-share-prefix-found : tie.Need-array-share-prefix-found
 array-share-prefix-found c = search needs
@@ -58,13 +58,13 @@ slice-aggregate-widen : tie.Need-slice-aggregate-widen
 slice-aggregate-widen c = let w = c .before .before in sym (ap length (front w) ∙ long w)
 
 slice-aggregate-widen-2 : tie.Need-slice-aggregate-widen-2
-slice-aggregate-widen-2 c = search needs
+slice-aggregate-widen-2 c = refl
 
 widen-requires : tie.Need-widen-requires
 widen-requires c κs = let w = c .before .before .before in omega (arith, ap length (front w), long w, start w .pre .1 .0 .0)
 
 slice-aggregate-solve : tie.Need-slice-aggregate-solve
-slice-aggregate-solve c = search needs
+slice-aggregate-solve c = sym (c .before .before .widen .kept .1 .0)
 
 solve-requires : tie.Need-solve-requires
 solve-requires c κs =

@@ -1,18 +1,18 @@
 -- `tables::agree` meets its contract: at each return the tests that led there decide it.
-use borrow.Author.Needs.{needs}
+use native.Mathlib.Omega.{arith}
 use borrow.Author.Tests.{not-true, not-false}
 use mathlib.Core.Path.{sym, _∙_}
 use Rattle.basis.proofs.tables.agree.Statement.{statement}
 use Rattle.basis.proofs.tables.agree.Tie as tie
 
 begins-requires : tie.Need-begins-requires
-begins-requires c κs = search needs
+begins-requires c κs = omega arith
 
 returns : tie.Need-returns
 returns c = simp (sym (c .before .begins .ensures) ∙ not-true _ (c .if1 .taken))
 
 begins-requires-2 : tie.Need-begins-requires-2
-begins-requires-2 c κs = search needs
+begins-requires-2 c κs = omega arith
 
 returns-2 : tie.Need-returns-2
 returns-2 c =
@@ -20,7 +20,7 @@ returns-2 c =
     simp (sym (a .before .begins .ensures) ∙ not-false _ (a .if1 .left), sym (c .before .begins2 .ensures) ∙ not-true _ (c .if2 .taken))
 
 begins-requires-3 : tie.Need-begins-requires-3
-begins-requires-3 c κs = search needs
+begins-requires-3 c κs = omega arith
 
 returns-3 : tie.Need-returns-3
 returns-3 c =
@@ -33,7 +33,7 @@ returns-3 c =
     )
 
 begins-requires-4 : tie.Need-begins-requires-4
-begins-requires-4 c κs = search needs
+begins-requires-4 c κs = omega arith
 
 returns-4 : tie.Need-returns-4
 returns-4 c =

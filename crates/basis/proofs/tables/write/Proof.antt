@@ -1,17 +1,16 @@
 -- `tables::write` meets its contract.
 use native.Mathlib.Omega.{arith}
-use borrow.Author.Needs.{needs}
 use Rattle.basis.proofs.tables.write.Statement.{statement}
 use Rattle.basis.proofs.tables.write.Tie as tie
 
 copy-requires : tie.Need-copy-requires
-copy-requires c κs = search needs
+copy-requires c κs = omega arith
 
 copy-requires-2 : tie.Need-copy-requires-2
-copy-requires-2 c κs = search needs
+copy-requires-2 c κs = omega arith
 
 copy-requires-3 : tie.Need-copy-requires-3
-copy-requires-3 c κs = search needs
+copy-requires-3 c κs = omega arith
 
 copy-requires-4 : tie.Need-copy-requires-4
 copy-requires-4 c κs = omega arith
