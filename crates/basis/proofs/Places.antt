@@ -5,10 +5,10 @@ use mathlib.Core.List.{List, [], _∷_, _++_, map, append-assoc, append-nil}
 use mathlib.Core.Logic.{inl, inr}
 use Prim.Native.Nat.{ℕ, zero, suc, _+_, _*_, _-_, _<_, _≤_}
 use native.Mathlib.Omega.{arith}
-use native.Mathlib.Nat.{le-of-suc-le-suc}
+use native.Mathlib.Nat.{le-of-suc-le-suc, add-sub-cancel-left}
 use native.Mathlib.Numerals.{add-one}
-use lib.ListN.{length, take, drop, getD, List·getD-map, replicate, length-append, length-replicate, replicate-append-replicate}
-use lib.Seq.{take-at, drop-at, drop-drop}
+use lib.ListN.{length, take, drop, getD, List·getD-map, replicate, length-append, length-drop, length-take, length-replicate, replicate-append-replicate}
+use lib.Seq.{length-take-le, take-at, drop-at, drop-drop}
 use lib.Dec.{eqb}
 use Rattle.residue.specs.Lists.{Among}
 use Rattle.basis.specs.Levels.{groups, sameList, isAmong, noRepeat}
@@ -156,6 +156,12 @@ place-more w N S r t ys at k e a l h f y =
     ∙ sym (append-assoc (inPlaces w S) (fill w r ++ []) zeros)
     ∙ ap (λ (z : List ℕ). z ++ zeros) (sym (places-append w S (r ∷ [])))
     ∙ sym (ap (λ (n : ℕ). fill n (inPlaces w (S ++ (r ∷ [])))) new ∙ table-split w (S ++ (r ∷ [])) j)
+
+-- what a part of so many holds fits a place of 8 in a table of 512
+pub part-fits : {A : Type 0} (m at i : ℕ) (from : List A) (table : List ℕ) → m ≤ 8 → i < 64 → length table ≡ 512
+    → length (take (at + m - at) (drop at from)) ≤ length (take (8 * i + 8 - 8 * i) (drop (8 * i) table))
+part-fits m at i from table few h e =
+    omega (arith, add-sub-cancel-left at m, length-take (at + m - at) (drop at from), length-take-le (8 * i + 8 - 8 * i) (drop (8 * i) table) (simp length-drop (omega arith)))
 
 -- a table of no rows
 pub no-places : (w N : ℕ) → replicate N 0 ≡ fill N (inPlaces w [])

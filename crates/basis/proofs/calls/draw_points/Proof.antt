@@ -3,6 +3,7 @@ use mathlib.Core.Path.{refl, ap, _∙_, sym}
 use mathlib.Core.List.{List}
 use Prim.Native.Nat.{ℕ}
 use native.Mathlib.Omega.{arith}
+use native.Mathlib.Nat.{le-of-eq, le-trans}
 use lib.ListN.{length}
 use Rattle.residue.proofs.Moduli.{modulus-range}
 use Rattle.basis.specs.Layout.{over}
@@ -56,7 +57,8 @@ write-requires c κs =
     let s = start d in
     let t = drawn-long _ _ _ _ _ _ _ _ (d .draw .ensures) in
     let p = ap length (s .pre .0 .table) ∙ length-fill 512 _ in
-    (omega arith, (omega arith, (omega arith, omega arith)))
+    let h = s .pre .1 in
+    (le-trans (le-of-eq p) (h .0), (le-trans (le-of-eq (t .0)) (h .1 .0), (le-trans (le-of-eq (t .1 .0)) (h .1 .1 .0), le-trans (le-of-eq (t .1 .1)) (h .1 .1 .1))))
 
 same-length : tie.Need-same-length
 same-length c = c .before .before .before .before .before .before .before .before .write .kept .1 .1 .1 .1 .0

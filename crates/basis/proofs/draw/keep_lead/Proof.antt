@@ -1,14 +1,26 @@
 -- `draw::keep_lead` meets its contract.
 use mathlib.Core.Path.{_≡_, ap, _∙_}
-use Prim.Native.Nat.{ℕ, _+_, _*_, _-_}
+use mathlib.Core.List.{List}
+use Prim.Native.Nat.{ℕ, _+_, _*_, _-_, _<_, _≤_}
+use native.Mathlib.Nat.{add-sub-cancel-left}
 use native.Mathlib.Omega.{arith}
-use borrow.Author.Needs.{needs}
-use lib.ListN.{take, drop}
+use borrow.Rule.Slice.PartMut.{same-len-mid}
+use lib.ListN.{length, take, drop}
 use Rattle.residue.proofs.Vectors.{below-take, below-drop}
 use Rattle.basis.specs.Layout.{over}
 use Rattle.basis.proofs.ValueRows.{put-place, part-long}
 use Rattle.basis.proofs.draw.keep_lead.Statement.{statement}
 use Rattle.basis.proofs.draw.keep_lead.Tie as tie
+
+-- the coefficients found fit a row
+row-fits : (n found r : ℕ) (work table : List ℕ) → n ≤ 64 → found ≤ n → r < 449 → length work ≡ 128 → length table ≡ 28736
+    → length (take (n + found - n) (drop n work)) ≤ length (take (64 * r + 64 - 64 * r) (drop (64 * r) table))
+row-fits n found r work table most few room long large =
+    omega (arith, part-long n (n + found - n) found work (omega arith) (omega arith), part-long (64 * r) (64 * r + 64 - 64 * r) 64 table (omega arith) (omega arith))
+
+-- where the parameters come in, from the end
+abbrev start : tie.After-slice-known4 → tie.Start
+start c = c .before .before .before .before .before .before .before .before .before .before .before .before .before
 
 mul-place : tie.Need-mul-place
 mul-place c = omega arith
@@ -61,30 +73,34 @@ part-narrow-end-2 c = omega arith
 narrow-requires : tie.Need-narrow-requires
 narrow-requires c κs =
     let s = c .before .before .before .before .before .before .before .before .before .before in
-    let j : ℕ = s .args .n + s .args .found - s .args .n in
-    let k : ℕ = 64 * s .args .r + 64 - 64 * s .args .r in (
-      s .pre .0 .0,
+    let h = s .pre .0 in
+    let l = s .pre .1 .0 .1 in (
+      h .0,
       (
-        omega (arith, part-long (s .args .n) j (s .args .found) (s .args .work .now) (omega arith) (omega arith), part-long (64 * s .args .r) k 64 (s .args .coefficients .now) (omega arith) (omega arith)),
-        below-take (s .args .p) j (drop (s .args .n) (s .args .work .now)) (below-drop (s .args .p) (s .args .n) (s .args .work .now) (s .pre .1 .1)),
+        row-fits (s .args .n) (s .args .found) (s .args .r) (s .args .work .now) (s .args .coefficients .now) (h .1 .0) (h .1 .1 .0) (h .1 .1 .1) (l .0) (l .1 .1),
+        below-take (s .args .p) (s .args .n + s .args .found - s .args .n) (drop (s .args .n) (s .args .work .now)) (below-drop (s .args .p) (s .args .n) (s .args .work .now) (s .pre .1 .1)),
       ),
     )
 
 same-length : tie.Need-same-length
-same-length c = search needs
+same-length c =
+    let a = start c .args in
+    let called = c .before .before .before .before .before .before .before in
+    same-len-mid (8 * a .r) (8 * a .r + 8 - 8 * a .r) (a .leads .now) (called .copy .last .1 .0) (called .copy .kept .1 .0)
 
 same-length-2 : tie.Need-same-length-2
-same-length-2 c = search needs
+same-length-2 c =
+    let a = start c .args in
+    let called = c .before .before in
+    same-len-mid (64 * a .r) (64 * a .r + 64 - 64 * a .r) (a .coefficients .now) (called .narrow .last .1 .1 .0) (called .narrow .kept .1 .1 .0)
 
 returns : tie.Need-returns
 returns c =
-    let s = c .before .before .before .before .before .before .before .before .before .before .before .before .before in
-    let a = s .args in
-    let k : ℕ = 64 * a .r + 64 - 64 * a .r in
-    let e : a .n + a .found - a .n ≡ a .found = omega arith in (
-      put-place 8 (a .r) (8 * a .r + 8 - 8 * a .r) (a .exponents .now) (a .leads .now) (omega arith) (c .before .before .before .before .before .before .before .copy .ensures),
-      put-place 64 (a .r) k (take (a .found) (drop (a .n) (a .work .now))) (a .coefficients .now) (omega arith)
-          (c .before .before .narrow .ensures ∙ ap (λ (j : ℕ). over (take j (drop (a .n) (a .work .now))) (take k (drop (64 * a .r) (a .coefficients .now)))) e),
+    let a = start c .args in
+    let k : ℕ = 64 * a .r + 64 - 64 * a .r in (
+      put-place 8 (a .r) (8 * a .r + 8 - 8 * a .r) (a .exponents .now) (a .leads .now) (add-sub-cancel-left (8 * a .r) 8) (c .before .before .before .before .before .before .before .copy .ensures),
+      put-place 64 (a .r) k (take (a .found) (drop (a .n) (a .work .now))) (a .coefficients .now) (add-sub-cancel-left (64 * a .r) 64)
+          (c .before .before .narrow .ensures ∙ ap (λ (j : ℕ). over (take j (drop (a .n) (a .work .now))) (take k (drop (64 * a .r) (a .coefficients .now)))) (add-sub-cancel-left (a .n) (a .found))),
     )
 
 pub keep-lead-spec : {M : Type 1} → statement M

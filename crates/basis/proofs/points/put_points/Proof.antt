@@ -1,16 +1,15 @@
 -- `points::put_points` meets its contract. The loop has written the first i points into the table.
 use mathlib.Core.Path.{_≡_, sym, ap, _∙_}
 use mathlib.Core.List.{List, [], _∷_, _++_}
-use Prim.Native.Nat.{ℕ, _+_, _*_, _-_, _≤_}
-use native.Mathlib.Nat.{mul-le-mul, mul-le-mul-left}
+use Prim.Native.Nat.{ℕ, _+_, _*_, _-_, _<_, _≤_}
+use native.Mathlib.Nat.{add-sub-cancel-left, mul-le-mul, mul-le-mul-left}
 use native.Mathlib.Omega.{arith}
 use lib.IntN.{ℤ}
-use lib.ListN.{length, take, drop, length-drop, length-take}
-use lib.Seq.{length-take-le}
+use lib.ListN.{length, take, drop, length-take}
 use Rattle.basis.specs.Levels.{residues, groups}
-use Rattle.basis.specs.Layout.{fill, inPlaces}
+use Rattle.basis.specs.Layout.{fill, inPlaces, over}
 use Rattle.basis.proofs.Layouts.{length-fill}
-use Rattle.basis.proofs.Places.{length-groups, groups-more, place-more, no-places}
+use Rattle.basis.proofs.Places.{length-groups, groups-more, place-more, part-fits, no-places}
 use Rattle.basis.proofs.PointTables.{residues-part}
 use Rattle.basis.proofs.points.put_points.Statement.{statement}
 use Rattle.basis.proofs.points.put_points.Tie as tie
@@ -23,6 +22,19 @@ Inv-loop p m count levels states₀ i₀ states i = (i ≤ count) × (states ≡
 
 abbrev μ-loop : tie.MeasureT-loop
 μ-loop p m count levels states₀ i₀ states i = count - i
+
+-- one point more
+turn : (p m i : ℕ) (levels : List ℤ) (states new : List ℕ) → m ≤ 8 → i < 64 → states ≡ table p m levels i
+    → new ≡ over (residues p (take (m * i + m - m * i) (drop (m * i) levels))) (take (8 * i + 8 - 8 * i) (drop (8 * i) states))
+    → take (8 * i) states ++ (new ++ drop (8 * i + 8 - 8 * i) (drop (8 * i) states)) ≡ table p m levels (i + 1)
+turn p m i levels states new few h e put =
+    let rs : List ℕ = residues p levels in
+    let row : List ℕ = residues p (take (m * i + m - m * i) (drop (m * i) levels)) in
+    let is : row ≡ take m (drop (m * i) rs) = residues-part p (m * i + m - m * i) (m * i) levels ∙ ap (λ (k : ℕ). take k (drop (m * i) rs)) (add-sub-cancel-left (m * i) m) in
+    let short : length row ≤ 8 = rw is (simp length-take (omega arith)) in
+    let at : 8 * i ≡ 8 * length (groups m i rs) = ap (λ (k : ℕ). 8 * k) (sym (length-groups m i rs)) in
+    place-more 8 512 (groups m i rs) row states new (8 * i) (8 * i + 8 - 8 * i) e at (omega arith) (omega arith) short put
+    ∙ ap (λ (S : List (List ℕ)). fill 512 (inPlaces 8 S)) (ap (λ (r : List ℕ). groups m i rs ++ (r ∷ [])) is ∙ sym (groups-more m i rs))
 
 long : (l : tie.At-loop Inv-loop μ-loop) → length (l .loop .states) ≡ 512
 long l = ap length (l .loop .inv .1) ∙ length-fill 512 _
@@ -76,10 +88,7 @@ put-residues-requires : tie.Need-put-residues-requires Inv-loop μ-loop
 put-residues-requires c κs =
     let l = c .before .before .before in
     let s = l .before .before in
-    let a : s .args .m * l .loop .i + s .args .m - s .args .m * l .loop .i ≡ s .args .m = omega arith in
-    let b = length-take-le (8 * l .loop .i + 8 - 8 * l .loop .i) (drop (8 * l .loop .i) (l .loop .states)) (simp length-drop (omega (arith, long l))) in
-    let d = length-take (s .args .m * l .loop .i + s .args .m - s .args .m * l .loop .i) (drop (s .args .m * l .loop .i) (s .args .levels .now)) in
-    omega arith
+    part-fits (s .args .m) (s .args .m * l .loop .i) (l .loop .i) (s .args .levels .now) (l .loop .states) (s .pre .0 .0) (omega arith) (long l)
 
 add-i : tie.Need-add-i Inv-loop μ-loop
 add-i c = omega arith
@@ -91,19 +100,8 @@ loop-again : tie.Need-loop-again Inv-loop μ-loop
 loop-again c =
     let l = c .before .before .before .before .before .before in
     let s = l .before .before in
-    let i : ℕ = l .loop .i in
-    let m : ℕ = s .args .m in
-    let zs : List ℤ = s .args .levels .now in
-    let rs : List ℕ = residues (s .args .p) zs in
-    let a : m * i + m - m * i ≡ m = omega arith in
-    let row : List ℕ = residues (s .args .p) (take (m * i + m - m * i) (drop (m * i) zs)) in
-    let is : row ≡ take m (drop (m * i) rs) = residues-part (s .args .p) (m * i + m - m * i) (m * i) zs ∙ ap (λ (k : ℕ). take k (drop (m * i) rs)) a in
-    let short : length row ≤ 8 = rw is (simp length-take (omega arith)) in
-    let at : 8 * i ≡ 8 * length (groups m i rs) = ap (λ (k : ℕ). 8 * k) (sym (length-groups m i rs)) in (
-      omega arith,
-      place-more 8 512 (groups m i rs) row (l .loop .states) _ (8 * i) (8 * i + 8 - 8 * i) (l .loop .inv .1) at (omega arith) (omega arith) short (c .before .before .put-residues .ensures)
-          ∙ ap (λ (S : List (List ℕ)). fill 512 (inPlaces 8 S)) (ap (λ (r : List ℕ). groups m i rs ++ (r ∷ [])) is ∙ sym (groups-more m i rs)),
-    )
+    let a = s .args in
+    (omega arith, turn (a .p) (a .m) (l .loop .i) (a .levels .now) (l .loop .states) _ (s .pre .0 .0) (omega arith) (l .loop .inv .1) (c .before .before .put-residues .ensures))
 
 same-length : tie.Need-same-length Inv-loop μ-loop
 same-length c = long (c .before) ∙ sym (ap length (c .before .before .before .pre .1 .1))

@@ -1,14 +1,13 @@
 -- `points::read_points` meets its contract. The loop has written the first i points into the table.
 use mathlib.Core.Path.{_≡_, sym, ap, _∙_}
 use mathlib.Core.List.{List, [], _∷_, _++_, map}
-use Prim.Native.Nat.{ℕ, _+_, _*_, _-_, _%_, _≤_}
+use Prim.Native.Nat.{ℕ, _+_, _*_, _-_, _%_, _<_, _≤_}
 use native.Mathlib.Omega.{arith}
 use lib.ListN.{length, take, drop, length-drop, length-take, length-map}
-use lib.Seq.{length-take-le}
-use Rattle.basis.specs.Layout.{fill, inPlaces}
+use Rattle.basis.specs.Layout.{fill, inPlaces, over}
 use Rattle.basis.specs.Levels.{groups}
 use Rattle.basis.proofs.Layouts.{length-fill}
-use Rattle.basis.proofs.Places.{place-more, no-places}
+use Rattle.basis.proofs.Places.{place-more, part-fits, no-places}
 use Rattle.basis.proofs.PointTables.{pointAt, pointsAs, length-points, points-more, point-read, points-in}
 use Rattle.basis.proofs.points.read_points.Statement.{statement}
 use Rattle.basis.proofs.points.read_points.Tie as tie
@@ -21,6 +20,19 @@ Inv-loop n states points₀ p m i₀ points i = (i ≤ n) × (points ≡ table p
 
 abbrev μ-loop : tie.MeasureT-loop
 μ-loop n states points₀ p m i₀ points i = n - i
+
+-- one point more
+turn : (p m i : ℕ) (states points new : List ℕ) → 1 ≤ p → m ≤ 8 → i < 64 → 512 ≤ length states → points ≡ table p m states i
+    → new ≡ over (map (λ x. x % p) (take (8 * i + m - 8 * i) (drop (8 * i) states))) (take (8 * i + 8 - 8 * i) (drop (8 * i) points))
+    → take (8 * i) points ++ (new ++ drop (8 * i + 8 - 8 * i) (drop (8 * i) points)) ≡ table p m states (i + 1)
+turn p m i states points new one few h long e put =
+    let row : List ℕ = map (λ x. x % p) (take (8 * i + m - 8 * i) (drop (8 * i) states)) in
+    let room : 8 ≤ length (drop (8 * i) states) = simp length-drop (omega arith) in
+    let short : length row ≤ 8 = simp (length-map, length-take) (omega arith) in
+    let at : 8 * i ≡ 8 * length (pointsAs p m i states) = ap (λ (k : ℕ). 8 * k) (sym (length-points p m i states)) in
+    place-more 8 512 (pointsAs p m i states) row points new (8 * i) (8 * i + 8 - 8 * i) e at (omega arith) (omega arith) short put
+    ∙ ap (λ (S : List (List ℕ)). fill 512 (inPlaces 8 S))
+    (ap (λ (r : List ℕ). pointsAs p m i states ++ (r ∷ [])) (point-read p m states i (8 * i + m - 8 * i) one few (omega arith) room) ∙ sym (points-more p m i states))
 
 long : (l : tie.At-loop Inv-loop μ-loop) → length (l .loop .points) ≡ 512
 long l = ap length (l .loop .inv .1) ∙ length-fill 512 _
@@ -63,12 +75,7 @@ put-reduced-requires : tie.Need-put-reduced-requires Inv-loop μ-loop
 put-reduced-requires c κs =
     let l = c .before .before .before in
     let s = l .before .before .before .before in
-    let i : ℕ = l .loop .i in
-    let m : ℕ = s .args .settings .variables in
-    let a : 8 * i + m - 8 * i ≡ m = omega arith in
-    let b = length-take-le (8 * i + 8 - 8 * i) (drop (8 * i) (l .loop .points)) (simp length-drop (omega (arith, long l))) in
-    let d = length-take (8 * i + m - 8 * i) (drop (8 * i) (s .args .states .now)) in
-    (omega arith, omega arith)
+    (omega arith, part-fits (s .args .settings .variables) (8 * l .loop .i) (l .loop .i) (s .args .states .now) (l .loop .points) (s .pre .0 .2) (omega arith) (long l))
 
 add-i : tie.Need-add-i Inv-loop μ-loop
 add-i c = omega arith
@@ -80,18 +87,10 @@ loop-again : tie.Need-loop-again Inv-loop μ-loop
 loop-again c =
     let l = c .before .before .before .before .before .before in
     let s = l .before .before .before .before in
-    let i : ℕ = l .loop .i in
-    let p : ℕ = s .args .settings .modulus in
-    let m : ℕ = s .args .settings .variables in
-    let t : List ℕ = s .args .states .now in
-    let row : List ℕ = map (λ x. x % p) (take (8 * i + m - 8 * i) (drop (8 * i) t)) in
-    let room : 8 ≤ length (drop (8 * i) t) = simp length-drop (omega arith) in
-    let is : row ≡ pointAt p m t i = point-read p m t i (8 * i + m - 8 * i) (omega arith) (omega arith) (omega arith) room in
-    let short : length row ≤ 8 = simp (length-map, length-take) (omega arith) in
-    let at : 8 * i ≡ 8 * length (pointsAs p m i t) = ap (λ (k : ℕ). 8 * k) (sym (length-points p m i t)) in (
+    let a = s .args in (
       omega arith,
-      place-more 8 512 (pointsAs p m i t) row (l .loop .points) _ (8 * i) (8 * i + 8 - 8 * i) (l .loop .inv .1) at (omega arith) (omega arith) short (c .before .before .put-reduced .ensures)
-          ∙ ap (λ (S : List (List ℕ)). fill 512 (inPlaces 8 S)) (ap (λ (r : List ℕ). pointsAs p m i t ++ (r ∷ [])) is ∙ sym (points-more p m i t)),
+      turn (a .settings .modulus) (a .settings .variables) (l .loop .i) (a .states .now) (l .loop .points) _ (omega arith) (s .pre .0 .2) (omega arith) (s .pre .1 .0 .1) (l .loop .inv .1)
+          (c .before .before .put-reduced .ensures),
     )
 
 same-length : tie.Need-same-length Inv-loop μ-loop

@@ -1,10 +1,10 @@
 -- `solve::put_answer` meets its contract.
-use mathlib.Core.Path.{ap, _∙_}
+use mathlib.Core.Path.{sym, ap, _∙_}
 use mathlib.Core.List.{List, map}
 use Prim.Native.Nat.{ℕ, _-_, _%_}
 use native.Mathlib.Omega.{arith}
+use native.Mathlib.Nat.{le-of-eq, le-trans}
 use lib.ListN.{replicate, length-map}
-use borrow.Author.Needs.{needs}
 use Rattle.basis.specs.Layout.{over}
 use Rattle.basis.proofs.Places.{over-zeros}
 use Rattle.basis.proofs.solve.put_answer.Statement.{statement}
@@ -14,10 +14,13 @@ clear-requires : tie.Need-clear-requires
 clear-requires c κs = tt
 
 put-negatives-requires : tie.Need-put-negatives-requires
-put-negatives-requires c κs = search needs
+put-negatives-requires c κs =
+    let k = c .before .before .before in
+    let s = k .before .before .before .before in
+    (s .pre .0, (s .pre .1 .0, le-trans (s .pre .1 .1 .0) (le-of-eq (sym (k .clear .kept .0 ∙ s .pre .1 .1 .1)))))
 
 same-length : tie.Need-same-length
-same-length c = search needs
+same-length c = c .before .before .put-negatives .kept .1 .1 .0 ∙ c .before .before .before .before .before .before .clear .kept .0
 
 returns : tie.Need-returns
 returns c =
