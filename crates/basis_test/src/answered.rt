@@ -8,10 +8,10 @@ use basis::calls;
 pub fn drawn(
     head: Head,
     levels: &[i8],
-    states: &[u8],
-    standard: &[u8],
-    leads: &[u8],
-    coefficients: &[u8],
+    states: &[u8; 520],
+    standard: &[u8; 520],
+    leads: &[u8; 3600],
+    coefficients: &[u8; 28744],
 ) -> bool {
     let mut new_states = [170u8; 520];
     let mut new_standard = [170u8; 520];

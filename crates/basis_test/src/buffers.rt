@@ -18,6 +18,26 @@ pub fn back(s: &[u8], n: usize) -> &[u8] {
     if n <= s.len() { &s[n..] } else { s }
 }
 
+pub fn part(s: &[u8], from: usize, n: usize) -> &[u8] {
+    front(back(s, from), n)
+}
+
+// A byte of 8 in one of 64 places; 0 where there is none.
+pub fn at(table: &[u8; 512], place: usize, i: usize) -> u8 {
+    if place < 64 {
+        if i < 8 {
+            return table[8 * place + i];
+        }
+    }
+    0
+}
+
+pub fn set(s: &mut [u8], at: usize, value: u8) {
+    if at < s.len() {
+        s[at] = value;
+    }
+}
+
 // Changes these bits of one byte; done twice, the byte is as before.
 pub fn flip(table: &mut [u8], at: usize, bits: u8) {
     if at < table.len() {
@@ -26,7 +46,7 @@ pub fn flip(table: &mut [u8], at: usize, bits: u8) {
 }
 
 // Bytes as levels of the same bits.
-fn put_signed(from: &[u8], levels: &mut [i8]) {
+pub fn put_signed(from: &[u8], levels: &mut [i8]) {
     if from.len() <= levels.len() {
         for i in 0..from.len() {
             levels[i] = level::signed(from[i]);
@@ -60,14 +80,14 @@ pub fn read_byte(fd: i32) -> u8 {
 
 // Whether four tables hold the same bytes as four others, the guards included.
 pub fn same_tables(
-    states: &[u8],
-    standard: &[u8],
-    leads: &[u8],
-    coefficients: &[u8],
-    others: &[u8],
-    other_standard: &[u8],
-    other_leads: &[u8],
-    other_coefficients: &[u8],
+    states: &[u8; 520],
+    standard: &[u8; 520],
+    leads: &[u8; 3600],
+    coefficients: &[u8; 28744],
+    others: &[u8; 520],
+    other_standard: &[u8; 520],
+    other_leads: &[u8; 3600],
+    other_coefficients: &[u8; 28744],
 ) -> bool {
     if !check::same(states, others) {
         return false;
@@ -82,7 +102,12 @@ pub fn same_tables(
 }
 
 // Whether no byte of four tables has changed since each was filled with 170.
-pub fn untouched(states: &[u8], standard: &[u8], leads: &[u8], coefficients: &[u8]) -> bool {
+pub fn untouched(
+    states: &[u8; 520],
+    standard: &[u8; 520],
+    leads: &[u8; 3600],
+    coefficients: &[u8; 28744],
+) -> bool {
     same_tables(
         states,
         standard,

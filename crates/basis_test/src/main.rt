@@ -1,11 +1,19 @@
 // Holds every call of the crate basis to stored results and to document 01's list of refusals.
+mod added;
+mod alike;
 mod answered;
+mod between;
 mod buffers;
 mod calling;
+mod chance;
+mod counts;
 mod damage;
 mod examples;
 mod faults;
 mod grid;
+mod lists;
+mod offers;
+mod reference;
 mod refused;
 mod stored;
 mod tally;
@@ -21,7 +29,7 @@ fn stored_parts() -> Tally {
     let wired = stored::run(Part::Wiring, b"stored wiring lists");
     let reduced = stored::run(Part::Remainder, b"stored remainders");
     let damaged = stored::run(Part::Bytes, b"one byte changed");
-    let counted = stored::run(Part::Counts, b"counts");
+    let counted = stored::run(Part::Counts, b"claimed counts");
     drawn
         .plus(interpolated)
         .plus(wired)
@@ -34,12 +42,14 @@ fn made_parts() -> Tally {
     let bytes = trials::run(Kind::EveryByte, 33384, b"every byte changed");
     let drawing = trials::run(Kind::FaultyDrawUp, 5120, b"faults in drawing up");
     let answering = trials::run(Kind::FaultyAnswer, 20480, b"faults in answering");
+    let adding = trials::run(Kind::FaultyAdd, 5120, b"faults in adding");
     let moduli = trials::run(Kind::Moduli, 4096, b"moduli");
     let variables = trials::run(Kind::Variables, 64, b"numbers of variables");
     let points = trials::run(Kind::Points, 148, b"numbers of points");
     bytes
         .plus(drawing)
         .plus(answering)
+        .plus(adding)
         .plus(moduli)
         .plus(variables)
         .plus(points)
@@ -47,5 +57,5 @@ fn made_parts() -> Tally {
 
 fn main() {
     let stored = stored_parts();
-    stored.plus(made_parts()).print(b"sum");
+    stored.plus(made_parts()).plus(lists::run()).print(b"sum");
 }

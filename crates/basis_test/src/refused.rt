@@ -196,24 +196,44 @@ fn asked(
     calling::kept(refusal, &out, &[170u8; 72])
 }
 
-// Any other call over the tables of three points.
-pub fn answer(call: Call, faulty: u32, variant: u32) -> bool {
-    let mut states = [170u8; 520];
-    let mut standard = [170u8; 520];
-    let mut leads = [170u8; 3600];
-    let mut coefficients = [170u8; 28744];
+// The tables of three points, one byte changed where that is a fault; answers the number of rows to claim.
+pub fn put_tables(
+    faulty: u32,
+    variant: u32,
+    states: &mut [u8; 520],
+    standard: &mut [u8; 520],
+    leads: &mut [u8; 3600],
+    coefficients: &mut [u8; 28744],
+) -> u64 {
     let drawn = calls::draw_up(
         faults::settings_of(0, variant),
-        &mut states,
-        &mut standard,
-        &mut leads,
-        &mut coefficients,
+        states,
+        standard,
+        leads,
+        coefficients,
         &[0i8, 0, 1, 2, 2, 1],
     );
     damage::flip_in(
         changed_table(faulty, variant),
         3,
         1,
+        states,
+        standard,
+        leads,
+        coefficients,
+    );
+    claimed_rows(drawn.r, faulty, variant)
+}
+
+// Any other call but adding.
+pub fn answer(call: Call, faulty: u32, variant: u32) -> bool {
+    let mut states = [170u8; 520];
+    let mut standard = [170u8; 520];
+    let mut leads = [170u8; 3600];
+    let mut coefficients = [170u8; 28744];
+    let r = put_tables(
+        faulty,
+        variant,
         &mut states,
         &mut standard,
         &mut leads,
@@ -226,7 +246,7 @@ pub fn answer(call: Call, faulty: u32, variant: u32) -> bool {
         call,
         faulty,
         variant,
-        claimed_rows(drawn.r, faulty, variant),
+        r,
         &states,
         &standard,
         &leads,

@@ -14,6 +14,10 @@ impl Tally {
         }
     }
 
+    pub fn of(passed: u64, failed: u64) -> Self {
+        Self { passed, failed }
+    }
+
     // One trial more. The counts stay far below 2^64, and wrapping asks for no proof of it.
     pub fn with(self, ok: bool) -> Self {
         if ok {

@@ -1,4 +1,5 @@
 // The parts that need no stored results, each a number of turns.
+use crate::added;
 use crate::calling;
 use crate::examples;
 use crate::refused;
@@ -11,6 +12,7 @@ pub enum Kind {
     EveryByte,
     FaultyDrawUp,
     FaultyAnswer,
+    FaultyAdd,
 }
 
 fn attempt(kind: Kind, turn: u32) -> bool {
@@ -23,6 +25,7 @@ fn attempt(kind: Kind, turn: u32) -> bool {
         Kind::FaultyAnswer => {
             refused::answer(calling::call_of(turn), turn / 4 % 512 * 8, turn / 2048)
         }
+        Kind::FaultyAdd => added::add_with(turn % 512 * 8, turn / 512),
     }
 }
 
