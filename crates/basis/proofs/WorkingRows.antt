@@ -2,19 +2,18 @@
 use mathlib.Core.Path.{_≡_, refl, sym, ap, ap₂, _∙_}
 use mathlib.Core.Bool.{Bool, true, false, cond}
 use mathlib.Core.List.{List, _++_}
-use Prim.Native.Nat.{ℕ, zero, suc, _+_, _*_, _-_, _%_, _<_, _≤_}
+use Prim.Native.Nat.{ℕ, zero, suc, _+_, _*_, _-_, _<_, _≤_}
 use native.Mathlib.Nat.{not-suc-le-zero}
-use native.Mathlib.Numerals.{add-one}
 use native.Mathlib.Decide.{decLt}
 use native.Mathlib.Omega.{arith}
-use lib.ListN.{length, getD, set, take, drop, length-append, length-set, length-take, length-drop, List·getD-append, List·getD-eq-default}
+use lib.ListN.{length, getD, set, take, drop, length-append, length-set, length-drop, List·getD-append}
 use lib.Seq.{getD-take, getD-drop, getD-append-add, getD-set-other, length-take-le, drop-drop}
 use lib.Dec.{eqb}
 use borrow.Author.Tests.{eq-eqb, ne-eqb, eqb-true, eqb-false}
 use Rattle.residue.specs.Congruence.{Mod}
-use Rattle.residue.specs.Vector.{Below, addScaled, scaled}
-use Rattle.residue.proofs.Congruence.{rfl, of, reduce, negative, _then_, _plus_, _times_}
-use Rattle.residue.proofs.Vectors.{addScaled-length, addScaled-at, addScaled-below, scaled-length, scaled-at, scaled-below, below-take, below-drop, below-append, below-set}
+use Rattle.residue.specs.Vector.{Below, scaled}
+use Rattle.residue.proofs.Congruence.{of, reduce, _then_}
+use Rattle.residue.proofs.Vectors.{scaled-length, scaled-at, scaled-below, below-take, below-drop, below-append, below-set}
 use Rattle.basis.specs.Working.{firstNonzero, pivotRow, withRow}
 
 -- what lies behind a new front is the row's own

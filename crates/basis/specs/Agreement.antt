@@ -3,7 +3,7 @@ use mathlib.Core.Path.{_≡_}
 use mathlib.Core.Bool.{false}
 use mathlib.Core.List.{List, []}
 use mathlib.Core.Logic.{_↔_}
-use Prim.Native.Nat.{ℕ, _*_, _%_, _≤_}
+use Prim.Native.Nat.{ℕ, _%_, _≤_}
 use lib.IntN.{ℤ}
 use lib.ListN.{length, take}
 use lib.Dec.{T}
@@ -16,8 +16,8 @@ use Rattle.basis.specs.Basis.{IsBasis, Fits}
 use Rattle.basis.specs.BasisOf.{standardOf, leadsOf, rowsOf}
 use Rattle.basis.specs.Tables.{Tables, spaceUnder, pointsUnder, rowCount, tablesOf, written, tooShort}
 use Rattle.basis.specs.Adding.{Outcome, pointsOffered, drawOutcome}
-use Rattle.basis.specs.Solving.{Filled, polynomialUnder, remainderOutcome}
-use Rattle.basis.specs.Reference.{Event, Held, numbers, heldAtEnd, referenceAtEnd, due}
+use Rattle.basis.specs.Solving.{polynomialUnder, remainderOutcome}
+use Rattle.basis.specs.Reference.{Event, Held, numbers, due}
 
 -- Fresh tables: none is shorter than its size, and every byte of the sizes is 0.
 pub record Fresh (t : Tables) : Type 0 where

@@ -3,7 +3,7 @@ use mathlib.Core.Path.{_≡_}
 use mathlib.Core.List.{List, [], _∷_, map}
 use Prim.Native.Nat.{ℕ, _-_, _%_, _<_}
 use lib.IntN.{ℤ, pos, negsuc}
-use lib.ListN.{length, replicate}
+use lib.ListN.{replicate}
 use Rattle.residue.specs.Lists.{Among}
 use Rattle.residue.specs.Level.{residueOf}
 use Rattle.residue.specs.declared.level.Level.the-variants.{Residue}

@@ -8,12 +8,12 @@ use native.Mathlib.Numerals.{add-one}
 use native.Mathlib.Omega.{arith}
 use lib.IntN.{ℤ}
 use lib.ListN.{length, drop, length-drop, drop-of-length-le}
-use Rattle.csv.specs.Fields.{Field, field, broken, fieldOf, Part, part, faulty, withFirst, recordOf, behindRecord, recordsFrom, recordsOf}
+use Rattle.csv.specs.Fields.{field, broken, fieldOf, Part, part, faulty, withFirst, recordOf, behindRecord, recordsFrom, recordsOf}
 use Rattle.csv.specs.Forms.{levelOf, entryOf}
 use Rattle.csv.specs.Spans.{undoubled}
 use Rattle.csv.specs.Said.{levelSaid}
 use Rattle.csv.specs.Reading.{entryIn}
-use Rattle.csv.specs.Records.{held, reading, levelField, kept, reads, entryPart, entriesAt, Checked, ends, refuses, checked, counted}
+use Rattle.csv.specs.Records.{held, reading, levelField, kept, reads, entryPart, entriesAt, ends, refuses, checked, counted}
 use Rattle.csv.specs.declared.forms.Signed.{Signed}
 use Rattle.csv.specs.declared.records.Entries.the-variants as N
 use Rattle.csv.proofs.Entering.{entry-broken, entry-more, entry-long, entry-last, entry-short}

@@ -10,7 +10,7 @@ use lib.ListN.{length, take, length-map}
 use lib.Seq.{length-take-le}
 use lib.Dec.{eqb}
 use borrow.Author.Tests.{eqb-true}
-use Rattle.basis.specs.Levels.{residues, groups}
+use Rattle.basis.specs.Levels.{groups}
 use Rattle.basis.specs.Layout.{fill, inPlaces, over}
 use Rattle.csv.specs.Fields.{recordsOf}
 use Rattle.csv.specs.Forms.{levelOf, together, levelsOf, entryOf}

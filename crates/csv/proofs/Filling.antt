@@ -1,5 +1,5 @@
 -- The levels of an entry one by one: what is read, what is left, and what has been written.
-use mathlib.Core.Path.{_≡_, refl, sym, ap, ap₂, _∙_, subst}
+use mathlib.Core.Path.{_≡_, refl, sym, ap, ap₂, _∙_}
 use mathlib.Core.Bool.{Bool, true, false, _&&_}
 use mathlib.Core.List.{List, [], _∷_, _++_}
 use Prim.Native.Nat.{ℕ, suc, _+_, _-_, _<_, _≤_}
@@ -16,7 +16,6 @@ use Rattle.csv.specs.Reading.{pointOf, valueOf}
 use Rattle.csv.specs.Records.{levelField, entryPart}
 use Rattle.csv.specs.Points.{levelIn, behindLevel, PlacedAs, levelsIn, behindEntry, FilledAs}
 use Rattle.csv.specs.declared.points.Placed.{Placed}
-use Rattle.csv.specs.declared.points.Filled.{Filled}
 use Rattle.csv.proofs.Entering.{entry-broken, entry-more, entry-long, entry-last, entry-short}
 use Rattle.csv.proofs.Snocs.{residues-snoc, length-residues, range-snoc, over-snoc}
 

@@ -1,5 +1,5 @@
 -- The entries one by one: what is read, what is left, and what has been written.
-use mathlib.Core.Path.{_≡_, refl, sym, ap, ap₂, _∙_, subst}
+use mathlib.Core.Path.{_≡_, refl, sym, ap, ap₂, _∙_}
 use mathlib.Core.Bool.{Bool, true, false, not, cond, Bool·not-not}
 use mathlib.Core.List.{List, [], _∷_, _++_, map}
 use mathlib.Core.Option.{Option, some, none, Option·getD}
@@ -9,8 +9,8 @@ use native.Mathlib.Omega.{arith}
 use lib.IntN.{ℤ}
 use lib.ListN.{length, getD, set, take, drop, length-map, length-take}
 use lib.Seq.{take-suc, drop-cons, length-take-le, take-all}
-use lib.Dec.{eqb, eqb·suc-zero}
-use Rattle.basis.specs.Levels.{inRange, residues}
+use lib.Dec.{eqb·suc-zero}
+use Rattle.basis.specs.Levels.{inRange}
 use Rattle.basis.specs.Layout.{fill, inPlaces, over}
 use Rattle.basis.proofs.Layouts.{length-fill}
 use Rattle.csv.specs.Fields.{Part, part, faulty, recordsFrom, recordsOf}
@@ -19,7 +19,7 @@ use Rattle.csv.specs.Records.{entryPart, entriesAt, counted}
 use Rattle.csv.specs.Points.{levelsIn, behindEntry, FilledAs, levelsAt, firstPlace}
 use Rattle.csv.specs.declared.points.Filled.{Filled}
 use Rattle.csv.specs.declared.records.Entries.the-variants as N
-use Rattle.csv.proofs.Checking.{entries-more, entries-none, no-more}
+use Rattle.csv.proofs.Checking.{entries-more, entries-none}
 use Rattle.csv.proofs.Snocs.{map-snoc, length-residues, fill-snoc, row-snoc}
 
 -- where the count was taken, every record is an entry

@@ -9,7 +9,7 @@ use lib.ListN.{length, take, drop, length-drop, length-take}
 use lib.Seq.{take-all}
 use Rattle.basis.specs.Levels.{sameList}
 use Rattle.csv.specs.Fields.{front}
-use Rattle.csv.specs.Forms.{isDigit, numberOf, mod-word, lex-word, grlex-word, grevlex-word, orderWord, Header, header, settingsOf, lastField}
+use Rattle.csv.specs.Forms.{isDigit, numberOf, mod-word, lex-word, grlex-word, grevlex-word, orderWord, header, settingsOf, lastField}
 use Rattle.csv.specs.Said.{numberSaid, orderSaid, lastSaid}
 use Rattle.csv.specs.declared.forms.Number.{Number}
 use Rattle.csv.specs.declared.forms.Number.the-variants as N

@@ -1,7 +1,7 @@
 -- The header, field by field.
 use mathlib.Core.Path.{_≡_, refl, sym, ap, _∙_, subst}
-use mathlib.Core.Bool.{Bool, true, false}
-use mathlib.Core.List.{List, [], _∷_}
+use mathlib.Core.Bool.{true, false}
+use mathlib.Core.List.{List}
 use mathlib.Core.Option.{Option}
 use Prim.Native.Nat.{ℕ, suc, _+_, _<_}
 use native.Mathlib.Numerals.{add-one}
@@ -13,7 +13,7 @@ use Rattle.csv.specs.Said.{lastSaid}
 use Rattle.csv.specs.Records.{kept, reads}
 use Rattle.csv.specs.declared.forms.Last.{Last}
 use Rattle.csv.proofs.Quotes.{last-raw}
-use Rattle.csv.proofs.Unrolling.{Left, going, ended, unread, field-left, record-unroll}
+use Rattle.csv.proofs.Unrolling.{Left, going, field-left, record-unroll}
 
 -- the header that begins here, behind so many names
 unfoldable pub headed : ℕ → List ℕ → Part Header

@@ -1,5 +1,5 @@
 -- A content with a quote has no form, so the forms may be looked for in the bytes between the quotes, undoubled or not.
-use mathlib.Core.Path.{_≡_, refl, sym, ap, ap₂, _∙_, subst}
+use mathlib.Core.Path.{_≡_, refl, sym, ap, _∙_, subst}
 use mathlib.Core.Bool.{Bool, true, false, cond, _&&_, _||_}
 use mathlib.Core.List.{List, [], _∷_}
 use mathlib.Core.Option.{Option, some, none, Option·map}
@@ -9,11 +9,11 @@ use native.Mathlib.Decide.{ℕ-discrete}
 use lib.IntN.{pos}
 use lib.ListN.{length, take, drop}
 use lib.Dec.{T, eqb, leb}
-use borrow.Author.Tests.{eq-eqb, ne-eqb, eqb-true}
+use borrow.Author.Tests.{ne-eqb, eqb-true}
 use Rattle.basis.specs.Levels.{sameList}
 use Rattle.basis.proofs.Equality.{same-is}
 use Rattle.csv.specs.Fields.{quote, front}
-use Rattle.csv.specs.Forms.{isDigit, digitsFrom, numberOf, negative, levelOf, mod-word, lex-word, grlex-word, grevlex-word, orderWord, Header, header, settingsOf, lastField}
+use Rattle.csv.specs.Forms.{isDigit, digitsFrom, numberOf, negative, levelOf, mod-word, lex-word, grlex-word, grevlex-word, orderWord, header, settingsOf, lastField}
 use Rattle.csv.specs.Spans.{undoubled}
 
 hasQuote : List ℕ → Bool

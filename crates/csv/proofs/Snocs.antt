@@ -6,8 +6,8 @@ use Prim.Native.Nat.{ℕ, zero, suc, _+_, _*_, _-_, _<_, _≤_}
 use native.Mathlib.Nat.{not-suc-le-zero, le-of-suc-le-suc}
 use native.Mathlib.Omega.{arith}
 use lib.IntN.{ℤ}
-use lib.ListN.{length, getD, set, take, drop, replicate, length-append, length-map, length-take, drop-of-length-le, length-replicate}
-use lib.Seq.{set-at, drop-cons, take-at, drop-at, drop-drop, length-take-le}
+use lib.ListN.{length, getD, set, take, drop, replicate, length-append, length-map}
+use lib.Seq.{set-at, drop-cons, take-at, drop-at}
 use Rattle.residue.specs.Level.{residueOf}
 use Rattle.basis.specs.Levels.{isResidue, residueOr0, inRange, residues}
 use Rattle.basis.specs.Layout.{fill, inPlaces, over}

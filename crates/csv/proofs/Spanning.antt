@@ -1,5 +1,5 @@
 -- A field by its places is the field of the text there.
-use mathlib.Core.Path.{_≡_, refl, sym, ap, _∙_, subst}
+use mathlib.Core.Path.{_≡_, refl, sym, ap, _∙_}
 use mathlib.Core.Bool.{Bool, true, false, cond}
 use mathlib.Core.List.{List, [], _∷_}
 use Prim.Native.Nat.{ℕ, suc, _+_, _-_, _<_, _≤_}
@@ -10,7 +10,7 @@ use lib.ListN.{length, getD, take, drop, length-drop}
 use lib.Seq.{drop-cons, drop-drop, getD-drop}
 use lib.Dec.{eqb}
 use borrow.Author.Tests.{eq-eqb, ne-eqb, eqb-true, eqb-false}
-use Rattle.csv.specs.Fields.{quote, Field, field, broken, front, isPlain, ending, with, quoted, unquoted, fieldOf}
+use Rattle.csv.specs.Fields.{quote, broken, front, isPlain, ending, with, quoted, unquoted, fieldOf}
 use Rattle.csv.specs.Spans.{closing, undoubled, endedBy}
 use Rattle.csv.specs.declared.fields.End.{End}
 use Rattle.csv.proofs.Endings.{with-ending}

@@ -1,17 +1,14 @@
 -- The whole text: what its header and its entries say of the outcome.
 use mathlib.Core.Path.{_≡_, refl, sym, ap, ap₂, _∙_}
-use mathlib.Core.Bool.{Bool, true, false, not, cond}
 use mathlib.Core.List.{List, [], _∷_, _++_, map}
 use mathlib.Core.Option.{Option, some, none, Option·getD}
 use Prim.Native.Nat.{ℕ, zero, suc, _+_, _<_, _≤_}
-use native.Mathlib.Nat.{not-suc-le-zero}
 use native.Mathlib.Omega.{arith}
 use lib.IntN.{ℤ}
 use lib.ListN.{length, drop, length-map}
-use lib.Dec.{eqb, eqb·suc-zero}
 use borrow.Author.Tests.{lt-ltb, le-ltb, eq-eqb, ne-eqb}
 use Rattle.basis.specs.Levels.{sameList}
-use Rattle.csv.specs.Fields.{Part, part, faulty, front, isPlain, ending, unquoted, fieldOf, behindField, recordFrom, recordOf, behindRecord, recordsFrom, recordsOf}
+use Rattle.csv.specs.Fields.{Part, part, faulty, front, ending, unquoted, fieldOf, behindField, recordFrom, recordOf, behindRecord, recordsFrom, recordsOf}
 use Rattle.csv.specs.Forms.{Header, lastField, headerFrom, headerOf}
 use Rattle.csv.specs.Reading.{Entries, Outcome, further, firstFault, isNone, headerIn, entryIn, entriesIn, formFault, entriesOf, settingsCases, entriesCases, readCases, firstCase, accepted, refused, decided, readOutcome}
 use Rattle.csv.specs.Records.{kept, reads, headerPart, entriesAt, counted}

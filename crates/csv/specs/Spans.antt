@@ -1,8 +1,8 @@
 -- What the inner readers answer, by places in the text, in the terms of the definitions of fields.
-use mathlib.Core.Bool.{Bool, cond}
+use mathlib.Core.Bool.{cond}
 use mathlib.Core.List.{List, [], _∷_}
-use Prim.Native.Nat.{ℕ, zero, suc, _-_, _≤_}
-use lib.ListN.{length, take, drop}
+use Prim.Native.Nat.{ℕ, suc, _-_, _≤_}
+use lib.ListN.{take, drop}
 use lib.Dec.{eqb}
 use Rattle.csv.specs.Fields.{quote, Field, field, broken}
 use Rattle.csv.specs.declared.fields.End.{End}

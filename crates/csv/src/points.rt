@@ -3,7 +3,7 @@ ghost use mathlib.Core.Path.{_≡_};
 ghost use mathlib.Core.Bool.{_&&_};
 ghost use mathlib.Core.List.{[], map};
 ghost use Prim.Native.Nat.{_≤_};
-ghost use lib.ListN.{length, take, drop};
+ghost use lib.ListN.{length, drop};
 ghost use Rattle.residue.specs.Level.{residueOf};
 ghost use Rattle.basis.specs.Layout.{fill, inPlaces, over};
 ghost use Rattle.csv.specs.Fields.{broken, faulty};

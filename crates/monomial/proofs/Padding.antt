@@ -1,11 +1,11 @@
 -- A monomial of m exponents and the 8 bytes that hold it, as the tables do: what holds of one holds of the other.
-use mathlib.Core.Path.{_≡_, refl, sym, ap, _∙_}
-use mathlib.Core.List.{List, [], _∷_, _++_, append-nil}
+use mathlib.Core.Path.{_≡_, refl, sym, _∙_}
+use mathlib.Core.List.{List, [], _∷_, _++_}
 use Prim.Native.Nat.{ℕ, zero, suc, _+_, _-_, _<_, _≤_}
 use native.Mathlib.Nat.{add-zero}
 use native.Mathlib.Omega.{arith}
-use lib.ListN.{length, take, replicate, getD, length-append, length-replicate, List·getD-append, replicate-append-replicate}
-use lib.Seq.{take-at, set-append-left}
+use lib.ListN.{length, replicate, getD, length-append, length-replicate, List·getD-append}
+use lib.Seq.{set-append-left}
 use Rattle.monomial.specs.Monomial.{degree, one, timesVariable, divides, valueAt}
 use Rattle.monomial.specs.Order.{Order, lex, grlex, grevlex, byFirst, byLast, cmp}
 use Rattle.monomial.proofs.Algebra.Products.{Aligned, nil, cons, aligned, length-timesVariable}
@@ -53,9 +53,6 @@ module _ (a : List ℕ) where
   pub length-pad : length a ≤ 8 → length (pad a) ≡ 8
   length-pad h = simp (length-append, length-replicate) (omega arith)
 
-  pub pad-full : length a ≡ 8 → pad a ≡ a
-  pad-full h = rw (h, append-nil)
-
   pub degree-pad : degree (pad a) ≡ degree a
   degree-pad = degree-append a (replicate (8 - length a) 0) ∙ rw (degree-one (8 - length a)) (omega arith)
 
@@ -64,14 +61,8 @@ module _ (a : List ℕ) where
       rw (length-timesVariable k a, List·getD-append a (replicate (8 - length a) 0) 0 k h)
       (set-append-left a (replicate (8 - length a) 0) k (getD a k 0 + 1) h)
 
-pub one-pad : (m : ℕ) → m ≤ 8 → pad (one m) ≡ one 8
-one-pad m h = let e : m + (8 - m) ≡ 8 = omega arith in rw (length-replicate, replicate-append-replicate, e)
-
 -- two of one length
 module _ (a b : List ℕ) (l : length a ≡ length b) where
-  pub pad-inj : pad a ≡ pad b → a ≡ b
-  pad-inj e = sym (take-at a _ (length a) refl) ∙ ap (take (length a)) e ∙ take-at b _ (length a) (sym l)
-
   pub cmp-pad : (order : Order) → cmp order (pad a) (pad b) ≡ cmp order a b
   cmp-pad order = rw l (cmp-append order (replicate (8 - length b) 0) (aligned a b l))
 

@@ -10,7 +10,6 @@ use Rattle.monomial.specs.Order.{Order, lex, grlex, grevlex, andThen, by
 use Rattle.monomial.specs.Rank.{sumsDown, key, numeral, rankOf, variableRank}
 use Rattle.monomial.proofs.Algebra.Products.{Aligned, nil, cons, aligned, aligned-length, grow-aligned, variable-product, length-variable}
 use Rattle.monomial.proofs.Orders.Answers.{Says, less, same, more, says, said, compare-self, compare-shift}
-use Rattle.monomial.proofs.Orders.Lawful.{lawful}
 use Rattle.monomial.proofs.Orders.Keys.{key-aligned, key-cmp, key-product}
 use Rattle.monomial.proofs.Padding.{pad, degree-pad, cmp-pad, length-pad}
 
@@ -84,9 +83,6 @@ module _ (order : Order) where
     rank-cmp =
         let e : Aligned a b = aligned a b l in
         numeral-cmp (key-aligned order e) (key-digits order a h) (key-digits order b k) ∙ sym (key-cmp order e)
-
-    pub rank-inj : rankOf order a ≡ rankOf order b → a ≡ b
-    rank-inj e = lawful order .eq a b (sym rank-cmp ∙ rw e (compare-self (rankOf order b)))
 
   -- and that of the padded ones'
   pub rank-pad-cmp : (a b : List ℕ) → length a ≡ length b → length a ≤ 8 → degree a < 128 → degree b < 128 →

@@ -2,7 +2,6 @@
 use mathlib.Core.Path.{_≡_, refl, sym, _∙_, ap, ap₂}
 use Prim.Native.Nat.{ℕ, suc, _+_, _*_, _%_, _/_, _<_, _≤_, _-_}
 use native.Mathlib.Omega.{arith}
-use native.Mathlib.Decide.{ℕ-discrete}
 use native.Mathlib.Nat.{add-mod, div-add-mod', mod-mod, add-mul-mod-self-right, mod-eq-of-lt}
 use Rattle.residue.specs.Congruence.{Mod}
 
@@ -75,19 +74,8 @@ lin {n} {u} {v} {x} {y} h w z e =
 pub ring : {n x y : ℕ} (w z : ℕ) → x + w * suc n ≡ y + z * suc n → Mod (suc n) x y
 ring {n} {x} {y} w z e = lin (rfl {x = 0}) w z (omega arith)
 
--- taking y away is adding n times it, as the residue crate's `sub` and `neg` do it
-pub minus : (n x y : ℕ) → y ≤ suc n → Mod (suc n) (x + (suc n - y)) (x + n * y)
-minus n x y h = ring y 1 (omega arith)
-
 pub negative : (n y : ℕ) → y ≤ suc n → Mod (suc n) (suc n - y) (n * y)
 negative n y h = ring y 1 (omega arith)
-
-unfoldable pub decide : (p x y : ℕ) → Dec (Mod p x y)
-decide p x y = go (ℕ-discrete (x % p) (y % p))
-  where
-    go : Dec (x % p ≡ y % p) → Dec (Mod p x y)
-    go (yes e) = yes (record { same = e })
-    go (no e) = no (λ h. e (h .same))
 
 pub small : {p x y : ℕ} → x < p → y < p → Mod p x y → x ≡ y
 small hx hy h = sym (mod-eq-of-lt hx) ∙ h .same ∙ mod-eq-of-lt hy

@@ -7,7 +7,6 @@ use native.Mathlib.Numerals.{add-one}
 use native.Mathlib.Omega.{arith}
 use lib.ListN.{length, getD, set, take, drop, replicate, length-map, length-take, length-drop, length-replicate, getD-replicate}
 use lib.Seq.{getD-take, getD-drop}
-use Rattle.residue.specs.Lists.{sumOver}
 use Rattle.residue.specs.Vector.{Below, addScaled, scaled, pointwise, dotOf}
 
 -- two lists joined entry by entry, and a list changed entry by entry
@@ -76,11 +75,6 @@ more (x ∷ a) (y ∷ b) (suc i) h k = let e = more a b i (le-of-suc-le-suc h) (
 
 pub dot-more : (a b : List ℕ) (i : ℕ) → i < length a → i < length b → dotOf (take (i + 1) a) (take (i + 1) b) ≡ dotOf (take i a) (take i b) + getD a i 0 * getD b i 0
 dot-more a b i h k = ap (λ (n : ℕ). dotOf (take n a) (take n b)) (add-one i) ∙ more a b i h k
-
-pub dot-map : {A : Type 0} (f g : A → ℕ) (l : List A) → dotOf (map f l) (map g l) ≡ sumOver (λ a. f a * g a) l
-unfolding dotOf
-dot-map f g [] = refl
-dot-map f g (a ∷ l) = ap (λ (s : ℕ). f a * g a + s) (dot-map f g l)
 
 -- residues stay residues in a part of a list, in two lists joined, after a store, and where all are 0
 pub below-take : (p k : ℕ) (l : List ℕ) → Below p l → Below p (take k l)

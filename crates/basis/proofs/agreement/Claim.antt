@@ -1,6 +1,5 @@
 -- THE claim over any list of additions (document 01, 'The two desks').
-use mathlib.Core.Path.{_≡_, refl, sym, _∙_, ap, ap₂, subst}
-use mathlib.Core.Bool.{false}
+use mathlib.Core.Path.{_≡_, refl, sym, _∙_, ap}
 use mathlib.Core.List.{List, [], _∷_, _++_, append-nil}
 use Prim.Native.Nat.{ℕ, zero, suc, _≤_}
 use native.Mathlib.Omega.{arith}
@@ -21,10 +20,10 @@ use Rattle.basis.proofs.Equality.{same-is}
 use Rattle.basis.proofs.Layouts.{length-fill, fill-zeros}
 use Rattle.basis.proofs.ideal.Laws.{Laws}
 use Rattle.basis.proofs.ideal.Basis.{basis-is, remainder-fits}
-use Rattle.basis.proofs.agreement.Points.{Points, no-points}
+use Rattle.basis.proofs.agreement.Points.{no-points}
 use Rattle.basis.proofs.agreement.Refusals.{Accepted, accepted, Large}
 use Rattle.basis.proofs.agreement.Run.{same-tables, At, held-points, run}
-use Rattle.basis.proofs.agreement.Drawings.{laws-under, distinct-points, few-rows, told, remainder-told, drawn-same}
+use Rattle.basis.proofs.agreement.Drawings.{laws-under, distinct-points, few-rows, drawn-same}
 
 -- the front of a list is what it begins with
 over-begins : (a t : List ℕ) → T (begins a t) → over a t ≡ t
@@ -43,9 +42,6 @@ nothing : (k w j : ℕ) (t : List ℕ) → T (begins (fill k []) t) → over (fi
 nothing k w j t h = ap (λ (z : List ℕ). over z t) (ap (fill k) (append-nil (fill w (replicate j 0)) ∙ blank w j ∙ fill-zeros w) ∙ blank k w) ∙ over-begins (fill k []) t h
 
 module _ (s : Settings) (fine : firstOf (settingsCases s) ≡ 0) (start : Tables) (fresh : Fresh start) where
-  ok : Accepted s
-  ok = accepted s fine
-
   -- long enough for what they begin with
   long : (k : ℕ) (t : List ℕ) → T (begins (fill k []) t) → k ≤ length t
   unfolding begins

@@ -1,18 +1,18 @@
 -- The run of a list of additions, with refused calls between them: each call's number, and what is held at the end.
 use mathlib.Core.Path.{_≡_, refl, sym, _∙_, ap, ap₂, subst}
-use mathlib.Core.Bool.{Bool, true, false, not, cond, _||_}
+use mathlib.Core.Bool.{Bool, true, false, not, cond}
 use mathlib.Core.List.{List, [], _∷_, _++_}
 use mathlib.Core.Logic.{_≢_}
-use Prim.Native.Nat.{ℕ, _≤_, _<_}
+use Prim.Native.Nat.{ℕ, _<_}
 use native.Mathlib.Omega.{arith}
 use lib.IntN.{ℤ}
 use lib.ListN.{length}
-use lib.Dec.{T, eqb, leb, eqb→eq}
+use lib.Dec.{T, eqb, leb}
 use borrow.Author.Tests.{eqb-true, ne-eqb, leb-false}
 use Rattle.residue.specs.Lists.{Among}
 use Rattle.residue.proofs.Moduli.{modulus-range}
 use Rattle.basis.specs.declared.settings.Settings.{Settings}
-use Rattle.basis.specs.Refusal.{Case, firstOf}
+use Rattle.basis.specs.Refusal.{firstOf}
 use Rattle.basis.specs.Settings.{settingsCases}
 use Rattle.basis.specs.Levels.{inRange, residues, isAmong}
 use Rattle.basis.specs.Layout.{fill, over}

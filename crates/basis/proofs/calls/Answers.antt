@@ -144,9 +144,6 @@ module _ (s : Settings) (ok : Accepted s) (S : List (List ℕ)) (h : Points s S)
     values-places : valuesIn ≡ map found (map (fill 8) S)
     values-places = ap (map found) (table-groups 8 512 S (omega (arith, h .few)))
 
-    pub length-values : length valuesIn ≡ length S
-    length-values = ap length values-places ∙ length-map (map (fill 8) S) found ∙ length-map S (fill 8)
-
     pub value-in : (i : ℕ) → i < length S
         → getD valuesIn i 0 ≡ eval (spaceUnder s) (polynomialOf (s .variables) cs es) (pointUnder s (getD S i [])) % s .modulus
     value-in i k =

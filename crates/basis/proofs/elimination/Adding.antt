@@ -11,7 +11,7 @@ use Rattle.residue.specs.Lists.{Among}
 use Rattle.residue.proofs.Congruence.{rfl, of, flip, _then_, _plus_, _times_, scale, lin, reduce}
 use Rattle.residue.proofs.Sums.{each}
 use Rattle.monomial.specs.Increasing.{inserted}
-use Rattle.basis.specs.Space.{Space, Less}
+use Rattle.basis.specs.Space.{Space}
 use Rattle.basis.specs.Polynomial.{eval, Distinct, terms}
 use Rattle.basis.specs.Basis.{Row}
 use Rattle.basis.specs.Extension.{slot, minus, extended, first, grow}
@@ -19,7 +19,7 @@ use Rattle.basis.specs.BasisOf.{basisOf, standardOf, leadsOf, rowOf, row
 use Rattle.basis.proofs.ideal.Laws.{Laws, cond-so, cond-not, zero-told}
 use Rattle.basis.proofs.ideal.Lists.{getD-among, index-of}
 use Rattle.basis.proofs.ideal.Newton.{at, error}
-use Rattle.basis.proofs.ideal.Staircase.{Holds, normal-form}
+use Rattle.basis.proofs.ideal.Staircase.{Holds}
 use Rattle.basis.proofs.ideal.ZeroSet.{zeros}
 use Rattle.basis.proofs.ideal.Columns.{slot-length, slot-value, slot-members, minus-length, minus-small, minus-value}
 use Rattle.basis.proofs.ideal.Extend.{error-holds}
@@ -88,12 +88,6 @@ module _ (D : Space) where
 
     value-holds : (i : ℕ) → i < length (leadsOf D S) → valueOf S P i ≈ 0 → (a : Mono) → getD (leadsOf D S) i one ≡ a → Holds D (standardOf D S) (coefficientsOf D S) P a
     value-holds i h z a e = error-holds D (standardOf D S) (coefficientsOf D S) P a (rw e at (flip (value-error i h) then z))
-
-    -- a monomial has the value of its remainder at every point where the rows vanish whose leads are not above it
-    pub normal-form-at : (a : Mono) → ((i : ℕ) → i < length (leadsOf D S) → ¬ Less D a (getD (leadsOf D S) i one) → valueOf S P i ≈ 0)
-        → val a P ≈ at D (coefficientsOf D S (val a)) (standardOf D S) P
-    normal-form-at a h = normal-form D L S (standardOf D S) (leadsOf D S) (coefficientsOf D S) (staircase D L S d) P a
-        (λ b mem up. let t = index-of (leadsOf D S) one b mem in value-holds (t .0) (t .1) (h (t .0) (t .1) (rw (t .2) up)) b (t .2))
 
     -- the rows vanish together at the points alone
     pub zero-set : ((i : ℕ) → i < length (leadsOf D S) → valueOf S P i ≈ 0) → Among P S

@@ -28,7 +28,7 @@ places-longer w [] = refl
 places-longer w (cs ∷ rs) = ap₂ _++_ (fill-longer w cs) (places-longer w rs)
 
 module _ (D : Space) (S : List (D .Pt)) where
-  open Space D using (Mono, Pt)
+  open Space D using (Mono)
 
   module _ (standard : List Mono) where
     pub rows-count : (l : List Mono) (rs : List (List ℕ)) → Rows D S standard l rs → length rs ≡ length l

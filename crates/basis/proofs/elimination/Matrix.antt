@@ -17,7 +17,7 @@ use Rattle.basis.specs.Polynomial.{eval, coefficient, terms}
 use Rattle.basis.specs.Basis.{Row}
 use Rattle.basis.proofs.ideal.Laws.{Laws}
 use Rattle.basis.proofs.ideal.Lists.{getD-among, index-of}
-use Rattle.basis.proofs.ideal.Newton.{at, at-lin}
+use Rattle.basis.proofs.ideal.Newton.{at-lin}
 use Rattle.basis.proofs.ideal.Sound.{eval-at}
 use Rattle.basis.proofs.ValueRows.{part-long}
 use Rattle.basis.proofs.elimination.Pivots.{Spanned}

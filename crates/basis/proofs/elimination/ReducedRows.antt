@@ -10,11 +10,11 @@ use lib.Seq.{ext-getD, getD-append-add}
 use Rattle.residue.specs.Congruence.{Mod}
 use Rattle.residue.specs.Vector.{Below}
 use Rattle.residue.specs.Elimination.{eliminated}
-use Rattle.residue.proofs.Congruence.{of, flip, reduce, negative, _then_, _plus_, scale, lin, small}
+use Rattle.residue.proofs.Congruence.{of, flip, reduce, negative, _then_, _plus_, lin, small}
 use Rattle.residue.proofs.Vectors.{map-at}
 use Rattle.basis.specs.Layout.{fill}
 use Rattle.basis.proofs.Layouts.{length-fill, fill-at}
-use Rattle.basis.proofs.elimination.Combinations.{combination, combination-add, combination-zero, combination-scale}
+use Rattle.basis.proofs.elimination.Combinations.{combination, combination-add, combination-zero}
 use Rattle.basis.proofs.elimination.PivotRows.{PivotRows, Working, ZeroAt, vanishes, eliminated-works, eliminated-zero}
 
 -- the negative of each residue
@@ -47,13 +47,6 @@ module _ (q n found : ℕ) (v : ℕ → ℕ → ℕ) where
           go : Dec (n + j < 128) → getD (fill 128 vs) (n + j) 0 ≡ 0
           go (yes k) = fill-at 128 vs (n + j) k ∙ List·getD-eq-default vs 0 (omega arith)
           go (no k) = List·getD-eq-default (fill 128 vs) 0 (omega (arith, k, length-fill 128 vs))
-
-  -- 0 at every point: φ is the combination with the coefficients' negatives
-  pub all-zero : (φ : ℕ → ℕ) (w : List ℕ) → Working q n found v φ w → ((i : ℕ) → i < n → getD w i 0 ≡ 0)
-      → (i : ℕ) → i < n → Mod (suc q) (combination v found (λ j. q * getD w (n + j) 0) i) (φ i)
-  all-zero φ w W z i h =
-      of (combination-scale v q (λ j. getD w (n + j) 0) found i)
-      then lin (scale q (flip (of (sym (z i h)) then W .values i h))) (φ i) 0 (omega arith)
 
   module _ (rows pivots : List ℕ) (P : PivotRows q n found v rows pivots) where
     -- the row is 0 at every pivot, and φ is a combination

@@ -5,7 +5,7 @@ use mathlib.Core.Logic.{_⊎_, inl, inr}
 use Prim.Native.Nat.{ℕ, zero, suc, _+_, _<_}
 use native.Mathlib.Omega.{arith}
 use lib.ListN.{length, getD}
-use Rattle.residue.specs.Lists.{Among, sumOver}
+use Rattle.residue.specs.Lists.{Among}
 use Rattle.monomial.specs.Increasing.{Increasing}
 use Rattle.monomial.proofs.Orders.Increasing.{below-member, member-below}
 use Rattle.basis.specs.Space.{Space, Less}
@@ -34,10 +34,6 @@ snoc-in [] c b (inr e) = inl e
 snoc-in (a ∷ l) c b (inl (inl e)) = inl e
 snoc-in (a ∷ l) c b (inl (inr mem)) = inr (snoc-in l c b (inl mem))
 snoc-in (a ∷ l) c b (inr e) = inr (snoc-in l c b (inr e))
-
-pub snoc-sum : {A : Type 0} (f : A → ℕ) (l : List A) (c : A) → sumOver f (l ++ (c ∷ [])) ≡ f c + sumOver f l
-snoc-sum f [] c = refl
-snoc-sum f (a ∷ l) c = let h : sumOver f (l ++ (c ∷ [])) ≡ f c + sumOver f l = snoc-sum f l c in omega arith
 
 module _ (D : Space) where
   open Space D using (Mono, cmp)

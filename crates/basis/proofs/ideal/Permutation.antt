@@ -48,6 +48,3 @@ module _ (D : Space) (L : Laws D) where
     -- it gives the same basis as in front
     pub basis-snoc : (standardOf D (S ++ (P ∷ [])) ≡ standardOf D (P ∷ S)) × (leadsOf D (S ++ (P ∷ [])) ≡ leadsOf D (P ∷ S)) × (rowsOf D (S ++ (P ∷ [])) ≡ rowsOf D (P ∷ S))
     basis-snoc = basis-permuted (S ++ (P ∷ [])) (P ∷ S) distinct-snoc (far, d) to-front to-end
-
-    pub interpolant-snoc : (φ : Pt → ℕ) → basisOf D (S ++ (P ∷ [])) .interpolant φ ≡ basisOf D (P ∷ S) .interpolant φ
-    interpolant-snoc = interpolant-permuted (S ++ (P ∷ [])) (P ∷ S) distinct-snoc (far, d) to-front to-end

@@ -104,7 +104,7 @@ module _ (D : Space) where
       own a b m mem = flip (interp-unique D S l N B (val a) (hit D a) (λ P _. hit-at a m P) b mem)
 
     module _ (S : List Pt) (l leads : List Mono) (N : (Pt → ℕ) → Mono → ℕ) (T : Staircase S l leads N) where
-      open Staircase T using (base, increasing, below, down, leads-increasing, outside, minimal, cover)
+      open Staircase T using (base, increasing, below, down, outside, minimal, cover)
 
       inside-standard : (a : Mono) → Among a l → Standard D S a
       inside-standard a mem (f, v, g) = g .0 (lin (flip all plus transfer S l N base increasing f v a mem) 0 (coefficient D f a) (omega arith))

@@ -1,6 +1,6 @@
 -- Division of monomials.
-use mathlib.Core.Path.{_≡_, refl, sym, ap, _∙_}
-use mathlib.Core.Logic.{_⊎_, inl, inr, _↔_}
+use mathlib.Core.Path.{_≡_, refl, sym, ap}
+use mathlib.Core.Logic.{_⊎_, inl, inr}
 use mathlib.Core.Bool.{true, false≢true, and-eq-true-iff}
 use mathlib.Core.List.{List, [], _∷_}
 use Prim.Native.Nat.{ℕ, zero, suc, _+_, _-_, _<_, _≤_, suc-le-suc}
@@ -81,18 +81,6 @@ quotient-product (y ∷ ys) (x ∷ xs) h =
     let p = split x y xs ys h in
     let e : y - x + x ≡ y = omega arith in
     rw (e, quotient-product ys xs (p .rest))
-
-pub divides-product : (u a : List ℕ) → divides a (product u a) ≡ true
-divides-product [] a = divides-refl a
-divides-product (z ∷ zs) [] = refl
-divides-product (z ∷ zs) (x ∷ xs) = join x (z + x) xs (product zs xs) (omega arith) (divides-product zs xs)
-
--- a divides b where b is a product of a
-pub divides-iff : (a b : List ℕ) → length a ≡ length b → (divides a b ≡ true) ↔ ((u : List ℕ) × (length u ≡ length a) × (b ≡ product u a))
-divides-iff a b l = (
-  λ h. (quotient b a, length-quotient b a ∙ sym l, sym (quotient-product b a h)),
-  λ q. rw (q .2) (divides-product (q .0) a),
-)
 
 -- a proper multiple b of a is reached by one variable from below, from x_(k+1) a, and from above, from c with b = x_(k+1) c
 abbrev pub Step : List ℕ → List ℕ → Type 0

@@ -3,11 +3,11 @@ use mathlib.Core.Path.{_≡_, refl, sym, ap, _∙_}
 use mathlib.Core.Bool.{true}
 use mathlib.Core.List.{List}
 use Prim.Native.Nat.{ℕ, _<_, Ordering, Ordering·lt, Ordering·eq, Ordering·gt}
-use lib.ListN.{length, length-replicate}
+use lib.ListN.{length}
 use Rattle.monomial.specs.Monomial.{one, product, timesVariable, divides}
 use Rattle.monomial.specs.Order.{Order, cmp}
 use Rattle.monomial.proofs.Algebra.Products.{aligned, variable-product, length-variable, timesVariable-differs}
-use Rattle.monomial.proofs.Algebra.Division.{quotient, length-quotient, quotient-product, one-divides}
+use Rattle.monomial.proofs.Algebra.Division.{quotient, length-quotient, quotient-product}
 use Rattle.monomial.proofs.Orders.Lawful.{lawful}
 use Rattle.monomial.proofs.Orders.Keys.{cmp-product, cmp-grow}
 
@@ -37,6 +37,3 @@ module _ (order : Order) where
   timesVariable-greater k a h =
       rw (← variable-product k a)
       (grows (timesVariable k (one (length a))) a (length-variable k (length a)) (λ e. timesVariable-differs k a h (e ∙ variable-product k a)))
-
-  pub one-least : (m : ℕ) (a : List ℕ) → length a ≡ m → ¬ (one m ≡ a) → cmp order (one m) a ≡ Ordering·lt
-  one-least m a l ne = divisor-smaller (one m) a (length-replicate m 0 ∙ sym l) (one-divides m a l) ne

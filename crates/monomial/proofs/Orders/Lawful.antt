@@ -19,14 +19,6 @@ module _ {A : Type 0} (c : A → A → Ordering) (L : Lawful c) where
   pub turn : {a b : A} → c a b ≡ Ordering·gt → c b a ≡ Ordering·lt
   turn {a} {b} h = L .swap a b ∙ ap turned h
 
-  pub tri : (a b : A) → (c a b ≡ Ordering·lt) ⊎ ((a ≡ b) ⊎ (c b a ≡ Ordering·lt))
-  tri a b = go (c a b) refl
-    where
-      go : (o : Ordering) → c a b ≡ o → (c a b ≡ Ordering·lt) ⊎ ((a ≡ b) ⊎ (c b a ≡ Ordering·lt))
-      go Ordering·lt e = inl e
-      go Ordering·eq e = inr (inl (L .eq a b e))
-      go Ordering·gt e = inr (inr (turn e))
-
   pub irrefl : (a : A) → c a a ≡ Ordering·lt → ⊥
   irrefl a h = lt≢eq (sym h ∙ L .self a)
 
@@ -38,16 +30,6 @@ module _ {A : Type 0} (c : A → A → Ordering) (L : Lawful c) where
 
   pub asym : {a b : A} → c a b ≡ Ordering·lt → c b a ≡ Ordering·lt → ⊥
   asym {a} h k = irrefl a (trans h k)
-
-  pub equal-from : (a b : A) (o : Ordering) → c a b ≡ o → Dec (a ≡ b)
-  equal-from a b Ordering·lt e = no (λ q. differ q e)
-  equal-from a b Ordering·eq e = yes (L .eq a b e)
-  equal-from a b Ordering·gt e = no (λ q. differ (sym q) (turn e))
-
-  -- equality is decided by the comparison, and the decision computes
-  unfoldable pub equal? : (a b : A) → Dec (a ≡ b)
-  unfolding equal-from
-  equal? a b = equal-from a b (c a b) refl
 
 -- a lawful comparison of what is told of the elements, where that tells them apart
 pub told-by : {A B : Type 0} (f : A → B) → ((a b : A) → f a ≡ f b → a ≡ b) → (c : B → B → Ordering) → Lawful c → Lawful (λ (a b : A). c (f a) (f b))

@@ -1,21 +1,20 @@
 -- `answers::wiring` meets its contract: at each return the tests that led there decide the outcome.
 use borrow.Author.Needs.{needs}
 use borrow.Author.Tests.{not-true, not-false}
-use mathlib.Core.Path.{_≡_, refl, sym, ap, ap₂, subst, _∙_}
-use mathlib.Core.Bool.{Bool, true, false, not, _||_}
-use mathlib.Core.List.{List, map}
-use Prim.Native.Nat.{ℕ, _*_, _≤_, _<_}
+use mathlib.Core.Path.{_≡_, refl, sym, ap, _∙_}
+use mathlib.Core.Bool.{true, not, _||_}
+use mathlib.Core.List.{List}
+use Prim.Native.Nat.{ℕ}
 use native.Mathlib.Omega.{arith}
-use lib.IntN.{ℤ}
-use lib.ListN.{length, take, getD, replicate}
+use lib.ListN.{length, take, replicate}
 use lib.Dec.{eqb, ltb}
 use Rattle.residue.proofs.Moduli.{modulus-range}
 use Rattle.basis.specs.Levels.{inRange, groups}
-use Rattle.basis.specs.Layout.{fill, inPlaces, over}
+use Rattle.basis.specs.Layout.{fill, over}
 use Rattle.basis.specs.Tables.{Tables, fourTables, tooShort, pointsIn, recognised}
-use Rattle.basis.specs.Solving.{withinVariables, interpolantIn, interpolateOutcome, remainderIn, remainderOutcome}
+use Rattle.basis.specs.Solving.{interpolantIn}
 use Rattle.basis.specs.Drawing.{Solves}
-use Rattle.basis.proofs.calls.Refusing.{Passed, fill-refused, fill-accepted}
+use Rattle.basis.proofs.calls.Refusing.{Passed}
 use native.Mathlib.Nat.{le-refl}
 use lib.Seq.{length-take-le}
 use Rattle.basis.specs.Interpolants.{names}

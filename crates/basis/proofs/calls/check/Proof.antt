@@ -1,13 +1,8 @@
 -- `calls::check` meets its contract: at each return the tests that led there decide the number.
-use borrow.Author.Tests.{ltb-false, eqb-true, not-true, not-false}
-use mathlib.Core.Path.{_≡_, refl, sym, ap, ap₂, subst, _∙_}
-use mathlib.Core.Bool.{Bool, true, false, not, _||_}
-use mathlib.Core.List.{List}
-use Prim.Native.Nat.{ℕ, _*_, _≤_, _<_}
-use native.Mathlib.Omega.{arith}
-use lib.IntN.{ℤ}
-use lib.ListN.{length, take, getD, replicate}
-use lib.Dec.{eqb, ltb}
+use borrow.Author.Tests.{ltb-false}
+use mathlib.Core.Path.{_≡_, refl, sym, _∙_}
+use mathlib.Core.Bool.{false}
+use lib.Dec.{ltb}
 use Rattle.basis.specs.Refusal.{firstOf}
 use Rattle.basis.specs.Tables.{Tables, fourTables, tooShort}
 use Rattle.basis.proofs.agreement.Refusals.{large-of}

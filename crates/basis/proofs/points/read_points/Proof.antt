@@ -8,7 +8,7 @@ use Rattle.basis.specs.Layout.{fill, inPlaces, over}
 use Rattle.basis.specs.Levels.{groups}
 use Rattle.basis.proofs.Layouts.{length-fill}
 use Rattle.basis.proofs.Places.{place-more, part-fits, no-places}
-use Rattle.basis.proofs.PointTables.{pointAt, pointsAs, length-points, points-more, point-read, points-in}
+use Rattle.basis.proofs.PointTables.{pointsAs, length-points, points-more, point-read, points-in}
 use Rattle.basis.proofs.points.read_points.Statement.{statement}
 use Rattle.basis.proofs.points.read_points.Tie as tie
 

@@ -1,15 +1,10 @@
 -- `solve::solve_values` meets its contract: the working row is loaded with the residues.
 use borrow.Author.Needs.{needs}
-use borrow.Author.Tests.{ltb-false, eqb-true, not-true, not-false}
-use mathlib.Core.Path.{_≡_, refl, sym, ap, ap₂, subst, _∙_}
-use mathlib.Core.Bool.{Bool, true, false, not, _||_}
+use mathlib.Core.Path.{_≡_, refl, sym, ap, subst, _∙_}
 use mathlib.Core.List.{List}
-use Prim.Native.Nat.{ℕ, _*_, _≤_, _<_}
+use Prim.Native.Nat.{ℕ}
 use native.Mathlib.Omega.{arith}
-use lib.IntN.{ℤ}
-use lib.ListN.{length, take, getD, replicate}
-use lib.Dec.{eqb, ltb}
-use lib.Seq.{length-take-le}
+use lib.ListN.{length, take, replicate}
 use Rattle.residue.specs.Vector.{Below}
 use Rattle.basis.specs.Levels.{residues}
 use Rattle.basis.specs.Layout.{fill, over}

@@ -1,10 +1,7 @@
 -- `points::fill_entry` meets its contract. The first j residues are written; the levels behind them are to be read from `from` on.
-use mathlib.Core.Path.{refl}
-use mathlib.Core.List.{List}
-use Prim.Native.Nat.{ℕ, _-_}
+use Prim.Native.Nat.{_-_}
 use native.Mathlib.Omega.{arith}
 use lib.ListN.{drop}
-use Rattle.csv.specs.Fields.{Part}
 use Rattle.csv.specs.Records.{entryPart}
 use Rattle.csv.proofs.Filling.{SoFar, start, level-there, value-there, step, done}
 use Rattle.csv.proofs.points.fill_entry.Statement.{statement}

@@ -3,11 +3,9 @@ use borrow.Author.Needs.{needs}
 use mathlib.Core.Path.{_≡_, sym, ap, _∙_, subst}
 use mathlib.Core.List.{List}
 use Prim.Native.Nat.{ℕ, _-_, _≤_}
-use native.Mathlib.Omega.{arith}
 use lib.ListN.{length, take, drop}
-use Rattle.csv.specs.Fields.{field, fieldOf}
 use Rattle.csv.specs.Forms.{levelOf}
-use Rattle.csv.specs.Spans.{undoubled, spanned, SpanWithin}
+use Rattle.csv.specs.Spans.{spanned, SpanWithin}
 use Rattle.csv.specs.Said.{levelSaid}
 use Rattle.csv.specs.Records.{held, reading, levelField, levelAtSaid}
 use Rattle.csv.specs.declared.forms.Signed.{Signed}

@@ -1,11 +1,9 @@
 -- `tables::is_earlier` meets its contract. The point is among the rows before the jth, or among those already passed it was not.
-use borrow.Author.Needs.{needs}
 use mathlib.Core.Path.{_≡_, refl, sym, ap, ap₂, _∙_}
-use mathlib.Core.Bool.{Bool}
 use mathlib.Core.List.{List}
 use Prim.Native.Nat.{ℕ, _+_, _*_, _-_, _≤_}
 use native.Mathlib.Omega.{arith}
-use lib.ListN.{length, take, drop}
+use lib.ListN.{take, drop}
 use Rattle.basis.specs.Levels.{sameList, isAmong}
 use Rattle.csv.specs.Points.{rowAt, earlier}
 use Rattle.csv.proofs.Repeating.{among-here, among-on, among-end}

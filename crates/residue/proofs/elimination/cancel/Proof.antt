@@ -1,13 +1,13 @@
 -- `elimination::cancel` meets its contract.
 use mathlib.Core.Path.{_≡_, sym, ap, subst, _∙_}
 use mathlib.Core.List.{List}
-use Prim.Native.Nat.{ℕ, _+_, _*_, _-_, _%_, _<_, _≤_}
+use Prim.Native.Nat.{ℕ, _+_, _*_, _-_, _%_, _<_}
 use native.Mathlib.Nat.{mod-lt}
 use native.Mathlib.Omega.{arith}
 use lib.ListN.{length, getD}
 use borrow.Author.Needs.{needs}
 use Rattle.residue.specs.Vector.{Below}
-use Rattle.residue.specs.Elimination.{gained, reduced, cancelled}
+use Rattle.residue.specs.Elimination.{gained, reduced}
 use Rattle.residue.proofs.Eliminated.{cancel-kept, cancel-gained, cancel-folded, gained-below, reduced-below, reduced-length}
 use Rattle.residue.proofs.elimination.cancel.Statement.{statement}
 use Rattle.residue.proofs.elimination.cancel.Tie as tie

@@ -1,7 +1,7 @@
 -- `elimination::eliminate` meets its contract. Reduced, the loop's row is the row that has met the first t pivot rows; its entries fit 16 bits.
-use mathlib.Core.Path.{_≡_, subst, ap, ap₂, sym, _∙_}
+use mathlib.Core.Path.{_≡_, ap, ap₂, sym, _∙_}
 use mathlib.Core.List.{List}
-use Prim.Native.Nat.{ℕ, _+_, _*_, _-_, _<_, _≤_}
+use Prim.Native.Nat.{ℕ, _+_, _*_, _-_, _≤_}
 use native.Mathlib.Omega.{arith}
 use lib.ListN.{length, getD, take, drop}
 use Rattle.residue.specs.Vector.{Below}
