@@ -64,25 +64,25 @@ module _ (d : tie.After-copy2) where
   states-512 = ap length states ∙ states-long (o .args .settings) (all o)
 
 slice-aggregate-copy : tie.Need-slice-aggregate-copy
-slice-aggregate-copy c = search needs
+slice-aggregate-copy c = refl
 
 copy-requires : tie.Need-copy-requires
 copy-requires c κs = omega (arith, long (c .before .before .before .before .before .before .before .before .before))
 
 mul-from : tie.Need-mul-from
-mul-from c = search needs
+mul-from c = omega arith
 
 add-copy : tie.Need-add-copy
-add-copy c = search needs
+add-copy c = omega arith
 
 sub-copy : tie.Need-sub-copy
-sub-copy c = search needs
+sub-copy c = omega arith
 
 part-new-states-start : tie.Need-part-new-states-start
-part-new-states-start c = search needs
+part-new-states-start c = omega arith
 
 part-new-states-end : tie.Need-part-new-states-end
-part-new-states-end c = search needs
+part-new-states-end c = omega arith
 
 copy-requires-2 : tie.Need-copy-requires-2
 copy-requires-2 c κs =
@@ -96,34 +96,34 @@ cast-add-to : tie.Need-cast-add-to
 cast-add-to c = let s = o (c .before .before) in omega (arith, modulus-range (s .args .settings .modulus) (s .pre .0 .modulus))
 
 cast-add-to-2 : tie.Need-cast-add-to-2
-cast-add-to-2 c = search needs
+cast-add-to-2 c = omega arith
 
 slice-reshare-prefix-add-to : tie.Need-slice-reshare-prefix-add-to
-slice-reshare-prefix-add-to c = search needs
+slice-reshare-prefix-add-to c = omega arith
 
 slice-aggregate-add-to : tie.Need-slice-aggregate-add-to
 slice-aggregate-add-to c = let s = o (c .before .before .before .before) in sym (length-take-le 512 (s .args .standard .now) (s .pre .1 .0 .1))
 
 slice-reshare-prefix-add-to-2 : tie.Need-slice-reshare-prefix-add-to-2
-slice-reshare-prefix-add-to-2 c = search needs
+slice-reshare-prefix-add-to-2 c = omega arith
 
 slice-aggregate-add-to-2 : tie.Need-slice-aggregate-add-to-2
 slice-aggregate-add-to-2 c = let s = o (c .before .before .before .before .before) in sym (length-take-le 3592 (s .args .leads .now) (s .pre .1 .0 .2))
 
 slice-reshare-prefix-add-to-3 : tie.Need-slice-reshare-prefix-add-to-3
-slice-reshare-prefix-add-to-3 c = search needs
+slice-reshare-prefix-add-to-3 c = omega arith
 
 slice-aggregate-add-to-3 : tie.Need-slice-aggregate-add-to-3
 slice-aggregate-add-to-3 c = let s = o (c .before .before .before .before .before .before) in sym (length-take-le 28736 (s .args .coefficients .now) (s .pre .1 .0 .3))
 
 slice-aggregate-add-to-4 : tie.Need-slice-aggregate-add-to-4
-slice-aggregate-add-to-4 c = search needs
+slice-aggregate-add-to-4 c = refl
 
 slice-aggregate-add-to-5 : tie.Need-slice-aggregate-add-to-5
-slice-aggregate-add-to-5 c = search needs
+slice-aggregate-add-to-5 c = refl
 
 slice-aggregate-add-to-6 : tie.Need-slice-aggregate-add-to-6
-slice-aggregate-add-to-6 c = search needs
+slice-aggregate-add-to-6 c = refl
 
 add-to-requires : tie.Need-add-to-requires
 add-to-requires c κs = let s = o (c .before .before .before .before .before .before .before .before .before) in (s .pre .0, (s .pre .1 .1 .0, (s .pre .1 .1 .1 .0, (s .pre .1 .1 .1 .1, (refl, refl, refl)))))
@@ -132,13 +132,13 @@ slice-aggregate-write : tie.Need-slice-aggregate-write
 slice-aggregate-write c = sym (states-512 (copies (c .before .before .before .before)))
 
 slice-aggregate-write-2 : tie.Need-slice-aggregate-write-2
-slice-aggregate-write-2 c = search needs
+slice-aggregate-write-2 c = sym (c .before .before .before .before .before .add-to .kept .1 .1 .1 .1 .1 .1 .1 .1 .1 .1 .1 .1 .0)
 
 slice-aggregate-write-3 : tie.Need-slice-aggregate-write-3
-slice-aggregate-write-3 c = search needs
+slice-aggregate-write-3 c = sym (c .before .before .before .before .before .before .add-to .kept .1 .1 .1 .1 .1 .1 .1 .1 .1 .1 .1 .1 .1 .0)
 
 slice-aggregate-write-4 : tie.Need-slice-aggregate-write-4
-slice-aggregate-write-4 c = search needs
+slice-aggregate-write-4 c = sym (c .before .before .before .before .before .before .before .add-to .kept .1 .1 .1 .1 .1 .1 .1 .1 .1 .1 .1 .1 .1 .1 .0)
 
 write-requires : tie.Need-write-requires
 write-requires c κs =
@@ -148,16 +148,16 @@ write-requires c κs =
     (omega (arith, h, states-512 (copies a)), (omega (arith, h, k .0), (omega (arith, h, k .1 .0), omega (arith, h, k .1 .1 .0))))
 
 same-length : tie.Need-same-length
-same-length c = search needs
+same-length c = c .before .before .before .before .before .before .before .before .write .kept .1 .1 .1 .1 .0
 
 same-length-2 : tie.Need-same-length-2
-same-length-2 c = search needs
+same-length-2 c = c .before .before .before .before .before .before .before .before .write .kept .1 .1 .1 .1 .1 .0
 
 same-length-3 : tie.Need-same-length-3
-same-length-3 c = search needs
+same-length-3 c = c .before .before .before .before .before .before .before .before .write .kept .1 .1 .1 .1 .1 .1 .0
 
 same-length-4 : tie.Need-same-length-4
-same-length-4 c = search needs
+same-length-4 c = c .before .before .before .before .before .before .before .before .write .kept .1 .1 .1 .1 .1 .1 .1 .0
 
 returns : tie.Need-returns
 returns c =

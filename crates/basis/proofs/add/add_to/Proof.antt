@@ -1,5 +1,5 @@
 -- `add::add_to` meets its contract.
-use mathlib.Core.Path.{sym, subst}
+use mathlib.Core.Path.{sym, subst, refl}
 use Prim.Native.Nat.{_≤_}
 use native.Mathlib.Omega.{arith}
 use Rattle.residue.specs.Vector.{Below}
@@ -37,7 +37,7 @@ small d =
     subst (Below (s .args .p)) (sym (d .values-at .ensures)) (values-below (s .args .p) (valueAt (s .args .point .now)) (groups 8 (s .args .n) (s .args .standard .now)) 64 (omega (arith, low s)))
 
 slice-aggregate-values-at : tie.Need-slice-aggregate-values-at
-slice-aggregate-values-at c = search needs
+slice-aggregate-values-at c = refl
 
 values-at-requires : tie.Need-values-at-requires
 values-at-requires c κs =
@@ -46,7 +46,7 @@ values-at-requires c κs =
     ((low s, high s), ((omega (arith, s .pre .1 .1 .0, h .standard-size), omega (arith, s .pre .1 .1 .0)), (h .point-size, s .pre .1 .1 .1 .0 .below)))
 
 slice-aggregate-first-row : tie.Need-slice-aggregate-first-row
-slice-aggregate-first-row c = search needs
+slice-aggregate-first-row c = sym (c .before .before .values-at .kept .1 .1 .1 .1 .0)
 
 first-row-requires : tie.Need-first-row-requires
 first-row-requires c κs =
@@ -61,7 +61,7 @@ first-row-requires c κs =
     )
 
 slice-aggregate-grow : tie.Need-slice-aggregate-grow
-slice-aggregate-grow c = search needs
+slice-aggregate-grow c = sym (c .before .before .before .before .values-at .kept .1 .1 .1 .1 .0)
 
 grow-requires : tie.Need-grow-requires
 grow-requires c κs =
@@ -83,13 +83,13 @@ grow-requires c κs =
     )
 
 same-length : tie.Need-same-length
-same-length c = search needs
+same-length c = c .before .before .before .before .before .before .grow .kept .1 .1 .1 .1 .1 .1 .1 .1 .1 .1 .1 .1 .1 .1 .0
 
 same-length-2 : tie.Need-same-length-2
-same-length-2 c = search needs
+same-length-2 c = c .before .before .before .before .before .before .grow .kept .1 .1 .1 .1 .1 .1 .1 .1 .1 .1 .1 .1 .1 .1 .1 .0
 
 same-length-3 : tie.Need-same-length-3
-same-length-3 c = search needs
+same-length-3 c = c .before .before .before .before .before .before .grow .kept .1 .1 .1 .1 .1 .1 .1 .1 .1 .1 .1 .1 .1 .1 .1 .1 .0
 
 returns : tie.Need-returns
 returns c =

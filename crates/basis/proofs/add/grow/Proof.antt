@@ -1,5 +1,5 @@
 -- `add::grow` meets its contract.
-use mathlib.Core.Path.{_≡_, sym, ap, ap₂, subst, _∙_}
+use mathlib.Core.Path.{_≡_, sym, ap, ap₂, subst, _∙_, refl}
 use mathlib.Core.List.{List}
 use Prim.Native.Nat.{ℕ, _+_, _*_, _-_, _<_, _≤_}
 use native.Mathlib.Omega.{arith}
@@ -103,43 +103,43 @@ module _ (k : tie.After-keep-others) where
   rows-long = k .keep-others .kept .1 .1 .1 .1 .1 .1 .1 .1 .1 .1 .1 .0 ∙ zeros-long _ 28736 (o (placed k) .pre .1 .1 .1 .1 .1 .1 .2)
 
 mul-from : tie.Need-mul-from
-mul-from c = search needs
+mul-from c = omega arith
 
 add-lead : tie.Need-add-lead
-add-lead c = search needs
+add-lead c = omega arith
 
 sub-lead : tie.Need-sub-lead
-sub-lead c = search needs
+sub-lead c = omega arith
 
 part-lead-start : tie.Need-part-lead-start
-part-lead-start c = search needs
+part-lead-start c = omega arith
 
 part-lead-end : tie.Need-part-lead-end
 part-lead-end c = let s = c .before .before .before .before .before .before .before .before .before .before .before in omega (arith, s .pre .1 .0, s .pre .1 .1 .0)
 
 mul-first : tie.Need-mul-first
-mul-first c = search needs
+mul-first c = omega arith
 
 add-widen : tie.Need-add-widen
-add-widen c = search needs
+add-widen c = omega arith
 
 sub-widen : tie.Need-sub-widen
-sub-widen c = search needs
+sub-widen c = omega arith
 
 part-widen-start : tie.Need-part-widen-start
-part-widen-start c = search needs
+part-widen-start c = omega arith
 
 part-widen-end : tie.Need-part-widen-end
 part-widen-end c = let s = c .before .before .before .before .before .before .before .before .before .before .before .before in omega (arith, s .pre .1 .0, s .pre .1 .1 .0)
 
 slice-aggregate-widen : tie.Need-slice-aggregate-widen
-slice-aggregate-widen c = search needs
+slice-aggregate-widen c = refl
 
 widen-requires : tie.Need-widen-requires
-widen-requires c κs = search needs
+widen-requires c κs = omega arith
 
 slice-aggregate-row-value : tie.Need-slice-aggregate-row-value
-slice-aggregate-row-value c = search needs
+slice-aggregate-row-value c = sym (c .before .before .widen .kept .1 .0)
 
 row-value-requires : tie.Need-row-value-requires
 row-value-requires c κs =
@@ -148,7 +148,7 @@ row-value-requires c κs =
     ((s .pre .0 .0, s .pre .0 .1), ((s .pre .1 .1 .0 .3, lead-long s), ((gone-long w ∙ sym (s .pre .1 .1 .0 .4), omega (arith, gone-long w)), (s .pre .1 .1 .1 .0 .3, (s .pre .1 .1 .1 .0 .4, gone-below w)))))
 
 inverse-requires : tie.Need-inverse-requires
-inverse-requires c κs = search needs
+inverse-requires c κs = tt
 
 copy-requires : tie.Need-copy-requires
 copy-requires c κs = let s = start (c .before .before .before .before .before) in omega (arith, s .pre .1 .1 .0 .0, zeros-long _ 512 (s .pre .1 .1 .1 .1 .1 .1 .0))
@@ -174,7 +174,7 @@ keep-others-requires c κs =
     )
 
 slice-aggregate-copy : tie.Need-slice-aggregate-copy
-slice-aggregate-copy c = search needs
+slice-aggregate-copy c = refl
 
 copy-requires-2 : tie.Need-copy-requires-2
 copy-requires-2 c κs = omega (arith, leads-long (c .before .before .before .before .before .before))
@@ -211,10 +211,10 @@ same-length : tie.Need-same-length
 same-length c = let d = placed (c .before .before .before .before .before .before .before .before .before .before .before .before .before .before .before .before .before) in d .put-in .kept .1 .1 .0 ∙ copied d .copy .kept .1 .0
 
 same-length-2 : tie.Need-same-length-2
-same-length-2 c = search needs
+same-length-2 c = c .before .before .before .before .add-products .kept .1 .1 .1 .1 .1 .1 .1 .1 .1 .1 .1 .1 .1 .1 .1 .0 ∙ c .before .before .before .before .before .before .before .before .before .before .before .before .before .before .before .before .before .keep-others .kept .1 .1 .1 .1 .1 .1 .1 .1 .1 .1 .0
 
 same-length-3 : tie.Need-same-length-3
-same-length-3 c = search needs
+same-length-3 c = c .before .before .before .before .add-products .kept .1 .1 .1 .1 .1 .1 .1 .1 .1 .1 .1 .1 .1 .1 .1 .1 .0 ∙ c .before .before .before .before .before .before .before .before .before .before .before .before .before .before .before .before .before .keep-others .kept .1 .1 .1 .1 .1 .1 .1 .1 .1 .1 .1 .0
 
 returns : tie.Need-returns
 unfolding standardGrown

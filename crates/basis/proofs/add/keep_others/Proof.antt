@@ -28,7 +28,7 @@ take-out-requires-2 c κs =
     ((s .pre .1 .1 .0 .0, omega (arith, s .pre .1 .1 .0)), omega (arith, s .pre .1 .1 .0, zeros-long _ 28736 (s .pre .1 .1 .1 .1 .1)))
 
 sub-correct-rows : tie.Need-sub-correct-rows
-sub-correct-rows c = search needs
+sub-correct-rows c = omega arith
 
 correct-rows-requires : tie.Need-correct-rows-requires
 correct-rows-requires c κs =
@@ -47,10 +47,10 @@ correct-rows-requires c κs =
     )
 
 same-length : tie.Need-same-length
-same-length c = search needs
+same-length c = c .before .before .before .before .before .before .before .before .before .before .before .take-out .kept .1 .1 .1 .1 .0
 
 same-length-2 : tie.Need-same-length-2
-same-length-2 c = search needs
+same-length-2 c = c .before .before .correct-rows .kept .1 .1 .1 .1 .1 .1 .1 .1 .0 ∙ c .before .before .before .before .before .before .before .take-out2 .kept .1 .1 .1 .1 .0
 
 returns : tie.Need-returns
 unfolding othersOf othersCorrected

@@ -1,6 +1,6 @@
 -- `adding::add_point` meets its contract: it is refused with the number of its refusal, or the tables are written.
 use borrow.Author.Needs.{needs}
-use mathlib.Core.Path.{_≡_, sym, _∙_}
+use mathlib.Core.Path.{_≡_, sym, _∙_, refl}
 use mathlib.Core.List.{List}
 use Prim.Native.Nat.{ℕ}
 use native.Mathlib.Omega.{arith}
@@ -52,31 +52,31 @@ abbrev writing : tie.After-slice-known8 → tie.Else1
 writing c = c .before .before .before .before .before .before .before .before .before .before .before .before .before .before .before .before .before
 
 slice-aggregate-add-refusal : tie.Need-slice-aggregate-add-refusal
-slice-aggregate-add-refusal c = search needs
+slice-aggregate-add-refusal c = refl
 
 slice-aggregate-add-refusal-2 : tie.Need-slice-aggregate-add-refusal-2
-slice-aggregate-add-refusal-2 c = search needs
+slice-aggregate-add-refusal-2 c = refl
 
 slice-aggregate-add-refusal-3 : tie.Need-slice-aggregate-add-refusal-3
-slice-aggregate-add-refusal-3 c = search needs
+slice-aggregate-add-refusal-3 c = refl
 
 slice-aggregate-add-refusal-4 : tie.Need-slice-aggregate-add-refusal-4
-slice-aggregate-add-refusal-4 c = search needs
+slice-aggregate-add-refusal-4 c = refl
 
 add-refusal-requires : tie.Need-add-refusal-requires
 add-refusal-requires c κs = search needs
 
 same-length : tie.Need-same-length
-same-length c = search needs
+same-length c = refl
 
 same-length-2 : tie.Need-same-length-2
-same-length-2 c = search needs
+same-length-2 c = refl
 
 same-length-3 : tie.Need-same-length-3
-same-length-3 c = search needs
+same-length-3 c = refl
 
 same-length-4 : tie.Need-same-length-4
-same-length-4 c = search needs
+same-length-4 c = refl
 
 returns : tie.Need-returns
 unfolding addOutcome refused
@@ -85,16 +85,16 @@ returns c =
     when-refused (tables (start d)) _ _ (d .add-refusal .result) (d .add-refusal .ensures .0) (c .if1 .taken)
 
 slice-aggregate-add-accepted : tie.Need-slice-aggregate-add-accepted
-slice-aggregate-add-accepted c = search needs
+slice-aggregate-add-accepted c = sym (c .before .before .before .before .before .before .add-refusal .kept .1 .1 .1 .1 .1 .1 .1 .1 .0)
 
 slice-aggregate-add-accepted-2 : tie.Need-slice-aggregate-add-accepted-2
-slice-aggregate-add-accepted-2 c = search needs
+slice-aggregate-add-accepted-2 c = sym (c .before .before .before .before .before .before .before .add-refusal .kept .1 .1 .1 .1 .1 .1 .1 .1 .1 .0)
 
 slice-aggregate-add-accepted-3 : tie.Need-slice-aggregate-add-accepted-3
-slice-aggregate-add-accepted-3 c = search needs
+slice-aggregate-add-accepted-3 c = sym (c .before .before .before .before .before .before .before .before .add-refusal .kept .1 .1 .1 .1 .1 .1 .1 .1 .1 .1 .0)
 
 slice-aggregate-add-accepted-4 : tie.Need-slice-aggregate-add-accepted-4
-slice-aggregate-add-accepted-4 c = search needs
+slice-aggregate-add-accepted-4 c = sym (c .before .before .before .before .before .before .before .before .before .add-refusal .kept .1 .1 .1 .1 .1 .1 .1 .1 .1 .1 .1 .0)
 
 add-accepted-requires : tie.Need-add-accepted-requires
 add-accepted-requires c κs =
@@ -111,13 +111,13 @@ cast-t52 : tie.Need-cast-t52
 cast-t52 c = omega (arith, c .before .before .before .before .before .before .before .before .add-accepted .ensures .0, handed (writing c) .few)
 
 same-length-5 : tie.Need-same-length-5
-same-length-5 c = search needs
+same-length-5 c = c .before .before .before .before .before .before .before .before .add-accepted .kept .1 .1 .1 .1 .1 .1 .1 .0
 
 same-length-6 : tie.Need-same-length-6
-same-length-6 c = search needs
+same-length-6 c = c .before .before .before .before .before .before .before .before .add-accepted .kept .1 .1 .1 .1 .1 .1 .1 .1 .0
 
 same-length-7 : tie.Need-same-length-7
-same-length-7 c = search needs
+same-length-7 c = c .before .before .before .before .before .before .before .before .add-accepted .kept .1 .1 .1 .1 .1 .1 .1 .1 .1 .0
 
 same-length-8 : tie.Need-same-length-8
 same-length-8 c = search needs

@@ -107,7 +107,7 @@ repeats a =
     a .is-among .ensures ∙ asked (s x .args .settings) (s x .args .n) (s x .args .r) (tables (s x)) (s x .args .levels .now) (room x .settings) (long x) (few x) (known h) _ _ (table h) (place w)
 
 add-sizes-requires : tie.Need-add-sizes-requires
-add-sizes-requires c κs = search needs
+add-sizes-requires c κs = tt
 
 returns : tie.Need-returns
 returns c =
@@ -118,7 +118,7 @@ cast-p : tie.Need-cast-p
 cast-p c = omega (arith, modulus-range (s (c .before) .args .settings .modulus) (room (c .before) .settings .modulus))
 
 in-range-requires : tie.Need-in-range-requires
-in-range-requires c κs = search needs
+in-range-requires c κs = tt
 
 returns-2 : tie.Need-returns-2
 returns-2 c =
@@ -132,13 +132,13 @@ recognise-requires c κs =
     ((room x .none, omega (arith, few x)), ((l .states, (l .standard, (l .leads, l .coefficients))), (s x .pre .0, (s x .pre .1, s x .pre .2))))
 
 same-length : tie.Need-same-length
-same-length c = search needs
+same-length c = c .before .before .before .before .before .before .before .recognise .kept .1 .1 .1 .1 .1 .1 .1 .0
 
 same-length-2 : tie.Need-same-length-2
-same-length-2 c = search needs
+same-length-2 c = c .before .before .before .before .before .before .before .recognise .kept .1 .1 .1 .1 .1 .1 .1 .1 .0
 
 same-length-3 : tie.Need-same-length-3
-same-length-3 c = search needs
+same-length-3 c = c .before .before .before .before .before .before .before .recognise .kept .1 .1 .1 .1 .1 .1 .1 .1 .1 .0
 
 returns-3 : tie.Need-returns-3
 returns-3 c =
@@ -157,16 +157,16 @@ is-among-requires c κs =
     (omega (arith, few (e (f h)), ap length (table h) ∙ length-fill 512 _), ap length (place w) ∙ length-fill 8 _)
 
 same-length-4 : tie.Need-same-length-4
-same-length-4 c = search needs
+same-length-4 c = c .before .before .before .before .before .before .before .before .before .before .before .before .before .before .before .recognise .kept .1 .1 .1 .1 .1 .1 .1 .0
 
 same-length-5 : tie.Need-same-length-5
-same-length-5 c = search needs
+same-length-5 c = c .before .before .before .before .before .before .before .before .before .before .before .before .before .before .before .recognise .kept .1 .1 .1 .1 .1 .1 .1 .1 .0
 
 same-length-6 : tie.Need-same-length-6
-same-length-6 c = search needs
+same-length-6 c = c .before .before .before .before .before .before .before .before .before .before .before .before .before .before .before .recognise .kept .1 .1 .1 .1 .1 .1 .1 .1 .1 .0
 
 same-length-7 : tie.Need-same-length-7
-same-length-7 c = search needs
+same-length-7 c = c .before .before .before .before .before .before .put-residues .kept .1 .1 .0
 
 returns-4 : tie.Need-returns-4
 returns-4 c =
@@ -176,16 +176,16 @@ returns-4 c =
     (add-repeat (s x .args .settings) (s x .args .n) (s x .args .r) (tables (s x)) (s x .args .levels .now) (fine x) (range (f h)) (known h) (sym (repeats (c .before)) ∙ c .if4 .taken), ((λ z. absurd (omega arith)), ((λ z. absurd (omega arith)), (λ z. absurd (omega arith)))))
 
 same-length-8 : tie.Need-same-length-8
-same-length-8 c = search needs
+same-length-8 c = c .before .before .before .before .before .before .before .before .before .before .before .before .before .before .before .recognise .kept .1 .1 .1 .1 .1 .1 .1 .0
 
 same-length-9 : tie.Need-same-length-9
-same-length-9 c = search needs
+same-length-9 c = c .before .before .before .before .before .before .before .before .before .before .before .before .before .before .before .recognise .kept .1 .1 .1 .1 .1 .1 .1 .1 .0
 
 same-length-10 : tie.Need-same-length-10
-same-length-10 c = search needs
+same-length-10 c = c .before .before .before .before .before .before .before .before .before .before .before .before .before .before .before .recognise .kept .1 .1 .1 .1 .1 .1 .1 .1 .1 .0
 
 same-length-11 : tie.Need-same-length-11
-same-length-11 c = search needs
+same-length-11 c = c .before .before .before .before .before .before .put-residues .kept .1 .1 .0
 
 returns-5 : tie.Need-returns-5
 returns-5 c =

@@ -29,10 +29,10 @@ put-corrected-requires c κs =
     ((s .pre .0 .0, s .pre .0 .1), ((s .pre .0 .2, rw (c .before .before .neg .ensures) (mod-lt _ (omega arith))), (s .pre .1 .1 .0, (s .pre .1 .1 .1 .1 .0, s .pre .1 .1 .1 .1 .1))))
 
 same-length : tie.Need-same-length
-same-length c = search needs
+same-length c = c .before .before .before .before .put-corrected .kept .1 .1 .1 .1 .0
 
 same-length-2 : tie.Need-same-length-2
-same-length-2 c = search needs
+same-length-2 c = c .before .before .before .before .put-corrected .kept .1 .1 .1 .1 .1 .0
 
 returns : tie.Need-returns
 unfolding factorOf correctedRow

@@ -58,7 +58,7 @@ add-scaled-requires c κs =
     (s .pre .0, (s .pre .1 .1 .0 .1 ∙ sym (s .pre .1 .1 .0 .0), (s .pre .1 .1 .1 .1, (s .pre .1 .0 .1, s .pre .1 .1 .1 .0))))
 
 slice-reshare-prefix-narrow : tie.Need-slice-reshare-prefix-narrow
-slice-reshare-prefix-narrow c = search needs
+slice-reshare-prefix-narrow c = omega arith
 
 slice-aggregate-narrow : tie.Need-slice-aggregate-narrow
 slice-aggregate-narrow c =
@@ -73,25 +73,25 @@ narrow-requires c κs =
     (s .pre .0 .1, (omega (arith, length-take (s .args .place) S), below-take (s .args .p) (s .args .place) S (residues s S e)))
 
 cast-row : tie.Need-cast-row
-cast-row c = search needs
+cast-row c = omega arith
 
 slice-write-row : tie.Need-slice-write-row
-slice-write-row c = search needs
+slice-write-row c = omega arith
 
 add-next : tie.Need-add-next
-add-next c = search needs
+add-next c = omega arith
 
 mul-narrow : tie.Need-mul-narrow
-mul-narrow c = search needs
+mul-narrow c = omega arith
 
 sub-narrow : tie.Need-sub-narrow
-sub-narrow c = search needs
+sub-narrow c = omega arith
 
 part-narrow-start : tie.Need-part-narrow-start
-part-narrow-start c = search needs
+part-narrow-start c = omega arith
 
 part-narrow-end : tie.Need-part-narrow-end
-part-narrow-end c = search needs
+part-narrow-end c = omega arith
 
 sub-narrow-2 : tie.Need-sub-narrow-2
 sub-narrow-2 c = simp length-set (omega (arith, c .before .before .before .before .narrow .kept .1 .1 .0))
@@ -100,7 +100,7 @@ part-narrow-start-2 : tie.Need-part-narrow-start-2
 part-narrow-start-2 c = simp length-set (omega (arith, c .before .before .before .before .narrow .kept .1 .1 .0))
 
 part-narrow-end-2 : tie.Need-part-narrow-end-2
-part-narrow-end-2 c = search needs
+part-narrow-end-2 c = omega arith
 
 narrow-requires-2 : tie.Need-narrow-requires-2
 narrow-requires-2 c κs =
@@ -119,7 +119,7 @@ narrow-requires-2 c κs =
     )
 
 same-length : tie.Need-same-length
-same-length c = search needs
+same-length c = c .before .before .before .before .before .before .before .before .before .before .before .before .before .add-scaled .kept .1 .0
 
 same-length-2 : tie.Need-same-length-2
 same-length-2 c = ap length (whole c) ∙ length-corrected _ _ _ _ _ ∙ sym (start c .pre .1 .1 .0 .2)

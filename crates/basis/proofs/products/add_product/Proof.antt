@@ -14,7 +14,7 @@ within : (c : tie.After-put-in) → c .put-in .result ≤ c .before .before .bef
 within c = let s = c .before .before .before .before .before .before .before .before .before .before .before .before .before .before in rw (c .put-in .ensures .0) (place-within (cmp (orderOf (s .args .order))) (s .args .a .now) (s .args .leads .now) (s .args .count))
 
 divided-requires : tie.Need-divided-requires
-divided-requires c κs = search needs
+divided-requires c κs = omega arith
 
 returns : tie.Need-returns
 returns c =
@@ -22,7 +22,7 @@ returns c =
     product-passed (s .args .p) (s .args .order) (s .args .n) (s .args .points .now) (s .args .rows .now) (s .args .pivots .now) (s .args .place) (s .args .inverse) (s .args .gone .now) (s .args .point .now) (s .args .values .now) (s .args .k) (s .args .others .now) (s .args .a .now) _ (sym (c .before .divided .ensures) ∙ c .if1 .taken)
 
 put-in-requires : tie.Need-put-in-requires
-put-in-requires c κs = search needs
+put-in-requires c κs = omega arith
 
 put-row-requires : tie.Need-put-row-requires
 put-row-requires c κs =
@@ -33,10 +33,10 @@ add-result : tie.Need-add-result
 add-result c = omega (arith, (c .before .before .before .before .before .before .before .before .before .before .before .before .before .before .before .before .before .before .before .before) .pre .1 .1 .1 .0)
 
 same-length : tie.Need-same-length
-same-length c = search needs
+same-length c = c .before .before .before .before .before .before .put-in .kept .1 .1 .0
 
 same-length-2 : tie.Need-same-length-2
-same-length-2 c = search needs
+same-length-2 c = c .before .before .put-row .kept .1 .1 .1 .1 .1 .1 .1 .1 .1 .1 .1 .1 .1 .0
 
 returns-2 : tie.Need-returns-2
 returns-2 c =

@@ -1,5 +1,5 @@
 -- `products::put_row` meets its contract.
-use mathlib.Core.Path.{_≡_, sym, ap, subst, _∙_}
+use mathlib.Core.Path.{_≡_, sym, ap, subst, _∙_, refl}
 use mathlib.Core.List.{List, map}
 use Prim.Native.Nat.{ℕ, _+_, _*_, _-_, _%_}
 use native.Mathlib.Omega.{arith}
@@ -23,7 +23,7 @@ loaded : (s : tie.Start) (w : List ℕ) → w ≡ over (map (λ point. valueAt p
 loaded s w e = subst (Below (s .args .p)) (sym e) (values-below (s .args .p) (λ point. valueAt point (s .args .a .now)) (groups 8 (s .args .n) (s .args .points .now)) 128 (omega arith))
 
 slice-aggregate-values-of : tie.Need-slice-aggregate-values-of
-slice-aggregate-values-of c = search needs
+slice-aggregate-values-of c = refl
 
 values-of-requires : tie.Need-values-of-requires
 values-of-requires c κs =
@@ -31,7 +31,7 @@ values-of-requires c κs =
     ((s .pre .0 .0, s .pre .0 .1), ((omega arith, omega arith), (s .pre .1 .1 .0 .3, s .pre .1 .1 .1 .1 .0 .0)))
 
 slice-aggregate-eliminate : tie.Need-slice-aggregate-eliminate
-slice-aggregate-eliminate c = search needs
+slice-aggregate-eliminate c = sym (c .before .before .values-of .kept .1 .1 .1 .1 .0)
 
 eliminate-requires : tie.Need-eliminate-requires
 eliminate-requires c κs =
@@ -39,40 +39,40 @@ eliminate-requires c κs =
     ((s .pre .0 .0, s .pre .0 .1), (c .before .before .values-of .kept .1 .1 .1 .1 .0, ((omega arith, omega arith), ((s .pre .1 .1 .1 .1 .0 .1, loaded s _ (c .before .before .values-of .ensures)), λ t h. omega (arith, s .pre .1 .1 .1 .1 .1 t h)))))
 
 mul-from : tie.Need-mul-from
-mul-from c = search needs
+mul-from c = omega arith
 
 mul-move-on : tie.Need-mul-move-on
-mul-move-on c = search needs
+mul-move-on c = omega arith
 
 move-on-requires : tie.Need-move-on-requires
-move-on-requires c κs = search needs
+move-on-requires c κs = omega arith
 
 add-correct : tie.Need-add-correct
-add-correct c = search needs
+add-correct c = omega arith
 
 mul-work : tie.Need-mul-work
-mul-work c = search needs
+mul-work c = omega arith
 
 sub-correct : tie.Need-sub-correct
-sub-correct c = search needs
+sub-correct c = omega arith
 
 part-work-start : tie.Need-part-work-start
-part-work-start c = search needs
+part-work-start c = omega arith
 
 part-work-end : tie.Need-part-work-end
-part-work-end c = search needs
+part-work-end c = omega arith
 
 add-correct-2 : tie.Need-add-correct-2
-add-correct-2 c = search needs
+add-correct-2 c = omega arith
 
 sub-correct-2 : tie.Need-sub-correct-2
-sub-correct-2 c = search needs
+sub-correct-2 c = omega arith
 
 part-correct-start : tie.Need-part-correct-start
-part-correct-start c = search needs
+part-correct-start c = omega arith
 
 part-correct-end : tie.Need-part-correct-end
-part-correct-end c = search needs
+part-correct-end c = omega arith
 
 correct-requires : tie.Need-correct-requires
 correct-requires c κs =
@@ -105,7 +105,7 @@ correct-requires c κs =
     )
 
 same-length : tie.Need-same-length
-same-length c = search needs
+same-length c = omega arith
 
 returns : tie.Need-returns
 unfolding reducedRow
