@@ -4,11 +4,11 @@ use mathlib.Core.List.{List, [], _∷_, _++_}
 use Prim.Native.Nat.{ℕ, _+_, _*_, _%_, _^_, _<_, _≤_}
 use native.Mathlib.Decide.{decLt}
 use native.Mathlib.Omega.{arith}
-use lib.ListN.{length, getD, take, drop, replicate, length-append, length-map, length-drop, length-replicate, List·getD-append, List·getD-eq-default}
-use lib.Seq.{getD-take, getD-drop, getD-append-add, length-take-le, take-at}
+use lib.ListN.{length, getD, take, drop, replicate, length-map, length-drop, length-replicate, List·getD-append, List·getD-eq-default}
+use lib.Seq.{getD-take, getD-drop, length-take-le, take-at}
 use lib.Dec.{eqb, eqb→eq}
 use Rattle.residue.specs.Vector.{Below, pointwise}
-use Rattle.residue.proofs.Vectors.{map-at, pointwise-length, pointwise-at, pointwise-below, below-take, below-drop, below-append}
+use Rattle.residue.proofs.Vectors.{map-at, pointwise-length, pointwise-at, pointwise-below, below-drop, below-append}
 use Rattle.residue.proofs.Moduli.{below-at}
 use Rattle.monomial.specs.Order.{Order}
 use Rattle.monomial.specs.Rank.{variableRank}
@@ -19,6 +19,7 @@ use Rattle.basis.specs.Drawing.{stepsOf, columnOf, productValues}
 use Rattle.basis.proofs.Layouts.{length-fill, fill-at, fill-exact, length-over, over-all}
 use Rattle.basis.proofs.elimination.Exponents.{variable-small}
 use Rattle.basis.proofs.Places.{length-groups, groups-at, over-zeros, place-more}
+use Rattle.basis.proofs.WorkingRows.{replaced-length, replaced-below, replaced-before, replaced-here}
 
 -- a part that was lent, and came back written over at its front
 pub put-place : (w k j : ℕ) (new table : List ℕ) {part : List ℕ} → j ≡ w → part ≡ over new (take j (drop (w * k) table))
@@ -58,27 +59,17 @@ module _ (w k : ℕ) (new table : List ℕ) (fits : w * k + w ≤ length table) 
   whole : withPlace w k new table ≡ take (w * k) table ++ (new ++ drop w (drop (w * k) table))
   whole = sym (put-whole w k w new table refl fits long refl)
 
-  before : length (take (w * k) table) ≡ w * k
-  before = length-take-le (w * k) table (omega arith)
-
   pub place-length : length (withPlace w k new table) ≡ length table
-  place-length = rw whole (simp (length-append, length-drop, before) (omega arith))
+  place-length = rw whole (replaced-length (w * k) w new table fits long)
 
   pub place-below : (p : ℕ) → Below p new → Below p table → Below p (withPlace w k new table)
-  place-below p b c =
-      rw whole
-      (below-append p (take (w * k) table) (new ++ drop w (drop (w * k) table)) (below-take p (w * k) table c)
-      (below-append p new (drop w (drop (w * k) table)) b (below-drop p w (drop (w * k) table) (below-drop p (w * k) table c))))
+  place-below p b c = rw whole (replaced-below (w * k) w new table fits long p b c)
 
   pub place-before : (i : ℕ) → i < w * k → getD (withPlace w k new table) i 0 ≡ getD table i 0
-  place-before i h = rw whole (List·getD-append (take (w * k) table) _ 0 i (rw before h) ∙ getD-take (w * k) table i 0 h)
+  place-before i h = rw whole (replaced-before (w * k) w new table fits long i h)
 
   pub place-here : (i : ℕ) → i < w → getD (withPlace w k new table) (w * k + i) 0 ≡ getD new i 0
-  place-here i h =
-      rw whole
-      (ap (λ (j : ℕ). getD (take (w * k) table ++ (new ++ drop w (drop (w * k) table))) (j + i) 0) (sym before)
-      ∙ getD-append-add (take (w * k) table) (new ++ drop w (drop (w * k) table)) i 0
-      ∙ List·getD-append new (drop w (drop (w * k) table)) 0 i (rw long h))
+  place-here i h = rw whole (replaced-here (w * k) w new table fits long i h)
 
 -- the ranks of the variables
 abbrev indices : List ℕ

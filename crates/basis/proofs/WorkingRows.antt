@@ -58,31 +58,48 @@ pub put-row : (t k : ℕ) (rows : List ℕ) {part mid new : List ℕ} → k ≡ 
 unfolding withRow
 put-row t k rows e h g = ap₂ (λ (m : ℕ) (l : List ℕ). take (128 * t) rows ++ (l ++ drop m (drop (128 * t) rows))) e (h ∙ g)
 
--- A table with a row replaced: its length, residues, the rows before and the row itself.
-module _ (t : ℕ) (new rows : List ℕ) (fits : 128 * t + 128 ≤ length rows) (long : length new ≡ 128) where
-  before-length : length (take (128 * t) rows) ≡ 128 * t
-  before-length = length-take-le (128 * t) rows (omega arith)
+-- A part of a table replaced by as many numbers: the table's length, residues, what lies before, and the part itself.
+module _ (at w : ℕ) (new table : List ℕ) (fits : at + w ≤ length table) (long : length new ≡ w) where
+  abbrev pub replaced : List ℕ
+  replaced = take at table ++ (new ++ drop w (drop at table))
 
+  before-length : length (take at table) ≡ at
+  before-length = length-take-le at table (omega arith)
+
+  pub replaced-length : length replaced ≡ length table
+  replaced-length = simp (length-append, length-drop, before-length) (omega arith)
+
+  pub replaced-below : (p : ℕ) → Below p new → Below p table → Below p replaced
+  replaced-below p b c =
+      below-append p (take at table) (new ++ drop w (drop at table)) (below-take p at table c)
+      (below-append p new (drop w (drop at table)) b (below-drop p w (drop at table) (below-drop p at table c)))
+
+  pub replaced-before : (i : ℕ) → i < at → getD replaced i 0 ≡ getD table i 0
+  replaced-before i h = List·getD-append (take at table) _ 0 i (rw before-length h) ∙ getD-take at table i 0 h
+
+  pub replaced-here : (i : ℕ) → i < w → getD replaced (at + i) 0 ≡ getD new i 0
+  replaced-here i h =
+      ap (λ (k : ℕ). getD replaced (k + i) 0) (sym before-length)
+      ∙ getD-append-add (take at table) (new ++ drop w (drop at table)) i 0
+      ∙ List·getD-append new (drop w (drop at table)) 0 i (rw long h)
+
+-- a row of 128
+module _ (t : ℕ) (new rows : List ℕ) (fits : 128 * t + 128 ≤ length rows) (long : length new ≡ 128) where
   pub withRow-length : length (withRow t new rows) ≡ length rows
   unfolding withRow
-  withRow-length = simp (length-append, length-drop, before-length) (omega arith)
+  withRow-length = replaced-length (128 * t) 128 new rows fits long
 
   pub withRow-below : (p : ℕ) → Below p new → Below p rows → Below p (withRow t new rows)
   unfolding withRow
-  withRow-below p b c =
-      below-append p (take (128 * t) rows) (new ++ drop 128 (drop (128 * t) rows)) (below-take p (128 * t) rows c)
-      (below-append p new (drop 128 (drop (128 * t) rows)) b (below-drop p 128 (drop (128 * t) rows) (below-drop p (128 * t) rows c)))
+  withRow-below = replaced-below (128 * t) 128 new rows fits long
 
   pub withRow-before : (i : ℕ) → i < 128 * t → getD (withRow t new rows) i 0 ≡ getD rows i 0
   unfolding withRow
-  withRow-before i h = List·getD-append (take (128 * t) rows) _ 0 i (rw before-length h) ∙ getD-take (128 * t) rows i 0 h
+  withRow-before = replaced-before (128 * t) 128 new rows fits long
 
   pub withRow-here : (i : ℕ) → i < 128 → getD (withRow t new rows) (128 * t + i) 0 ≡ getD new i 0
   unfolding withRow
-  withRow-here i h =
-      ap (λ (k : ℕ). getD (withRow t new rows) (k + i) 0) (sym before-length)
-      ∙ getD-append-add (take (128 * t) rows) (new ++ drop 128 (drop (128 * t) rows)) i 0
-      ∙ List·getD-append new (drop 128 (drop (128 * t) rows)) 0 i (rw long h)
+  withRow-here = replaced-here (128 * t) 128 new rows fits long
 
 -- The search: its loop has passed q numbers, all of them 0.
 module _ (n : ℕ) (w : List ℕ) where

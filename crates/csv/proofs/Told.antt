@@ -7,7 +7,7 @@ use lib.ListN.{length, getD, take}
 use Rattle.residue.specs.Vector.{Below}
 use Rattle.basis.specs.declared.settings.Settings.{Settings}
 use Rattle.basis.specs.Levels.{groups}
-use Rattle.basis.specs.Layout.{fill, length-fill}
+use Rattle.basis.specs.Layout.{fill}
 use Rattle.basis.specs.BasisOf.{standardOf, interpolantOf}
 use Rattle.basis.specs.Tables.{spaceUnder, pointsUnder, pointsIn, rowCount, tablesOf}
 use Rattle.basis.specs.Interpolants.{solution}
@@ -50,18 +50,6 @@ module _ (s : Settings) (n : ℕ) (points values : List ℕ) (g : PointsGiven s 
 
     pub inside : (t : ℕ) → t < n → getD pivots t 0 < n
     inside t k = omega (arith, u .pivot-rows .inside t (omega (arith, count-points)), count-points)
-
-    pub long-standard : length standard ≡ 512
-    unfolding tablesOf
-    long-standard = ap length (u .standard-table) ∙ length-fill 512 _
-
-    pub long-leads : length leads ≡ 3592
-    unfolding tablesOf
-    long-leads = ap length (u .leads-table) ∙ length-fill 3592 _
-
-    pub long-coefficients : length coefficients ≡ 28736
-    unfolding tablesOf
-    long-coefficients = ap length (u .coefficients-table) ∙ length-fill 28736 _
 
     module _ (interpolant : List ℕ) (i : interpolant ≡ fill 64 (solution (s .modulus) n rows pivots (fill 128 values))) where
       filled : interpolant ≡ fill 64 cs

@@ -10,7 +10,8 @@ use Rattle.basis.specs.Levels.{groups}
 use Rattle.basis.specs.Layout.{length-fill}
 use Rattle.basis.proofs.Wiring.{names-length}
 use Rattle.csv.proofs.Appended.{put-within}
-use Rattle.csv.proofs.Told.{few, inside, long-standard, long-leads, long-coefficients, told-room, told}
+use Rattle.basis.proofs.calls.Given.{drawn-long}
+use Rattle.csv.proofs.Told.{few, inside, told-room, told}
 use borrow.Author.Needs.{needs}
 use Rattle.csv.proofs.printing.print_points.Statement.{statement}
 use Rattle.csv.proofs.printing.print_points.Tie as tie
@@ -63,7 +64,7 @@ put-names-requires c κs =
     let d = c .before .before .before .before .before .before .before .before .before .before .before .before .before in
     let s = d .before .before .before .before .before .before .before .before .before in
     let i = ap (λ (z : List ℕ). length z) (c .before .before .before .before .solve-bytes .ensures) ∙ length-fill 64 _ in
-    let l = long-standard _ _ _ (s .args .values .now) (s .pre .0) (s .pre .1 .0 .0) (s .pre .1 .0 .1) _ _ _ _ _ _ (d .draw .ensures) in
+    let l = drawn-long _ _ _ _ _ _ _ _ (d .draw .ensures) .0 in
     let most = s .pre .0 .most in
     ((s .pre .0 .few, omega arith, omega arith), refl)
 
@@ -117,9 +118,7 @@ print-basis-requires c κs =
     let s = d .before .before .before .before .before .before .before .before .before in
     let r = few _ _ _ (s .args .values .now) (s .pre .0) (s .pre .1 .0 .0) (s .pre .1 .0 .1) _ _ _ _ _ _ (d .draw .ensures) in
     let most = s .pre .0 .most in
-    let x = long-standard _ _ _ (s .args .values .now) (s .pre .0) (s .pre .1 .0 .0) (s .pre .1 .0 .1) _ _ _ _ _ _ (d .draw .ensures) in
-    let y = long-leads _ _ _ (s .args .values .now) (s .pre .0) (s .pre .1 .0 .0) (s .pre .1 .0 .1) _ _ _ _ _ _ (d .draw .ensures) in
-    let z = long-coefficients _ _ _ (s .args .values .now) (s .pre .0) (s .pre .1 .0 .0) (s .pre .1 .0 .1) _ _ _ _ _ _ (d .draw .ensures) in
+    let t = drawn-long _ _ _ _ _ _ _ _ (d .draw .ensures) in
     ((s .pre .0 .few, most, r), ((omega arith, omega arith, omega arith), told-room _ _ _ (s .args .values .now) (s .pre .0) (s .pre .1 .0 .0) (s .pre .1 .0 .1) _ _ _ _ _ _ (d .draw .ensures) _ (c .before .before .before .before .before .before .before .before .before .before .before .before .solve-bytes .ensures) _ _ (c .before .before .before .before .before .before .before .put-names .ensures .0) (c .before .before .before .before .before .before .before .put-names .ensures .1) (s .args .out .now) (s .pre .1 .1)))
 
 same-length : tie.Need-same-length
