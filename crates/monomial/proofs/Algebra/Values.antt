@@ -6,7 +6,6 @@ use native.Mathlib.Nat.{mul-assoc, mul-left-comm, pow-zero, pow-succ'}
 use native.Mathlib.Numerals.{add-one}
 use native.Mathlib.Omega.{arith}
 use lib.ListN.{length, getD}
-use Rattle.residue.proofs.Congruence.{_times_}
 use Rattle.monomial.specs.Monomial.{one, timesVariable, valueAt}
 
 pub value-one : (P : List ℕ) (m : ℕ) → valueAt P (one m) ≡ 1

@@ -10,7 +10,6 @@ use Rattle.basis.specs.Layout.{over}
 use Rattle.basis.specs.Tables.{tablesOf, pointsIn}
 use Rattle.basis.proofs.Layouts.{length-fill, over-all}
 use Rattle.basis.proofs.adding.Added.{states-more, states-long}
-use borrow.Author.Needs.{needs}
 use Rattle.basis.proofs.add.add_accepted.Statement.{statement}
 use Rattle.basis.proofs.add.add_accepted.Tie as tie
 

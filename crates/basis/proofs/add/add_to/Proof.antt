@@ -9,7 +9,6 @@ use Rattle.basis.specs.Levels.{groups}
 use Rattle.basis.proofs.elimination.Grounds.{points-long, points-below}
 use Rattle.basis.proofs.adding.Writes.{values-below}
 use Rattle.basis.proofs.adding.Added.{Sound, sound, inside, added}
-use borrow.Author.Needs.{needs}
 use Rattle.basis.proofs.add.add_to.Statement.{statement}
 use Rattle.basis.proofs.add.add_to.Tie as tie
 

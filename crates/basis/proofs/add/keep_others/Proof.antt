@@ -8,7 +8,6 @@ use Rattle.basis.specs.Layout.{inPlaces, over}
 use Rattle.basis.specs.Insertions.{takenOut, correctedRows, othersOf, rowsLeft, othersCorrected}
 use Rattle.basis.proofs.ValueRows.{zeros-long}
 use Rattle.basis.proofs.adding.Writes.{left-below}
-use borrow.Author.Needs.{needs}
 use Rattle.basis.proofs.add.keep_others.Statement.{statement}
 use Rattle.basis.proofs.add.keep_others.Tie as tie
 

@@ -1,5 +1,4 @@
 -- `adding::add_refusal` meets its contract: at each return the tests that led there decide the number.
-use borrow.Author.Needs.{needs}
 use borrow.Author.Tests.{leb-false, eqb-true, not-true, not-false}
 use mathlib.Core.Path.{_≡_, sym, ap, _∙_}
 use mathlib.Core.Bool.{true, not}

@@ -6,7 +6,6 @@ use native.Mathlib.Omega.{arith}
 use Rattle.residue.specs.Vector.{addScaled}
 use Rattle.basis.specs.Insertions.{rowValueAt, factorOf, correctedBy, correctedRow}
 use Rattle.basis.proofs.adding.Writes.{value-below}
-use borrow.Author.Needs.{needs}
 use Rattle.basis.proofs.correct.correct.Statement.{statement}
 use Rattle.basis.proofs.correct.correct.Tie as tie
 

@@ -10,7 +10,6 @@ use Rattle.residue.proofs.Vectors.{addScaled-length, addScaled-below, below-tak
 use Rattle.basis.specs.Layout.{fill}
 use Rattle.basis.specs.Insertions.{insertedAt, correctedBy}
 use Rattle.basis.proofs.adding.Writes.{put-corrected, length-corrected}
-use borrow.Author.Needs.{needs}
 use Rattle.basis.proofs.correct.put_corrected.Statement.{statement}
 use Rattle.basis.proofs.correct.put_corrected.Tie as tie
 

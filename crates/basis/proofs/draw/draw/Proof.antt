@@ -1,105 +1,14 @@
 -- `draw::draw` meets its contract. At the loop's head the tables hold what is found, and a monomial is in hand; each turn keeps it and finds the next.
-use mathlib.Core.Path.{_≡_, refl, sym, ap, subst, _∙_}
-use mathlib.Core.Logic.{⊎-elim}
-use mathlib.Core.List.{List}
-use Prim.Native.Nat.{ℕ, _+_, _-_, _^_, _<_, _≤_}
+use mathlib.Core.Path.{refl, sym, _∙_}
 use native.Mathlib.Omega.{arith}
-use lib.ListN.{length}
 use borrow.Author.Needs.{needs}
-use Rattle.residue.specs.Vector.{Below}
-use Rattle.residue.proofs.Moduli.{modulus-range}
-use Rattle.monomial.specs.Order.{orderOf}
-use Rattle.basis.specs.Drawing.{settingsOf, PointsGiven}
-use Rattle.basis.proofs.WorkingRows.{first-most}
-use Rattle.basis.proofs.ValueRows.{zeros-long, steps-long, steps-below}
+use Rattle.basis.proofs.ValueRows.{zeros-long}
 use Rattle.basis.proofs.elimination.Grounds.{points-long, points-below}
-use Rattle.basis.proofs.elimination.Loop.{Head, Kept, Sized, head-start, head-sized, exponents-long, own-below, worked-long, worked-below, room-lead, keeps-lead, room-standard, keeps-standard, kept-as, kept-sized, kept-few, ends, next-small, next-exponent, goes-on}
+use Rattle.basis.proofs.elimination.Loop.{head-start, own-below, kept-few, ends, next-small, next-exponent, goes-on}
 use Rattle.basis.proofs.draw.draw.Statement.{statement}
 use Rattle.basis.proofs.draw.draw.Tie as tie
-
-abbrev Inv-loop : tie.InvT-loop
-Inv-loop p m order n points standard₀ leads₀ coefficients₀ rows₀ pivots₀ steps values₀ ranks₀ at₀ found₀ r₀ exponents₀ rank₀ own₀ standard leads coefficients rows pivots values ranks at found r exponents rank own =
-    Head p m order n points found r standard leads coefficients rows pivots values ranks steps at exponents rank own
-
-abbrev μ-loop : tie.MeasureT-loop
-μ-loop p m order n points standard₀ leads₀ coefficients₀ rows₀ pivots₀ steps values₀ ranks₀ at₀ found₀ r₀ exponents₀ rank₀ own₀ standard leads coefficients rows pivots values ranks at found r exponents rank own =
-    513 - (found + r)
-
--- at the loop's head
-module _ (l : tie.At-loop Inv-loop μ-loop) where
-  abbrev start : tie.Start Inv-loop μ-loop
-  start = l .before .before .before .before .before .before .before .before .before .before
-
-  given : PointsGiven (settingsOf (start .args .p) (start .args .m) (start .args .order)) (start .args .n) (start .args .points .now)
-  given = start .pre .0
-
-  head-sizes : Sized (start .args .p) (start .args .n) (l .loop .found) (l .loop .standard) (l .loop .leads) (l .loop .coefficients) (l .loop .rows) (l .loop .pivots) (l .loop .values) (l .loop .ranks)
-  head-sizes = head-sized given (l .loop .inv)
-
-  exponents-8 : length (l .loop .exponents) ≡ 8
-  exponents-8 = exponents-long given (l .loop .inv)
-
-  range : (2 ≤ start .args .p) × (start .args .p ≤ 61)
-  range = modulus-range (start .args .p) (given .modulus)
-
--- the working row is reduced
-module _ (c : tie.After-reduce Inv-loop μ-loop) where
-  abbrev top : tie.At-loop Inv-loop μ-loop
-  top = c .before .before .before .before .before
-
-  abbrev work : List ℕ
-  work = c .reduce .last .1 .1 .1 .1 .1 .1 .0
-
-  work-128 : length work ≡ 128
-  work-128 = worked-long (given top) (top .loop .inv) (c .reduce .ensures .0)
-
-  work-residues : Below (start top .args .p) work
-  work-residues = worked-below (given top) (top .loop .inv) (c .reduce .ensures .0)
-
-  lead-fits : c .reduce .result ≡ start top .args .n → top .loop .r < 449
-  lead-fits e = room-lead (given top) (top .loop .inv) (c .reduce .ensures .0) (sym (c .reduce .ensures .1) ∙ e)
-
-  inside : (c .reduce .result ≡ start top .args .n → ⊥) → c .reduce .result < start top .args .n
-  inside ne = omega (arith, first-most (start top .args .n) work, c .reduce .ensures .1, ne)
-
-  standard-fits : (c .reduce .result ≡ start top .args .n → ⊥) → top .loop .found < start top .args .n
-  standard-fits ne =
-      room-standard (given top) (top .loop .inv) (c .reduce .ensures .0) (omega (arith, inside ne, c .reduce .ensures .1))
-
--- the monomial is kept
-module _ (j : tie.Joined1 Inv-loop μ-loop) where
-  abbrev reduced : tie.After-reduce Inv-loop μ-loop
-  reduced = j .before .before
-
-  abbrev above : tie.At-loop Inv-loop μ-loop
-  above = top reduced
-
-  abbrev steps : List ℕ
-  steps = above .before .before .put-steps .last .1 .0
-
-  kept : Kept (start above .args .p) (start above .args .m) (start above .args .order) (start above .args .n) (start above .args .points .now) (j .if1 .found) (j .if1 .r)
-      (j .if1 .standard) (j .if1 .leads) (j .if1 .coefficients) (j .if1 .rows) (j .if1 .pivots) (j .if1 .values) (j .if1 .ranks) steps (above .loop .at)
-  kept =
-      ⊎-elim
-      (λ w. kept-as (w .17) (w .18) (w .10) (w .11) (w .12) (w .13) (w .14) (w .15) (w .16)
-      (keeps-lead (given above) (above .loop .inv) (reduced .reduce .ensures .0) (sym (reduced .reduce .ensures .1) ∙ w .0 .taken)
-      (w .5 .ensures .0) (w .5 .ensures .1)))
-      (λ w. kept-as (w .27) (w .28) (w .20) (w .21) (w .22) (w .23) (w .24) (w .25) (w .26)
-      (keeps-standard (given above) (above .loop .inv) (reduced .reduce .ensures .0) (reduced .reduce .ensures .1) (inside reduced (w .0 .left))
-      (w .6 .ensures .0) (w .6 .ensures .1 .0) (w .6 .ensures .1 .1) (w .14 .ensures .1 .0) (w .14 .ensures .1 .1)))
-      (j .if1 .came)
-
-  one-more : j .if1 .found + j .if1 .r ≡ above .loop .found + above .loop .r + 1
-  one-more = ⊎-elim (λ w. omega (arith, w .17, w .18)) (λ w. omega (arith, w .27, w .28)) (j .if1 .came)
-
-  sizes : Sized (start above .args .p) (start above .args .n) (j .if1 .found) (j .if1 .standard) (j .if1 .leads) (j .if1 .coefficients) (j .if1 .rows) (j .if1 .pivots) (j .if1 .values) (j .if1 .ranks)
-  sizes = kept-sized (given above) kept
-
-  steps-8 : length steps ≡ 8
-  steps-8 = ap length (above .before .before .put-steps .ensures) ∙ steps-long (orderOf (start above .args .order))
-
-  steps-small : Below (2 ^ 56) steps
-  steps-small = subst (Below (2 ^ 56)) (sym (above .before .before .put-steps .ensures)) (steps-below (orderOf (start above .args .order)))
+use Rattle.basis.proofs.draw.draw.Proof.Turn.{Inv-loop, μ-loop, start, given, head-sizes, exponents-8, range, top, work-128, work-residues, lead-fits, inside, standard-fits, above, kept, one-more, sizes, steps-8, steps-small}
+mod Turn
 
 slice-aggregate-put-steps : tie.Need-slice-aggregate-put-steps Inv-loop μ-loop
 slice-aggregate-put-steps c = refl

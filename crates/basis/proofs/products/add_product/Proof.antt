@@ -5,7 +5,6 @@ use native.Mathlib.Omega.{arith}
 use Rattle.monomial.specs.Order.{orderOf, cmp}
 use Rattle.basis.proofs.adding.Searches.{place-within}
 use Rattle.basis.proofs.adding.Growth.{product-passed, product-taken}
-use borrow.Author.Needs.{needs}
 use Rattle.basis.proofs.products.add_product.Statement.{statement}
 use Rattle.basis.proofs.products.add_product.Tie as tie
 

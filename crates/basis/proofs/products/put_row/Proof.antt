@@ -14,7 +14,6 @@ use Rattle.basis.specs.Levels.{groups}
 use Rattle.basis.specs.Layout.{over}
 use Rattle.basis.specs.Insertions.{correctedRow, reducedRow}
 use Rattle.basis.proofs.adding.Writes.{row-in, values-below}
-use borrow.Author.Needs.{needs}
 use Rattle.basis.proofs.products.put_row.Statement.{statement}
 use Rattle.basis.proofs.products.put_row.Tie as tie
 
