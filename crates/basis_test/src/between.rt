@@ -1,20 +1,26 @@
-// A call of adding between two additions that has to be refused: bad or other settings, wrong counts, a table too short, a byte changed.
+// A call of adding between two additions that has to be refused: settings that are none, other settings, wrong counts, a table too short, a byte changed.
 use crate::added;
 use crate::buffers;
 use crate::chance;
 use crate::damage;
 use crate::lists::Progress;
 use crate::lists::Setup;
+use basis::calls;
 use basis::settings::Settings;
 
 fn modulus(kind: u32, p: u8) -> u64 {
-    if kind == 0 {
-        return p as u64 + 256;
+    match kind {
+        0 => p as u64 + 256,
+        8 => {
+            if p == 61 {
+                return 59;
+            }
+            61
+        }
+        _ => p as u64,
     }
-    p as u64
 }
 
-// Tables of a point or more are not those of their points where another number of variables is claimed.
 fn variables(kind: u32, m: u8) -> u64 {
     match kind {
         1 => 9,
@@ -24,10 +30,19 @@ fn variables(kind: u32, m: u8) -> u64 {
 }
 
 fn order(kind: u32, order: u8) -> u64 {
-    if kind == 2 {
-        return 3;
+    match kind {
+        2 => 3,
+        9 => (order as u64 + 1) % 3,
+        _ => order as u64,
     }
-    order as u64
+}
+
+fn settings_of(kind: u32, setup: Setup) -> Settings {
+    Settings {
+        modulus: modulus(kind, setup.p),
+        variables: variables(kind, setup.m),
+        order: order(kind, setup.order),
+    }
 }
 
 fn claimed_n(kind: u32, n: u8) -> u64 {
@@ -75,12 +90,30 @@ fn due(kind: u32, n: u64) -> u32 {
     }
 }
 
-// No points are those of any settings.
-fn kind_of(seed: u32, n: u8) -> u32 {
-    let kind = chance::pick(seed, 8);
-    if kind == 3 {
-        if n == 0 {
-            return 4;
+// Another valid modulus, order or number of variables may have the same tables, as it does with no points: then the row count is wrong instead.
+fn kind_of(
+    seed: u32,
+    setup: Setup,
+    progress: Progress,
+    states: &[u8; 520],
+    standard: &[u8; 520],
+    leads: &[u8; 3600],
+    coefficients: &[u8; 28744],
+) -> u32 {
+    let kind = chance::pick(seed, 10);
+    let known = calls::check(
+        settings_of(kind, setup),
+        progress.n as u64,
+        progress.r as u64,
+        states,
+        standard,
+        leads,
+        coefficients,
+    );
+    if known == 0 {
+        match kind {
+            3 | 8 | 9 => return 5,
+            _ => {}
         }
     }
     kind
@@ -95,12 +128,8 @@ pub fn refused(
     coefficients: &mut [u8; 28744],
 ) -> bool {
     let seed = chance::other(progress.seed, 7);
-    let kind = kind_of(seed, progress.n);
-    let settings = Settings {
-        modulus: modulus(kind, setup.p),
-        variables: variables(kind, setup.m),
-        order: order(kind, setup.order),
-    };
+    let kind = kind_of(seed, setup, progress, states, standard, leads, coefficients);
+    let settings = settings_of(kind, setup);
     let changed = table(kind, chance::other(seed, 1));
     let at = chance::pick(chance::other(seed, 2), damage::size_of(changed) as u32) as usize;
     let n = claimed_n(kind, progress.n);

@@ -73,6 +73,16 @@ fn value_counts(faulty: u32, variant: u32) -> Counts {
     }
 }
 
+// The exponents of three terms: 24, one less or more, or those of another term too.
+fn exponent_count(faulty: u32, variant: u32) -> usize {
+    if faults::has(faulty, faults::LENGTH) {
+        if 7 < variant {
+            return 32;
+        }
+    }
+    faults::length(24, faulty, variant)
+}
+
 // Too many terms, or in turn too many points claimed.
 fn term_counts(faulty: u32, variant: u32) -> Counts {
     if faults::has(faulty, faults::MANY) {
@@ -92,7 +102,7 @@ fn term_counts(faulty: u32, variant: u32) -> Counts {
     Counts {
         n: 3,
         values: 3,
-        exponents: faults::length(24, faulty, variant),
+        exponents: exponent_count(faulty, variant),
     }
 }
 
