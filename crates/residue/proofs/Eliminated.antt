@@ -3,18 +3,17 @@ use mathlib.Core.Path.{_≡_, refl, sym, ap, ap₂, _∙_}
 use mathlib.Core.Bool.{Bool, true, false}
 use mathlib.Core.List.{List, [], _∷_, zipWith}
 use Prim.Native.Nat.{ℕ, zero, suc, _+_, _*_, _-_, _%_, _<_, _≤_}
-use native.Mathlib.Nat.{mod-lt, mod-eq-of-lt}
+use native.Mathlib.Nat.{mod-lt, mod-eq-of-lt, mul-le-mul}
 use native.Mathlib.Numerals.{add-one}
 use native.Mathlib.Omega.{arith}
 use lib.ListN.{length, getD, take, drop, length-map, length-drop}
-use lib.Seq.{length-take-le}
+use lib.Seq.{length-take-le, take-take, drop-drop, getD-take, getD-drop}
 use lib.Dec.{eqb}
 use borrow.Author.Tests.{eq-eqb, ne-eqb, eqb-true, eqb-false}
 use Rattle.residue.specs.Congruence.{Mod}
 use Rattle.residue.specs.Vector.{Below, addScaled}
 use Rattle.residue.specs.Elimination.{cancelled, eliminated, gained, reduced}
-use Rattle.residue.proofs.Congruence.{rfl, of, reduce, negative, _then_, _plus_, _times_}
-use Rattle.residue.proofs.Reduction.{product-small}
+use Rattle.residue.proofs.Congruence.{rfl, of, flip, reduce, negative, scale, multiple, _then_, _plus_, _times_}
 use Rattle.residue.proofs.Vectors.{zip-length, zip-at, map-at, addScaled-length, addScaled-at, addScaled-below}
 
 -- A cancellation.
@@ -122,27 +121,77 @@ gained-reduced p c [] b = refl
 gained-reduced p c (x ∷ a) [] = refl
 gained-reduced p c (x ∷ a) (y ∷ b) = ap₂ (λ (z : ℕ) (r : List ℕ). z ∷ r) (sym ((reduce p x plus rfl {x = c * y}) .same)) (gained-reduced p c a b)
 
--- a row whose entries are below b gains at most 3600 in each
-pub gained-below : (p b c : ℕ) (w row : List ℕ) → length w ≡ length row → p ≤ 61 → c < p → Below p row → Below b w → Below (b + 3600) (gained c w row)
-gained-below p b c w row same h l r g i k =
+-- a row whose entries are below b gains less than p times p in each
+pub gained-below : (p b c : ℕ) (w row : List ℕ) → length w ≡ length row → c ≤ p → Below p row → Below b w → Below (b + p * p) (gained c w row)
+gained-below p b c w row same h r g i k =
     let n = gained-length c w row same in
     let j : i < length w = omega arith in
-    rw (gained-at c w row same i j) (omega (arith, g i j, product-small p c (getD row i 0) h l (r i (omega arith))))
+    let e : getD row i 0 ≤ p = omega (arith, r i (omega arith)) in
+    rw (gained-at c w row same i j) (omega (arith, g i j, mul-le-mul h e))
 
--- An entry that is 0 modulo p stays; another is cancelled by a gain, of the row as it is or reduced.
-module _ (p : ℕ) (row : List ℕ) (at : ℕ) (w : List ℕ) (inside : at < length w) (x : ℕ) (read : x ≡ getD w at 0 % p) where
+-- factors that are the same modulo p add the same; p itself adds nothing
+addScaled-same : (p c d : ℕ) (a b : List ℕ) → Mod p c d → addScaled p c a b ≡ addScaled p d a b
+unfolding addScaled zipWith
+addScaled-same p c d [] b h = refl
+addScaled-same p c d (x ∷ a) [] h = refl
+addScaled-same p c d (x ∷ a) (y ∷ b) h = ap₂ (λ (z : ℕ) (r : List ℕ). z ∷ r) ((rfl {x = x} plus (h times rfl {x = y})) .same) (addScaled-same p c d a b h)
+
+nothing-added : (p : ℕ) (w row : List ℕ) → length w ≡ length row → addScaled p 0 (reduced p w) row ≡ reduced p w
+unfolding addScaled reduced zipWith
+nothing-added p [] row same = refl
+nothing-added p (x ∷ w) [] same = absurd (omega arith)
+nothing-added p (x ∷ w) (y ∷ row) same = ap₂ (λ (z : ℕ) (r : List ℕ). z ∷ r) ((of (omega arith) then reduce p x) .same) (nothing-added p w row (omega arith))
+
+-- The entry read, modulo p: where it is 0 the row stays; a gain cancels it in any case, that of p times a row too.
+module _ (p : ℕ) (row : List ℕ) (at : ℕ) (w : List ℕ) (same : length w ≡ length row) (inside : at < length w) (x : ℕ) (read : x ≡ getD w at 0 % p) where
   entry : getD (reduced p w) at 0 ≡ x
   entry = reduced-at p w at inside ∙ sym read
 
   pub cancel-kept : x ≡ 0 → reduced p w ≡ cancelled p row at (reduced p w)
   cancel-kept e = sym (cancel-none p row at (reduced p w) (entry ∙ e))
 
-  pub cancel-gained : (x ≡ 0 → ⊥) → reduced p (gained (p - x) w row) ≡ cancelled p row at (reduced p w)
-  cancel-gained e =
-      gained-reduced p (p - x) w row ∙ ap (λ (y : ℕ). addScaled p (p - y) (reduced p w) row) (sym entry)
-      ∙ sym (cancel-some p row at (reduced p w) (λ z. e (sym entry ∙ z)))
+  pub cancel-gained : reduced p (gained (p - x) w row) ≡ cancelled p row at (reduced p w)
+  cancel-gained =
+      gained-reduced p (p - x) w row
+      ∙ either p row at (reduced p w) (λ l. addScaled p (p - x) (reduced p w) row ≡ l) (λ z. none (sym entry ∙ z)) (ap (λ (y : ℕ). addScaled p (p - y) (reduced p w) row) (sym entry))
+    where
+      none : x ≡ 0 → addScaled p (p - x) (reduced p w) row ≡ reduced p w
+      none z = addScaled-same p (p - x) 0 (reduced p w) row (of (omega arith) then multiple 0 1) ∙ nothing-added p w row same
 
-  pub cancel-folded : (x ≡ 0 → ⊥) → reduced p (gained (p - x) (reduced p w) row) ≡ cancelled p row at (reduced p w)
-  cancel-folded e =
-      gained-reduced p (p - x) (reduced p w) row ∙ ap (λ (l : List ℕ). addScaled p (p - x) l row) (reduced-again p w)
-      ∙ sym (gained-reduced p (p - x) w row) ∙ cancel-gained e
+-- What stands at a place once a row is met whose factor came from y: the row's entry there turned, times y, is added.
+pub met-at : (p : ℕ) (w row : List ℕ) → length w ≡ length row → 0 < p → (x y i : ℕ) → i < length w → getD row i 0 < p → Mod p (getD w i 0) x
+    → Mod p (getD (gained (p - y % p) w row) i 0) (x + y * (p - getD row i 0))
+met-at zero w row same z x y i h l k = absurd (omega arith)
+met-at (suc n) w row same z x y i h l k =
+    of (gained-at (suc n - y % suc n) w row same i h)
+    then k plus ((negative n (y % suc n) (omega (arith, mod-lt y z)) then scale n (reduce (suc n) y)) times rfl {x = getD row i 0} then of (turn y (getD row i 0)) then flip (scale y (negative n (getD row i 0) (omega arith))))
+  where
+    turn : (a b : ℕ) → n * a * b ≡ a * (n * b)
+    turn a b = omega arith
+
+-- Rows met in parts: a part of the table, from row s on, with its part of the pivots.
+part-within : (m k n : ℕ) (l : List ℕ) → k + m ≤ n → take m (drop k (take n l)) ≡ take m (drop k l)
+part-within m zero n l h = take-take m n l (omega arith)
+part-within m (suc k) zero l h = absurd (omega arith)
+part-within m (suc k) (suc n) [] h = refl
+part-within m (suc k) (suc n) (x ∷ l) h = part-within m k n l (omega arith)
+
+pub eliminated-part : (p : ℕ) (rows pivots w : List ℕ) (s n k : ℕ) → k ≤ n
+    → eliminated p rows pivots (s + k) w ≡ eliminated p (take (128 * n) (drop (128 * s) rows)) (take n (drop s pivots)) k (eliminated p rows pivots s w)
+unfolding eliminated
+eliminated-part p rows pivots w s n zero h = let e : s + 0 ≡ s = omega arith in ap (λ (j : ℕ). eliminated p rows pivots j w) e
+eliminated-part p rows pivots w s n (suc k) h =
+    ap (λ (j : ℕ). eliminated p rows pivots j w) (j ∙ add-one (s + k))
+    ∙ ap₂ (λ (row : List ℕ) (at : ℕ). cancelled p row at (eliminated p rows pivots (s + k) w)) row at
+    ∙ ap (λ (l : List ℕ). cancelled p (take 128 (drop (128 * k) (take (128 * n) (drop (128 * s) rows)))) (getD (take n (drop s pivots)) k 0) l) (eliminated-part p rows pivots w s n k (omega arith))
+  where
+    j : s + suc k ≡ s + k + 1
+    j = omega arith
+
+    row : take 128 (drop (128 * (s + k)) rows) ≡ take 128 (drop (128 * k) (take (128 * n) (drop (128 * s) rows)))
+    row =
+        let e : 128 * (s + k) ≡ 128 * s + 128 * k = omega arith in
+        ap (λ (i : ℕ). take 128 (drop i rows)) e ∙ sym (ap (take 128) (drop-drop (128 * k) (128 * s) rows)) ∙ sym (part-within 128 (128 * k) (128 * n) (drop (128 * s) rows) (omega arith))
+
+    at : getD pivots (s + k) 0 ≡ getD (take n (drop s pivots)) k 0
+    at = sym (getD-take n (drop s pivots) k 0 (omega arith) ∙ getD-drop s pivots k 0)

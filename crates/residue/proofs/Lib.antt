@@ -10,3 +10,4 @@ pub mod Inverses
 pub mod Filled
 pub mod Vectors
 pub mod Eliminated
+pub mod Fours

@@ -19,6 +19,11 @@ eliminated p rows pivots (suc t) w = cancelled p (take 128 (drop (128 * t) rows)
 unfoldable pub gained : ℕ → List ℕ → List ℕ → List ℕ
 gained c = zipWith (λ d s. d + c * s)
 
+-- the same with the four rows of a block, times a, b, c and d
+unfoldable pub gainedFour : ℕ → ℕ → ℕ → ℕ → List ℕ → List ℕ → List ℕ
+gainedFour a b c d w block =
+    gained d (gained c (gained b (gained a w (take 128 block)) (take 128 (drop 128 block))) (take 128 (drop 256 block))) (take 128 (drop 384 block))
+
 -- each entry reduced
 unfoldable pub reduced : ℕ → List ℕ → List ℕ
 reduced p = map (λ x. x % p)

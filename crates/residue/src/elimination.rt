@@ -1,22 +1,32 @@
-// Elimination. A row gains multiples of pivot rows unreduced for as long as 16 bits hold its entries, 60 + 17 * 3600 being below 65536; only the entry at the pivot is reduced when it is read.
+// Elimination. A row gains multiples of pivot rows unreduced for as long as 16 bits hold its entries; only entries at pivots are reduced when they are read.
+// Pivot rows come four at a time: their four factors follow from the entries at the four pivots alone, so that the row itself is read and written once for all.
 use crate::arithmetic::reciprocal;
 use crate::arithmetic::reduce;
 ghost use mathlib.Core.Path.{_≡_};
-ghost use Prim.Native.Nat.{ℕ, _+_, _*_, _/_, _<_, _≤_};
+ghost use Prim.Native.Nat.{ℕ, _+_, _-_, _*_, _/_, _^_, _<_, _≤_};
 ghost use lib.ListN.{length, getD};
 ghost use Rattle.residue.specs.Vector.{Below};
-ghost use Rattle.residue.specs.Elimination.{cancelled, eliminated, gained, reduced};
+ghost use Rattle.residue.specs.Elimination.{cancelled, eliminated, gained, gainedFour, reduced};
 
 // Adds c times src to dst.
 fn gain(dst: &mut [u16], c: u16, src: &[u16])
     requires { ⌜ length (now dst) ≡ length (now src) ⌝ }
-    requires { ⌜ c < 61 ⌝ }
-    requires { ⌜ Below 61 (now src) ⌝ }
-    requires { ⌜ Below 61936 (now dst) ⌝ }
+    requires { ⌜ Below 65536 (gained c (now dst) (now src)) ⌝ }
     ensures { λ _. ⌜ now (dst .exit) ≡ gained c (now (dst .entry)) (now (src .entry)) ⌝ }
 {
     for i in 0..dst.len() {
         dst[i] += c * src[i];
+    }
+}
+
+// Adds the four rows of a block, times a, b, c and d.
+fn gain_four(dst: &mut [u16], a: u16, b: u16, c: u16, d: u16, block: &[u16])
+    requires { ⌜ (length (now dst) ≡ 128) × (length (now block) ≡ 512) ⌝ }
+    requires { ⌜ Below 65536 (gainedFour a b c d (now dst) (now block)) ⌝ }
+    ensures { λ _. ⌜ now (dst .exit) ≡ gainedFour a b c d (now (dst .entry)) (now (block .entry)) ⌝ }
+{
+    for i in 0..128 {
+        dst[i] += a * block[i] + b * block[128 + i] + c * block[256 + i] + d * block[384 + i];
     }
 }
 
@@ -31,26 +41,104 @@ fn fold(p: u16, dst: &mut [u16])
     }
 }
 
-// Cancels the entry at a place by a row that is 1 there. The answer, like the count handed in, is how many rows were added since the last reduction.
-fn cancel(p: u16, m: u16, row: &[u16], at: usize, count: usize, work: &mut [u16]) -> usize
+// Room for gains of this many: the entries, which are below `top`, are reduced if they might grow too great. The answer is what they are below then.
+fn make_room(p: u16, gains: u32, top: u32, work: &mut [u16]) -> u32
+    requires { ⌜ (2 ≤ p) × (p ≤ 61) ⌝ }
+    requires { ⌜ (gains ≤ 14884) × (top ≤ 65536) × Below top (now work) ⌝ }
+    ensures { λ t. ⌜ (t + gains ≤ 65536) × Below t (now (work .exit)) ⌝ }
+    ensures { λ t. ⌜ reduced p (now (work .exit)) ≡ reduced p (now (work .entry)) ⌝ }
+{
+    if top + gains <= 65536 {
+        return top;
+    }
+    fold(p, work);
+    p as u32
+}
+
+// Cancels the entry at a place by a row that is 1 there.
+fn cancel(p: u16, m: u16, row: &[u16], at: usize, work: &mut [u16])
     requires { ⌜ (2 ≤ p) × (p ≤ 61) × (m ≡ 65536 / p) ⌝ }
     requires { ⌜ (length (now row) ≡ length (now work)) × (at < length (now work)) ⌝ }
     requires { ⌜ Below p (now row) ⌝ }
-    requires { ⌜ (count ≤ 17) × Below (61 + 3600 * count) (now work) ⌝ }
-    ensures { λ k. ⌜ reduced p (now (work .exit)) ≡ cancelled p (now (row .entry)) at (reduced p (now (work .entry))) ⌝ }
-    ensures { λ k. ⌜ (k ≤ 17) × Below (61 + 3600 * k) (now (work .exit)) ⌝ }
+    requires { ⌜ Below (65536 - p * p) (now work) ⌝ }
+    ensures { λ _. ⌜ reduced p (now (work .exit)) ≡ cancelled p (now (row .entry)) at (reduced p (now (work .entry))) ⌝ }
+    ensures { λ _. ⌜ ((t : ℕ) → Below t (now (work .entry)) → Below (t + p * p) (now (work .exit))) ⌝ }
 {
     let x = reduce(p, m, work[at]);
     if x == 0 {
-        return count;
+        return;
     }
-    if count < 17 {
-        gain(work, p - x, row);
-        return count + 1;
-    }
-    fold(p, work);
     gain(work, p - x, row);
-    1
+}
+
+// What an entry x is, up to multiples of p, once a row is met that has e at its place and found y at its pivot.
+fn after(p: u16, x: u64, y: u64, e: u16) -> u64
+    requires { ⌜ (e < p) × (p ≤ 61) × (x ≤ 2 ^ 40) × (y ≤ 2 ^ 40) ⌝ }
+    ensures { λ z. ⌜ (z ≡ x + y * (p - e)) × (z ≤ x + 61 * y) ⌝ }
+{
+    x + y * (p - e) as u64
+}
+
+// Cancels the entries at four pivots, by the rows of a block, in their order. What stands at a pivot when its row is met is worked out beforehand.
+fn cancel_four(p: u16, block: &[u16], pivots: &[u8], work: &mut [u16])
+    requires { ⌜ (2 ≤ p) × (p ≤ 61) ⌝ }
+    requires { ⌜ (length (now block) ≡ 512) × (length (now pivots) ≡ 4) × (length (now work) ≡ 128) ⌝ }
+    requires { ⌜ Below p (now block) × Below 128 (now pivots) ⌝ }
+    requires { ⌜ Below (65536 - 4 * (p * p)) (now work) ⌝ }
+    ensures { λ _. ⌜ reduced p (now (work .exit)) ≡ eliminated p (now (block .entry)) (now (pivots .entry)) 4 (reduced p (now (work .entry))) ⌝ }
+    ensures { λ _. ⌜ ((t : ℕ) → Below t (now (work .entry)) → Below (t + 4 * (p * p)) (now (work .exit))) ⌝ }
+{
+    let q = pivots[1] as usize;
+    let r = pivots[2] as usize;
+    let s = pivots[3] as usize;
+    let a = work[pivots[0] as usize] as u64;
+    let b = after(p, work[q] as u64, a, block[q]);
+    let second = after(p, work[r] as u64, a, block[r]);
+    let c = after(p, second, b, block[128 + r]);
+    let third = after(p, work[s] as u64, a, block[s]);
+    let fourth = after(p, third, b, block[128 + s]);
+    let d = after(p, fourth, c, block[256 + s]);
+    let modulus = p as u64;
+    gain_four(
+        work,
+        p - (a % modulus) as u16,
+        p - (b % modulus) as u16,
+        p - (c % modulus) as u16,
+        p - (d % modulus) as u16,
+        block,
+    );
+}
+
+// The row meets the first 4 * count pivot rows. The answer is what its entries are below then.
+fn eliminate_fours(p: u16, count: usize, rows: &[u16], pivots: &[u8], work: &mut [u16]) -> u32
+    requires { ⌜ (2 ≤ p) × (p ≤ 61) ⌝ }
+    requires { ⌜ length (now work) ≡ 128 ⌝ }
+    requires { ⌜ (512 * count ≤ length (now rows)) × (4 * count ≤ length (now pivots)) ⌝ }
+    requires { ⌜ (Below p (now rows)) × (Below p (now work)) ⌝ }
+    requires { ⌜ ((t : ℕ) → t < 4 * count → getD (now pivots) t 0 < 128) ⌝ }
+    ensures { λ _. ⌜ reduced p (now (work .exit)) ≡ eliminated p (now (rows .entry)) (now (pivots .entry)) (4 * count) (now (work .entry)) ⌝ }
+    ensures { λ top. ⌜ (top ≤ 65536) × Below top (now (work .exit)) ⌝ }
+{
+    let gains = 4 * (p * p) as u32;
+    let mut top = p as u32;
+    for t in 0..count {
+        let from = 512 * t;
+        let first = 4 * t;
+        top = make_room(p, gains, top, work);
+        cancel_four(p, &rows[from..from + 512], &pivots[first..first + 4], work);
+        top += gains;
+    }
+    top
+}
+
+// How many blocks of four rows are met as such. Modulo 2 there are none: half the entries at pivots are 0 there, and a row alone can be passed over.
+fn fours(p: u16, found: usize) -> usize
+    ensures { λ k. ⌜ 4 * k ≤ found ⌝ }
+{
+    if p == 2 {
+        return 0;
+    }
+    found / 4
 }
 
 // The row meets the pivot rows in the order in which they were found; each cancels its entry at that row's pivot.
@@ -62,18 +150,15 @@ pub fn eliminate(p: u16, found: usize, rows: &[u16], pivots: &[u8], work: &mut [
     requires { ⌜ ((t : ℕ) → t < found → getD (now pivots) t 0 < 128) ⌝ }
     ensures { λ _. ⌜ now (work .exit) ≡ eliminated p (now (rows .entry)) (now (pivots .entry)) found (now (work .entry)) ⌝ }
 {
+    let count = fours(p, found);
+    let mut top = eliminate_fours(p, count, rows, pivots, work);
     let m = reciprocal(p);
-    let mut count = 0;
-    for t in 0..found {
+    let gains = (p * p) as u32;
+    for t in 4 * count..found {
         let from = 128 * t;
-        count = cancel(
-            p,
-            m,
-            &rows[from..from + 128],
-            pivots[t] as usize,
-            count,
-            work,
-        );
+        top = make_room(p, gains, top, work);
+        cancel(p, m, &rows[from..from + 128], pivots[t] as usize, work);
+        top += gains;
     }
     fold(p, work);
 }

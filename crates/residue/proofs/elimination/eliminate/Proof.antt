@@ -1,47 +1,107 @@
 -- `elimination::eliminate` meets its contract. Reduced, the loop's row is the row that has met the first t pivot rows; its entries fit 16 bits.
-use mathlib.Core.Path.{_≡_, ap, ap₂, sym, _∙_}
+use mathlib.Core.Path.{_≡_, sym, ap, ap₂, _∙_}
 use mathlib.Core.List.{List}
 use Prim.Native.Nat.{ℕ, _+_, _*_, _-_, _≤_}
+use native.Mathlib.Nat.{mul-le-mul}
 use native.Mathlib.Omega.{arith}
 use lib.ListN.{length, getD, take, drop}
+use borrow.Author.Needs.{needs}
 use Rattle.residue.specs.Vector.{Below}
 use Rattle.residue.specs.Elimination.{cancelled, eliminated, reduced}
 use Rattle.residue.proofs.Vectors.{below-take, below-drop}
-use Rattle.residue.proofs.Eliminated.{eliminated-none, eliminated-more, eliminated-length, row-long, reduced-length, reduced-residues}
+use Rattle.residue.proofs.Eliminated.{cancelled-length, eliminated-more, eliminated-length, row-long, reduced-length}
 use Rattle.residue.proofs.elimination.eliminate.Statement.{statement}
 use Rattle.residue.proofs.elimination.eliminate.Tie as tie
 
 abbrev Inv-loop : tie.InvT-loop
-Inv-loop p found rows pivots work₀ m count₀ t₀ work count t =
-    (t ≤ found) × ((reduced p work ≡ eliminated p rows pivots t work₀) × ((count ≤ 17) × Below (61 + 3600 * count) work))
+Inv-loop p found rows pivots work₀ count top₀ m gains t₀ work top t =
+    (t ≤ found) × ((length work ≡ 128) × (((w : List ℕ) → reduced p work₀ ≡ eliminated p rows pivots t₀ w → reduced p work ≡ eliminated p rows pivots t w) × ((top ≤ 65536) × Below top work)))
 
 abbrev μ-loop : tie.MeasureT-loop
-μ-loop p found rows pivots work₀ m count₀ t₀ work count t = found - t
+μ-loop p found rows pivots work₀ count top₀ m gains t₀ work top t = found - t
 
--- at the loop's head the row is as long as it came
+square : (p : ℕ) → p ≤ 61 → p * p ≤ 61 * 61
+square p h = mul-le-mul h h
+
+-- once the blocks are met
+module _ (f : tie.After-eliminate-fours Inv-loop μ-loop) where
+  abbrev begun : tie.Start Inv-loop μ-loop
+  begun = f .before .before .before .before .before .before
+
+  abbrev met : List ℕ
+  met = f .eliminate-fours .last .1 .1 .1 .1 .0
+
+  met-long : length met ≡ 128
+  met-long =
+      let a = begun .args in
+      sym (reduced-length (a .p) met) ∙ ap length (f .eliminate-fours .ensures .0)
+      ∙ eliminated-length (a .p) (a .rows .now) (a .pivots .now) (a .work .now) (begun .pre .1 .0) (4 * f .before .before .fours .result) (omega (arith, f .before .before .fours .ensures))
+
+-- at the loop's head
 module _ (l : tie.At-loop Inv-loop μ-loop) where
   abbrev start : tie.Start Inv-loop μ-loop
-  start = l .before .before .before .before .before
+  start = begun (l .before .before .before .before)
 
-  long : length (l .loop .work) ≡ 128
-  long =
-      let a = start .args in
-      sym (reduced-length (a .p) (l .loop .work)) ∙ ap length (l .loop .inv .1 .0)
-      ∙ eliminated-length (a .p) (a .rows .now) (a .pivots .now) (a .work .now) (start .pre .1 .0) (l .loop .t) (omega arith)
+  now-met : reduced (start .args .p) (l .loop .work) ≡ eliminated (start .args .p) (start .args .rows .now) (start .args .pivots .now) (l .loop .t) (start .args .work .now)
+  now-met = l .loop .inv .1 .1 .0 (start .args .work .now) (l .before .before .before .before .eliminate-fours .ensures .0)
+
+-- with room made
+module _ (r : tie.After-make-room Inv-loop μ-loop) where
+  abbrev head : tie.At-loop Inv-loop μ-loop
+  head = r .before .before .before
+
+  abbrev roomy : List ℕ
+  roomy = r .make-room .last .1 .1 .1 .0
+
+  -- the row that is met next
+  abbrev row : List ℕ
+  row = take (128 * head .loop .t + 128 - 128 * head .loop .t) (drop (128 * head .loop .t) (start head .args .rows .now))
+
+  roomy-long : length roomy ≡ 128
+  roomy-long =
+      let p = start head .args .p in
+      sym (reduced-length p roomy) ∙ ap length (r .make-room .ensures .1) ∙ reduced-length p (head .loop .work) ∙ head .loop .inv .1 .0
+
+  row-fits : head .loop .t + 1 ≤ start head .args .found → length row ≡ 128
+  row-fits h =
+      let t = head .loop .t in
+      let e : 128 * t + 128 - 128 * t ≡ 128 = omega arith in
+      ap (λ (k : ℕ). length (take k (drop (128 * t) (start head .args .rows .now)))) e ∙ row-long t (start head .args .rows .now) (omega arith)
+
+fours-requires : tie.Need-fours-requires Inv-loop μ-loop
+fours-requires c κs = search needs
+
+eliminate-fours-requires : tie.Need-eliminate-fours-requires Inv-loop μ-loop
+eliminate-fours-requires c κs =
+    let f = c .before .fours .ensures in
+    let s = c .before .before .before .before .before in
+    (s .pre .0, (s .pre .1 .0, ((omega (arith, f), omega (arith, f)), (s .pre .1 .1 .1 .0, λ t h. s .pre .1 .1 .1 .1 t (omega (arith, f))))))
 
 reciprocal-requires : tie.Need-reciprocal-requires Inv-loop μ-loop
 reciprocal-requires c κs = omega arith
 
+mul-gains : tie.Need-mul-gains Inv-loop μ-loop
+mul-gains c = omega (arith, square (c .before .before .before .before .before .before .before .before .before .args .p) (omega arith))
+
+cast-gains : tie.Need-cast-gains Inv-loop μ-loop
+cast-gains c = omega (arith, square (c .before .before .before .before .before .before .before .before .before .args .p) (omega arith))
+
+mul-t : tie.Need-mul-t Inv-loop μ-loop
+mul-t c = omega (arith, c .before .before .before .before .before .fours .ensures)
+
 loop-holds : tie.Need-loop-holds Inv-loop μ-loop
 loop-holds c =
-    let s = c .before .before .before .before in
-    let b = s .pre .1 .1 .1 .0 .1 in (
-      omega arith,
-      (reduced-residues (s .args .p) (s .args .work .now) b ∙ sym (eliminated-none (s .args .p) (s .args .rows .now) (s .args .pivots .now) (s .args .work .now)), (omega arith, λ i h. omega (arith, b i h))),
-    )
+    let f = c .before .before .before in
+    (omega (arith, f .before .before .fours .ensures), (met-long f, (λ w e. e, f .eliminate-fours .ensures .1)))
 
 mul-from : tie.Need-mul-from Inv-loop μ-loop
 mul-from c = omega arith
+
+make-room-requires : tie.Need-make-room-requires Inv-loop μ-loop
+make-room-requires c κs =
+    let l = c .before .before in
+    let s = start l in
+    (s .pre .0, (omega (arith, square (s .args .p) (omega arith)), omega arith, l .loop .inv .1 .1 .1 .1))
 
 add-cancel : tie.Need-add-cancel Inv-loop μ-loop
 add-cancel c = omega arith
@@ -62,24 +122,28 @@ shared-slice-read-cancel : tie.Need-shared-slice-read-cancel Inv-loop μ-loop
 shared-slice-read-cancel c = omega arith
 
 cast-cancel : tie.Need-cast-cancel Inv-loop μ-loop
-cast-cancel c = let l = c .before .before .before in omega (arith, start l .pre .1 .1 .1 .1 (l .loop .t) (c .before .before .loop-test .taken))
+cast-cancel c = let l = c .before .before .before .before .before .before .before in omega (arith, start l .pre .1 .1 .1 .1 (l .loop .t) (omega arith))
 
 cancel-requires : tie.Need-cancel-requires Inv-loop μ-loop
 cancel-requires c κs =
-    let i = c .before .before .before in
-    let l = i .before in
+    let r = c .before .before .before .before .before in
+    let l = head r in
     let s = start l in
     let t = l .loop .t in
-    let e : 128 * t + 128 - 128 * t ≡ 128 = omega arith in
-    let d : List ℕ = drop (128 * t) (s .args .rows .now) in
-    let h = s .pre .1 .1 .1 .1 t (i .loop-test .taken) in
-    let w = long l in (
+    let h = s .pre .1 .1 .1 .1 t (omega arith) in
+    let n = roomy-long r in (
       (s .pre .0 .0, s .pre .0 .1, l .before .reciprocal .ensures),
       (
-        (ap (λ (k : ℕ). length (take k d)) e ∙ row-long t (s .args .rows .now) (omega arith) ∙ sym w, omega arith),
-        (below-take (s .args .p) (128 * t + 128 - 128 * t) d (below-drop (s .args .p) (128 * t) (s .args .rows .now) (s .pre .1 .1 .1 .0 .0)), l .loop .inv .1 .1),
+        (row-fits r (omega arith) ∙ sym n, omega (arith, h, n)),
+        (
+          below-take (s .args .p) (128 * t + 128 - 128 * t) (drop (128 * t) (s .args .rows .now)) (below-drop (s .args .p) (128 * t) (s .args .rows .now) (s .pre .1 .1 .1 .0 .0)),
+          λ i k. omega (arith, r .make-room .ensures .0 .0, r .make-room .ensures .0 .1 i k),
+        ),
       ),
     )
+
+add-top : tie.Need-add-top Inv-loop μ-loop
+add-top c = omega (arith, c .before .before .before .before .before .before .before .before .make-room .ensures .0 .0)
 
 add-t : tie.Need-add-t Inv-loop μ-loop
 add-t c = omega arith
@@ -90,16 +154,24 @@ loop-less c = omega arith
 loop-again : tie.Need-loop-again Inv-loop μ-loop
 loop-again c =
     let called = c .before .before in
-    let l = called .before .before .before .before .before in
+    let r = c .before .before .before .before .before .before .before .before in
+    let l = head r in
     let s = start l in
     let t = l .loop .t in
-    let e : 128 * t + 128 - 128 * t ≡ 128 = omega arith in (
+    let p = s .args .p in
+    let at = getD (s .args .pivots .now) t 0 in
+    let e : 128 * t + 128 - 128 * t ≡ 128 = omega arith in
+    let n : length (reduced p (roomy r)) ≡ length (row r) = reduced-length p (roomy r) ∙ roomy-long r ∙ sym (row-fits r (omega arith)) in
+    let after : List ℕ = called .cancel .last .1 .1 .1 .1 .0 in (
       omega arith,
       (
-        called .cancel .ensures .0
-            ∙ ap₂ (λ (k : ℕ) (w : List ℕ). cancelled (s .args .p) (take k (drop (128 * t) (s .args .rows .now))) (getD (s .args .pivots .now) t 0) w) e (l .loop .inv .1 .0)
-            ∙ sym (eliminated-more (s .args .p) (s .args .rows .now) (s .args .pivots .now) (s .args .work .now) t),
-        called .cancel .ensures .1,
+        sym (reduced-length p after) ∙ ap length (called .cancel .ensures .0) ∙ cancelled-length p (row r) at (reduced p (roomy r)) n ∙ n ∙ row-fits r (omega arith),
+        (
+          λ w k. called .cancel .ensures .0
+              ∙ ap₂ (λ (j : ℕ) (v : List ℕ). cancelled p (take j (drop (128 * t) (s .args .rows .now))) at v) e (r .make-room .ensures .1 ∙ l .loop .inv .1 .1 .0 w k)
+              ∙ sym (eliminated-more p (s .args .rows .now) (s .args .pivots .now) w t),
+          (r .make-room .ensures .0 .0, called .cancel .ensures .1 (r .make-room .result) (r .make-room .ensures .0 .1)),
+        ),
       ),
     )
 
@@ -110,7 +182,7 @@ same-length : tie.Need-same-length Inv-loop μ-loop
 same-length c =
     let f = c .before .before in
     let l = f .before .before .before in
-    ap length (f .fold .ensures) ∙ reduced-length (start l .args .p) (l .loop .work) ∙ long l ∙ sym (start l .pre .1 .0)
+    ap length (f .fold .ensures) ∙ reduced-length (start l .args .p) (l .loop .work) ∙ l .loop .inv .1 .0 ∙ sym (start l .pre .1 .0)
 
 returns : tie.Need-returns Inv-loop μ-loop
 returns c =
@@ -118,7 +190,7 @@ returns c =
     let l = f .before .before .before in
     let s = start l in
     let e : l .loop .t ≡ s .args .found = omega arith in
-    f .fold .ensures ∙ l .loop .inv .1 .0 ∙ ap (λ (k : ℕ). eliminated (s .args .p) (s .args .rows .now) (s .args .pivots .now) k (s .args .work .now)) e
+    f .fold .ensures ∙ now-met l ∙ ap (λ (k : ℕ). eliminated (s .args .p) (s .args .rows .now) (s .args .pivots .now) k (s .args .work .now)) e
 
 pub eliminate-spec : {M : Type 1} → statement M
 eliminate-spec =
@@ -126,9 +198,15 @@ eliminate-spec =
     (tie.spec
     Inv-loop
     μ-loop
+    fours-requires
+    eliminate-fours-requires
     reciprocal-requires
+    mul-gains
+    cast-gains
+    mul-t
     loop-holds
     mul-from
+    make-room-requires
     add-cancel
     mul-cancel
     sub-cancel
@@ -137,6 +215,7 @@ eliminate-spec =
     shared-slice-read-cancel
     cast-cancel
     cancel-requires
+    add-top
     add-t
     loop-less
     loop-again

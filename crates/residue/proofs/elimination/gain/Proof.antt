@@ -4,7 +4,6 @@ use mathlib.Core.List.{List}
 use Prim.Native.Nat.{ℕ, _+_, _*_, _-_, _<_, _≤_}
 use native.Mathlib.Omega.{arith}
 use lib.ListN.{length, getD}
-use Rattle.residue.proofs.Reduction.{product-small}
 use Rattle.residue.proofs.Filled.{filled, filled-none, kept-length, own, filled-more, filled-all}
 use Rattle.residue.proofs.Eliminated.{gained-length, gained-at}
 use Rattle.residue.proofs.elimination.gain.Statement.{statement}
@@ -38,11 +37,11 @@ module _ (c : tie.In-loop Inv-loop μ-loop) where
   abbrev s : tie.Start Inv-loop μ-loop
   s = start (c .before)
 
-  added : getD (c .before .loop .dst) (c .before .loop .i) 0 < 61936
-  added = rw (here (c .before)) (s .pre .1 .1 .1 (c .before .loop .i) (c .loop-test .taken))
-
-  product : s .args .c * getD (s .args .src .now) (c .before .loop .i) 0 ≤ 3600
-  product = product-small 61 _ _ (omega arith) (s .pre .1 .0) (s .pre .1 .1 .0 (c .before .loop .i) (omega arith))
+  fits : getD (c .before .loop .dst) (c .before .loop .i) 0 + s .args .c * getD (s .args .src .now) (c .before .loop .i) 0 < 65536
+  fits =
+      let e = gained-at (s .args .c) (s .args .dst .now) (s .args .src .now) (s .pre .0) (c .before .loop .i) (c .loop-test .taken) in
+      let n = gained-length (s .args .c) (s .args .dst .now) (s .args .src .now) (s .pre .0) in
+      omega (arith, e, here (c .before), s .pre .1 (c .before .loop .i) (omega arith))
 
 loop-holds : tie.Need-loop-holds Inv-loop μ-loop
 loop-holds c = (omega arith, filled-none _ _)
@@ -54,7 +53,7 @@ shared-slice-read-dst : tie.Need-shared-slice-read-dst Inv-loop μ-loop
 shared-slice-read-dst c = omega arith
 
 mul-dst-2 : tie.Need-mul-dst-2 Inv-loop μ-loop
-mul-dst-2 c = omega (arith, product (c .before))
+mul-dst-2 c = omega (arith, fits (c .before))
 
 mul-dst-3 : tie.Need-mul-dst-3 Inv-loop μ-loop
 mul-dst-3 c = omega arith
@@ -63,7 +62,7 @@ slice-read-dst : tie.Need-slice-read-dst Inv-loop μ-loop
 slice-read-dst c = omega (arith, long (c .before .before .before))
 
 add-dst : tie.Need-add-dst Inv-loop μ-loop
-add-dst c = omega (arith, added (c .before .before), product (c .before .before))
+add-dst c = omega (arith, fits (c .before .before))
 
 slice-write-dst : tie.Need-slice-write-dst Inv-loop μ-loop
 slice-write-dst c = omega (arith, long (c .before .before .before))
