@@ -1,5 +1,7 @@
 // Values of monomials at a point, modulo p.
-use residue::arithmetic;
+use residue::arithmetic::power;
+use residue::arithmetic::reciprocal;
+use residue::arithmetic::reduce;
 ghost use mathlib.Core.Path.{_≡_};
 ghost use Prim.Native.Nat.{_%_, _≤_};
 ghost use lib.ListN.{length};
@@ -13,10 +15,10 @@ pub fn value(p: u16, point: &[u8], a: &[u8]) -> u16
     requires { ⌜ Below p (now point) ⌝ }
     ensures { λ r. ⌜ r ≡ valueAt (now (point .entry)) (now (a .entry)) % p ⌝ }
 {
+    let m = reciprocal(p);
     let mut product = 1;
     for i in 0..8 {
-        let factor = arithmetic::power(p, point[i] as u16, a[i]);
-        product = arithmetic::mul(p, product, factor);
+        product = reduce(p, m, product * power(p, m, point[i] as u16, a[i]));
     }
     product
 }

@@ -25,18 +25,6 @@ pub fn neg(p: u16, x: u16) -> u16
     p - x
 }
 
-pub fn sub(p: u16, x: u16, y: u16) -> u16
-    requires { ⌜ p ≤ 61 ⌝ }
-    requires { ⌜ (x < p) × (y < p) ⌝ }
-    ensures { λ r. ⌜ r ≡ (x + (p - y)) % p ⌝ }
-{
-    let sum = x + (p - y);
-    if sum < p {
-        return sum;
-    }
-    sum - p
-}
-
 pub fn mul(p: u16, x: u16, y: u16) -> u16
     requires { ⌜ p ≤ 61 ⌝ }
     requires { ⌜ (x < p) × (y < p) ⌝ }
@@ -67,13 +55,12 @@ pub fn reduce(p: u16, m: u16, x: u16) -> u16
     rest - p
 }
 
-// x to the power e by squares; anything to the power 0 is 1.
-pub fn power(p: u16, x: u16, e: u8) -> u16
-    requires { ⌜ (2 ≤ p) × (p ≤ 61) ⌝ }
+// x to the power e by squares, with the modulus' reciprocal; anything to the power 0 is 1.
+pub fn power(p: u16, m: u16, x: u16, e: u8) -> u16
+    requires { ⌜ (2 ≤ p) × (p ≤ 61) × (m ≡ 65536 / p) ⌝ }
     requires { ⌜ x < p ⌝ }
     ensures { λ r. ⌜ r ≡ (x ^ e) % p ⌝ }
 {
-    let m = reciprocal(p);
     let mut product = 1;
     let mut square = x;
     let mut left = e;

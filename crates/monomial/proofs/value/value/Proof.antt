@@ -6,64 +6,72 @@ use native.Mathlib.Omega.{arith}
 use lib.ListN.{drop}
 use Rattle.residue.specs.Congruence.{Mod}
 use Rattle.residue.proofs.Congruence.{of}
+use Rattle.residue.proofs.Reduction.{product-small}
 use Rattle.monomial.specs.Monomial.{valueAt}
 use Rattle.monomial.proofs.Loops.{value-again, value-end}
-use borrow.Author.Needs.{needs}
 use Rattle.monomial.proofs.value.value.Statement.{statement}
 use Rattle.monomial.proofs.value.value.Tie as tie
 
 abbrev Inv-loop : tie.InvT-loop
-Inv-loop p point a product₀ i₀ product i = (i ≤ 8) × (product < p) × Mod p (product * valueAt (drop i point) (drop i a)) (valueAt point a)
+Inv-loop p point a m product₀ i₀ product i = (i ≤ 8) × (product < p) × Mod p (product * valueAt (drop i point) (drop i a)) (valueAt point a)
 
 abbrev μ-loop : tie.MeasureT-loop
-μ-loop p point a product₀ i₀ product i = 8 - i
+μ-loop p point a m product₀ i₀ product i = 8 - i
+
+abbrev start : tie.At-loop Inv-loop μ-loop → tie.Start Inv-loop μ-loop
+start l = l .before .before .before .before
+
+reciprocal-requires : tie.Need-reciprocal-requires Inv-loop μ-loop
+reciprocal-requires c κs = omega arith
 
 loop-holds : tie.Need-loop-holds Inv-loop μ-loop
 loop-holds c =
-    let s = c .before .before in
+    let s = c .before .before .before in
     (omega arith, omega arith, of (one-mul (valueAt (s .args .point .now) (s .args .a .now))))
 
 shared-slice-read-power : tie.Need-shared-slice-read-power Inv-loop μ-loop
-shared-slice-read-power c = search needs
+shared-slice-read-power c = omega arith
 
 cast-power : tie.Need-cast-power Inv-loop μ-loop
 cast-power c = omega (arith, c .shared-slice-known3 .given (c .before .before .loop .i))
 
 shared-slice-read-power-2 : tie.Need-shared-slice-read-power-2 Inv-loop μ-loop
-shared-slice-read-power-2 c = search needs
+shared-slice-read-power-2 c = omega arith
 
 power-requires : tie.Need-power-requires Inv-loop μ-loop
 power-requires c κs =
     let l = c .before .before .before in
-    let s = l .before .before .before in
-    (s .pre .0, s .pre .1 .1 (l .loop .i) (omega arith))
+    let s = start l in
+    ((s .pre .0 .0, s .pre .0 .1, l .before .reciprocal .ensures), s .pre .1 .1 (l .loop .i) (omega arith))
 
-mul-requires : tie.Need-mul-requires Inv-loop μ-loop
-mul-requires c κs =
+mul-reduce : tie.Need-mul-reduce Inv-loop μ-loop
+mul-reduce c =
     let l = c .before .before .before .before in
-    let s = l .before .before .before in
-    (s .pre .0 .1, (l .loop .inv .1, rw (c .power .ensures) (mod-lt _ (omega arith))))
+    omega (arith, product-small (start l .args .p) (l .loop .product) (c .power .result) (omega arith) (l .loop .inv .1) (rw (c .power .ensures) (mod-lt _ (omega arith))))
+
+reduce-requires : tie.Need-reduce-requires Inv-loop μ-loop
+reduce-requires c κs = let l = c .before .before .before .before in (omega arith, l .before .reciprocal .ensures)
 
 add-i : tie.Need-add-i Inv-loop μ-loop
-add-i c = search needs
+add-i c = omega arith
 
 loop-less : tie.Need-loop-less Inv-loop μ-loop
-loop-less c = search needs
+loop-less c = omega arith
 
 loop-again : tie.Need-loop-again Inv-loop μ-loop
 loop-again c =
     let l = c .before .before .before .before .before in
-    let s = l .before .before .before in (
+    let s = start l in (
       omega arith,
-      rw (c .mul .ensures) (mod-lt _ (omega arith)),
-      rw (c .mul .ensures)
+      rw (c .reduce .ensures) (mod-lt _ (omega arith)),
+      rw (c .reduce .ensures)
           (value-again (s .args .p) (s .args .point .now) (s .args .a .now) (l .loop .i) (l .loop .product) (l .loop .inv .2) (omega arith) (omega arith) (c .before .power .ensures)),
     )
 
 returns : tie.Need-returns Inv-loop μ-loop
 returns c =
     let l = c .before in
-    let s = l .before .before .before in
+    let s = start l in
     value-end (s .args .p) (s .args .point .now) (s .args .a .now) (l .loop .i) (l .loop .product) (l .loop .inv .2) (omega arith) (l .loop .inv .1)
 
 pub value-spec : {M : Type 1} → statement M
@@ -72,12 +80,14 @@ value-spec =
     (tie.spec
     Inv-loop
     μ-loop
+    reciprocal-requires
     loop-holds
     shared-slice-read-power
     cast-power
     shared-slice-read-power-2
     power-requires
-    mul-requires
+    mul-reduce
+    reduce-requires
     add-i
     loop-less
     loop-again

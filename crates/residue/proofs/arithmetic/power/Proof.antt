@@ -12,14 +12,11 @@ use Rattle.residue.proofs.arithmetic.power.Statement.{statement}
 use Rattle.residue.proofs.arithmetic.power.Tie as tie
 
 abbrev Inv-loop : tie.InvT-loop
-Inv-loop p x e m product₀ square₀ left₀ product square left =
+Inv-loop p m x e product₀ square₀ left₀ product square left =
     (product < p) × ((square < p) × Mod p (product * square ^ left) (x ^ e))
 
 abbrev μ-loop : tie.MeasureT-loop
-μ-loop p x e m product₀ square₀ left₀ product square left = left
-
-reciprocal-requires : tie.Need-reciprocal-requires Inv-loop μ-loop
-reciprocal-requires c κs = c .pre .0 .0
+μ-loop p m x e product₀ square₀ left₀ product square left = left
 
 loop-holds : tie.Need-loop-holds Inv-loop μ-loop
 loop-holds c = (omega arith, (omega arith, of (omega arith)))
@@ -27,18 +24,18 @@ loop-holds c = (omega arith, (omega arith, of (omega arith)))
 mul-reduce : tie.Need-mul-reduce Inv-loop μ-loop
 mul-reduce c =
     let l = c .before .before in
-    omega (arith, product-small _ _ _ (l .before .before .pre .0 .1) (l .loop .inv .0) (l .loop .inv .1 .0))
+    omega (arith, product-small _ _ _ (l .before .pre .0 .1) (l .loop .inv .0) (l .loop .inv .1 .0))
 
 reduce-requires : tie.Need-reduce-requires Inv-loop μ-loop
-reduce-requires c κs = let r = c .before .before .before in (r .before .pre .0 .0, r .reciprocal .ensures)
+reduce-requires c κs = let r = c .before .before .before in (r .pre .0 .0, r .pre .0 .2)
 
 mul-reduce-2 : tie.Need-mul-reduce-2 Inv-loop μ-loop
 mul-reduce-2 c =
     let l = c .before .before in
-    omega (arith, product-small _ _ _ (l .before .before .pre .0 .1) (l .loop .inv .1 .0) (l .loop .inv .1 .0))
+    omega (arith, product-small _ _ _ (l .before .pre .0 .1) (l .loop .inv .1 .0) (l .loop .inv .1 .0))
 
 reduce-requires-2 : tie.Need-reduce-requires-2 Inv-loop μ-loop
-reduce-requires-2 c κs = let r = c .before .before .before in (r .before .pre .0 .0, r .reciprocal .ensures)
+reduce-requires-2 c κs = let r = c .before .before .before in (r .pre .0 .0, r .pre .0 .2)
 
 loop-less : tie.Need-loop-less Inv-loop μ-loop
 loop-less c = omega arith
@@ -46,7 +43,7 @@ loop-less c = omega arith
 loop-again : tie.Need-loop-again Inv-loop μ-loop
 loop-again c =
     let l = c .before .before .before in
-    let p = l .before .before .args .p in
+    let p = l .before .args .p in
     let two : 0 < p = omega arith in
     let sq = c .reduce2 .ensures in
     let low : c .reduce2 .result < p = rw sq (mod-lt _ two) in
@@ -67,7 +64,6 @@ power-spec =
     (tie.spec
     Inv-loop
     μ-loop
-    reciprocal-requires
     loop-holds
     mul-reduce
     reduce-requires
