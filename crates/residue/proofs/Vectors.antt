@@ -1,13 +1,13 @@
 -- Vectors of residues: their lengths, their entries, and that these are residues.
 use mathlib.Core.Path.{_≡_, refl, ap, _∙_, subst}
 use mathlib.Core.List.{List, [], _∷_, _++_, map, zipWith}
-use Prim.Native.Nat.{ℕ, zero, suc, _+_, _*_, _%_, _<_}
+use Prim.Native.Nat.{ℕ, zero, suc, _+_, _*_, _%_, _^_, _<_}
 use native.Mathlib.Nat.{mod-lt, not-suc-le-zero, le-of-suc-le-suc}
 use native.Mathlib.Numerals.{add-one}
 use native.Mathlib.Omega.{arith}
 use lib.ListN.{length, getD, set, take, drop, replicate, length-map, length-take, length-drop, length-replicate, getD-replicate}
 use lib.Seq.{getD-take, getD-drop}
-use Rattle.residue.specs.Vector.{Below, addScaled, scaled, pointwise, dotOf}
+use Rattle.residue.specs.Vector.{Below, addScaled, scaled, pointwise, powered, dotOf}
 
 -- two lists joined entry by entry, and a list changed entry by entry
 module _ {A B C : Type 0} (f : A → B → C) where
@@ -52,6 +52,18 @@ module _ (p : ℕ) (a b : List ℕ) (same : length a ≡ length b) where
 
   pub pointwise-below : 0 < p → Below p (pointwise p a b)
   pointwise-below z i h = let k : i < length a = subst (λ (n : ℕ). i < n) pointwise-length h in rw (pointwise-at i k) (mod-lt _ z)
+
+module _ (p e : ℕ) (a b : List ℕ) (same : length a ≡ length b) where
+  pub powered-length : length (powered p e a b) ≡ length a
+  unfolding powered
+  powered-length = zip-length _ a b same
+
+  pub powered-at : (i : ℕ) → i < length a → getD (powered p e a b) i 0 ≡ (getD a i 0 * getD b i 0 ^ e) % p
+  unfolding powered
+  powered-at i h = zip-at _ a b 0 0 0 i h same
+
+  pub powered-below : 0 < p → Below p (powered p e a b)
+  powered-below z i h = let k : i < length a = subst (λ (n : ℕ). i < n) powered-length h in rw (powered-at i k) (mod-lt _ z)
 
 module _ (p c : ℕ) (l : List ℕ) where
   pub scaled-length : length (scaled p c l) ≡ length l

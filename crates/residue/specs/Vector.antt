@@ -1,5 +1,5 @@
 -- Vectors of residues, as lists: one residue an entry.
-use Prim.Native.Nat.{ℕ, _+_, _*_, _%_, _<_}
+use Prim.Native.Nat.{ℕ, _+_, _*_, _%_, _^_, _<_}
 use mathlib.Core.List.{List, [], _∷_, map, zipWith}
 use lib.ListN.{length, getD}
 
@@ -18,6 +18,10 @@ scaled p c = map (λ x. (c * x) % p)
 -- the product at each place
 unfoldable pub pointwise : ℕ → List ℕ → List ℕ → List ℕ
 pointwise p = zipWith (λ x y. (x * y) % p)
+
+-- the product with a power at each place
+unfoldable pub powered : ℕ → ℕ → List ℕ → List ℕ → List ℕ
+powered p e = zipWith (λ x y. (x * y ^ e) % p)
 
 -- the sum of the products, not reduced
 unfoldable pub dotOf : List ℕ → List ℕ → ℕ

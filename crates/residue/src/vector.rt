@@ -4,7 +4,7 @@ use crate::arithmetic::reduce;
 ghost use mathlib.Core.Path.{_≡_};
 ghost use Prim.Native.Nat.{_%_, _<_, _≤_};
 ghost use lib.ListN.{length};
-ghost use Rattle.residue.specs.Vector.{Below, addScaled, scaled, pointwise, dotOf};
+ghost use Rattle.residue.specs.Vector.{Below, addScaled, scaled, pointwise, powered, dotOf};
 
 // Adds c times src to dst.
 pub fn add_scaled(p: u16, dst: &mut [u16], c: u16, src: &[u16])
@@ -45,6 +45,35 @@ pub fn multiply(p: u16, dst: &mut [u16], src: &[u16])
     let m = reciprocal(p);
     for i in 0..dst.len() {
         dst[i] = reduce(p, m, dst[i] * src[i]);
+    }
+}
+
+// Multiplies each entry of dst by itself.
+fn square(p: u16, dst: &mut [u16])
+    requires { ⌜ (2 ≤ p) × (p ≤ 61) ⌝ }
+    requires { ⌜ Below p (now dst) ⌝ }
+    ensures { λ _. ⌜ now (dst .exit) ≡ pointwise p (now (dst .entry)) (now (dst .entry)) ⌝ }
+{
+    let m = reciprocal(p);
+    for i in 0..dst.len() {
+        dst[i] = reduce(p, m, dst[i] * dst[i]);
+    }
+}
+
+// Multiplies each entry of dst by that of base to the power e, by squares, which are left in base.
+pub fn multiply_powers(p: u16, dst: &mut [u16], base: &mut [u16], e: u8)
+    requires { ⌜ (2 ≤ p) × (p ≤ 61) ⌝ }
+    requires { ⌜ length (now dst) ≡ length (now base) ⌝ }
+    requires { ⌜ Below p (now dst) × Below p (now base) ⌝ }
+    ensures { λ _. ⌜ now (dst .exit) ≡ powered p e (now (dst .entry)) (now (base .entry)) ⌝ }
+{
+    let mut left = e;
+    while 0 < left {
+        if left % 2 == 1 {
+            multiply(p, dst, base);
+        }
+        square(p, base);
+        left = left / 2;
     }
 }
 
