@@ -8,7 +8,7 @@ use lib.ListN.{length, getD, take, drop, length-drop}
 use lib.Seq.{length-take-le, getD-take, getD-drop}
 use Rattle.residue.specs.Congruence.{Mod}
 use Rattle.residue.specs.Vector.{Below}
-use Rattle.residue.specs.Elimination.{cancelled, eliminated, gained, gainedFour, reduced}
+use Rattle.residue.specs.Elimination.{cancelled, eliminated, gained, gainedFour, met, reduced}
 use Rattle.residue.proofs.Congruence.{rfl, of, flip, _then_}
 use Rattle.residue.proofs.Vectors.{below-take, below-drop}
 use Rattle.residue.proofs.Eliminated.{gained-length, gained-at, gained-below, cancel-gained, met-at}
@@ -82,21 +82,14 @@ module _ (a b c d : ℕ) (w block : List ℕ) (long : length w ≡ 128) (full : 
       let g₄ = gained-below p (t + p * p + p * p + p * p) d thrice (row block full 384) fit₄ hd (row-below block full p 384 r) g₃ in
       λ i h. omega (arith, g₄ i h)
 
--- What stands at a place, up to multiples of p, when one, two and three of the rows have been met, whose pivots found a, b and c.
-module _ (p a b c : ℕ) (w block : List ℕ) where
-  abbrev after₁ : ℕ → ℕ
-  after₁ i = getD w i 0 + a * (p - getD block i 0)
-
-  abbrev after₂ : ℕ → ℕ
-  after₂ i = after₁ i + b * (p - getD block (128 + i) 0)
-
-  abbrev after₃ : ℕ → ℕ
-  after₃ i = after₂ i + c * (p - getD block (256 + i) 0)
+-- a row that is not met
+unmet : (x y : ℕ) → x + 0 * y ≡ x
+unmet x y = omega arith
 
 -- The factors that were worked out beforehand cancel each entry when its row's turn comes.
 module _ (p : ℕ) (w block pivots : List ℕ) (long : length w ≡ 128) (full : length block ≡ 512) (two : 2 ≤ p) (below : Below p block) (inside : (j : ℕ) → j < 4 → getD pivots j 0 < 128)
-    (a b c d : ℕ) (is-a : a ≡ getD w (getD pivots 0 0) 0) (is-b : b ≡ after₁ p a 0 0 w block (getD pivots 1 0)) (is-c : c ≡ after₂ p a b 0 w block (getD pivots 2 0))
-    (is-d : d ≡ after₃ p a b c w block (getD pivots 3 0)) where
+    (a b c d : ℕ) (is-a : a ≡ met p 0 0 0 w block (getD pivots 0 0)) (is-b : b ≡ met p a 0 0 w block (getD pivots 1 0)) (is-c : c ≡ met p a b 0 w block (getD pivots 2 0))
+    (is-d : d ≡ met p a b c w block (getD pivots 3 0)) where
   abbrev w₁ : List ℕ
   w₁ = once (p - a % p) 0 0 0 w block long full
 
@@ -135,16 +128,27 @@ module _ (p : ℕ) (w block pivots : List ℕ) (long : length w ≡ 128) (full :
     turned : (x y k : ℕ) → Mod p (x + y * (p - getD (row block full k) i 0)) (x + y * (p - getD block (k + i) 0))
     turned x y k = of (ap (λ (e : ℕ). x + y * (p - e)) (row-at block full k i h))
 
-    met₁ : Mod p (getD w₁ i 0) (after₁ p a b c w block i)
+    met₁ : Mod p (getD w₁ i 0) (met p a 0 0 w block i)
+    unfolding met
     met₁ =
         met-at p w (row block full 0) fits₁ (omega arith) (getD w i 0) a i (omega arith) (small 0 (omega arith)) rfl
-        then turned (getD w i 0) a 0 then of (ap (λ (j : ℕ). getD w i 0 + a * (p - getD block j 0)) (zero-add i))
+        then turned (getD w i 0) a 0 then of (ap (λ (j : ℕ). getD w i 0 + a * (p - getD block j 0)) (zero-add i)) then of (sym (unmet _ (p - getD block (256 + i) 0) ∙ unmet _ (p - getD block (128 + i) 0)))
 
-    met₂ : Mod p (getD w₂ i 0) (after₂ p a b c w block i)
-    met₂ = met-at p w₁ (row block full 128) fits₂ (omega arith) (after₁ p a b c w block i) b i in₁ (small 128 (omega arith)) met₁ then turned (after₁ p a b c w block i) b 128
+    met₂ : Mod p (getD w₂ i 0) (met p a b 0 w block i)
+    unfolding met
+    met₂ =
+        met-at p w₁ (row block full 128) fits₂ (omega arith) (met p a 0 0 w block i) b i in₁ (small 128 (omega arith)) met₁
+        then turned (met p a 0 0 w block i) b 128 then of (ap (λ (x : ℕ). x + b * (p - getD block (128 + i) 0)) (unmet _ (p - getD block (256 + i) 0) ∙ unmet _ (p - getD block (128 + i) 0)) ∙ sym (unmet _ (p - getD block (256 + i) 0)))
 
-    met₃ : Mod p (getD w₃ i 0) (after₃ p a b c w block i)
-    met₃ = met-at p w₂ (row block full 256) fits₃ (omega arith) (after₂ p a b c w block i) c i in₂ (small 256 (omega arith)) met₂ then turned (after₂ p a b c w block i) c 256
+    met₃ : Mod p (getD w₃ i 0) (met p a b c w block i)
+    unfolding met
+    met₃ =
+        met-at p w₂ (row block full 256) fits₃ (omega arith) (met p a b 0 w block i) c i in₂ (small 256 (omega arith)) met₂
+        then turned (met p a b 0 w block i) c 256 then of (ap (λ (x : ℕ). x + c * (p - getD block (256 + i) 0)) (unmet _ (p - getD block (256 + i) 0)))
+
+  met₀ : (i : ℕ) → met p 0 0 0 w block i ≡ getD w i 0
+  unfolding met
+  met₀ i = unmet _ (p - getD block (256 + i) 0) ∙ unmet _ (p - getD block (128 + i) 0) ∙ unmet _ (p - getD block i 0)
 
   pub cancel-four : reduced p (gainedFour (p - a % p) (p - b % p) (p - c % p) (p - d % p) w block) ≡ eliminated p block pivots 4 (reduced p w)
   unfolding gainedFour eliminated
@@ -159,4 +163,4 @@ module _ (p : ℕ) (w block pivots : List ℕ) (long : length w ≡ 128) (full :
       ∙ ap (cancelled p (row block full 256) (getD pivots 2 0))
       (cancel-gained p (row block full 128) (getD pivots 1 0) w₁ fits₂ (in₁ (getD pivots 1 0) q₁) (b % p) ((of is-b then flip (met₁ (getD pivots 1 0) q₁)) .same)
       ∙ ap (cancelled p (row block full 128) (getD pivots 1 0))
-      (cancel-gained p (row block full 0) (getD pivots 0 0) w fits₁ (omega arith) (a % p) ((of is-a) .same))))
+      (cancel-gained p (row block full 0) (getD pivots 0 0) w fits₁ (omega arith) (a % p) ((of (is-a ∙ met₀ (getD pivots 0 0))) .same))))

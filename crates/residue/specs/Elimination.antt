@@ -24,6 +24,10 @@ unfoldable pub gainedFour : ℕ → ℕ → ℕ → ℕ → List ℕ → List �
 gainedFour a b c d w block =
     gained d (gained c (gained b (gained a w (take 128 block)) (take 128 (drop 128 block))) (take 128 (drop 256 block))) (take 128 (drop 384 block))
 
+-- what stands at a place of w, up to multiples of p, when the first three rows of a block have been met, whose pivots found a, b and c
+unfoldable pub met : ℕ → ℕ → ℕ → ℕ → List ℕ → List ℕ → ℕ → ℕ
+met p a b c w block i = getD w i 0 + a * (p - getD block i 0) + b * (p - getD block (128 + i) 0) + c * (p - getD block (256 + i) 0)
+
 -- each entry reduced
 unfoldable pub reduced : ℕ → List ℕ → List ℕ
 reduced p = map (λ x. x % p)

@@ -6,7 +6,7 @@ ghost use mathlib.Core.Path.{_≡_};
 ghost use Prim.Native.Nat.{ℕ, _+_, _-_, _*_, _/_, _^_, _<_, _≤_};
 ghost use lib.ListN.{length, getD};
 ghost use Rattle.residue.specs.Vector.{Below};
-ghost use Rattle.residue.specs.Elimination.{cancelled, eliminated, gained, gainedFour, reduced};
+ghost use Rattle.residue.specs.Elimination.{cancelled, eliminated, gained, gainedFour, met, reduced};
 
 // Adds c times src to dst.
 fn gain(dst: &mut [u16], c: u16, src: &[u16])
@@ -79,6 +79,18 @@ fn after(p: u16, x: u64, y: u64, e: u16) -> u64
     x + y * (p - e) as u64
 }
 
+// What stands at a place, up to multiples of p, once three rows of a block are met that found a, b and c at their pivots; 0 is for one that is not met.
+fn standing(p: u16, block: &[u16], work: &[u16], at: usize, a: u64, b: u64, c: u64) -> u64
+    requires { ⌜ (p ≤ 61) × (at < 128) × (length (now block) ≡ 512) × (length (now work) ≡ 128) ⌝ }
+    requires { ⌜ Below p (now block) × (a ≤ 2 ^ 16) × (b ≤ 2 ^ 22) × (c ≤ 2 ^ 28) ⌝ }
+    ensures { λ z. ⌜ z ≡ met p a b c (now (work .entry)) (now (block .entry)) at ⌝ }
+    ensures { λ z. ⌜ z ≤ 2 ^ 16 + 61 * a + 61 * b + 61 * c ⌝ }
+{
+    let first = after(p, work[at] as u64, a, block[at]);
+    let second = after(p, first, b, block[128 + at]);
+    after(p, second, c, block[256 + at])
+}
+
 // Cancels the entries at four pivots, by the rows of a block, in their order. What stands at a pivot when its row is met is worked out beforehand.
 fn cancel_four(p: u16, block: &[u16], pivots: &[u8], work: &mut [u16])
     requires { ⌜ (2 ≤ p) × (p ≤ 61) ⌝ }
@@ -88,16 +100,10 @@ fn cancel_four(p: u16, block: &[u16], pivots: &[u8], work: &mut [u16])
     ensures { λ _. ⌜ reduced p (now (work .exit)) ≡ eliminated p (now (block .entry)) (now (pivots .entry)) 4 (reduced p (now (work .entry))) ⌝ }
     ensures { λ _. ⌜ ((t : ℕ) → Below t (now (work .entry)) → Below (t + 4 * (p * p)) (now (work .exit))) ⌝ }
 {
-    let q = pivots[1] as usize;
-    let r = pivots[2] as usize;
-    let s = pivots[3] as usize;
-    let a = work[pivots[0] as usize] as u64;
-    let b = after(p, work[q] as u64, a, block[q]);
-    let second = after(p, work[r] as u64, a, block[r]);
-    let c = after(p, second, b, block[128 + r]);
-    let third = after(p, work[s] as u64, a, block[s]);
-    let fourth = after(p, third, b, block[128 + s]);
-    let d = after(p, fourth, c, block[256 + s]);
+    let a = standing(p, block, work, pivots[0] as usize, 0, 0, 0);
+    let b = standing(p, block, work, pivots[1] as usize, a, 0, 0);
+    let c = standing(p, block, work, pivots[2] as usize, a, b, 0);
+    let d = standing(p, block, work, pivots[3] as usize, a, b, c);
     let modulus = p as u64;
     gain_four(
         work,
