@@ -74,7 +74,7 @@ is-among P (Q ∷ S) (inr q) = later (sameList P Q) (isAmong P S) (is-among P S 
     later false b h = h
 
 -- A comparison from the front, one place further: the entries there are equal or not.
-same-more : (a b : List ℕ) (i : ℕ) → i < length a → i < length b
+pub same-more : (a b : List ℕ) (i : ℕ) → i < length a → i < length b
     → sameList (take (suc i) a) (take (suc i) b) ≡ (sameList (take i a) (take i b) && eqb (getD a i 0) (getD b i 0))
 unfolding sameList
 same-more [] b i h k = absurd (not-suc-le-zero h)

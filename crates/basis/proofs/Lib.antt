@@ -2,6 +2,7 @@
 pub mod Cases
 pub mod Copies
 pub mod Equality
+pub mod Keys
 pub mod Layouts
 pub mod LevelLists
 pub mod Places

@@ -1,11 +1,13 @@
 -- Laws of what drawing up writes: places of tables, the ranks of the variables, the values of a monomial at the points.
 use mathlib.Core.Path.{_≡_, refl, sym, ap, ap₂, _∙_}
 use mathlib.Core.List.{List, [], _∷_, _++_}
-use Prim.Native.Nat.{ℕ, _+_, _*_, _%_, _^_, _<_, _≤_}
+use Prim.Native.Nat.{ℕ, zero, suc, _+_, _*_, _%_, _^_, _<_, _≤_}
+use native.Mathlib.Nat.{not-suc-le-zero}
+use native.Mathlib.Numerals.{add-one}
 use native.Mathlib.Decide.{decLt}
 use native.Mathlib.Omega.{arith}
-use lib.ListN.{length, getD, take, drop, replicate, length-map, length-drop, length-replicate, List·getD-append, List·getD-eq-default}
-use lib.Seq.{getD-take, getD-drop, length-take-le, take-at}
+use lib.ListN.{length, getD, take, drop, replicate, length-append, length-map, length-drop, length-replicate, List·getD-append, List·getD-eq-default}
+use lib.Seq.{getD-take, getD-drop, getD-append-add, length-take-le, take-take}
 use lib.Dec.{eqb, eqb→eq}
 use Rattle.residue.specs.Vector.{Below, pointwise}
 use Rattle.residue.proofs.Vectors.{map-at, pointwise-length, pointwise-at, pointwise-below, below-drop, below-append}
@@ -15,10 +17,10 @@ use Rattle.monomial.specs.Rank.{variableRank}
 use Rattle.basis.specs.Levels.{groups}
 use Rattle.basis.specs.Layout.{fill, inPlaces, over}
 use Rattle.basis.specs.Working.{withPlace}
-use Rattle.basis.specs.Drawing.{stepsOf, columnOf, productValues}
-use Rattle.basis.proofs.Layouts.{length-fill, fill-at, fill-exact, length-over, over-all}
+use Rattle.basis.specs.Drawing.{stepsOf, columnOf, columnsOf, productValues}
+use Rattle.basis.proofs.Layouts.{length-fill, fill-at, fill-exact, take-fill, length-over, over-all}
 use Rattle.basis.proofs.elimination.Exponents.{variable-small}
-use Rattle.basis.proofs.Places.{length-groups, groups-at, over-zeros, place-more}
+use Rattle.basis.proofs.Places.{length-groups, groups-at, place-at, no-places, over-zeros, place-more}
 use Rattle.basis.proofs.WorkingRows.{replaced-length, replaced-below, replaced-before, replaced-here}
 
 -- a part that was lent, and came back written over at its front
@@ -103,41 +105,75 @@ module _ (k n : ℕ) (points : List ℕ) where
   pub column-below : (p : ℕ) → Below p points → k < 8 → 8 * n ≤ length points → Below p (columnOf k n points)
   column-below p b l h i z = let e = column-long in rw (column-at i (omega arith) l) (b (8 * i + k) (omega arith))
 
-  pub column-front : (column old : List ℕ) → column ≡ over (columnOf k n points) old → take n column ≡ columnOf k n points
-  unfolding over
-  column-front column old c = ap (take n) c ∙ take-at (columnOf k n points) (drop (length (columnOf k n points)) old) n column-long
+-- all coordinates, 64 numbers apart
+module _ (n : ℕ) (points : List ℕ) where
+  columns-long : (k : ℕ) → length (columnsOf k n points) ≡ k
+  unfolding columnsOf
+  columns-long zero = refl
+  columns-long (suc k) = length-append (columnsOf k n points) (columnOf k n points ∷ []) ∙ omega (arith, columns-long k)
 
-  -- the values of a product
-  module _ (p : ℕ) (values : List ℕ) (h : n ≤ length values) where
-    abbrev made : List ℕ
-    made = pointwise p (take n values) (columnOf k n points)
+  columns-at : (k j : ℕ) → j < k → getD (columnsOf k n points) j [] ≡ columnOf j n points
+  unfolding columnsOf
+  columns-at zero j h = absurd (not-suc-le-zero h)
+  columns-at (suc k) j h = go (decLt j k) (λ l. columns-at k j l)
+    where
+      go : Dec (j < k) → (j < k → getD (columnsOf k n points) j [] ≡ columnOf j n points) → getD (columnsOf k n points ++ (columnOf k n points ∷ [])) j [] ≡ columnOf j n points
+      go (yes l) f = List·getD-append (columnsOf k n points) (columnOf k n points ∷ []) [] j (rw (columns-long k) l) ∙ f l
+      go (no l) f =
+          let e : j ≡ length (columnsOf k n points) + 0 = omega (arith, columns-long k, l) in
+          let d : k ≡ j = omega (arith, l) in
+          ap (λ (i : ℕ). getD (columnsOf k n points ++ (columnOf k n points ∷ [])) i []) e ∙ getD-append-add (columnsOf k n points) (columnOf k n points ∷ []) 0 [] ∙ ap (λ (i : ℕ). columnOf i n points) d
 
-    even : length (take n values) ≡ length (columnOf k n points)
-    even = length-take-le n values h ∙ sym column-long
+  pub columns-none : replicate 512 0 ≡ fill 512 (inPlaces 64 (columnsOf 0 n points))
+  unfolding columnsOf
+  columns-none = no-places 64 512
 
-    made-long : length made ≡ n
-    made-long = pointwise-length p (take n values) (columnOf k n points) even ∙ length-take-le n values h
+  pub columns-more : (k j : ℕ) (columns : List ℕ) {part : List ℕ} → k < 8 → n ≤ 64 → columns ≡ fill 512 (inPlaces 64 (columnsOf k n points)) → j ≡ 64
+      → part ≡ over (columnOf k n points) (take j (drop (64 * k) columns))
+      → take (64 * k) columns ++ (part ++ drop j (drop (64 * k) columns)) ≡ fill 512 (inPlaces 64 (columnsOf (k + 1) n points))
+  unfolding columnsOf
+  columns-more k j columns h l e i f =
+      rw (add-one k)
+      (place-more 64 512 (columnsOf k n points) (columnOf k n points) columns _ (64 * k) j e (ap (λ (z : ℕ). 64 * z) (sym (columns-long k))) i (omega arith) (omega (arith, column-long k n points)) f)
 
-    pub product-long : length (productValues p k n points values) ≡ length values
-    unfolding productValues
-    product-long = length-over made values (omega (arith, made-long))
+  pub column-in : (k : ℕ) (columns : List ℕ) → columns ≡ fill 512 (inPlaces 64 (columnsOf 8 n points)) → k < 8 → n ≤ 64 → take n (drop (64 * k) columns) ≡ columnOf k n points
+  column-in k columns e h l =
+      let c = columns-long 8 in
+      ap (λ (t : List ℕ). take n (drop (64 * k) t)) e
+      ∙ sym (take-take n 64 _ l)
+      ∙ ap (take n) (place-at 64 512 (columnsOf 8 n points) k [] (omega arith) (omega arith) ∙ ap (fill 64) (columns-at 8 k h))
+      ∙ take-fill n 64 (columnOf k n points) (column-long k n points) l
 
-    pub product-below : 0 < p → Below p values → Below p (productValues p k n points values)
-    unfolding productValues over
-    product-below z b = below-append p made (drop (length made) values) (pointwise-below p (take n values) (columnOf k n points) even z) (below-drop p (length made) values b)
+-- the values of a product
+module _ (p n : ℕ) (column values : List ℕ) (c : length column ≡ n) (h : n ≤ length values) where
+  abbrev made : List ℕ
+  made = pointwise p (take n values) column
 
-    pub product-at : (i : ℕ) → i < n → k < 8 → getD (productValues p k n points values) i 0 ≡ (getD values i 0 * getD points (8 * i + k) 0) % p
-    unfolding productValues over
-    product-at i l s =
-        List·getD-append made (drop (length made) values) 0 i (rw made-long l)
-        ∙ pointwise-at p (take n values) (columnOf k n points) even i (rw (length-take-le n values h) l)
-        ∙ ap₂ (λ (x y : ℕ). (x * y) % p) (getD-take n values i 0 l) (column-at i l s)
+  even : length (take n values) ≡ length column
+  even = length-take-le n values h ∙ sym c
 
-    -- as they are made in place
-    pub product-made : (column old : List ℕ) {part : List ℕ} → column ≡ over (columnOf k n points) old → part ≡ pointwise p (take n values) (take n column)
-        → part ++ drop n values ≡ productValues p k n points values
-    unfolding productValues over
-    product-made column old c e = ap₂ (λ (a : List ℕ) (i : ℕ). a ++ drop i values) (e ∙ ap (pointwise p (take n values)) (column-front column old c)) (sym made-long)
+  made-long : length made ≡ n
+  made-long = pointwise-length p (take n values) column even ∙ length-take-le n values h
+
+  pub product-long : length (productValues p n column values) ≡ length values
+  unfolding productValues
+  product-long = length-over made values (omega (arith, made-long))
+
+  pub product-below : 0 < p → Below p values → Below p (productValues p n column values)
+  unfolding productValues over
+  product-below z b = below-append p made (drop (length made) values) (pointwise-below p (take n values) column even z) (below-drop p (length made) values b)
+
+  pub product-at : (i : ℕ) → i < n → getD (productValues p n column values) i 0 ≡ (getD values i 0 * getD column i 0) % p
+  unfolding productValues over
+  product-at i l =
+      List·getD-append made (drop (length made) values) 0 i (rw made-long l)
+      ∙ pointwise-at p (take n values) column even i (rw (length-take-le n values h) l)
+      ∙ ap (λ (x : ℕ). (x * getD column i 0) % p) (getD-take n values i 0 l)
+
+  -- as they are made in place
+  pub product-made : {part : List ℕ} → part ≡ pointwise p (take n values) column → part ++ drop n values ≡ productValues p n column values
+  unfolding productValues over
+  product-made e = ap₂ (λ (a : List ℕ) (i : ℕ). a ++ drop i values) e (sym made-long)
 
 pub zeros-long : (l : List ℕ) (k : ℕ) → l ≡ replicate k 0 → length l ≡ k
 zeros-long l k e = ap length e ∙ length-replicate k 0

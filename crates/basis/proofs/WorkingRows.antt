@@ -1,9 +1,10 @@
 -- Laws of pivot rows, and the search for the first number that is not 0.
 use mathlib.Core.Path.{_≡_, refl, sym, ap, ap₂, _∙_}
-use mathlib.Core.Bool.{Bool, true, false, cond}
-use mathlib.Core.List.{List, _++_}
+use mathlib.Core.Bool.{Bool, true, false, cond, _&&_, and-true, and-false, and-assoc, true≢false}
+use mathlib.Core.List.{List, [], _∷_, _++_}
 use Prim.Native.Nat.{ℕ, zero, suc, _+_, _*_, _-_, _<_, _≤_}
-use native.Mathlib.Nat.{not-suc-le-zero}
+use native.Mathlib.Nat.{not-suc-le-zero, le-of-suc-le-suc}
+use native.Mathlib.Numerals.{add-one}
 use native.Mathlib.Decide.{decLt}
 use native.Mathlib.Omega.{arith}
 use lib.ListN.{length, getD, set, take, drop, length-append, length-set, length-drop, List·getD-append}
@@ -14,6 +15,7 @@ use Rattle.residue.specs.Congruence.{Mod}
 use Rattle.residue.specs.Vector.{Below, scaled}
 use Rattle.residue.proofs.Congruence.{of, reduce, _then_}
 use Rattle.residue.proofs.Vectors.{scaled-length, scaled-at, scaled-below, below-take, below-drop, below-append, below-set}
+use Rattle.basis.specs.Solving.{allZero}
 use Rattle.basis.specs.Working.{firstNonzero, pivotRow, withRow}
 
 -- what lies behind a new front is the row's own
@@ -132,6 +134,42 @@ module _ (n : ℕ) (w : List ℕ) where
       let z : n - q ≡ 0 = omega arith in
       let o : firstNonzero (n - q) (drop q w) ≡ 0 = rw z in
       omega arith
+
+-- Whether all are 0, from the front: one number more, which is at most the largest or larger than all before.
+zero-more : (l : List ℕ) (i : ℕ) → i < length l → allZero (take (suc i) l) ≡ (allZero (take i l) && eqb (getD l i 0) 0)
+unfolding allZero
+zero-more [] i h = absurd (not-suc-le-zero h)
+zero-more (x ∷ l) zero h = and-true (eqb x 0)
+zero-more (x ∷ l) (suc i) h =
+    ap (λ (z : Bool). eqb x 0 && z) (zero-more l i (le-of-suc-le-suc h)) ∙ sym (and-assoc (eqb x 0) (allZero (take i l)) (eqb (getD l i 0) 0))
+
+pub zero-none : true ≡ allZero []
+unfolding allZero
+zero-none = refl
+
+module _ (l : List ℕ) (i largest : ℕ) (h : i < length l) (e : eqb largest 0 ≡ allZero (take i l)) where
+  pub zero-larger : largest < getD l i 0 → eqb (getD l i 0) 0 ≡ allZero (take (i + 1) l)
+  zero-larger k =
+      let f : eqb (getD l i 0) 0 ≡ false = ne-eqb (getD l i 0) 0 (λ z. omega arith) in
+      rw (add-one i, zero-more l i h, f) (sym (and-false (allZero (take i l))))
+
+  pub zero-kept : getD l i 0 ≤ largest → eqb largest 0 ≡ allZero (take (i + 1) l)
+  zero-kept k = rw (add-one i, zero-more l i h, sym e) (go (eqb largest 0) refl)
+    where
+      go : (b : Bool) → eqb largest 0 ≡ b → b ≡ (b && eqb (getD l i 0) 0)
+      go true z = let y = eqb-true largest 0 z in sym (eq-eqb (getD l i 0) 0 (omega arith))
+      go false z = refl
+
+-- then the search finds nothing
+pub zero-first : (n : ℕ) (w : List ℕ) → n ≤ length w → allZero (take n w) ≡ true → n ≡ firstNonzero n w
+unfolding allZero firstNonzero
+zero-first zero w h e = refl
+zero-first (suc n) [] h e = absurd (not-suc-le-zero h)
+zero-first (suc n) (x ∷ w) h e = go (eqb x 0) refl e (λ k. zero-first n w (le-of-suc-le-suc h) k)
+  where
+    go : (b : Bool) → eqb x 0 ≡ b → (b && allZero (take n w)) ≡ true → (allZero (take n w) ≡ true → n ≡ firstNonzero n w) → suc n ≡ cond b (suc (firstNonzero n w)) 0
+    go true z k f = ap suc (f k)
+    go false z k f = absurd (true≢false (sym k))
 
 -- What is found: no number before it is other than 0, and it is, if it is one of the n.
 step : (n : ℕ) (w : List ℕ) (P : ℕ → Type 0) → ((getD w 0 0 ≡ 0 → ⊥) → P 0) → (getD w 0 0 ≡ 0 → P (suc (firstNonzero n (drop 1 w)))) → P (firstNonzero (suc n) w)

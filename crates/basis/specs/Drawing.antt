@@ -2,7 +2,7 @@
 use mathlib.Core.Path.{_≡_}
 use mathlib.Core.Bool.{true}
 use mathlib.Core.List.{List, [], _∷_, _++_, map}
-use Prim.Native.Nat.{ℕ, _-_, _%_, _<_, _≤_}
+use Prim.Native.Nat.{ℕ, zero, suc, _-_, _%_, _<_, _≤_}
 use lib.ListN.{length, getD, take, replicate}
 use lib.Dec.{T}
 use Rattle.residue.specs.Modulus.{isModulus}
@@ -24,9 +24,14 @@ stepsOf order = map (variableRank order) (0 ∷ 1 ∷ 2 ∷ 3 ∷ 4 ∷ 5 ∷ 6 
 unfoldable pub columnOf : ℕ → ℕ → List ℕ → List ℕ
 columnOf k n points = map (λ P. getD P k 0) (groups 8 n points)
 
--- the values of x_(k+1) times a monomial, from those of the monomial
-unfoldable pub productValues : ℕ → ℕ → ℕ → List ℕ → List ℕ → List ℕ
-productValues p k n points values = over (pointwise p (take n values) (columnOf k n points)) values
+-- those of x1 to xk
+unfoldable pub columnsOf : ℕ → ℕ → List ℕ → List (List ℕ)
+columnsOf zero n points = []
+columnsOf (suc k) n points = columnsOf k n points ++ (columnOf k n points ∷ [])
+
+-- the values of a variable times a monomial, from the n of the variable and those of the monomial
+unfoldable pub productValues : ℕ → ℕ → List ℕ → List ℕ → List ℕ
+productValues p n column values = over (pointwise p (take n values) column) values
 
 abbrev pub settingsOf : ℕ → ℕ → ℕ → Settings
 settingsOf p m order = record { modulus = p; variables = m; order = order }

@@ -2,9 +2,9 @@
 -- has one.
 use mathlib.Core.Bool.{Bool, true, false, not, _&&_, _||_}
 use mathlib.Core.List.{List, [], _∷_, map}
-use Prim.Native.Nat.{ℕ, zero, suc}
+use Prim.Native.Nat.{ℕ, zero, suc, _+_, _*_}
 use lib.IntN.{ℤ}
-use lib.ListN.{take, drop}
+use lib.ListN.{getD, take, drop}
 use lib.Dec.{eqb}
 use Rattle.residue.specs.Level.{residueOf}
 use Rattle.residue.specs.declared.level.Level.{Level}
@@ -37,6 +37,11 @@ sameList [] [] = true
 sameList [] (b ∷ l) = false
 sameList (a ∷ k) [] = false
 sameList (a ∷ k) (b ∷ l) = eqb a b && sameList k l
+
+-- the number whose digits to the base 256 the first k entries are
+unfoldable pub keyOf : ℕ → List ℕ → ℕ
+keyOf zero l = 0
+keyOf (suc k) l = 256 * keyOf k l + getD l k 0
 
 -- a point stands in a list of points: points are equal when their residues are
 unfoldable pub isAmong : List ℕ → List (List ℕ) → Bool

@@ -7,7 +7,7 @@ ghost use Rattle.basis.specs.Levels.{sameList};
 ghost use Rattle.basis.specs.Layout.{over, begins};
 
 // Whether two slices are equal. The differences are counted to the end, so that the loop is compiled to packed instructions.
-pub fn same(a: &[u8], b: &[u8]) -> bool
+fn same(a: &[u8], b: &[u8]) -> bool
     requires { ⌜ length (now a) ≡ length (now b) ⌝ }
     requires { ⌜ length (now a) < 65536 ⌝ }
     ensures { λ r. ⌜ r ≡ sameList (now (a .entry)) (now (b .entry)) ⌝ }

@@ -6,13 +6,13 @@ ghost use lib.ListN.{length};
 ghost use Rattle.residue.specs.Vector.{Below};
 ghost use Rattle.basis.specs.Candidates.{leastOf, passed, parentsOf, occurringIn, ended, nextOf};
 
-pub enum LeastRank {
+enum LeastRank {
     Of(u64),
     Nothing,
 }
 
 // The least rank among the next products.
-pub fn least(m: usize, found: usize, ranks: &[u64], steps: &[u64], at: &[u8]) -> LeastRank
+fn least(m: usize, found: usize, ranks: &[u64], steps: &[u64], at: &[u8]) -> LeastRank
     requires { ⌜ (m ≤ 8) × (found ≤ 64) ⌝ }
     requires { ⌜ (length (now ranks) ≡ 64) × (length (now steps) ≡ 8) × (length (now at) ≡ 8) ⌝ }
     requires { ⌜ Below (2 ^ 56) (now ranks) ⌝ }
@@ -36,21 +36,14 @@ pub fn least(m: usize, found: usize, ranks: &[u64], steps: &[u64], at: &[u8]) ->
 }
 
 // How many products there were, and one of them: its variable and its standard monomial.
-pub struct Parents {
+struct Parents {
     pub count: usize,
     pub variable: usize,
     pub standard: usize,
 }
 
 // Passes every next product of this rank.
-pub fn pass(
-    m: usize,
-    found: usize,
-    ranks: &[u64],
-    steps: &[u64],
-    at: &mut [u8],
-    rank: u64,
-) -> Parents
+fn pass(m: usize, found: usize, ranks: &[u64], steps: &[u64], at: &mut [u8], rank: u64) -> Parents
     requires { ⌜ (m ≤ 8) × (found ≤ 64) ⌝ }
     requires { ⌜ (length (now ranks) ≡ 64) × (length (now steps) ≡ 8) × (length (now at) ≡ 8) ⌝ }
     requires { ⌜ Below (2 ^ 56) (now ranks) ⌝ }
@@ -80,7 +73,7 @@ pub fn pass(
 }
 
 // How many variables occur in x_(k+1) times a monomial.
-pub fn occurring(a: &[u8], k: usize) -> usize
+fn occurring(a: &[u8], k: usize) -> usize
     requires { ⌜ length (now a) ≡ 8 ⌝ }
     ensures { λ r. ⌜ r ≡ occurringIn (now (a .entry)) k 8 ⌝ }
 {

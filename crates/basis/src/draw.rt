@@ -14,10 +14,10 @@ ghost use Rattle.residue.specs.Vector.{Below};
 ghost use Rattle.residue.specs.Elimination.{eliminated};
 ghost use Rattle.monomial.specs.Monomial.{timesVariable};
 ghost use Rattle.monomial.specs.Order.{orderOf};
-ghost use Rattle.basis.specs.Layout.{fill, over};
+ghost use Rattle.basis.specs.Layout.{fill, inPlaces, over};
 ghost use Rattle.basis.specs.Tables.{pointsIn};
 ghost use Rattle.basis.specs.Working.{firstNonzero, withPlace};
-ghost use Rattle.basis.specs.Drawing.{stepsOf, columnOf, productValues, settingsOf, PointsGiven, DrawnUp};
+ghost use Rattle.basis.specs.Drawing.{stepsOf, columnOf, columnsOf, productValues, settingsOf, PointsGiven, DrawnUp};
 
 // The ranks of the variables.
 fn put_steps(order: u8, steps: &mut [u64])
@@ -36,6 +36,18 @@ fn put_column(n: usize, k: usize, points: &[u8], column: &mut [u16])
 {
     for i in 0..n {
         column[i] = points[8 * i + k] as u16;
+    }
+}
+
+// Each coordinate of each point, 64 numbers for a coordinate.
+fn put_columns(n: usize, points: &[u8], columns: &mut [u16])
+    requires { ⌜ (length (now points) ≡ 512) × (n ≤ 64) ⌝ }
+    requires { ⌜ now columns ≡ replicate 512 0 ⌝ }
+    ensures { λ _. ⌜ now (columns .exit) ≡ fill 512 (inPlaces 64 (columnsOf 8 n (now (points .entry)))) ⌝ }
+{
+    for k in 0..8 {
+        let from = 64 * k;
+        put_column(n, k, points, &mut columns[from..from + 64]);
     }
 }
 
@@ -121,17 +133,24 @@ fn put_exponents(k: usize, t: usize, standard: &[u8], exponents: &mut [u8])
 }
 
 // Its values.
-fn put_values(p: u16, n: usize, k: usize, t: usize, points: &[u8], values: &[u16], own: &mut [u16])
+fn put_values(
+    p: u16,
+    n: usize,
+    k: usize,
+    t: usize,
+    columns: &[u16],
+    values: &[u16],
+    own: &mut [u16],
+)
     requires { ⌜ ((2 ≤ p) × (p ≤ 61)) × ((n ≤ 64) × ((k < 8) × (t < 64))) ⌝ }
-    requires { ⌜ (length (now points) ≡ 512) × ((length (now values) ≡ 4096) × (length (now own) ≡ 64)) ⌝ }
-    requires { ⌜ (Below p (now points)) × (Below p (now values)) ⌝ }
-    ensures { λ _. ⌜ now (own .exit) ≡ productValues p k n (now (points .entry)) (take 64 (drop (64 * t) (now (values .entry)))) ⌝ }
+    requires { ⌜ (length (now columns) ≡ 512) × ((length (now values) ≡ 4096) × (length (now own) ≡ 64)) ⌝ }
+    requires { ⌜ (Below p (take n (drop (64 * k) (now columns)))) × (Below p (now values)) ⌝ }
+    ensures { λ _. ⌜ now (own .exit) ≡ productValues p n (take n (drop (64 * k) (now (columns .entry)))) (take 64 (drop (64 * t) (now (values .entry)))) ⌝ }
 {
     let from = 64 * t;
     rows::copy(&values[from..from + 64], own);
-    let mut column = [0u16; 64];
-    put_column(n, k, points, &mut column);
-    multiply(p, &mut own[..n], &column[..n]);
+    let column = 64 * k;
+    multiply(p, &mut own[..n], &columns[column..column + n]);
 }
 
 // Fills the tables of the points' basis and its pivot rows; how many rows it has.
@@ -154,6 +173,8 @@ pub fn draw(
 {
     let mut steps = [0u64; 8];
     put_steps(order, &mut steps);
+    let mut columns = [0u16; 512];
+    put_columns(n, points, &mut columns);
     let mut values = [0u16; 4096];
     let mut ranks = [0u64; 64];
     let mut at = [0u8; 8];
@@ -186,6 +207,6 @@ pub fn draw(
         };
         rank = least;
         put_exponents(k, t, standard, &mut exponents);
-        put_values(p, n, k, t, points, &values, &mut own);
+        put_values(p, n, k, t, &columns, &values, &mut own);
     }
 }

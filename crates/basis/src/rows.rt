@@ -6,13 +6,31 @@ ghost use Prim.Native.Nat.{_+_, _*_, _<_, _≤_};
 ghost use lib.ListN.{length, getD, set};
 ghost use Rattle.residue.specs.Inverse.{inverseOf};
 ghost use Rattle.residue.specs.Vector.{Below};
+ghost use Rattle.basis.specs.Solving.{allZero};
 ghost use Rattle.basis.specs.Working.{firstNonzero, pivotRow, withRow};
 
-// The first of the n values that is not 0, or n.
+// Whether all numbers are 0. The largest is sought to the end, so that the loop is compiled to packed instructions.
+fn all_zero(work: &[u16]) -> bool
+    ensures { λ r. ⌜ r ≡ allZero (now (work .entry)) ⌝ }
+{
+    let mut largest = 0u16;
+    for i in 0..work.len() {
+        let x = work[i];
+        if largest < x {
+            largest = x;
+        }
+    }
+    largest == 0
+}
+
+// The first of the n values that is not 0, or n. For most monomials, the leads, all are 0, and that is seen first.
 pub fn first_nonzero(work: &[u16], n: usize) -> usize
     requires { ⌜ n ≤ length (now work) ⌝ }
     ensures { λ q. ⌜ q ≡ firstNonzero n (now (work .entry)) ⌝ }
 {
+    if all_zero(&work[..n]) {
+        return n;
+    }
     let mut q = 0;
     while q < n {
         if work[q] != 0 {

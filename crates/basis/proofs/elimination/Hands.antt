@@ -1,7 +1,7 @@
 -- The monomial in hand at the start of drawing up, which is 1, and after each turn, which is what the search for the next product finds.
 use mathlib.Core.Path.{_≡_, refl, sym, ap, _∙_}
 use mathlib.Core.List.{List, [], _∷_, map}
-use Prim.Native.Nat.{ℕ, zero, suc, _+_, _*_, _<_, _≤_}
+use Prim.Native.Nat.{ℕ, zero, suc, _+_, _*_, _%_, _<_, _≤_}
 use native.Mathlib.Nat.{not-suc-le-zero, mul-comm}
 use native.Mathlib.Omega.{arith}
 use lib.ListN.{length, getD, take, drop, replicate, length-map, length-replicate, getD-replicate, List·getD-map}
@@ -16,11 +16,11 @@ use Rattle.monomial.specs.Rank.{key, rankOf}
 use Rattle.basis.specs.Layout.{fill}
 use Rattle.basis.specs.Space.{Space}
 use Rattle.basis.specs.Instance.{Monomial, Point, spaceOf}
-use Rattle.basis.specs.Drawing.{stepsOf, productValues}
+use Rattle.basis.specs.Drawing.{stepsOf, columnOf, productValues}
 use Rattle.basis.proofs.Instance.{laws, standard-exponent}
 use Rattle.basis.proofs.Layouts.{fill-at, fill-zeros}
 use Rattle.basis.proofs.Places.{place-at, no-places}
-use Rattle.basis.proofs.ValueRows.{zeros-long, part-long, steps-at, product-long, product-below, product-at}
+use Rattle.basis.proofs.ValueRows.{zeros-long, part-long, steps-at, column-long, column-at, product-long, product-below, product-at}
 use Rattle.basis.proofs.ideal.Laws.{Laws}
 use Rattle.basis.proofs.ideal.Lists.{getD-among}
 use Rattle.basis.proofs.elimination.Drawing.{bordered-start, front-start, start-standard, start-lead, front-next, take-standard, take-lead}
@@ -126,14 +126,14 @@ module _ {q m n : ℕ} {order : Order} {S : List (Point (suc q) m)} {p : ℕ} (G
       wide : n ≤ length row
       wide = omega (arith, row-long, G .most)
 
-      value-at : (i : ℕ) → i < n → Mod (suc q) (getD (productValues (suc q) k n points row) i 0) (D .val b (pointAt q m n order S i))
+      value-at : (i : ℕ) → i < n → Mod (suc q) (getD (productValues (suc q) n (columnOf k n points) row) i 0) (D .val b (pointAt q m n order S i))
       value-at i h =
-          of (product-at k n points (suc q) row wide i h (few-found .0))
+          of (product-at (suc q) n (columnOf k n points) row (column-long k n points) wide i h ∙ ap (λ (x : ℕ). (getD row i 0 * x) % suc q) (column-at k n points i h (few-found .0)))
           then reduce (suc q) (getD row i 0 * getD points (8 * i + k) 0)
           then ((of (row-at i h) then H .values-at t i (F .parent) h) times coordinate i h)
           then of (mul-comm _ _ ∙ sym (L .val-x k parent (pointAt q m n order S i) (F .variable)))
 
-      pub next-hand : {exponents own : List ℕ} → exponents ≡ timesVariable k (take 8 (drop (8 * t) standard)) → own ≡ productValues p k n points row
+      pub next-hand : {exponents own : List ℕ} → exponents ≡ timesVariable k (take 8 (drop (8 * t) standard)) → own ≡ productValues p n (columnOf k n points) row
           → InHand q m n order S std lds b at exponents r own
       next-hand {own = own} x o = record {
         front = front-next D L S (G .distinct) std lds (F .last) (F .drawn) b (F .next);
@@ -144,10 +144,10 @@ module _ {q m n : ℕ} {order : Order} {S : List (Point (suc q) m)} {p : ℕ} (G
         positions = F .positions;
         exponents-are = x ∙ ap (timesVariable k) exponents-at ∙ sym (fill-timesVariable (parent .0) (rw (parent .1) (G .few)) k (rw (parent .1) (F .variable)));
         rank-is = F .ranked;
-        own-long = ap length e ∙ product-long k n points (suc q) row wide ∙ row-long;
-        own-below = rw e (product-below k n points (suc q) row wide (omega arith) (below-take (suc q) 64 (drop (64 * t) values) (below-drop (suc q) (64 * t) values (H .values-below))));
+        own-long = ap length e ∙ product-long (suc q) n (columnOf k n points) row (column-long k n points) wide ∙ row-long;
+        own-below = rw e (product-below (suc q) n (columnOf k n points) row (column-long k n points) wide (omega arith) (below-take (suc q) 64 (drop (64 * t) values) (below-drop (suc q) (64 * t) values (H .values-below))));
         own-at = λ i h. rw e (value-at i h);
       }
         where
-          e : own ≡ productValues (suc q) k n points row
-          e = o ∙ ap (λ (z : ℕ). productValues z k n points row) (G .modulus)
+          e : own ≡ productValues (suc q) n (columnOf k n points) row
+          e = o ∙ ap (λ (z : ℕ). productValues z n (columnOf k n points) row) (G .modulus)

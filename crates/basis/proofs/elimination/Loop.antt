@@ -18,7 +18,7 @@ use Rattle.basis.specs.Instance.{Monomial, Point}
 use Rattle.basis.specs.Tables.{spaceUnder, pointsUnder, pointsIn}
 use Rattle.basis.specs.Working.{firstNonzero, pivotRow, withRow, withPlace}
 use Rattle.basis.specs.Candidates.{ended, nextOf}
-use Rattle.basis.specs.Drawing.{stepsOf, productValues, settingsOf, PointsGiven, DrawnUp}
+use Rattle.basis.specs.Drawing.{stepsOf, columnOf, productValues, settingsOf, PointsGiven, DrawnUp}
 use Rattle.basis.proofs.Layouts.{length-fill}
 use Rattle.basis.proofs.elimination.Positions.{productAt}
 use Rattle.basis.proofs.elimination.Candidates.{Outcome, Found, next-candidate}
@@ -232,7 +232,7 @@ module _ {p m order n : ℕ} {points : List ℕ} where
           pub next-exponent : getD standard (8 * t + k) 0 < 255
           next-exponent = exponent-small G (h .held) F
 
-          pub goes-on : {exponents own : List ℕ} → exponents ≡ timesVariable k (take 8 (drop (8 * t) standard)) → own ≡ productValues p k n points (take 64 (drop (64 * t) values))
+          pub goes-on : {exponents own : List ℕ} → exponents ≡ timesVariable k (take 8 (drop (8 * t) standard)) → own ≡ productValues p n (columnOf k n points) (take 64 (drop (64 * t) values))
               → Head p m order n points found r standard leads coefficients rows pivots values ranks steps at′ exponents l own
           goes-on {exponents} {own} x y = record {
             std = h .std;

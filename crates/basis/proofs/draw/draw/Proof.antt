@@ -3,11 +3,11 @@ use mathlib.Core.Path.{refl, sym, _∙_}
 use native.Mathlib.Omega.{arith}
 use borrow.Author.Needs.{needs}
 use Rattle.basis.proofs.ValueRows.{zeros-long}
-use Rattle.basis.proofs.elimination.Grounds.{points-long, points-below}
+use Rattle.basis.proofs.elimination.Grounds.{points-long}
 use Rattle.basis.proofs.elimination.Loop.{head-start, own-below, kept-few, ends, next-small, next-exponent, goes-on}
 use Rattle.basis.proofs.draw.draw.Statement.{statement}
 use Rattle.basis.proofs.draw.draw.Tie as tie
-use Rattle.basis.proofs.draw.draw.Proof.Turn.{Inv-loop, μ-loop, start, given, head-sizes, exponents-8, range, top, work-128, work-residues, lead-fits, inside, standard-fits, above, kept, one-more, sizes, steps-8, steps-small}
+use Rattle.basis.proofs.draw.draw.Proof.Turn.{Inv-loop, μ-loop, start, given, head-sizes, exponents-8, range, top, work-128, work-residues, lead-fits, inside, standard-fits, above, kept, one-more, sizes, steps-8, steps-small, columns-512, column-small, values-are}
 mod Turn
 
 slice-aggregate-put-steps : tie.Need-slice-aggregate-put-steps Inv-loop μ-loop
@@ -16,10 +16,16 @@ slice-aggregate-put-steps c = refl
 put-steps-requires : tie.Need-put-steps-requires Inv-loop μ-loop
 put-steps-requires c κs = (c .before .before .before .before .before .before .before .pre .0 .order, refl)
 
+slice-aggregate-put-columns : tie.Need-slice-aggregate-put-columns Inv-loop μ-loop
+slice-aggregate-put-columns c = refl
+
+put-columns-requires : tie.Need-put-columns-requires Inv-loop μ-loop
+put-columns-requires c κs = let g = c .before .before .before .before .before .before .before .before .before .before .pre .0 in ((points-long g, g .most), refl)
+
 loop-holds : tie.Need-loop-holds Inv-loop μ-loop
 loop-holds c =
-    let s = c .before .before .before .before .before .before .before .before .before in
-    head-start (s .pre .0) (s .pre .1 .0 .0) (s .pre .1 .0 .1 .0) (s .pre .1 .0 .1 .1) (s .pre .1 .1 .0) (s .pre .1 .1 .1) (c .before .put-steps .ensures)
+    let s = c .before .before .before .before .before .before .before .before .before .before .before .before in
+    head-start (s .pre .0) (s .pre .1 .0 .0) (s .pre .1 .0 .1 .0) (s .pre .1 .0 .1 .1) (s .pre .1 .1 .0) (s .pre .1 .1 .1) (c .before .before .before .before .put-steps .ensures)
 
 slice-aggregate-reduce : tie.Need-slice-aggregate-reduce Inv-loop μ-loop
 slice-aggregate-reduce c = sym (c .before .loop .inv .in-hand .own-long)
@@ -173,33 +179,37 @@ put-exponents-requires c κs =
     ((f .0, (f .1, (sizes j .standard-long, exponents-8 (above j)))), next-exponent (given (above j)) (kept j) z e)
 
 slice-aggregate-put-values : tie.Need-slice-aggregate-put-values Inv-loop μ-loop
-slice-aggregate-put-values c = sym (sizes (c .before .before .before .before .before .before .before .before .before .before .before .before .before .before) .values-long)
+slice-aggregate-put-values c = sym (columns-512 (c .before .before .before .before .before .before .before .before .before .before .before .before .before .before))
 
 slice-aggregate-put-values-2 : tie.Need-slice-aggregate-put-values-2 Inv-loop μ-loop
-slice-aggregate-put-values-2 c = sym (above (c .before .before .before .before .before .before .before .before .before .before .before .before .before .before .before) .loop .inv .in-hand .own-long)
+slice-aggregate-put-values-2 c = sym (sizes (c .before .before .before .before .before .before .before .before .before .before .before .before .before .before .before) .values-long)
+
+slice-aggregate-put-values-3 : tie.Need-slice-aggregate-put-values-3 Inv-loop μ-loop
+slice-aggregate-put-values-3 c = sym (above (c .before .before .before .before .before .before .before .before .before .before .before .before .before .before .before .before) .loop .inv .in-hand .own-long)
 
 put-values-requires : tie.Need-put-values-requires Inv-loop μ-loop
 put-values-requires c κs =
-    let j = c .before .before .before .before .before .before .before .before .before .before .before .before .before .before .before in
+    let j = c .before .before .before .before .before .before .before .before .before .before .before .before .before .before .before .before in
     let l = above j in
-    let f = next-small (given l) (kept j) (c .before .before .before .before .before .before .before .k .given .1) (c .before .before .before .before .before .before .before .before .before .before .next .ensures) in (
+    let f = next-small (given l) (kept j) (c .before .before .before .before .before .before .before .before .k .given .1) (c .before .before .before .before .before .before .before .before .before .before .before .next .ensures) in (
       (range l, (given l .most, (f .0, f .1))),
       (
-        (points-long (given l), (sizes j .values-long, l .loop .inv .in-hand .own-long)),
-        (points-below (given l), sizes j .values-below),
+        (columns-512 j, (sizes j .values-long, l .loop .inv .in-hand .own-long)),
+        (column-small j _ (f .0), sizes j .values-below),
       ),
     )
 
 loop-less : tie.Need-loop-less Inv-loop μ-loop
 loop-less c =
-    let j = c .before .before .before .before .before .before .before .before .before .before .before .before .before .before .before .before .before in
+    let j = c .before .before .before .before .before .before .before .before .before .before .before .before .before .before .before .before .before .before in
     omega (arith, one-more j, kept-few (given (above j)) (kept j))
 
 loop-again : tie.Need-loop-again Inv-loop μ-loop
 loop-again c =
-    let j = c .before .before .before .before .before .before .before .before .before .before .before .before .before .before .before .before .before in
-    goes-on (given (above j)) (kept j) (c .before .before .before .before .before .before .before .before .before .k .given .1) (c .before .before .before .before .before .before .before .before .before .before .before .before .next .ensures) (c .before .before .before .before .before .put-exponents .ensures)
-    (c .before .put-values .ensures)
+    let j = c .before .before .before .before .before .before .before .before .before .before .before .before .before .before .before .before .before .before in
+    let z = c .before .before .before .before .before .before .before .before .before .before .k .given .1 in
+    let e = c .before .before .before .before .before .before .before .before .before .before .before .before .before .next .ensures in
+    goes-on (given (above j)) (kept j) z e (c .before .before .before .before .before .before .put-exponents .ensures) (values-are j _ (next-small (given (above j)) (kept j) z e .0) _ (c .before .put-values .ensures))
 
 pub draw-spec : {M : Type 1} → statement M
 draw-spec =
@@ -209,6 +219,8 @@ draw-spec =
     μ-loop
     slice-aggregate-put-steps
     put-steps-requires
+    slice-aggregate-put-columns
+    put-columns-requires
     loop-holds
     slice-aggregate-reduce
     slice-aggregate-reduce-2
@@ -241,6 +253,7 @@ draw-spec =
     put-exponents-requires
     slice-aggregate-put-values
     slice-aggregate-put-values-2
+    slice-aggregate-put-values-3
     put-values-requires
     loop-less
     loop-again)

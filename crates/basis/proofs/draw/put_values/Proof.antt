@@ -1,14 +1,16 @@
 -- `draw::put_values` meets its contract.
-use mathlib.Core.Path.{_≡_, sym, ap, subst, _∙_, refl}
+use mathlib.Core.Path.{_≡_, refl, sym, ap, subst, _∙_}
+use mathlib.Core.List.{List}
 use Prim.Native.Nat.{ℕ, _+_, _*_, _-_}
+use native.Mathlib.Nat.{add-sub-cancel-left}
 use native.Mathlib.Omega.{arith}
 use borrow.Author.Needs.{needs}
-use lib.ListN.{length, take, drop, replicate}
+use lib.ListN.{length, take, drop}
 use lib.Seq.{length-take-le}
-use Rattle.residue.specs.Vector.{Below}
+use Rattle.residue.specs.Vector.{Below, pointwise}
 use Rattle.residue.proofs.Vectors.{below-take, below-drop}
-use Rattle.basis.specs.Drawing.{columnOf, productValues}
-use Rattle.basis.proofs.ValueRows.{part-long, column-long, column-below, column-front, product-made}
+use Rattle.basis.specs.Drawing.{productValues}
+use Rattle.basis.proofs.ValueRows.{part-long, product-made}
 use Rattle.basis.proofs.draw.put_values.Statement.{statement}
 use Rattle.basis.proofs.draw.put_values.Tie as tie
 
@@ -29,10 +31,16 @@ module _ (r : tie.After-copy) where
   front-long : length (take (start .args .n) (r .copy .last .1 .0)) ≡ start .args .n
   front-long = length-take-le (start .args .n) (r .copy .last .1 .0) (omega (arith, row-long))
 
--- the coordinates
-module _ (q : tie.After-put-column) where
-  column-is : take (start (q .before .before .before .before) .args .n) (q .put-column .last .1 .1 .1 .0) ≡ columnOf (start (q .before .before .before .before) .args .k) (start (q .before .before .before .before) .args .n) (start (q .before .before .before .before) .args .points .now)
-  column-is = let a = start (q .before .before .before .before) .args in column-front (a .k) (a .n) (a .points .now) (q .put-column .last .1 .1 .1 .0) (replicate 64 0) (q .put-column .ensures)
+-- those of the variable
+module _ (s : tie.Start) where
+  abbrev column : List ℕ
+  column = take (s .args .n) (drop (64 * s .args .k) (s .args .columns .now))
+
+  column-is : take (64 * s .args .k + s .args .n - 64 * s .args .k) (drop (64 * s .args .k) (s .args .columns .now)) ≡ column
+  column-is = ap (λ (j : ℕ). take j (drop (64 * s .args .k) (s .args .columns .now))) (add-sub-cancel-left (64 * s .args .k) (s .args .n))
+
+  column-long : length column ≡ s .args .n
+  column-long = part-long (64 * s .args .k) (s .args .n) (s .args .n) (s .args .columns .now) refl (omega arith)
 
 mul-from : tie.Need-mul-from
 mul-from c = omega arith
@@ -55,37 +63,42 @@ part-copy-end c = omega arith
 copy-requires : tie.Need-copy-requires
 copy-requires c κs = omega arith
 
-slice-aggregate-put-column : tie.Need-slice-aggregate-put-column
-slice-aggregate-put-column c = refl
-
-put-column-requires : tie.Need-put-column-requires
-put-column-requires c κs = omega arith
+mul-column : tie.Need-mul-column
+mul-column c = omega arith
 
 slice-relend-prefix-multiply : tie.Need-slice-relend-prefix-multiply
 slice-relend-prefix-multiply c = omega arith
 
 slice-aggregate-multiply : tie.Need-slice-aggregate-multiply
-slice-aggregate-multiply c = let q = c .before .before .before .before .before .before in sym (front-long q)
+slice-aggregate-multiply c = sym (front-long (c .before .before .before))
 
-array-share-prefix-column : tie.Need-array-share-prefix-column
-array-share-prefix-column c = omega arith
+add-multiply : tie.Need-add-multiply
+add-multiply c = omega arith
 
-slice-aggregate-multiply-2 : tie.Need-slice-aggregate-multiply-2
-slice-aggregate-multiply-2 c = let q = c .before .before .before in sym (ap length (column-is q) ∙ column-long _ _ _)
+mul-multiply : tie.Need-mul-multiply
+mul-multiply c = omega arith
+
+sub-multiply : tie.Need-sub-multiply
+sub-multiply c = omega arith
+
+part-multiply-start : tie.Need-part-multiply-start
+part-multiply-start c = omega arith
+
+part-multiply-end : tie.Need-part-multiply-end
+part-multiply-end c = omega arith
 
 multiply-requires : tie.Need-multiply-requires
 multiply-requires c κs =
-    let q = c .before .before .before in
-    let r = c .before .before .before .before .before .before .before in
+    let r = c .before .before .before .before in
     let s = start r in
     let a = s .args in (
       s .pre .0 .0,
       (
-        front-long r ∙ sym (ap length (column-is q) ∙ column-long _ _ _),
+        front-long r ∙ sym (ap length (column-is s) ∙ column-long s),
         (
           below-take (a .p) (a .n) (r .copy .last .1 .0)
               (subst (Below (a .p)) (sym (row r)) (below-take (a .p) 64 (drop (64 * a .t) (a .values .now)) (below-drop (a .p) (64 * a .t) (a .values .now) (s .pre .1 .1 .1)))),
-          subst (Below (a .p)) (sym (column-is q)) (column-below (a .k) (a .n) (a .points .now) (a .p) (s .pre .1 .1 .0) (omega arith) (omega arith)),
+          subst (Below (a .p)) (sym (column-is s)) (s .pre .1 .1 .0),
         ),
       ),
     )
@@ -95,10 +108,11 @@ same-length c = search needs
 
 returns : tie.Need-returns
 returns c =
-    let r = c .before .before .before .before .before .before .before .before .before .before in
-    let a = start r .args in
-    product-made (a .k) (a .n) (a .points .now) (a .p) (r .copy .last .1 .0) (omega (arith, row-long r)) (c .before .before .before .before .before .before .put-column .last .1 .1 .1 .0) (replicate 64 0) (c .before .before .before .before .before .before .put-column .ensures) (c .before .before .multiply .ensures)
-    ∙ ap (productValues (a .p) (a .k) (a .n) (a .points .now)) (row r)
+    let r = c .before .before .before .before .before .before .before in
+    let s = start r in
+    let a = s .args in
+    product-made (a .p) (a .n) (column s) (r .copy .last .1 .0) (column-long s) (omega (arith, row-long r)) (c .before .before .multiply .ensures ∙ ap (pointwise (a .p) (take (a .n) (r .copy .last .1 .0))) (column-is s))
+    ∙ ap (productValues (a .p) (a .n) (column s)) (row r)
 
 pub put-values-spec : {M : Type 1} → statement M
 put-values-spec =
@@ -111,12 +125,14 @@ put-values-spec =
     part-copy-start
     part-copy-end
     copy-requires
-    slice-aggregate-put-column
-    put-column-requires
+    mul-column
     slice-relend-prefix-multiply
     slice-aggregate-multiply
-    array-share-prefix-column
-    slice-aggregate-multiply-2
+    add-multiply
+    mul-multiply
+    sub-multiply
+    part-multiply-start
+    part-multiply-end
     multiply-requires
     same-length
     returns)

@@ -2,30 +2,32 @@
 use mathlib.Core.Path.{_≡_, sym, ap, subst, _∙_}
 use mathlib.Core.Logic.{⊎-elim}
 use mathlib.Core.List.{List}
-use Prim.Native.Nat.{ℕ, _+_, _-_, _^_, _<_, _≤_}
+use Prim.Native.Nat.{ℕ, _+_, _*_, _-_, _^_, _<_, _≤_}
 use native.Mathlib.Omega.{arith}
-use lib.ListN.{length}
+use lib.ListN.{length, take, drop}
 use Rattle.residue.specs.Vector.{Below}
 use Rattle.residue.proofs.Moduli.{modulus-range}
 use Rattle.monomial.specs.Order.{orderOf}
-use Rattle.basis.specs.Drawing.{settingsOf, PointsGiven}
+use Rattle.basis.specs.Drawing.{columnOf, productValues, settingsOf, PointsGiven}
+use Rattle.basis.proofs.Layouts.{length-fill}
 use Rattle.basis.proofs.WorkingRows.{first-most}
-use Rattle.basis.proofs.ValueRows.{steps-long, steps-below}
+use Rattle.basis.proofs.ValueRows.{steps-long, steps-below, column-below, column-in}
+use Rattle.basis.proofs.elimination.Grounds.{points-long, points-below}
 use Rattle.basis.proofs.elimination.Loop.{Head, Kept, Sized, head-sized, exponents-long, worked-long, worked-below, room-lead, keeps-lead, room-standard, keeps-standard, kept-as, kept-sized}
 use Rattle.basis.proofs.draw.draw.Tie as tie
 
 abbrev pub Inv-loop : tie.InvT-loop
-Inv-loop p m order n points standard₀ leads₀ coefficients₀ rows₀ pivots₀ steps values₀ ranks₀ at₀ found₀ r₀ exponents₀ rank₀ own₀ standard leads coefficients rows pivots values ranks at found r exponents rank own =
+Inv-loop p m order n points standard₀ leads₀ coefficients₀ rows₀ pivots₀ steps columns values₀ ranks₀ at₀ found₀ r₀ exponents₀ rank₀ own₀ standard leads coefficients rows pivots values ranks at found r exponents rank own =
     Head p m order n points found r standard leads coefficients rows pivots values ranks steps at exponents rank own
 
 abbrev pub μ-loop : tie.MeasureT-loop
-μ-loop p m order n points standard₀ leads₀ coefficients₀ rows₀ pivots₀ steps values₀ ranks₀ at₀ found₀ r₀ exponents₀ rank₀ own₀ standard leads coefficients rows pivots values ranks at found r exponents rank own =
+μ-loop p m order n points standard₀ leads₀ coefficients₀ rows₀ pivots₀ steps columns values₀ ranks₀ at₀ found₀ r₀ exponents₀ rank₀ own₀ standard leads coefficients rows pivots values ranks at found r exponents rank own =
     513 - (found + r)
 
 -- at the loop's head
 module _ (l : tie.At-loop Inv-loop μ-loop) where
   abbrev pub start : tie.Start Inv-loop μ-loop
-  start = l .before .before .before .before .before .before .before .before .before .before
+  start = l .before .before .before .before .before .before .before .before .before .before .before .before .before
 
   pub given : PointsGiven (settingsOf (start .args .p) (start .args .m) (start .args .order)) (start .args .n) (start .args .points .now)
   given = start .pre .0
@@ -71,8 +73,17 @@ module _ (j : tie.Joined1 Inv-loop μ-loop) where
   abbrev pub above : tie.At-loop Inv-loop μ-loop
   above = top reduced
 
+  abbrev gathered : tie.After-put-columns Inv-loop μ-loop
+  gathered = above .before .before
+
+  abbrev ranked : tie.After-put-steps Inv-loop μ-loop
+  ranked = gathered .before .before .before
+
   abbrev pub steps : List ℕ
-  steps = above .before .before .put-steps .last .1 .0
+  steps = ranked .put-steps .last .1 .0
+
+  abbrev pub columns : List ℕ
+  columns = gathered .put-columns .last .1 .1 .0
 
   pub kept : Kept (start above .args .p) (start above .args .m) (start above .args .order) (start above .args .n) (start above .args .points .now) (j .if1 .found) (j .if1 .r)
       (j .if1 .standard) (j .if1 .leads) (j .if1 .coefficients) (j .if1 .rows) (j .if1 .pivots) (j .if1 .values) (j .if1 .ranks) steps (above .loop .at)
@@ -93,7 +104,23 @@ module _ (j : tie.Joined1 Inv-loop μ-loop) where
   sizes = kept-sized (given above) kept
 
   pub steps-8 : length steps ≡ 8
-  steps-8 = ap length (above .before .before .put-steps .ensures) ∙ steps-long (orderOf (start above .args .order))
+  steps-8 = ap length (ranked .put-steps .ensures) ∙ steps-long (orderOf (start above .args .order))
 
   pub steps-small : Below (2 ^ 56) steps
-  steps-small = subst (Below (2 ^ 56)) (sym (above .before .before .put-steps .ensures)) (steps-below (orderOf (start above .args .order)))
+  steps-small = subst (Below (2 ^ 56)) (sym (ranked .put-steps .ensures)) (steps-below (orderOf (start above .args .order)))
+
+  pub columns-512 : length columns ≡ 512
+  columns-512 = ap length (gathered .put-columns .ensures) ∙ length-fill 512 _
+
+  module _ (k : ℕ) (h : k < 8) where
+    column : take (start above .args .n) (drop (64 * k) columns) ≡ columnOf k (start above .args .n) (start above .args .points .now)
+    column = column-in (start above .args .n) (start above .args .points .now) k columns (gathered .put-columns .ensures) h (given above .most)
+
+    pub column-small : Below (start above .args .p) (take (start above .args .n) (drop (64 * k) columns))
+    column-small =
+        subst (Below (start above .args .p)) (sym column)
+        (column-below k (start above .args .n) (start above .args .points .now) (start above .args .p) (points-below (given above)) h (omega (arith, points-long (given above), given above .most)))
+
+    pub values-are : (values : List ℕ) {own : List ℕ} → own ≡ productValues (start above .args .p) (start above .args .n) (take (start above .args .n) (drop (64 * k) columns)) values
+        → own ≡ productValues (start above .args .p) (start above .args .n) (columnOf k (start above .args .n) (start above .args .points .now)) values
+    values-are values e = e ∙ ap (λ (l : List ℕ). productValues (start above .args .p) (start above .args .n) l values) column
