@@ -1,12 +1,19 @@
 -- Loops that write the front of a lent list, entry after entry, from another list.
-use mathlib.Core.Path.{_≡_, refl, ap, _∙_}
-use mathlib.Core.List.{List, map}
+use mathlib.Core.Path.{_≡_, refl, ap, ap₂, _∙_}
+use mathlib.Core.Logic.{inl, inr}
+use mathlib.Core.List.{List, [], _∷_, map}
 use Prim.Native.Nat.{ℕ, _<_, _≤_}
 use native.Mathlib.Omega.{arith}
 use lib.ListN.{length, getD, replicate, length-map, length-replicate, getD-replicate}
+use Rattle.residue.specs.Lists.{Among}
 use Rattle.residue.proofs.Filled.{filled, filled-front, filled-all}
 use Rattle.residue.proofs.Vectors.{map-at}
 use Rattle.basis.specs.Layout.{over}
+
+-- two rules that give the same at each member
+pub map-same : {A B : Type 0} (f g : A → B) (l : List A) → ((a : A) → Among a l → f a ≡ g a) → map f l ≡ map g l
+map-same f g [] h = refl
+map-same {B = B} f g (a ∷ l) h = ap₂ (λ (x : B) (z : List B). x ∷ z) (h a (inl refl)) (map-same f g l (λ b mem. h b (inr mem)))
 
 -- by any rule
 pub front : (g : ℕ → ℕ) (r l : List ℕ) (j : ℕ) → j ≡ length r → length r ≤ length l → ((i : ℕ) → i < length r → getD r i 0 ≡ g i) → filled g j l ≡ over r l

@@ -8,6 +8,7 @@ pub mod LevelLists
 pub mod Places
 pub mod PointTables
 pub mod Terms
+pub mod TermRows
 pub mod Wiring
 pub mod WorkingRows
 pub mod ValueRows

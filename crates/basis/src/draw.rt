@@ -3,6 +3,7 @@
 use crate::bytes;
 use crate::candidate::Candidate;
 use crate::candidate::next;
+use crate::columns::put_columns;
 use crate::rows;
 use monomial::rank::variable_rank;
 use residue::elimination::eliminate;
@@ -14,10 +15,10 @@ ghost use Rattle.residue.specs.Vector.{Below};
 ghost use Rattle.residue.specs.Elimination.{eliminated};
 ghost use Rattle.monomial.specs.Monomial.{timesVariable};
 ghost use Rattle.monomial.specs.Order.{orderOf};
-ghost use Rattle.basis.specs.Layout.{fill, inPlaces, over};
+ghost use Rattle.basis.specs.Layout.{fill, over};
 ghost use Rattle.basis.specs.Tables.{pointsIn};
 ghost use Rattle.basis.specs.Working.{firstNonzero, withPlace};
-ghost use Rattle.basis.specs.Drawing.{stepsOf, columnOf, columnsOf, productValues, settingsOf, PointsGiven, DrawnUp};
+ghost use Rattle.basis.specs.Drawing.{stepsOf, productValues, settingsOf, PointsGiven, DrawnUp};
 
 // The ranks of the variables.
 fn put_steps(order: u8, steps: &mut [u64])
@@ -26,28 +27,6 @@ fn put_steps(order: u8, steps: &mut [u64])
 {
     for k in 0..8 {
         steps[k] = variable_rank(order, k);
-    }
-}
-
-// One coordinate of each point.
-fn put_column(n: usize, k: usize, points: &[u8], column: &mut [u16])
-    requires { ⌜ (n ≤ length (now column)) × ((k < 8) × ((length (now points) ≡ 512) × (n ≤ 64))) ⌝ }
-    ensures { λ _. ⌜ now (column .exit) ≡ over (columnOf k n (now (points .entry))) (now (column .entry)) ⌝ }
-{
-    for i in 0..n {
-        column[i] = points[8 * i + k] as u16;
-    }
-}
-
-// Each coordinate of each point, 64 numbers for a coordinate.
-fn put_columns(n: usize, points: &[u8], columns: &mut [u16])
-    requires { ⌜ (length (now points) ≡ 512) × (n ≤ 64) ⌝ }
-    requires { ⌜ now columns ≡ replicate 512 0 ⌝ }
-    ensures { λ _. ⌜ now (columns .exit) ≡ fill 512 (inPlaces 64 (columnsOf 8 n (now (points .entry)))) ⌝ }
-{
-    for k in 0..8 {
-        let from = 64 * k;
-        put_column(n, k, points, &mut columns[from..from + 64]);
     }
 }
 

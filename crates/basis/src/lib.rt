@@ -5,6 +5,7 @@ pub mod answers;
 pub mod bytes;
 pub mod calls;
 mod candidate;
+mod columns;
 mod correct;
 pub mod draw;
 mod insert;

@@ -3,5 +3,5 @@ pub mod Algebra
 pub mod Orders
 pub mod Padding
 pub mod Ranks
-mod Loops
+pub mod Loops
 mod Truncation

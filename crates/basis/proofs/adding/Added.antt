@@ -41,7 +41,7 @@ use Rattle.basis.proofs.elimination.Exponents.{fill-pad}
 use Rattle.basis.proofs.elimination.Grounds.{ground, places-below}
 use Rattle.basis.proofs.adding.Corrections.{valuesAt}
 use Rattle.basis.proofs.adding.LostRow.{lost, lost-one}
-use Rattle.basis.proofs.adding.NewRows.{map-same}
+use Rattle.basis.proofs.Copies.{map-same}
 use Rattle.basis.proofs.adding.NewTables.{table, read, few-standard, short, most, grown-are, standard-are}
 
 -- residues are kept

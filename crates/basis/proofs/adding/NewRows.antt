@@ -1,7 +1,6 @@
 -- Rows of the tables when a point is added: the row that elimination makes of a monomial's values, and the rows that stay, corrected.
-use mathlib.Core.Path.{_≡_, refl, sym, _∙_, ap, ap₂}
+use mathlib.Core.Path.{_≡_, sym, _∙_, ap, ap₂}
 use mathlib.Core.List.{List, [], _∷_, _++_, map, map-map}
-use mathlib.Core.Logic.{inl, inr}
 use Prim.Native.Nat.{ℕ, zero, suc, _+_, _*_, _-_, _%_, _<_, _≤_, suc-le-suc, zero-le}
 use native.Mathlib.Nat.{mod-lt, le-of-suc-le-suc}
 use native.Mathlib.Omega.{arith}
@@ -22,6 +21,7 @@ use Rattle.basis.specs.Polynomial.{Distinct}
 use Rattle.basis.specs.BasisOf.{basisOf, rowOf, interpolantOf}
 use Rattle.basis.specs.Instance.{Monomial, Point, spaceOf}
 use Rattle.basis.specs.Insertions.{reducedRow}
+use Rattle.basis.proofs.Copies.{map-same}
 use Rattle.basis.proofs.Layouts.{fill-front}
 use Rattle.basis.proofs.Places.{table-groups, over-zeros}
 use Rattle.basis.proofs.ideal.Laws.{Laws}
@@ -30,10 +30,6 @@ use Rattle.basis.proofs.ideal.Basis.{value-at, interpolant-fits, interp
 use Rattle.basis.proofs.elimination.Exponents.{fill-pad}
 use Rattle.basis.proofs.elimination.Pivots.{interpolant-minus}
 use Rattle.basis.specs.BasisOf as B
-
-pub map-same : {A B : Type 0} (f g : A → B) (l : List A) → ((a : A) → Among a l → f a ≡ g a) → map f l ≡ map g l
-map-same f g [] h = refl
-map-same {B = B} f g (a ∷ l) h = ap₂ (λ (x : B) (z : List B). x ∷ z) (h a (inl refl)) (map-same f g l (λ b mem. h b (inr mem)))
 
 -- zeros at the front dropped
 drop-zeros : (n k : ℕ) (l : List ℕ) → n + 64 ≤ k → take 64 (drop n (fill k (replicate n 0 ++ l))) ≡ fill 64 l

@@ -1,81 +1,88 @@
--- `polynomial::put_values` meets its contract. The loop has written the values before i.
-use mathlib.Core.Path.{_≡_, sym, ap, _∙_}
-use mathlib.Core.List.{List, []}
-use Prim.Native.Nat.{ℕ, _+_, _*_, _-_, _%_, _≤_}
+-- `polynomial::put_values` meets its contract. The working row begins with the values of the terms before i.
+use mathlib.Core.Path.{_≡_, sym, ap, ap₂, subst, _∙_}
+use mathlib.Core.List.{List}
+use Prim.Native.Nat.{ℕ, _+_, _*_, _-_, _≤_}
 use native.Mathlib.Omega.{arith}
-use lib.ListN.{length, getD, take, drop, length-drop}
+use lib.ListN.{length, take, drop, length-drop, length-replicate}
 use lib.Seq.{length-take-le}
-use Rattle.residue.specs.Vector.{dotOf}
-use Rattle.residue.proofs.Filled.{filled, filled-none, kept-length, filled-more}
-use Rattle.residue.proofs.Vectors.{below-take, below-drop}
-use Rattle.basis.specs.Levels.{groups}
-use Rattle.basis.specs.Interpolants.{termValues}
-use Rattle.basis.proofs.Copies.{mapped}
-use Rattle.basis.proofs.Places.{length-groups, groups-at}
-use Rattle.basis.proofs.Terms.{values}
+use Rattle.residue.specs.Vector.{Below}
+use Rattle.basis.specs.Layout.{over}
+use Rattle.basis.proofs.Layouts.{length-over, take-over}
+use Rattle.basis.proofs.TermRows.{sums, sums-long, sums-below, sums-none, sums-all, row-more}
 use Rattle.basis.proofs.polynomial.put_values.Statement.{statement}
 use Rattle.basis.proofs.polynomial.put_values.Tie as tie
 
-abbrev valueOf : ℕ → List ℕ → List ℕ → List ℕ → ℕ
-valueOf p cs t P = dotOf cs (values P cs t) % p
-
 abbrev Inv-loop : tie.InvT-loop
-Inv-loop p coefficients exponents n points work₀ i₀ work i = (i ≤ n) × (work ≡ filled (λ k. valueOf p coefficients exponents (getD (groups 8 n points) k [])) i work₀)
+Inv-loop p coefficients exponents n points work₀ i₀ i-end work i = (i ≤ length coefficients) × (work ≡ over (sums p n coefficients exponents points i) work₀)
 
 abbrev μ-loop : tie.MeasureT-loop
-μ-loop p coefficients exponents n points work₀ i₀ work i = n - i
+μ-loop p coefficients exponents n points work₀ i₀ i-end work i = length coefficients - i
 
 -- at the loop's head
 module _ (l : tie.At-loop Inv-loop μ-loop) where
   abbrev start : tie.Start Inv-loop μ-loop
   start = l .before .before .before .before .before
 
-  abbrev g : ℕ → ℕ
-  g k = valueOf (start .args .p) (start .args .coefficients .now) (start .args .exponents .now) (getD (groups 8 (start .args .n) (start .args .points .now)) k [])
+  abbrev so-far : List ℕ
+  so-far = sums (start .args .p) (start .args .n) (start .args .coefficients .now) (start .args .exponents .now) (start .args .points .now) (l .loop .i)
 
-  long : length (l .loop .work) ≡ length (start .args .work .now)
-  long = kept-length g (l .loop .i) (start .args .work .now) (l .loop .work) (l .loop .inv .1)
+  so-far-long : length so-far ≡ start .args .n
+  so-far-long = sums-long (start .args .p) (start .args .n) (start .args .coefficients .now) (start .args .exponents .now) (start .args .points .now) (l .loop .i)
+
+  given-long : length (start .args .work .now) ≡ 128
+  given-long = ap length (start .pre .1 .1 .1 .1) ∙ length-replicate {A = ℕ} 128 0
+
+  long : length (l .loop .work) ≡ 128
+  long = ap length (l .loop .inv .1) ∙ length-over so-far (start .args .work .now) (omega (arith, so-far-long, given-long)) ∙ given-long
+
+  front : take (start .args .n) (l .loop .work) ≡ so-far
+  front = ap₂ (λ (k : ℕ) (w : List ℕ). take k w) (sym so-far-long) (l .loop .inv .1) ∙ take-over so-far (start .args .work .now)
 
 loop-holds : tie.Need-loop-holds Inv-loop μ-loop
-loop-holds c = (omega arith, filled-none _ _)
+loop-holds c =
+    let s = c .before .before .before .before in
+    (omega arith, sums-none (s .args .p) (s .args .n) (s .args .coefficients .now) (s .args .exponents .now) (s .args .points .now) 128 (s .args .work .now) (omega arith) (s .pre .1 .1 .1 .1))
 
 mul-place : tie.Need-mul-place Inv-loop μ-loop
 mul-place c = omega arith
 
-add-value-at : tie.Need-add-value-at Inv-loop μ-loop
-add-value-at c = omega arith
+shared-slice-read-c : tie.Need-shared-slice-read-c Inv-loop μ-loop
+shared-slice-read-c c = omega arith
 
-sub-value-at : tie.Need-sub-value-at Inv-loop μ-loop
-sub-value-at c = omega arith
+cast-c : tie.Need-cast-c Inv-loop μ-loop
+cast-c c = omega (arith, c .shared-slice-known4 .given (c .before .before .loop .i))
 
-part-value-at-start : tie.Need-part-value-at-start Inv-loop μ-loop
-part-value-at-start c = omega arith
+add-add-term : tie.Need-add-add-term Inv-loop μ-loop
+add-add-term c = omega arith
 
-part-value-at-end : tie.Need-part-value-at-end Inv-loop μ-loop
-part-value-at-end c = omega arith
+sub-add-term : tie.Need-sub-add-term Inv-loop μ-loop
+sub-add-term c = omega arith
 
-value-at-requires : tie.Need-value-at-requires Inv-loop μ-loop
-value-at-requires c κs =
-    let l = c .before .before in
+part-add-term-start : tie.Need-part-add-term-start Inv-loop μ-loop
+part-add-term-start c = omega arith
+
+part-add-term-end : tie.Need-part-add-term-end Inv-loop μ-loop
+part-add-term-end c = omega arith
+
+slice-relend-prefix-add-term : tie.Need-slice-relend-prefix-add-term Inv-loop μ-loop
+slice-relend-prefix-add-term c = omega (arith, long (c .before .before .before))
+
+slice-aggregate-add-term : tie.Need-slice-aggregate-add-term Inv-loop μ-loop
+slice-aggregate-add-term c = let l = c .before .before .before .before in sym (ap length (front l) ∙ so-far-long l)
+
+add-term-requires : tie.Need-add-term-requires Inv-loop μ-loop
+add-term-requires c κs =
+    let l = c .before .before .before .before in
     let s = start l in
     let i : ℕ = l .loop .i in
     let e : 8 * i + 8 - 8 * i ≡ 8 = omega arith in
-    let eight = length-take-le (8 * i + 8 - 8 * i) (drop (8 * i) (s .args .points .now)) (simp length-drop (omega arith)) ∙ e in (
-      s .pre .0,
+    let eight = length-take-le (8 * i + 8 - 8 * i) (drop (8 * i) (s .args .exponents .now)) (omega (arith, length-drop (8 * i) (s .args .exponents .now))) ∙ e in (
+      (s .pre .0, (omega arith, s .pre .1 .0 i (omega arith))),
       (
-        s .pre .1 .0,
-        (
-          s .pre .1 .1 .0,
-          (eight, below-take (s .args .p) (8 * i + 8 - 8 * i) (drop (8 * i) (s .args .points .now)) (below-drop (s .args .p) (8 * i) (s .args .points .now) (s .pre .1 .1 .1 .0 .1))),
-        ),
+        (eight, s .pre .1 .1 .1 .0 .1),
+        (ap length (front l) ∙ so-far-long l, subst (Below (s .args .p)) (sym (front l)) (sums-below (s .args .p) (s .args .n) (s .args .coefficients .now) (s .args .exponents .now) (s .args .points .now) (omega arith) i)),
       ),
     )
-
-mul-work : tie.Need-mul-work Inv-loop μ-loop
-mul-work c = omega (arith, long (c .before .before .before))
-
-slice-write-work : tie.Need-slice-write-work Inv-loop μ-loop
-slice-write-work c = omega (arith, long (c .before .before .before))
 
 add-i : tie.Need-add-i Inv-loop μ-loop
 add-i c = omega arith
@@ -85,27 +92,21 @@ loop-less c = omega arith
 
 loop-again : tie.Need-loop-again Inv-loop μ-loop
 loop-again c =
-    let l = c .before .before .before in
+    let d = c .before .before in
+    let l = d .before .before .before .before .before in
     let s = start l in
     let i : ℕ = l .loop .i in
     let e : 8 * i + 8 - 8 * i ≡ 8 = omega arith in
-    let here = ap (λ (k : ℕ). take k (drop (8 * i) (s .args .points .now))) e ∙ sym (groups-at 8 (s .args .n) i (s .args .points .now) [] (omega arith)) in (
-      omega arith,
-      filled-more (g l) i (s .args .work .now) (l .loop .work) (l .loop .inv .1) (c .value-at .result) (omega arith)
-          (c .value-at .ensures ∙ ap (valueOf (s .args .p) (s .args .coefficients .now) (s .args .exponents .now)) here),
-    )
+    (omega arith, row-more (s .args .p) (s .args .n) (s .args .coefficients .now) (s .args .exponents .now) (s .args .points .now) i (8 * i + 8 - 8 * i) (l .loop .work) (s .args .work .now) _ (omega arith) e (l .loop .inv .1) (d .add-term .ensures))
 
 same-length : tie.Need-same-length Inv-loop μ-loop
-same-length c = long (c .before)
+same-length c = long (c .before) ∙ sym (given-long (c .before))
 
 returns : tie.Need-returns Inv-loop μ-loop
-unfolding termValues
 returns c =
     let l = c .before in
     let s = start l in
-    let n = length-groups 8 (s .args .n) (s .args .points .now) in
-    l .loop .inv .1
-    ∙ mapped (valueOf (s .args .p) (s .args .coefficients .now) (s .args .exponents .now)) [] (groups 8 (s .args .n) (s .args .points .now)) (s .args .work .now) (l .loop .i) (omega arith) (omega arith)
+    l .loop .inv .1 ∙ ap (λ (v : List ℕ). over v (s .args .work .now)) (sums-all (s .args .p) (s .args .n) (s .args .coefficients .now) (s .args .exponents .now) (s .args .points .now) (l .loop .i) (omega arith))
 
 pub put-values-spec : {M : Type 1} → statement M
 put-values-spec =
@@ -115,13 +116,15 @@ put-values-spec =
     μ-loop
     loop-holds
     mul-place
-    add-value-at
-    sub-value-at
-    part-value-at-start
-    part-value-at-end
-    value-at-requires
-    mul-work
-    slice-write-work
+    shared-slice-read-c
+    cast-c
+    add-add-term
+    sub-add-term
+    part-add-term-start
+    part-add-term-end
+    slice-relend-prefix-add-term
+    slice-aggregate-add-term
+    add-term-requires
     add-i
     loop-less
     loop-again

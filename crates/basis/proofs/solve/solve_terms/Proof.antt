@@ -68,7 +68,7 @@ put-values-requires c κs =
         subst (Below (s .args .p)) (sym (front w)) (s .pre .1 .1 .1 .1 .0 .1 .0),
         (
           s .pre .1 .0 .1 ∙ ap (λ (k : ℕ). 8 * k) (sym (ap length (front w) ∙ long w)),
-          ((omega arith, s .pre .1 .1 .1 .1 .0 .1 .1), omega arith),
+          ((omega arith, (s .pre .1 .1 .0 .1 .0, s .pre .1 .1 .1 .1 .0 .1 .1)), refl),
         ),
       ),
     )

@@ -1,4 +1,4 @@
--- `draw::put_column` meets its contract. The loop has written the entries before its index.
+-- `columns::put_column` meets its contract. The loop has written the entries before its index.
 use mathlib.Core.Path.{_≡_, refl, _∙_}
 use Prim.Native.Nat.{_+_, _*_, _-_, _≤_}
 use native.Mathlib.Omega.{arith}
@@ -7,8 +7,8 @@ use Rattle.residue.proofs.Filled.{filled, filled-none, kept-length, filled-more
 use Rattle.basis.specs.Drawing.{columnOf}
 use Rattle.basis.proofs.Copies.{front}
 use Rattle.basis.proofs.ValueRows.{column-long, column-at}
-use Rattle.basis.proofs.draw.put_column.Statement.{statement}
-use Rattle.basis.proofs.draw.put_column.Tie as tie
+use Rattle.basis.proofs.columns.put_column.Statement.{statement}
+use Rattle.basis.proofs.columns.put_column.Tie as tie
 
 abbrev Inv-loop : tie.InvT-loop
 Inv-loop n k points column₀ i₀ column i = (i ≤ n) × (column ≡ filled (λ j. getD points (8 * j + k) 0) i column₀)

@@ -1,4 +1,4 @@
--- `draw::put_columns` meets its contract. The loop has written the first k columns into the table.
+-- `columns::put_columns` meets its contract. The loop has written the first k columns into the table.
 use mathlib.Core.Path.{_≡_, sym, ap, _∙_}
 use Prim.Native.Nat.{ℕ, _+_, _*_, _-_, _≤_}
 use native.Mathlib.Omega.{arith}
@@ -7,8 +7,8 @@ use Rattle.basis.specs.Layout.{fill, inPlaces}
 use Rattle.basis.specs.Drawing.{columnsOf}
 use Rattle.basis.proofs.Layouts.{length-fill}
 use Rattle.basis.proofs.ValueRows.{part-long, zeros-long, columns-none, columns-more}
-use Rattle.basis.proofs.draw.put_columns.Statement.{statement}
-use Rattle.basis.proofs.draw.put_columns.Tie as tie
+use Rattle.basis.proofs.columns.put_columns.Statement.{statement}
+use Rattle.basis.proofs.columns.put_columns.Tie as tie
 
 abbrev Inv-loop : tie.InvT-loop
 Inv-loop n points columns₀ k₀ columns k = (k ≤ 8) × (columns ≡ fill 512 (inPlaces 64 (columnsOf k n points)))
