@@ -53,6 +53,14 @@ module _ (s : Settings) (short wrong many : Bool) where
     pub by-rest : firstOf (settingsCases s ++ sizes) ≡ 0 → firstOf rest ≡ firstOf (settingsCases s ++ (sizes ++ rest))
     by-rest e = let n = none-of s sizes tt e in first-on sizes rest (n .1) ∙ sym (settings-pass s (n .0) (sizes ++ rest))
 
+    -- neither one of them nor a test of the call's own
+    pub none-behind : T (numbered rest) → firstOf (settingsCases s ++ (sizes ++ rest)) ≡ 0 → (firstOf (settingsCases s ++ sizes) ≡ 0) × None rest
+    none-behind t e = go (ℕ-discrete (firstOf (settingsCases s ++ sizes)) 0)
+      where
+        go : Dec (firstOf (settingsCases s ++ sizes) ≡ 0) → (firstOf (settingsCases s ++ sizes) ≡ 0) × None rest
+        go (yes z) = (z, none-holds rest t (by-rest z ∙ e))
+        go (no z) = absurd (z (by-size (firstOf (settingsCases s ++ sizes)) refl z ∙ e))
+
 -- the outcome of a call that writes tables
 module _ (t : Tables) (new : Outcome) (k : ℕ) where
   pub when-refused : (j : ℕ) → j ≡ k → (j ≡ 0 → ⊥) → refused j t ≡ byRefusal k t new
