@@ -5,6 +5,7 @@ use crate::recognise::recognise;
 use crate::refusal;
 use crate::settings::Answer;
 use crate::settings::Settings;
+use crate::settings::refused;
 use crate::tables;
 ghost use mathlib.Core.Path.{_≡_};
 ghost use Prim.Native.Nat.{_≤_};
@@ -83,30 +84,18 @@ pub fn draw_up(
         levels.len(),
     );
     if refusal != 0 {
-        return Answer {
-            refusal,
-            n: 0,
-            r: 0,
-        };
+        return refused(refusal);
     }
     let p = settings.modulus as u8;
     if !points::in_range(p, levels) {
-        return Answer {
-            refusal: 9,
-            n: 0,
-            r: 0,
-        };
+        return refused(9);
     }
     let m = settings.variables as usize;
     let n = levels.len() / m;
     let mut points = [0u8; 512];
     points::put_points(p, m, n, levels, &mut points);
     if !points::no_repeat(n, &points) {
-        return Answer {
-            refusal: 11,
-            n: 0,
-            r: 0,
-        };
+        return refused(11);
     }
     let r = draw_points(settings, n, &points, states, standard, leads, coefficients);
     Answer {
