@@ -2,6 +2,7 @@
 use crate::bytes;
 use crate::correct;
 use crate::insert;
+use crate::polynomial::put_values;
 use residue::elimination::eliminate;
 ghost use mathlib.Core.Path.{_≡_};
 ghost use Prim.Native.Nat.{ℕ, _+_, _*_, _<_, _≤_};
@@ -35,7 +36,7 @@ fn put_row(
     ensures { λ _. ⌜ now (table .exit) ≡ withRowAt 64 k i (correctedRow p place inverse (now (gone .entry)) (now (point .entry)) (now (values .entry)) (now (a .entry)) (reducedRow p n (now (points .entry)) (now (rows .entry)) (now (pivots .entry)) (now (a .entry)))) (now (table .entry)) ⌝ }
 {
     let mut work = [0u16; 128];
-    correct::values_of(p, n, points, a, &mut work);
+    put_values(p, &[1u8], a, n, points, &mut work);
     eliminate(p, n, rows, pivots, &mut work);
     let from = 64 * i;
     insert::move_on(64, from, 64 * k, table);
