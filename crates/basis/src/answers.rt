@@ -47,7 +47,8 @@ fn interpolant(
     if refusal != 0 {
         return refusal;
     }
-    if !points::in_range(settings.modulus as u8, values) {
+    let p = settings.modulus as u8;
+    if !points::in_range(p, values) {
         return 9;
     }
     let count = n as usize;
@@ -68,14 +69,7 @@ fn interpolant(
     ) {
         return 10;
     }
-    solve::solve_values(
-        settings.modulus as u16,
-        count,
-        values,
-        &rows,
-        &pivots,
-        found,
-    );
+    solve::solve_values(p as u16, count, values, &rows, &pivots, found);
     0
 }
 

@@ -82,8 +82,8 @@ returns c =
     let o = start (c .before) in
     (values-size (o .args .size) (o .args .settings) (o .args .n) (o .args .r) (tables o) (o .args .values .now) (o .args .out .now) (c .before .values-sizes .result) (told (c .before)) (c .if1 .taken), (λ z. absurd (c .if1 .taken z)))
 
-cast-in-range : tie.Need-cast-in-range
-cast-in-range c = omega (arith, modulus-range (o (c .before) .args .settings .modulus) (sized (c .before) .settings .modulus))
+cast-p : tie.Need-cast-p
+cast-p c = omega (arith, modulus-range (o (c .before) .args .settings .modulus) (sized (c .before) .settings .modulus))
 
 in-range-requires : tie.Need-in-range-requires
 in-range-requires c κs = tt
@@ -117,17 +117,17 @@ returns-3 c =
     (values-not (o .args .size) (o .args .settings) (o .args .n) (o .args .r) (tables o) (o .args .values .now) (o .args .out .now) (fine (e f)) (range f) (sym (k .recognise .ensures .0) ∙ not-true _ (c .if3 .taken)), (λ z. absurd (omega arith)))
 
 cast-solve-values : tie.Need-cast-solve-values
-cast-solve-values c = let x = e (f (c .before)) in omega (arith, modulus-range (o x .args .settings .modulus) (sized x .settings .modulus))
+cast-solve-values c = let x = e (f c) in omega (arith, modulus-range (o x .args .settings .modulus) (sized x .settings .modulus))
 
 slice-aggregate-solve-values : tie.Need-slice-aggregate-solve-values
-slice-aggregate-solve-values c = sym (c .before .before .before .before .before .before .recognise .kept .1 .1 .1 .1 .1 .1 .1 .1 .0)
+slice-aggregate-solve-values c = sym (c .before .before .before .before .before .recognise .kept .1 .1 .1 .1 .1 .1 .1 .1 .0)
 
 slice-aggregate-solve-values-2 : tie.Need-slice-aggregate-solve-values-2
-slice-aggregate-solve-values-2 c = sym (c .before .before .before .before .before .before .before .recognise .kept .1 .1 .1 .1 .1 .1 .1 .1 .1 .0)
+slice-aggregate-solve-values-2 c = sym (c .before .before .before .before .before .before .recognise .kept .1 .1 .1 .1 .1 .1 .1 .1 .1 .0)
 
 solve-values-requires : tie.Need-solve-values-requires
 solve-values-requires c κs =
-    let h = c .before .before .before .before in
+    let h = c .before .before .before in
     let x = e (f h) in
     let o = o x in
     let z = sized x in (
@@ -149,7 +149,7 @@ same-length c = c .before .before .solve-values .kept .1 .1 .1 .1 .1 .0
 
 returns-4 : tie.Need-returns-4
 returns-4 c =
-    let h = c .before .before .before .before .before .before .before in
+    let h = c .before .before .before .before .before .before in
     let x = e (f h) in
     let o = o x in
     let I : List ℕ = interpolantIn (o .args .settings) (o .args .n) (tables o) (o .args .values .now) in
@@ -161,7 +161,7 @@ interpolant-spec =
     (tie.spec
     values-sizes-requires
     returns
-    cast-in-range
+    cast-p
     in-range-requires
     returns-2
     slice-aggregate-recognise
