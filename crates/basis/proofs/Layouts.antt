@@ -4,8 +4,8 @@ use mathlib.Core.List.{List, [], _∷_, _++_, map, append-assoc, append-nil}
 use Prim.Native.Nat.{ℕ, zero, suc, _+_, _*_, _<_, _≤_}
 use native.Mathlib.Omega.{arith}
 use native.Mathlib.Nat.{zero-add, not-suc-le-zero, le-of-suc-le-suc}
-use lib.ListN.{length, getD, take, drop, replicate, length-append, length-drop, drop-of-length-le}
-use lib.Seq.{take-at, drop-at}
+use lib.ListN.{length, getD, take, drop, replicate, length-append, length-replicate, length-drop, drop-of-length-le}
+use lib.Seq.{length-take-le, take-at, drop-at}
 use lib.Dec.{T}
 use Rattle.basis.specs.Levels.{groups}
 pub use Rattle.basis.specs.Layout.{length-fill}
@@ -97,6 +97,23 @@ over-all a t e = ap (λ (z : List ℕ). a ++ z) (drop-of-length-le t {i = length
 pub answered : (k : ℕ) (l t new : List ℕ) → new ≡ fill k l → new ++ drop k t ≡ over (fill k l) t
 unfolding over
 answered k l t new e = ap₂ (λ (z : List ℕ) (n : ℕ). z ++ drop n t) e (sym (length-fill k l))
+
+-- a front that was cleared, and then lent and came back
+module _ (k : ℕ) (t zeros : List ℕ) (h : k ≤ length t) (e : zeros ≡ replicate (length (take k t)) 0) where
+  are : zeros ≡ replicate k 0
+  are = e ∙ ap (λ (n : ℕ). replicate n 0) (length-take-le k t h)
+
+  long : length zeros ≡ k
+  long = ap length are ∙ length-replicate k 0
+
+  pub cleared-front : take k (zeros ++ drop k t) ≡ replicate k 0
+  cleared-front = take-at zeros (drop k t) k long ∙ are
+
+  pub cleared-long : k ≡ length (take k (zeros ++ drop k t))
+  cleared-long = sym (ap length cleared-front ∙ length-replicate k 0)
+
+  pub answered-anew : (l new : List ℕ) → new ≡ fill k l → new ++ drop k (zeros ++ drop k t) ≡ over (fill k l) t
+  answered-anew l new f = ap (λ (z : List ℕ). new ++ z) (drop-at zeros (drop k t) k long) ∙ answered k l t new f
 
 pub take-over : (a t : List ℕ) → take (length a) (over a t) ≡ a
 unfolding over

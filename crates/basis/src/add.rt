@@ -86,11 +86,9 @@ fn grow(
     ensures { λ _. ⌜ now («new_standard» .exit) ≡ standardGrown order n (now (standard .entry)) (rowAt 8 j (now (leads .entry))) ⌝ }
     ensures { λ k. ⌜ grown k (now («new_leads» .exit)) (now («new_coefficients» .exit)) ≡ grownBy p m order n r (now (points .entry)) (now (standard .entry)) (now (leads .entry)) (now (coefficients .entry)) (now (rows .entry)) (now (pivots .entry)) (now (point .entry)) (now (values .entry)) j ⌝ }
 {
-    let from = 8 * j;
-    let lead = &leads[from..from + 8];
-    let first = 64 * j;
+    let lead = &leads[8 * j..8 * j + 8];
     let mut gone = [0u16; 64];
-    bytes::widen(&coefficients[first..first + 64], &mut gone);
+    bytes::widen(&coefficients[64 * j..64 * j + 64], &mut gone);
     let i = inverse(p, correct::row_value(p, point, values, lead, &gone));
     bytes::copy(standard, new_standard);
     let place = insert::put_in(order, n, new_standard, lead);
@@ -108,8 +106,6 @@ fn grow(
         new_leads,
         new_coefficients,
     );
-    let mut others = [0u8; 3592];
-    bytes::copy(new_leads, &mut others);
     add_products(
         p,
         m,
@@ -124,7 +120,6 @@ fn grow(
         point,
         values,
         r - 1,
-        &others,
         lead,
         new_leads,
         new_coefficients,
@@ -132,7 +127,7 @@ fn grow(
 }
 
 // The tables of n points and r rows with a new point: the first row that is not 0 there is lost. Answers how many rows there are then.
-pub fn add_to(
+fn add_to(
     p: u16,
     m: usize,
     order: u8,

@@ -5,6 +5,7 @@ use crate::recognise::recognise;
 use crate::refusal;
 use crate::settings::Answer;
 use crate::settings::Settings;
+use crate::settings::refused;
 ghost use mathlib.Core.Path.{_≡_};
 ghost use lib.ListN.{length, replicate};
 ghost use Rattle.basis.specs.Levels.{residues};
@@ -104,11 +105,7 @@ pub fn add_point(
         &mut point,
     );
     if refusal != 0 {
-        return Answer {
-            refusal,
-            n: 0,
-            r: 0,
-        };
+        return refused(refusal);
     }
     let k = add_accepted(
         settings,

@@ -8,8 +8,70 @@ use crate::settings::Settings;
 use crate::settings::Wired;
 use crate::solve;
 ghost use mathlib.Core.Path.{_≡_};
-ghost use Rattle.basis.specs.Tables.{fourTables};
-ghost use Rattle.basis.specs.Solving.{answering, interpolateOutcome, remainderOutcome, WiringEnds};
+ghost use lib.ListN.{length, replicate};
+ghost use Rattle.basis.specs.Refusal.{firstOf};
+ghost use Rattle.basis.specs.Layout.{fill, inPlaces};
+ghost use Rattle.basis.specs.Tables.{fourTables, pointsIn};
+ghost use Rattle.basis.specs.Solving.{answering, valuesCases, interpolantIn, interpolateOutcome, remainderCases, remainderOutcome, WiringEnds};
+ghost use Rattle.basis.specs.Drawing.{Solves};
+
+// The refusal of a call that answers n values in an output of so many bytes, or 0; their interpolant is then left in 64 bytes.
+fn interpolant(
+    settings: Settings,
+    n: u64,
+    r: u64,
+    states: &[u8],
+    standard: &[u8],
+    leads: &[u8],
+    coefficients: &[u8],
+    values: &[i8],
+    size: usize,
+    out: &[u8],
+    found: &mut [u8],
+) -> u8
+    requires { ⌜ length (now found) ≡ 64 ⌝ }
+    ensures { λ k. ⌜ k ≡ firstOf (valuesCases size settings n r (fourTables (now (states .entry)) (now (standard .entry)) (now (leads .entry)) (now (coefficients .entry))) (now (values .entry)) (now (out .entry))) ⌝ }
+    ensures { λ k. ⌜ (k ≡ 0 → now (found .exit) ≡ fill 64 (interpolantIn settings n (fourTables (now (states .entry)) (now (standard .entry)) (now (leads .entry)) (now (coefficients .entry))) (now (values .entry)))) ⌝ }
+{
+    let refusal = refusal::values_sizes(
+        settings,
+        states.len(),
+        standard.len(),
+        leads.len(),
+        coefficients.len(),
+        out.len(),
+        size,
+        values.len(),
+        n,
+    );
+    if refusal != 0 {
+        return refusal;
+    }
+    let p = settings.modulus as u8;
+    if !points::in_range(p, values) {
+        return 9;
+    }
+    let count = n as usize;
+    let mut points = [0u8; 512];
+    let mut rows = [0u16; 8192];
+    let mut pivots = [0u8; 64];
+    if !recognise(
+        settings,
+        count,
+        r,
+        states,
+        standard,
+        leads,
+        coefficients,
+        &mut points,
+        &mut rows,
+        &mut pivots,
+    ) {
+        return 10;
+    }
+    solve::solve_values(p as u16, count, values, &rows, &pivots, found);
+    0
+}
 
 // The interpolant of n values, in the order of the points.
 pub fn interpolate(
@@ -25,48 +87,72 @@ pub fn interpolate(
 ) -> u8
     ensures { λ k. ⌜ answering k (now (out .exit)) ≡ interpolateOutcome settings n r (fourTables (now (states .entry)) (now (standard .entry)) (now (leads .entry)) (now (coefficients .entry))) (now (values .entry)) (now (out .entry)) ⌝ }
 {
-    let refusal = refusal::values_sizes(
+    let mut found = [0u8; 64];
+    let refusal = interpolant(
         settings,
-        states.len(),
-        standard.len(),
-        leads.len(),
-        coefficients.len(),
-        out.len(),
-        64,
-        values.len(),
         n,
-    );
-    if refusal != 0 {
-        return refusal;
-    }
-    if !points::in_range(settings.modulus as u8, values) {
-        return 9;
-    }
-    let count = n as usize;
-    let mut points = [0u8; 512];
-    let mut rows = [0u16; 8192];
-    let mut pivots = [0u8; 64];
-    let known = recognise(
-        settings,
-        count,
         r,
         states,
         standard,
         leads,
         coefficients,
-        &mut points,
-        &mut rows,
-        &mut pivots,
+        values,
+        64,
+        out,
+        &mut found,
     );
-    if !known {
-        return 10;
+    if refusal != 0 {
+        return refusal;
     }
-    solve::solve_values(settings.modulus as u16, count, values, &rows, &pivots, out);
+    bytes::copy(&found, out);
     0
 }
 
-// The remainder of a polynomial, term after term a coefficient and 8 exponents.
-pub fn remainder(
+// The wiring list: which variables occur in the interpolant of n values.
+pub fn wiring(
+    settings: Settings,
+    n: u64,
+    r: u64,
+    states: &[u8],
+    standard: &[u8],
+    leads: &[u8],
+    coefficients: &[u8],
+    values: &[i8],
+    out: &mut [u8],
+) -> Wired
+    ensures { λ a. ⌜ WiringEnds settings n r (fourTables (now (states .entry)) (now (standard .entry)) (now (leads .entry)) (now (coefficients .entry))) (now (values .entry)) (now (out .entry)) a (now (out .exit)) ⌝ }
+{
+    let mut found = [0u8; 64];
+    let refusal = interpolant(
+        settings,
+        n,
+        r,
+        states,
+        standard,
+        leads,
+        coefficients,
+        values,
+        8,
+        out,
+        &mut found,
+    );
+    if refusal != 0 {
+        return Wired { refusal, count: 0 };
+    }
+    let mut names = [0u8; 8];
+    let count = solve::put_names(
+        settings.variables as usize,
+        n as usize,
+        &found,
+        &standard[..512],
+        &mut names,
+    );
+    bytes::copy(&names, out);
+    Wired { refusal: 0, count }
+}
+
+// The refusal of a remainder, or 0; then the points and their pivot rows are left in working arrays.
+fn remainder_refusal(
     settings: Settings,
     n: u64,
     r: u64,
@@ -76,9 +162,15 @@ pub fn remainder(
     coefficients: &[u8],
     term_coefficients: &[i8],
     exponents: &[u8],
-    out: &mut [u8],
+    out: &[u8],
+    points: &mut [u8],
+    rows: &mut [u16],
+    pivots: &mut [u8],
 ) -> u8
-    ensures { λ k. ⌜ answering k (now (out .exit)) ≡ remainderOutcome settings n r (fourTables (now (states .entry)) (now (standard .entry)) (now (leads .entry)) (now (coefficients .entry))) (now («term_coefficients» .entry)) (now (exponents .entry)) (now (out .entry)) ⌝ }
+    requires { ⌜ (now points ≡ replicate 512 0) × (now rows ≡ replicate 8192 0) × (length (now pivots) ≡ 64) ⌝ }
+    ensures { λ k. ⌜ k ≡ firstOf (remainderCases settings n r (fourTables (now (states .entry)) (now (standard .entry)) (now (leads .entry)) (now (coefficients .entry))) (now («term_coefficients» .entry)) (now (exponents .entry)) (now (out .entry))) ⌝ }
+    ensures { λ k. ⌜ (k ≡ 0 → now (points .exit) ≡ fill 512 (inPlaces 8 (pointsIn settings n (now (states .entry))))) ⌝ }
+    ensures { λ k. ⌜ (k ≡ 0 → Solves settings (pointsIn settings n (now (states .entry))) (now (rows .exit)) (now (pivots .exit))) ⌝ }
 {
     let terms = term_coefficients.len();
     let refusal = refusal::remainder_sizes(
@@ -101,40 +193,25 @@ pub fn remainder(
     if !polynomial::within_variables(settings.variables as usize, terms, exponents) {
         return 9;
     }
-    let count = n as usize;
-    let mut points = [0u8; 512];
-    let mut rows = [0u16; 8192];
-    let mut pivots = [0u8; 64];
-    let known = recognise(
+    if !recognise(
         settings,
-        count,
+        n as usize,
         r,
         states,
         standard,
         leads,
         coefficients,
-        &mut points,
-        &mut rows,
-        &mut pivots,
-    );
-    if !known {
+        points,
+        rows,
+        pivots,
+    ) {
         return 10;
     }
-    solve::solve_terms(
-        settings.modulus as u16,
-        term_coefficients,
-        exponents,
-        count,
-        &points,
-        &rows,
-        &pivots,
-        out,
-    );
     0
 }
 
-// The wiring list: which variables occur in the interpolant of n values.
-pub fn wiring(
+// The remainder of a polynomial, term after term a coefficient and 8 exponents.
+pub fn remainder(
     settings: Settings,
     n: u64,
     r: u64,
@@ -142,70 +219,42 @@ pub fn wiring(
     standard: &[u8],
     leads: &[u8],
     coefficients: &[u8],
-    values: &[i8],
+    term_coefficients: &[i8],
+    exponents: &[u8],
     out: &mut [u8],
-) -> Wired
-    ensures { λ a. ⌜ WiringEnds settings n r (fourTables (now (states .entry)) (now (standard .entry)) (now (leads .entry)) (now (coefficients .entry))) (now (values .entry)) (now (out .entry)) a (now (out .exit)) ⌝ }
+) -> u8
+    ensures { λ k. ⌜ answering k (now (out .exit)) ≡ remainderOutcome settings n r (fourTables (now (states .entry)) (now (standard .entry)) (now (leads .entry)) (now (coefficients .entry))) (now («term_coefficients» .entry)) (now (exponents .entry)) (now (out .entry)) ⌝ }
 {
-    let refusal = refusal::values_sizes(
-        settings,
-        states.len(),
-        standard.len(),
-        leads.len(),
-        coefficients.len(),
-        out.len(),
-        8,
-        values.len(),
-        n,
-    );
-    if refusal != 0 {
-        return Wired { refusal, count: 0 };
-    }
-    if !points::in_range(settings.modulus as u8, values) {
-        return Wired {
-            refusal: 9,
-            count: 0,
-        };
-    }
-    let number = n as usize;
     let mut points = [0u8; 512];
     let mut rows = [0u16; 8192];
     let mut pivots = [0u8; 64];
-    let known = recognise(
+    let refusal = remainder_refusal(
         settings,
-        number,
+        n,
         r,
         states,
         standard,
         leads,
         coefficients,
+        term_coefficients,
+        exponents,
+        out,
         &mut points,
         &mut rows,
         &mut pivots,
     );
-    if !known {
-        return Wired {
-            refusal: 10,
-            count: 0,
-        };
+    if refusal != 0 {
+        return refusal;
     }
-    let mut interpolant = [0u8; 64];
-    solve::solve_values(
+    solve::solve_terms(
         settings.modulus as u16,
-        number,
-        values,
+        term_coefficients,
+        exponents,
+        n as usize,
+        &points,
         &rows,
         &pivots,
-        &mut interpolant,
+        out,
     );
-    let mut names = [0u8; 8];
-    let count = solve::put_names(
-        settings.variables as usize,
-        number,
-        &interpolant,
-        &standard[..512],
-        &mut names,
-    );
-    bytes::copy(&names, out);
-    Wired { refusal: 0, count }
+    0
 }

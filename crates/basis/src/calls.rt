@@ -1,11 +1,12 @@
 // The public calls that draw up and check tables. Every refusal is decided before a lent byte is written.
+use crate::bytes;
 use crate::draw::draw;
 use crate::points;
 use crate::recognise::recognise;
 use crate::refusal;
 use crate::settings::Answer;
 use crate::settings::Settings;
-use crate::tables;
+use crate::settings::refused;
 ghost use mathlib.Core.Path.{_≡_};
 ghost use Prim.Native.Nat.{_≤_};
 ghost use lib.ListN.{length};
@@ -33,34 +34,24 @@ fn draw_points(
     ensures { λ r. ⌜ now (leads .exit) ≡ over (tablesOf settings (pointsIn settings n (now (points .entry))) .leads) (now (leads .entry)) ⌝ }
     ensures { λ r. ⌜ now (coefficients .exit) ≡ over (tablesOf settings (pointsIn settings n (now (points .entry))) .coefficients) (now (coefficients .entry)) ⌝ }
 {
-    let mut new_standard = [0u8; 512];
-    let mut new_leads = [0u8; 3592];
-    let mut new_coefficients = [0u8; 28736];
+    bytes::copy(points, states);
+    bytes::clear(&mut standard[..512]);
+    bytes::clear(&mut leads[..3592]);
+    bytes::clear(&mut coefficients[..28736]);
     let mut rows = [0u16; 8192];
     let mut pivots = [0u8; 64];
-    let r = draw(
+    draw(
         settings.modulus as u16,
         settings.variables as usize,
         settings.order as u8,
         n,
         points,
-        &mut new_standard,
-        &mut new_leads,
-        &mut new_coefficients,
+        &mut standard[..512],
+        &mut leads[..3592],
+        &mut coefficients[..28736],
         &mut rows,
         &mut pivots,
-    );
-    tables::write(
-        points,
-        &new_standard,
-        &new_leads,
-        &new_coefficients,
-        states,
-        standard,
-        leads,
-        coefficients,
-    );
-    r
+    )
 }
 
 // Drawing up from all points at once.
@@ -83,30 +74,18 @@ pub fn draw_up(
         levels.len(),
     );
     if refusal != 0 {
-        return Answer {
-            refusal,
-            n: 0,
-            r: 0,
-        };
+        return refused(refusal);
     }
     let p = settings.modulus as u8;
     if !points::in_range(p, levels) {
-        return Answer {
-            refusal: 9,
-            n: 0,
-            r: 0,
-        };
+        return refused(9);
     }
     let m = settings.variables as usize;
     let n = levels.len() / m;
     let mut points = [0u8; 512];
     points::put_points(p, m, n, levels, &mut points);
     if !points::no_repeat(n, &points) {
-        return Answer {
-            refusal: 11,
-            n: 0,
-            r: 0,
-        };
+        return refused(11);
     }
     let r = draw_points(settings, n, &points, states, standard, leads, coefficients);
     Answer {

@@ -26,19 +26,6 @@ pub fn values_at(p: u16, k: usize, monomials: &[u8], point: &[u8], values: &mut 
     }
 }
 
-// The values of a monomial at k points.
-pub fn values_of(p: u16, k: usize, points: &[u8], a: &[u8], values: &mut [u16])
-    requires { ⌜ (2 ≤ p) × (p ≤ 61) ⌝ }
-    requires { ⌜ (8 * k ≤ length (now points)) × (k ≤ length (now values)) ⌝ }
-    requires { ⌜ (length (now a) ≡ 8) × Below p (now points) ⌝ }
-    ensures { λ _. ⌜ now (values .exit) ≡ over (map (λ point. valueAt point (now (a .entry)) % p) (groups 8 k (now (points .entry)))) (now (values .entry)) ⌝ }
-{
-    for i in 0..k {
-        let from = 8 * i;
-        values[i] = value(p, &points[from..from + 8], a);
-    }
-}
-
 // The value of a row at a point where the standard monomials have these values.
 pub fn row_value(p: u16, point: &[u8], values: &[u16], lead: &[u8], coefficients: &[u16]) -> u16
     requires { ⌜ (2 ≤ p) × (p ≤ 61) ⌝ }

@@ -2,6 +2,7 @@
 use crate::bytes;
 use crate::correct;
 use crate::insert;
+use crate::polynomial::put_values;
 use residue::elimination::eliminate;
 ghost use mathlib.Core.Path.{_≡_};
 ghost use Prim.Native.Nat.{ℕ, _+_, _*_, _<_, _≤_};
@@ -35,7 +36,7 @@ fn put_row(
     ensures { λ _. ⌜ now (table .exit) ≡ withRowAt 64 k i (correctedRow p place inverse (now (gone .entry)) (now (point .entry)) (now (values .entry)) (now (a .entry)) (reducedRow p n (now (points .entry)) (now (rows .entry)) (now (pivots .entry)) (now (a .entry)))) (now (table .entry)) ⌝ }
 {
     let mut work = [0u16; 128];
-    correct::values_of(p, n, points, a, &mut work);
+    put_values(p, &[1u8], a, n, points, &mut work);
     eliminate(p, n, rows, pivots, &mut work);
     let from = 64 * i;
     insert::move_on(64, from, 64 * k, table);
@@ -118,20 +119,21 @@ pub fn add_products(
     point: &[u8],
     values: &[u16],
     k: usize,
-    others: &[u8],
     lead: &[u8],
     leads: &mut [u8],
     coefficients: &mut [u8],
 ) -> usize
     requires { ⌜ (2 ≤ p) × (p ≤ 61) × (n < 64) × (place < 64) × (inverse < p) ⌝ }
-    requires { ⌜ (length (now points) ≡ 512) × (length (now rows) ≡ 8192) × (length (now pivots) ≡ 64) × (length (now others) ≡ 3592) ⌝ }
+    requires { ⌜ (length (now points) ≡ 512) × (length (now rows) ≡ 8192) × (length (now pivots) ≡ 64) ⌝ }
     requires { ⌜ (length (now gone) ≡ 64) × (length (now point) ≡ 8) × (length (now values) ≡ 64) × (length (now lead) ≡ 8) ⌝ }
     requires { ⌜ (m ≤ 8) × (k + m ≤ 449) × (length (now leads) ≡ 3592) × (length (now coefficients) ≡ 28736) ⌝ }
     requires { ⌜ Below p (now points) × Below p (now rows) × Below p (now gone) × Below p (now point) × Below p (now values) ⌝ }
     requires { ⌜ ((t : ℕ) → t < n → getD (now pivots) t 0 < n) ⌝ }
     requires { ⌜ ((v : ℕ) → getD (now lead) v 0 < 255) ⌝ }
-    ensures { λ r. ⌜ grown r (now (leads .exit)) (now (coefficients .exit)) ≡ productsPut p order n (now (points .entry)) (now (rows .entry)) (now (pivots .entry)) place inverse (now (gone .entry)) (now (point .entry)) (now (values .entry)) k (now (others .entry)) (now (lead .entry)) m (grown k (now (leads .entry)) (now (coefficients .entry))) ⌝ }
+    ensures { λ r. ⌜ grown r (now (leads .exit)) (now (coefficients .exit)) ≡ productsPut p order n (now (points .entry)) (now (rows .entry)) (now (pivots .entry)) place inverse (now (gone .entry)) (now (point .entry)) (now (values .entry)) k (now (leads .entry)) (now (lead .entry)) m (grown k (now (leads .entry)) (now (coefficients .entry))) ⌝ }
 {
+    let mut others = [0u8; 3592];
+    bytes::copy(leads, &mut others);
     let mut count = k;
     for v in 0..m {
         let mut a = [0u8; 8];
@@ -150,7 +152,7 @@ pub fn add_products(
             point,
             values,
             k,
-            others,
+            &others,
             &a,
             count,
             leads,

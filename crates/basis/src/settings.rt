@@ -18,6 +18,17 @@ pub struct Answer {
     pub r: u16,
 }
 
+// The answer of a refused call.
+pub fn refused(refusal: u8) -> Answer
+    ensures { λ a. ⌜ a ≡ record { refusal = refusal; n = 0; r = 0 } ⌝ }
+{
+    Answer {
+        refusal,
+        n: 0,
+        r: 0,
+    }
+}
+
 // The refusal, or 0 with how many variables the wiring list names.
 pub struct Wired {
     pub refusal: u8,

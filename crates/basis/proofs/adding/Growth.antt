@@ -88,9 +88,9 @@ module _ (p order n : ℕ) (points rows pivots : List ℕ) (place inverse : ℕ)
           go false g z y = record { most = omega (arith, y .most); leads = y .leads; coefficients = y .coefficients }
 
 -- what the functions made of the tables, put together
-pub grown-by : (p m order n r : ℕ) (points standard leads coefficients rows pivots point values : List ℕ) (j : ℕ) (lead gone : List ℕ) (place i : ℕ) (others kept coefficients′ : List ℕ)
+pub grown-by : (p m order n r : ℕ) (points standard leads coefficients rows pivots point values : List ℕ) (j : ℕ) (lead gone : List ℕ) (place i : ℕ) (others coefficients′ : List ℕ)
     → lead ≡ rowAt 8 j leads → gone ≡ rowAt 64 j coefficients → place ≡ placeOf (cmp (orderOf order)) lead (groups 8 n standard) → i ≡ inverseOf p (rowValueAt p point values lead gone)
-    → kept ≡ othersOf r j leads → others ≡ kept → coefficients′ ≡ othersCorrected p place i gone point values r j leads coefficients
-    → productsPut p order n points rows pivots place i gone point values (r - 1) others lead m (grown (r - 1) kept coefficients′) ≡ grownBy p m order n r points standard leads coefficients rows pivots point values j
+    → others ≡ othersOf r j leads → coefficients′ ≡ othersCorrected p place i gone point values r j leads coefficients
+    → productsPut p order n points rows pivots place i gone point values (r - 1) others lead m (grown (r - 1) others coefficients′) ≡ grownBy p m order n r points standard leads coefficients rows pivots point values j
 unfolding grownBy
-grown-by p m order n r points standard leads coefficients rows pivots point values j lead gone place i others kept coefficients′ el eg ep ei ek eo ec = rw (ec, eo, ek, ei, ep, eg, el)
+grown-by p m order n r points standard leads coefficients rows pivots point values j lead gone place i others coefficients′ el eg ep ei eo ec = rw (ec, eo, ei, ep, eg, el)

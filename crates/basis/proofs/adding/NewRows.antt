@@ -5,9 +5,10 @@ use Prim.Native.Nat.{ℕ, zero, suc, _+_, _*_, _-_, _%_, _<_, _≤_, suc-le-suc,
 use native.Mathlib.Nat.{mod-lt, le-of-suc-le-suc}
 use native.Mathlib.Omega.{arith}
 use lib.ListN.{length, getD, take, drop, replicate, length-map}
+use lib.Seq.{take-all}
 use Rattle.residue.specs.Congruence.{Mod}
 use Rattle.residue.specs.Lists.{Among}
-use Rattle.residue.specs.Vector.{Below}
+use Rattle.residue.specs.Vector.{Below, dotOf}
 use Rattle.residue.specs.Elimination.{eliminated}
 use Rattle.residue.proofs.Congruence.{of, _then_, reduce, negative, ring}
 use Rattle.residue.proofs.Vectors.{map-at}
@@ -21,6 +22,7 @@ use Rattle.basis.specs.Polynomial.{Distinct}
 use Rattle.basis.specs.BasisOf.{basisOf, rowOf, interpolantOf}
 use Rattle.basis.specs.Instance.{Monomial, Point, spaceOf}
 use Rattle.basis.specs.Insertions.{reducedRow}
+use Rattle.basis.specs.Interpolants.{termValues}
 use Rattle.basis.proofs.Copies.{map-same}
 use Rattle.basis.proofs.Layouts.{fill-front}
 use Rattle.basis.proofs.Places.{table-groups, over-zeros}
@@ -30,6 +32,14 @@ use Rattle.basis.proofs.ideal.Basis.{value-at, interpolant-fits, interp
 use Rattle.basis.proofs.elimination.Exponents.{fill-pad}
 use Rattle.basis.proofs.elimination.Pivots.{interpolant-minus}
 use Rattle.basis.specs.BasisOf as B
+
+-- the values of one term with coefficient 1 are those of its monomial
+pub one-term : (p n : ℕ) (a points : List ℕ) → length a ≡ 8 → termValues p (1 ∷ []) a n points ≡ map (λ point. valueAt point a % p) (groups 8 n points)
+unfolding termValues groups dotOf
+one-term p n a points h = map-same _ _ (groups 8 n points) (λ P w. ap (λ (v : ℕ). v % p) (alone (valueAt P (take 8 a)) ∙ ap (valueAt P) (take-all 8 a (omega arith))))
+  where
+    alone : (v : ℕ) → 1 * v + 0 ≡ v
+    alone v = omega arith
 
 -- zeros at the front dropped
 drop-zeros : (n k : ℕ) (l : List ℕ) → n + 64 ≤ k → take 64 (drop n (fill k (replicate n 0 ++ l))) ≡ fill 64 l

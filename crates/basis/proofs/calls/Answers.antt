@@ -2,7 +2,7 @@
 use mathlib.Core.Path.{_≡_, refl, sym, _∙_, ap, ap₂, subst}
 use mathlib.Core.List.{List, [], _∷_, _++_, map, append-assoc, append-nil}
 use mathlib.Core.Logic.{inl, inr}
-use Prim.Native.Nat.{ℕ, zero, suc, _+_, _-_, _*_, _%_, _<_, _≤_}
+use Prim.Native.Nat.{ℕ, zero, suc, _+_, _-_, _%_, _<_, _≤_}
 use native.Mathlib.Nat.{mod-lt, mod-self, mod-eq-of-lt}
 use native.Mathlib.Omega.{arith}
 use lib.IntN.{ℤ}
@@ -103,17 +103,6 @@ module _ (s : Settings) (ok : Accepted s) (S : List (List ℕ)) (h : Points s S)
       ap (λ (w : List ℕ). map (λ x. (s .modulus - x) % s .modulus) (take n (drop n w))) (e .solves vs l b)
       ∙ ap (map (λ x. (s .modulus - x) % s .modulus)) (behind n 128 _ (length-map (interpolant vs) _ ∙ length-interpolant vs) (omega (arith, h .few)))
       ∙ back (s .modulus) (interpolant vs) (λ c w. rw p (f .residues c w))
-
-  -- n pivot rows, for n points
-  module _ (n : ℕ) (is : length S ≡ n) (rows pivots : List ℕ) (e : Solves s S rows pivots) where
-    pub room-rows : (128 * n ≤ length rows) × (n ≤ length pivots)
-    room-rows = let a = e .long-rows in let b = e .long-pivots in let c = h .few in (omega arith, omega arith)
-
-    pub inside-rows : (t : ℕ) → t < n → getD pivots t 0 < n
-    inside-rows = subst (λ (k : ℕ). (t : ℕ) → t < k → getD pivots t 0 < k) is (e .inside)
-
-    pub solved : (vs : List ℕ) → length vs ≡ n → Below (s .modulus) vs → solution (s .modulus) n rows pivots (fill 128 vs) ≡ interpolant vs
-    solved vs l b = ap (λ (k : ℕ). solution (s .modulus) k rows pivots (fill 128 vs)) (sym is) ∙ solution-is rows pivots e vs (l ∙ sym is) b
 
   -- The remainder: the polynomial's values at the points, reduced.
   module _ (f : Polynomial (spaceUnder s)) where

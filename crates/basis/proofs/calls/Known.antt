@@ -1,6 +1,6 @@
 -- What a call that answers from recognised tables stands on when nothing refuses it.
 use mathlib.Core.Path.{_≡_, sym, ap, ap₂, subst, _∙_}
-use mathlib.Core.Bool.{true, not, _||_}
+use mathlib.Core.Bool.{Bool, true, false, not, _&&_, _||_}
 use mathlib.Core.List.{List, [], map}
 use mathlib.Core.Logic.{inl, inr}
 use Prim.Native.Nat.{ℕ, zero, suc, _*_, _-_, _%_, _<_, _≤_}
@@ -17,14 +17,16 @@ use Rattle.residue.proofs.Moduli.{modulus-range}
 use Rattle.residue.proofs.Vectors.{map-at}
 use Rattle.monomial.specs.Monomial.{valueAt}
 use Rattle.basis.specs.declared.settings.Settings.{Settings}
+use Rattle.basis.specs.Refusal.{firstOf}
+use Rattle.basis.specs.Settings.{settingsCases}
 use Rattle.basis.specs.Levels.{inRange, residues, groups}
 use Rattle.basis.specs.Layout.{fill, inPlaces, begins}
-use Rattle.basis.specs.BasisOf.{standardOf}
+use Rattle.basis.specs.BasisOf.{standardOf, interpolantOf}
 use Rattle.basis.specs.Tables.{Tables, spaceUnder, pointsUnder, tablesOf, tooShort, pointsIn, recognised}
 use Rattle.basis.specs.Solving.{interpolantIn, withinVariables, polynomialUnder, remainderIn}
 use Rattle.basis.specs.Interpolants.{solution, termValues, names}
 use Rattle.basis.specs.Drawing.{Solves}
-use Rattle.basis.proofs.Equality.{of-true, neither, same-is}
+use Rattle.basis.proofs.Equality.{of-true, neither, and-left, and-right, same-is}
 use Rattle.basis.proofs.Layouts.{length-fill}
 use Rattle.basis.proofs.Places.{length-groups}
 use Rattle.basis.proofs.PointTables.{length-points, points-in}
@@ -34,7 +36,7 @@ use Rattle.basis.proofs.agreement.Points.{IsPoint, Points, length-resid
 use Rattle.basis.proofs.agreement.Refusals.{Accepted, Large, large-of}
 use Rattle.basis.proofs.calls.Given.{read}
 use Rattle.basis.proofs.calls.Refusing.{Passed, passed, Parts, recognised-parts}
-use Rattle.basis.proofs.calls.Answers.{below-reduced, residues-below, room-rows, inside-rows, solved, remainder-is, valuesIn, value-in, names-in}
+use Rattle.basis.proofs.calls.Answers.{below-reduced, residues-below, solution-is, remainder-is, valuesIn, value-in, names-in}
 use Rattle.basis.proofs.calls.Outcomes.{valuesSizes, remainderSizes}
 
 -- each group has its width
@@ -95,118 +97,113 @@ module _ (s : Settings) (ok : Accepted s) (n r : ℕ) (t : Tables) (few : n ≤ 
   unfolding tablesOf
   coefficients-there = front 28736 _ (t .coefficients) (parts .coefficients)
 
--- Values at the points: the sizes are right.
+  -- what elimination asks of the pivot rows, and what it answers
+  module _ (rows pivots : List ℕ) (e : Solves s S rows pivots) where
+    pub rows-long : (128 * n ≤ length rows) × (n ≤ length pivots)
+    rows-long = let a = e .long-rows in let b = e .long-pivots in (omega (arith, few), omega (arith, few))
+
+    pub rows-inside : (k : ℕ) → k < n → getD pivots k 0 < n
+    rows-inside = subst (λ (j : ℕ). (k : ℕ) → k < j → getD pivots k 0 < j) count (e .inside)
+
+    solved : (vs : List ℕ) → length vs ≡ n → Below (s .modulus) vs → solution (s .modulus) n rows pivots (fill 128 vs) ≡ interpolantOf (spaceUnder s) (pointsUnder s S) vs
+    solved vs l b = ap (λ (k : ℕ). solution (s .modulus) k rows pivots (fill 128 vs)) (sym count) ∙ solution-is s ok S points rows pivots e vs (l ∙ sym count) b
+
+-- What the calls that fill a buffer stand on where the sizes are right.
+pub record Sized (size : ℕ) (s : Settings) (n : ℕ) (t : Tables) (buffer : List ℕ) : Type 0 where
+  pub none : firstOf (settingsCases s) ≡ 0
+  pub settings : Accepted s
+  pub large : Large t
+  pub room : size ≤ length buffer
+  pub few : n ≤ 64
+
+sized : {size : ℕ} {s : Settings} {n : ℕ} {t : Tables} {buffer : List ℕ} {wrong many : Bool} → Passed s (tooShort t || ltb (length buffer) size) wrong many → ltb 64 n ≡ false → Sized size s n t buffer
+sized {size} {s} {n} {t} {buffer} h few =
+    let l = neither (tooShort t) (ltb (length buffer) size) (h .long) in
+    record { none = h .none; settings = h .settings; large = large-of t (l .0); room = ltb-false (length buffer) size (l .1); few = ltb-false 64 n few }
+
+-- Values at the points.
 module _ (size : ℕ) (s : Settings) (n r : ℕ) (t : Tables) (values : List ℤ) (buffer : List ℕ) (fine : valuesSizes size s n r t values buffer ≡ 0) where
-  pub values-room : Passed s (tooShort t || ltb (length buffer) size) (not (eqb (length values) n)) (ltb 64 n)
-  values-room = passed _ _ _ _ fine
+  few-values : Passed s (tooShort t || ltb (length buffer) size) (not (eqb (length values) n)) (ltb 64 n)
+  few-values = passed _ _ _ _ fine
 
-  pub values-large : Large t
-  values-large = large-of t (neither (tooShort t) (ltb (length buffer) size) (values-room .long) .0)
-
-  pub values-buffer : size ≤ length buffer
-  values-buffer = ltb-false (length buffer) size (neither (tooShort t) (ltb (length buffer) size) (values-room .long) .1)
+  pub values-sized : Sized size s n t buffer
+  values-sized = sized few-values (few-values .few)
 
   pub values-count : length values ≡ n
-  values-count = eqb-true (length values) n (not-false _ (values-room .right))
+  values-count = eqb-true (length values) n (not-false _ (few-values .right))
 
-  pub values-few : n ≤ 64
-  values-few = ltb-false 64 n (values-room .few)
+  -- they are in range, and the tables are recognised
+  module _ (range : inRange (s .modulus) values ≡ true) (known : recognised s n r t ≡ true) where
+    abbrev ready : Accepted s
+    ready = values-sized .settings
 
-  -- they are in range and the tables are recognised: the interpolant
-  module _ (range : inRange (s .modulus) values ≡ true) (known : recognised s n r t ≡ true) (rows pivots : List ℕ) (e : Solves s (pointsIn s n (t .states)) rows pivots) where
     pub values-below : Below (s .modulus) (residues (s .modulus) values)
-    values-below = residues-below (s .modulus) values (positive s (values-room .settings) n r t values-few known) (of-true range)
+    values-below = residues-below (s .modulus) values (positive s ready n r t (values-sized .few) known) (of-true range)
 
-    abbrev of : Points s (pointsIn s n (t .states))
-    of = points s (values-room .settings) n r t values-few known
-
-    is : length (pointsIn s n (t .states)) ≡ n
-    is = count s (values-room .settings) n r t values-few known
-
-    -- what elimination asks of the pivot rows
-    pub values-rows : (128 * n ≤ length rows) × (n ≤ length pivots)
-    values-rows = room-rows s (values-room .settings) (pointsIn s n (t .states)) of n is rows pivots e
-
-    pub values-inside : (k : ℕ) → k < n → getD pivots k 0 < n
-    values-inside = inside-rows s (values-room .settings) (pointsIn s n (t .states)) of n is rows pivots e
-
-    pub values-answer : solution (s .modulus) n rows pivots (fill 128 (residues (s .modulus) values)) ≡ interpolantIn s n t values
+    pub values-answer : (rows pivots : List ℕ) → Solves s (pointsIn s n (t .states)) rows pivots
+        → solution (s .modulus) n rows pivots (fill 128 (residues (s .modulus) values)) ≡ interpolantIn s n t values
     unfolding interpolantIn
-    values-answer =
-        solved s (values-room .settings) (pointsIn s n (t .states)) of n is rows pivots e (residues (s .modulus) values) (length-residues (s .modulus) values ∙ values-count) values-below
+    values-answer rows pivots e =
+        solved s ready n r t (values-sized .few) known rows pivots e (residues (s .modulus) values) (length-residues (s .modulus) values ∙ values-count) values-below
 
     -- the wiring list, from the interpolant in 64 bytes and the lent standard table
     pub values-names : names (s .variables) (take n (fill 64 (interpolantIn s n t values))) (groups 8 n (take 512 (t .standard)))
         ≡ names (s .variables) (interpolantIn s n t values) (map (λ a. a .0) (standardOf (spaceUnder s) (pointsUnder s (pointsIn s n (t .states)))))
     unfolding interpolantIn
     values-names =
-        ap₂ (λ (k : ℕ) (l : List ℕ). names (s .variables) (take k (fill 64 (interpolantIn s n t values))) (groups 8 k l)) (sym is) (standard-there s (values-room .settings) n r t values-few known)
-        ∙ names-in s (values-room .settings) (pointsIn s n (t .states)) of (residues (s .modulus) values)
+        ap₂ (λ (k : ℕ) (l : List ℕ). names (s .variables) (take k (fill 64 (interpolantIn s n t values))) (groups 8 k l))
+        (sym (count s ready n r t (values-sized .few) known)) (standard-there s ready n r t (values-sized .few) known)
+        ∙ names-in s ready (pointsIn s n (t .states)) (points s ready n r t (values-sized .few) known) (residues (s .modulus) values)
 
--- A polynomial: the sizes are right.
+-- A polynomial.
 module _ (s : Settings) (n r : ℕ) (t : Tables) (coefficients : List ℤ) (exponents buffer : List ℕ) (fine : remainderSizes s n r t coefficients exponents buffer ≡ 0) where
-  pub terms-room : Passed s (tooShort t || ltb (length buffer) 64) (not (eqb (length exponents) (8 * length coefficients))) (ltb 64 n || ltb 256 (length coefficients))
-  terms-room = passed _ _ _ _ fine
+  few-terms : Passed s (tooShort t || ltb (length buffer) 64) (not (eqb (length exponents) (8 * length coefficients))) (ltb 64 n || ltb 256 (length coefficients))
+  few-terms = passed _ _ _ _ fine
 
-  pub terms-large : Large t
-  terms-large = large-of t (neither (tooShort t) (ltb (length buffer) 64) (terms-room .long) .0)
-
-  pub terms-buffer : 64 ≤ length buffer
-  terms-buffer = ltb-false (length buffer) 64 (neither (tooShort t) (ltb (length buffer) 64) (terms-room .long) .1)
+  pub terms-sized : Sized 64 s n t buffer
+  terms-sized = sized few-terms (neither (ltb 64 n) (ltb 256 (length coefficients)) (few-terms .few) .0)
 
   pub terms-count : length exponents ≡ 8 * length coefficients
-  terms-count = eqb-true (length exponents) (8 * length coefficients) (not-false _ (terms-room .right))
-
-  pub terms-few : n ≤ 64
-  terms-few = ltb-false 64 n (neither (ltb 64 n) (ltb 256 (length coefficients)) (terms-room .few) .0)
+  terms-count = eqb-true (length exponents) (8 * length coefficients) (not-false _ (few-terms .right))
 
   pub terms-most : length coefficients ≤ 256
-  terms-most = ltb-false 256 (length coefficients) (neither (ltb 64 n) (ltb 256 (length coefficients)) (terms-room .few) .1)
+  terms-most = ltb-false 256 (length coefficients) (neither (ltb 64 n) (ltb 256 (length coefficients)) (few-terms .few) .1)
 
-  module _ (range : inRange (s .modulus) coefficients ≡ true) (within : withinVariables (s .variables) (groups 8 (length coefficients) exponents) ≡ true)
-      (known : recognised s n r t ≡ true) (rows pivots : List ℕ) (e : Solves s (pointsIn s n (t .states)) rows pivots) where
-    abbrev at : Points s (pointsIn s n (t .states))
-    at = points s (terms-room .settings) n r t terms-few known
-
-    as-many : length (pointsIn s n (t .states)) ≡ n
-    as-many = count s (terms-room .settings) n r t terms-few known
-
-    above : 0 < s .modulus
-    above = positive s (terms-room .settings) n r t terms-few known
-
-    pub coefficients-below : Below (s .modulus) (residues (s .modulus) coefficients)
-    coefficients-below = residues-below (s .modulus) coefficients above (of-true range)
-
-    pub terms-table : Below (s .modulus) (fill 512 (inPlaces 8 (pointsIn s n (t .states))))
-    terms-table = table-below s (terms-room .settings) n r t terms-few known
-
-    pub terms-rows : (128 * n ≤ length rows) × (n ≤ length pivots)
-    terms-rows = room-rows s (terms-room .settings) (pointsIn s n (t .states)) at n as-many rows pivots e
-
-    pub terms-inside : (k : ℕ) → k < n → getD pivots k 0 < n
-    terms-inside = inside-rows s (terms-room .settings) (pointsIn s n (t .states)) at n as-many rows pivots e
-
+  module _ (good : (inRange (s .modulus) coefficients && withinVariables (s .variables) (groups 8 (length coefficients) exponents)) ≡ true) (known : recognised s n r t ≡ true) where
     abbrev R : List ℕ
     R = residues (s .modulus) coefficients
 
+    abbrev es : List (List ℕ)
+    es = groups 8 (length coefficients) exponents
+
+    abbrev K : List (List ℕ)
+    K = pointsIn s n (t .states)
+
     abbrev vs : List ℕ
-    vs = termValues (s .modulus) R exponents n (fill 512 (inPlaces 8 (pointsIn s n (t .states))))
+    vs = termValues (s .modulus) R exponents n (fill 512 (inPlaces 8 K))
 
-    -- the same terms, by their number
-    groups-same : groups 8 (length R) exponents ≡ groups 8 (length coefficients) exponents
-    groups-same = ap (λ (k : ℕ). groups 8 k exponents) (length-residues (s .modulus) coefficients)
+    abbrev ok : Accepted s
+    ok = terms-sized .settings
 
-    vs-are : vs ≡ valuesIn s (terms-room .settings) (pointsIn s n (t .states)) at R (groups 8 (length coefficients) exponents) (groups-long 8 (length coefficients) exponents (omega (arith, terms-count))) (of-true within)
-    unfolding termValues
-    vs-are = ap₂ (λ (es : List (List ℕ)) (k : ℕ). map (λ P. dotOf R (map (valueAt P) es) % s .modulus) (groups 8 k (fill 512 (inPlaces 8 (pointsIn s n (t .states)))))) groups-same (sym as-many)
+    abbrev at : Points s K
+    at = points s ok n r t (terms-sized .few) known
 
-    pub terms-answer : solution (s .modulus) n rows pivots (fill 128 vs) ≡ remainderIn s n t coefficients exponents
-    unfolding remainderIn
-    terms-answer =
-        let ok = terms-room .settings in
-        let K : List (List ℕ) = pointsIn s n (t .states) in
-        let es : List (List ℕ) = groups 8 (length coefficients) exponents in
+    as-many : length K ≡ n
+    as-many = count s ok n r t (terms-sized .few) known
+
+    above : 0 < s .modulus
+    above = positive s ok n r t (terms-sized .few) known
+
+    pub coefficients-below : Below (s .modulus) R
+    coefficients-below = residues-below (s .modulus) coefficients above (and-left (inRange (s .modulus) coefficients) _ (of-true good))
+
+    pub terms-answer : (rows pivots : List ℕ) → Solves s K rows pivots → solution (s .modulus) n rows pivots (fill 128 vs) ≡ remainderIn s n t coefficients exponents
+    unfolding remainderIn termValues
+    terms-answer rows pivots e =
+        let many = length-terms (s .modulus) R exponents n (fill 512 (inPlaces 8 K)) in
         let long = groups-long 8 (length coefficients) exponents (omega (arith, terms-count)) in
-        solved s ok K at n as-many rows pivots e vs (length-terms (s .modulus) R exponents n _) (terms-below (s .modulus) R exponents n _ above)
-        ∙ remainder-is s ok K at (polynomialUnder s coefficients exponents) vs (length-terms (s .modulus) R exponents n _ ∙ sym as-many)
-        (λ i h. ap (λ (l : List ℕ). getD l i 0) vs-are ∙ value-in s ok K at R es long (of-true within) i h)
+        let within = and-right (inRange (s .modulus) coefficients) _ (of-true good) in
+        -- the same terms and points, by their number
+        let are : vs ≡ valuesIn s ok K at R es long within = ap₂ (λ (j k : ℕ). map (λ P. dotOf R (map (valueAt P) (groups 8 j exponents)) % s .modulus) (groups 8 k (fill 512 (inPlaces 8 K)))) (length-residues (s .modulus) coefficients) (sym as-many) in
+        solved s ok n r t (terms-sized .few) known rows pivots e vs many (terms-below (s .modulus) R exponents n _ above)
+        ∙ remainder-is s ok K at (polynomialUnder s coefficients exponents) vs (many ∙ sym as-many) (λ i h. ap (λ (l : List ℕ). getD l i 0) are ∙ value-in s ok K at R es long within i h)

@@ -7,6 +7,7 @@ use native.Mathlib.Omega.{arith}
 use lib.IntN.{ℤ}
 use lib.ListN.{length}
 use lib.Dec.{eqb, ltb}
+use borrow.Author.Tests.{not-false}
 use Rattle.basis.specs.declared.settings.Settings.{Settings}
 use Rattle.basis.specs.Refusal.{Case, firstOf}
 use Rattle.basis.specs.Settings.{settingsCases}
@@ -16,7 +17,7 @@ use Rattle.basis.specs.Tables.{Tables, spaceUnder, pointsUnder, pointsIn
 use Rattle.basis.specs.Layout.{fill, over}
 use Rattle.basis.specs.Adding.{ended, refused, holding, pointsOffered, drawCases, drawRefusal, drawOutcome}
 use Rattle.basis.specs.Solving.{checkRefusal, valuesCases, interpolantIn, Names, WiringEnds, withinVariables, remainderCases}
-use Rattle.basis.proofs.calls.Refusing.{sizes, by-size, by-rest, when-refused, when-accepted}
+use Rattle.basis.proofs.calls.Refusing.{sizes, by-size, by-rest, none-behind, when-refused, when-accepted}
 
 -- two tests after the sizes: the first that fails decides
 unfoldable pub two : ℕ → Bool → ℕ → Bool → List Case
@@ -116,6 +117,10 @@ module _ (size : ℕ) (s : Settings) (n r : ℕ) (t : Tables) (values : List ℤ
   pub values-good : valuesSizes ≡ 0 → inRange (s .modulus) values ≡ true → recognised s n r t ≡ true → 0 ≡ firstOf (valuesCases size s n r t values buffer)
   values-good e f g = two-none 9 10 f g ∙ after e
 
+  pub values-none : firstOf (valuesCases size s n r t values buffer) ≡ 0 → (valuesSizes ≡ 0) × ((inRange (s .modulus) values ≡ true) × (recognised s n r t ≡ true))
+  unfolding valuesCases
+  values-none e = let w = none-behind s short (not (eqb (length values) n)) (ltb 64 n) _ tt e in (w .0, (not-false _ (w .1 .0), not-false _ (w .1 .1 .0)))
+
 -- A polynomial.
 module _ (s : Settings) (n r : ℕ) (t : Tables) (coefficients : List ℤ) (exponents buffer : List ℕ) where
   abbrev small : Bool
@@ -154,6 +159,11 @@ module _ (s : Settings) (n r : ℕ) (t : Tables) (coefficients : List ℤ) (expo
   pub remainder-good : remainderSizes ≡ 0 → inRange (s .modulus) coefficients ≡ true → within ≡ true → recognised s n r t ≡ true
       → 0 ≡ firstOf (remainderCases s n r t coefficients exponents buffer)
   remainder-good e f g h = two-none 9 10 (ap (λ (b : Bool). b && within) f ∙ g) h ∙ later e
+
+  pub remainder-none : firstOf (remainderCases s n r t coefficients exponents buffer) ≡ 0
+      → (remainderSizes ≡ 0) × (((inRange (s .modulus) coefficients && within) ≡ true) × (recognised s n r t ≡ true))
+  unfolding remainderCases
+  remainder-none e = let w = none-behind s small (not (eqb (length exponents) (8 * length coefficients))) many _ tt e in (w .0, (not-false _ (w .1 .0), not-false _ (w .1 .1 .0)))
 
 -- The wiring list.
 module _ (s : Settings) (n r : ℕ) (t : Tables) (values : List ℤ) (buffer : List ℕ) where

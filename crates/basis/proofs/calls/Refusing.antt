@@ -7,6 +7,7 @@ use native.Mathlib.Decide.{ℕ-discrete}
 use lib.Dec.{T, eqb}
 use borrow.Author.Tests.{eq-eqb, ne-eqb, eqb-true}
 use Rattle.basis.specs.declared.settings.Settings.{Settings}
+use Rattle.basis.specs.declared.settings.Answer.{Answer}
 use Rattle.basis.specs.Refusal.{Case, firstOf}
 use Rattle.basis.specs.Settings.{settingsCases}
 use Rattle.basis.specs.Levels.{noRepeat}
@@ -52,6 +53,19 @@ module _ (s : Settings) (short wrong many : Bool) where
     -- none does: the call's own tests decide
     pub by-rest : firstOf (settingsCases s ++ sizes) ≡ 0 → firstOf rest ≡ firstOf (settingsCases s ++ (sizes ++ rest))
     by-rest e = let n = none-of s sizes tt e in first-on sizes rest (n .1) ∙ sym (settings-pass s (n .0) (sizes ++ rest))
+
+    -- neither one of them nor a test of the call's own
+    pub none-behind : T (numbered rest) → firstOf (settingsCases s ++ (sizes ++ rest)) ≡ 0 → (firstOf (settingsCases s ++ sizes) ≡ 0) × None rest
+    none-behind t e = go (ℕ-discrete (firstOf (settingsCases s ++ sizes)) 0)
+      where
+        go : Dec (firstOf (settingsCases s ++ sizes) ≡ 0) → (firstOf (settingsCases s ++ sizes) ≡ 0) × None rest
+        go (yes z) = (z, none-holds rest t (by-rest z ∙ e))
+        go (no z) = absurd (z (by-size (firstOf (settingsCases s ++ sizes)) refl z ∙ e))
+
+-- a refusal alone, with the tables as they were
+pub alone : {a : Answer} {k : ℕ} → a ≡ record { refusal = k; n = 0; r = 0 } → (t : Tables) → _≡_ {A = Outcome} (record { answer = a; tables = t }) (refused k t)
+unfolding refused
+alone e t = rw e
 
 -- the outcome of a call that writes tables
 module _ (t : Tables) (new : Outcome) (k : ℕ) where

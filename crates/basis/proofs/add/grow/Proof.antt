@@ -3,7 +3,7 @@ use mathlib.Core.Path.{_≡_, sym, ap, ap₂, subst, _∙_, refl}
 use mathlib.Core.List.{List}
 use Prim.Native.Nat.{ℕ, _+_, _*_, _-_, _<_, _≤_}
 use native.Mathlib.Omega.{arith}
-use lib.ListN.{length, take, drop, replicate, length-drop, length-replicate}
+use lib.ListN.{length, take, drop, replicate, length-drop}
 use lib.Seq.{length-take-le}
 use Rattle.residue.specs.Vector.{Below}
 use Rattle.residue.specs.Inverse.{inverseOf}
@@ -18,7 +18,6 @@ use Rattle.basis.proofs.ValueRows.{zeros-long}
 use Rattle.basis.proofs.adding.Searches.{place-within}
 use Rattle.basis.proofs.adding.Writes.{value-below, part-small}
 use Rattle.basis.proofs.adding.Growth.{grown-by}
-use borrow.Author.Needs.{needs}
 use Rattle.basis.proofs.add.grow.Statement.{statement}
 use Rattle.basis.proofs.add.grow.Tie as tie
 
@@ -102,8 +101,11 @@ module _ (k : tie.After-keep-others) where
   rows-long : length (k .keep-others .last .1 .1 .1 .1 .1 .1 .1 .1 .1 .1 .1 .0) ≡ 28736
   rows-long = k .keep-others .kept .1 .1 .1 .1 .1 .1 .1 .1 .1 .1 .1 .0 ∙ zeros-long _ 28736 (o (placed k) .pre .1 .1 .1 .1 .1 .1 .2)
 
-mul-from : tie.Need-mul-from
-mul-from c = omega arith
+mul-lead : tie.Need-mul-lead
+mul-lead c = omega arith
+
+mul-lead-2 : tie.Need-mul-lead-2
+mul-lead-2 c = omega arith
 
 add-lead : tie.Need-add-lead
 add-lead c = omega arith
@@ -117,8 +119,11 @@ part-lead-start c = omega arith
 part-lead-end : tie.Need-part-lead-end
 part-lead-end c = let s = c .before .before .before .before .before .before .before .before .before .before .before in omega (arith, s .pre .1 .0, s .pre .1 .1 .0)
 
-mul-first : tie.Need-mul-first
-mul-first c = omega arith
+mul-widen : tie.Need-mul-widen
+mul-widen c = omega arith
+
+mul-widen-2 : tie.Need-mul-widen-2
+mul-widen-2 c = omega arith
 
 add-widen : tie.Need-add-widen
 add-widen c = omega arith
@@ -159,7 +164,7 @@ put-in-requires c κs =
     ((omega (arith, s .pre .0 .3, c .before .before .before .copy .kept .1 .0, zeros-long _ 512 (s .pre .1 .1 .1 .1 .1 .1 .0)), omega (arith, s .pre .0 .3)), lead-long s)
 
 slice-aggregate-keep-others : tie.Need-slice-aggregate-keep-others
-slice-aggregate-keep-others c = search needs
+slice-aggregate-keep-others c = sym (gone-long (widened (c .before .before .before)))
 
 keep-others-requires : tie.Need-keep-others-requires
 keep-others-requires c κs =
@@ -173,30 +178,21 @@ keep-others-requires c κs =
       ),
     )
 
-slice-aggregate-copy : tie.Need-slice-aggregate-copy
-slice-aggregate-copy c = refl
-
-copy-requires-2 : tie.Need-copy-requires-2
-copy-requires-2 c κs = omega (arith, leads-long (c .before .before .before .before .before .before))
-
 slice-aggregate-add-products : tie.Need-slice-aggregate-add-products
-slice-aggregate-add-products c = search needs
+slice-aggregate-add-products c = sym (gone-long (widened (placed (c .before .before .before .before .before))))
 
 sub-add-products : tie.Need-sub-add-products
-sub-add-products c = omega (arith, o (placed (c .before .before .before .before .before .before .before .before .before)) .pre .1 .0)
-
-slice-aggregate-add-products-2 : tie.Need-slice-aggregate-add-products-2
-slice-aggregate-add-products-2 c = search needs
+sub-add-products c = omega (arith, o (placed (c .before .before .before .before .before)) .pre .1 .0)
 
 add-products-requires : tie.Need-add-products-requires
 add-products-requires c κs =
-    let k = c .before .before .before .before .before .before .before .before .before .before .before .before in
+    let k = c .before .before .before .before .before .before .before in
     let d = placed k in
     let w = widened d in
     let s = start w in (
       (s .pre .0 .0, s .pre .0 .1, s .pre .0 .3, omega (arith, s .pre .0 .3, within d), below d),
       (
-        (s .pre .1 .0 .3, s .pre .1 .0 .4, s .pre .1 .1 .1 .1 .0 .0, c .before .before .before .before .before .copy2 .kept .1 .0),
+        (s .pre .1 .0 .3, s .pre .1 .0 .4, s .pre .1 .1 .1 .1 .0 .0),
         (
           (gone-long w, s .pre .1 .1 .0 .3, s .pre .1 .1 .0 .4, lead-long s),
           (
@@ -208,37 +204,38 @@ add-products-requires c κs =
     )
 
 same-length : tie.Need-same-length
-same-length c = let d = placed (c .before .before .before .before .before .before .before .before .before .before .before .before .before .before .before .before .before) in d .put-in .kept .1 .1 .0 ∙ copied d .copy .kept .1 .0
+same-length c = let d = placed (c .before .before .before .before .before .before .before .before .before .before .before .before) in d .put-in .kept .1 .1 .0 ∙ copied d .copy .kept .1 .0
 
 same-length-2 : tie.Need-same-length-2
-same-length-2 c = c .before .before .before .before .add-products .kept .1 .1 .1 .1 .1 .1 .1 .1 .1 .1 .1 .1 .1 .1 .1 .0 ∙ c .before .before .before .before .before .before .before .before .before .before .before .before .before .before .before .before .before .keep-others .kept .1 .1 .1 .1 .1 .1 .1 .1 .1 .1 .0
+same-length-2 c = c .before .before .before .before .add-products .kept .1 .1 .1 .1 .1 .1 .1 .1 .1 .1 .1 .1 .1 .1 .0 ∙ c .before .before .before .before .before .before .before .before .before .before .before .before .keep-others .kept .1 .1 .1 .1 .1 .1 .1 .1 .1 .1 .0
 
 same-length-3 : tie.Need-same-length-3
-same-length-3 c = c .before .before .before .before .add-products .kept .1 .1 .1 .1 .1 .1 .1 .1 .1 .1 .1 .1 .1 .1 .1 .1 .0 ∙ c .before .before .before .before .before .before .before .before .before .before .before .before .before .before .before .before .before .keep-others .kept .1 .1 .1 .1 .1 .1 .1 .1 .1 .1 .1 .0
+same-length-3 c = c .before .before .before .before .add-products .kept .1 .1 .1 .1 .1 .1 .1 .1 .1 .1 .1 .1 .1 .1 .1 .0 ∙ c .before .before .before .before .before .before .before .before .before .before .before .before .keep-others .kept .1 .1 .1 .1 .1 .1 .1 .1 .1 .1 .1 .0
 
 returns : tie.Need-returns
 unfolding standardGrown
 returns c =
-    let k = c .before .before .before .before .before .before .before .before .before .before .before .before .before .before .before .before .before in
+    let k = c .before .before .before .before .before .before .before .before .before .before .before .before in
     let d = placed k in
     let s = o d in (
       d .put-in .ensures .1 ∙ ap₂ (λ (i : ℕ) (t : List ℕ). withRowAt 8 (s .args .n) i (lead s) t) (place-is d) (old d) ∙ ap (standardGrown (s .args .order) (s .args .n) (s .args .standard .now)) (lead-is s),
       c .before .before .before .before .add-products .ensures
           ∙ grown-by (s .args .p) (s .args .m) (s .args .order) (s .args .n) (s .args .r) (s .args .points .now) (s .args .standard .now) (s .args .leads .now) (s .args .coefficients .now) (s .args .rows .now) (s .args .pivots .now) (s .args .point .now) (s .args .values .now) (s .args .j)
-          _ _ _ _ _ _ _ (lead-is s) (gone-is (widened d)) (place-is d) (inverse-is d) (k .keep-others .ensures .0)
-          (c .before .before .before .before .before .before .before .before .before .before .copy2 .ensures ∙ over-all _ (replicate 3592 0) (leads-long k ∙ sym (length-replicate {A = ℕ} 3592 0))) (k .keep-others .ensures .1),
+          _ _ _ _ _ _ (lead-is s) (gone-is (widened d)) (place-is d) (inverse-is d) (k .keep-others .ensures .0) (k .keep-others .ensures .1),
     )
 
 pub grow-spec : {M : Type 1} → statement M
 grow-spec =
     tie.close
     (tie.spec
-    mul-from
+    mul-lead
+    mul-lead-2
     add-lead
     sub-lead
     part-lead-start
     part-lead-end
-    mul-first
+    mul-widen
+    mul-widen-2
     add-widen
     sub-widen
     part-widen-start
@@ -252,11 +249,8 @@ grow-spec =
     put-in-requires
     slice-aggregate-keep-others
     keep-others-requires
-    slice-aggregate-copy
-    copy-requires-2
     slice-aggregate-add-products
     sub-add-products
-    slice-aggregate-add-products-2
     add-products-requires
     same-length
     same-length-2

@@ -5,8 +5,8 @@ use mathlib.Core.List.{List}
 use Prim.Native.Nat.{ℕ}
 use native.Mathlib.Omega.{arith}
 use Rattle.basis.specs.Tables.{Tables, fourTables}
-use Rattle.basis.specs.Adding.{refused, addRefusal, addOutcome}
-use Rattle.basis.proofs.calls.Refusing.{when-refused}
+use Rattle.basis.specs.Adding.{addRefusal, addOutcome}
+use Rattle.basis.proofs.calls.Refusing.{alone, when-refused}
 use Rattle.basis.proofs.adding.Addition.{Ready, ready, added}
 use Rattle.basis.proofs.adding.add_point.Statement.{statement}
 use Rattle.basis.proofs.adding.add_point.Tie as tie
@@ -66,6 +66,9 @@ slice-aggregate-add-refusal-4 c = refl
 add-refusal-requires : tie.Need-add-refusal-requires
 add-refusal-requires c κs = search needs
 
+refused-requires : tie.Need-refused-requires
+refused-requires c κs = tt
+
 same-length : tie.Need-same-length
 same-length c = refl
 
@@ -79,10 +82,10 @@ same-length-4 : tie.Need-same-length-4
 same-length-4 c = refl
 
 returns : tie.Need-returns
-unfolding addOutcome refused
+unfolding addOutcome
 returns c =
-    let d = c .before .before .before .before .before in
-    when-refused (tables (start d)) _ _ (d .add-refusal .result) (d .add-refusal .ensures .0) (c .if1 .taken)
+    let d = c .before .before .before .before .before .before in
+    alone (c .refused .ensures) (tables (start d)) ∙ when-refused (tables (start d)) _ _ (d .add-refusal .result) (d .add-refusal .ensures .0) (c .before .if1 .taken)
 
 slice-aggregate-add-accepted : tie.Need-slice-aggregate-add-accepted
 slice-aggregate-add-accepted c = sym (c .before .before .before .before .before .before .add-refusal .kept .1 .1 .1 .1 .1 .1 .1 .1 .0)
@@ -138,6 +141,7 @@ add-point-spec =
     slice-aggregate-add-refusal-3
     slice-aggregate-add-refusal-4
     add-refusal-requires
+    refused-requires
     same-length
     same-length-2
     same-length-3

@@ -12,7 +12,7 @@ use Rattle.residue.proofs.Moduli.{modulus-range}
 use Rattle.basis.specs.Levels.{inRange, groups, noRepeat}
 use Rattle.basis.specs.Layout.{fill, inPlaces, over}
 use Rattle.basis.specs.Tables.{Tables, fourTables, tooShort, rowCount, tablesOf, pointsIn}
-use Rattle.basis.specs.Adding.{refused, pointsOffered}
+use Rattle.basis.specs.Adding.{pointsOffered}
 use Rattle.basis.specs.Drawing.{PointsGiven}
 use Rattle.basis.proofs.Equality.{of-true}
 use Rattle.basis.proofs.Layouts.{length-fill}
@@ -20,7 +20,7 @@ use Rattle.basis.proofs.agreement.Points.{Points}
 use Rattle.basis.proofs.agreement.Refusals.{large-of}
 use Rattle.basis.proofs.agreement.Drawings.{few-rows}
 use Rattle.basis.proofs.calls.Given.{whole-levels, length-offered, offered-each, offered, table-repeat, table-points, given}
-use Rattle.basis.proofs.calls.Refusing.{Passed, passed}
+use Rattle.basis.proofs.calls.Refusing.{Passed, passed, alone}
 use Rattle.basis.proofs.calls.Outcomes.{drawSizes, draw-size, draw-range, draw-repeat, draw-good, all-written}
 use Rattle.basis.proofs.calls.draw_up.Statement.{statement}
 use Rattle.basis.proofs.calls.draw_up.Tie as tie
@@ -124,11 +124,14 @@ module _ (g : tie.Else3) where
 draw-sizes-requires : tie.Need-draw-sizes-requires
 draw-sizes-requires c κs = tt
 
+refused-requires : tie.Need-refused-requires
+refused-requires c κs = tt
+
 returns : tie.Need-returns
-unfolding refused
 returns c =
-    let s = start (c .before) in
-    draw-size (s .args .settings) (tables s) (s .args .levels .now) (c .before .draw-sizes .result) (sized (c .before)) (c .if1 .taken)
+    let d = c .before .before in
+    let s = start d in
+    alone (c .refused .ensures) (tables s) ∙ draw-size (s .args .settings) (tables s) (s .args .levels .now) (d .draw-sizes .result) (sized d) (c .before .if1 .taken)
 
 cast-p : tie.Need-cast-p
 cast-p c = let s = start (c .before .before) in omega (arith, modulus-range (s .args .settings .modulus) (room (c .before) .settings .modulus))
@@ -136,12 +139,14 @@ cast-p c = let s = start (c .before .before) in omega (arith, modulus-range (s .
 in-range-requires : tie.Need-in-range-requires
 in-range-requires c κs = tt
 
+refused-requires-2 : tie.Need-refused-requires-2
+refused-requires-2 c κs = tt
+
 returns-2 : tie.Need-returns-2
-unfolding refused
 returns-2 c =
-    let e = c .before .before .before in
-    let s = start (e .before) in
-    draw-range (s .args .settings) (tables s) (s .args .levels .now) (fine e) (sym (c .before .in-range .ensures) ∙ not-true _ (c .if2 .taken))
+    let e = c .before .before .before .before in
+    let s = s e in
+    alone (c .refused2 .ensures) (tables s) ∙ draw-range (s .args .settings) (tables s) (s .args .levels .now) (fine e) (sym (c .before .before .in-range .ensures) ∙ not-true _ (c .before .if2 .taken))
 
 div-n : tie.Need-div-n
 div-n c = omega (arith, room (e c) .settings .some)
@@ -160,12 +165,15 @@ slice-aggregate-no-repeat c = sym (c .before .before .put-points .kept .1 .1 .1 
 no-repeat-requires : tie.Need-no-repeat-requires
 no-repeat-requires c κs = let w = c .before .before in omega (arith, long w, few (e (f w)))
 
+refused-requires-3 : tie.Need-refused-requires-3
+refused-requires-3 c κs = tt
+
 returns-3 : tie.Need-returns-3
-unfolding refused
 returns-3 c =
-    let w = c .before .before .before .before in
+    let n = c .before .before in
+    let w = n .before .before .before in
     let y = e (f w) in
-    draw-repeat (s y .args .settings) (tables (s y)) (levels y) (fine y) (range (f w)) (sym (asked (c .before)) ∙ not-true _ (c .if3 .taken))
+    alone (c .refused3 .ensures) (tables (s y)) ∙ draw-repeat (s y .args .settings) (tables (s y)) (levels y) (fine y) (range (f w)) (sym (asked n) ∙ not-true _ (c .before .if3 .taken))
 
 slice-aggregate-draw-points : tie.Need-slice-aggregate-draw-points
 slice-aggregate-draw-points c = sym (c .before .before .before .before .before .put-points .kept .1 .1 .1 .1 .0)
@@ -220,15 +228,18 @@ draw-up-spec =
     tie.close
     (tie.spec
     draw-sizes-requires
+    refused-requires
     returns
     cast-p
     in-range-requires
+    refused-requires-2
     returns-2
     div-n
     slice-aggregate-put-points
     put-points-requires
     slice-aggregate-no-repeat
     no-repeat-requires
+    refused-requires-3
     returns-3
     slice-aggregate-draw-points
     draw-points-requires

@@ -1,9 +1,9 @@
 -- `products::put_row` meets its contract.
 use mathlib.Core.Path.{_≡_, sym, ap, subst, _∙_, refl}
-use mathlib.Core.List.{List, map}
-use Prim.Native.Nat.{ℕ, _+_, _*_, _-_, _%_}
+use mathlib.Core.List.{List, [], _∷_, map}
+use Prim.Native.Nat.{ℕ, zero, suc, _+_, _*_, _-_, _%_, _<_, _≤_}
 use native.Mathlib.Omega.{arith}
-use lib.ListN.{take, drop, replicate, length-drop}
+use lib.ListN.{getD, take, drop, replicate, length-drop}
 use lib.Seq.{length-take-le}
 use Rattle.residue.specs.Vector.{Below}
 use Rattle.residue.specs.Elimination.{eliminated}
@@ -14,28 +14,51 @@ use Rattle.basis.specs.Levels.{groups}
 use Rattle.basis.specs.Layout.{over}
 use Rattle.basis.specs.Insertions.{correctedRow, reducedRow}
 use Rattle.basis.proofs.adding.Writes.{row-in, values-below}
+use Rattle.basis.proofs.adding.NewRows.{one-term}
 use Rattle.basis.proofs.products.put_row.Statement.{statement}
 use Rattle.basis.proofs.products.put_row.Tie as tie
 
--- the values are residues, and zeros behind
-loaded : (s : tie.Start) (w : List ℕ) → w ≡ over (map (λ point. valueAt point (s .args .a .now) % s .args .p) (groups 8 (s .args .n) (s .args .points .now))) (replicate 128 0) → Below (s .args .p) w
-loaded s w e = subst (Below (s .args .p)) (sym e) (values-below (s .args .p) (λ point. valueAt point (s .args .a .now)) (groups 8 (s .args .n) (s .args .points .now)) 128 (omega arith))
+-- 1 is a residue
+one : {p : ℕ} (i : ℕ) → i < 1 → 2 ≤ p → getD (1 ∷ []) i 0 < p
+one zero h k = omega arith
+one (suc i) h k = absurd (omega arith)
 
-slice-aggregate-values-of : tie.Need-slice-aggregate-values-of
-slice-aggregate-values-of c = refl
+-- the values are those of the monomial, zeros behind: residues
+abbrev start : tie.After-put-values → tie.Start
+start d = d .before .before .before .before .before .before .before .before .before .before .before
 
-values-of-requires : tie.Need-values-of-requires
-values-of-requires c κs =
-    let s = c .before .before .before .before .before .before .before .before .before in
-    ((s .pre .0 .0, s .pre .0 .1), ((omega arith, omega arith), (s .pre .1 .1 .0 .3, s .pre .1 .1 .1 .1 .0 .0)))
+module _ (d : tie.After-put-values) where
+  abbrev s : tie.Start
+  s = start d
+
+  abbrev work : List ℕ
+  work = d .put-values .last .1 .1 .1 .1 .1 .0
+
+  loaded : work ≡ over (map (λ point. valueAt point (s .args .a .now) % s .args .p) (groups 8 (s .args .n) (s .args .points .now))) (replicate 128 0)
+  loaded = d .put-values .ensures ∙ ap (λ (l : List ℕ). over l (replicate 128 0)) (one-term (s .args .p) (s .args .n) (s .args .a .now) (s .args .points .now) (s .pre .1 .1 .0 .3))
+
+  below : Below (s .args .p) work
+  below = subst (Below (s .args .p)) (sym loaded) (values-below (s .args .p) (λ point. valueAt point (s .args .a .now)) (groups 8 (s .args .n) (s .args .points .now)) 128 (omega (arith, s .pre .0)))
+
+slice-aggregate-put-values : tie.Need-slice-aggregate-put-values
+slice-aggregate-put-values c = refl
+
+slice-aggregate-put-values-2 : tie.Need-slice-aggregate-put-values-2
+slice-aggregate-put-values-2 c = refl
+
+put-values-requires : tie.Need-put-values-requires
+put-values-requires c κs =
+    let s = c .before .before .before .before .before .before .before .before .before .before in
+    ((s .pre .0 .0, s .pre .0 .1), ((λ i h. one i h (s .pre .0 .0)), (s .pre .1 .1 .0 .3, ((omega arith, (s .pre .1 .0 .0, s .pre .1 .1 .1 .1 .0 .0)), refl))))
 
 slice-aggregate-eliminate : tie.Need-slice-aggregate-eliminate
-slice-aggregate-eliminate c = sym (c .before .before .values-of .kept .1 .1 .1 .1 .0)
+slice-aggregate-eliminate c = sym (c .before .before .put-values .kept .1 .1 .1 .1 .1 .0)
 
 eliminate-requires : tie.Need-eliminate-requires
 eliminate-requires c κs =
-    let s = c .before .before .before .before .before .before .before .before .before .before .before .before in
-    ((s .pre .0 .0, s .pre .0 .1), (c .before .before .values-of .kept .1 .1 .1 .1 .0, ((omega arith, omega arith), ((s .pre .1 .1 .1 .1 .0 .1, loaded s _ (c .before .before .values-of .ensures)), λ t h. omega (arith, s .pre .1 .1 .1 .1 .1 t h)))))
+    let d = c .before .before in
+    let s = start d in
+    ((s .pre .0 .0, s .pre .0 .1), (d .put-values .kept .1 .1 .1 .1 .1 .0, ((omega arith, omega arith), ((s .pre .1 .1 .1 .1 .0 .1, below d), λ t h. omega (arith, s .pre .1 .1 .1 .1 .1 t h)))))
 
 mul-from : tie.Need-mul-from
 mul-from c = omega arith
@@ -75,7 +98,8 @@ part-correct-end c = omega arith
 
 correct-requires : tie.Need-correct-requires
 correct-requires c κs =
-    let s = c .before .before .before .before .before .before .before .before .before .before .before .before .before .before .before .before .before .before .before .before in
+    let d = c .before .before .before .before .before .before .before .before .before .before in
+    let s = start d in
     let n : ℕ = s .args .n in
     let i : ℕ = s .args .i in
     let moved = c .before .before .before .before .move-on .last .1 .1 .1 .0 in
@@ -84,8 +108,8 @@ correct-requires c κs =
     let r = length-take-le (64 * i + 64 - 64 * i) (drop (64 * i) moved) (simp length-drop (omega arith)) in
     let w = c .before .before .before .before .before .before .before .eliminate .last .1 .1 .1 .1 .0 in
     let h = c .before .before .before .before .before .before .before .eliminate .kept .1 .1 .1 .1 .0 in
-    let l = c .before .before .before .before .before .before .before .before .before .before .values-of .kept .1 .1 .1 .1 .0 in
-    let d = length-take-le (n + 64 - n) (drop n w) (simp length-drop (omega arith)) in (
+    let l = d .put-values .kept .1 .1 .1 .1 .1 .0 in
+    let z = length-take-le (n + 64 - n) (drop n w) (simp length-drop (omega arith)) in (
       (s .pre .0 .0, s .pre .0 .1, s .pre .0 .3, s .pre .0 .4),
       (
         (s .pre .1 .1 .0 .1, s .pre .1 .1 .0 .3, s .pre .1 .1 .0 .2),
@@ -96,7 +120,7 @@ correct-requires c κs =
             (
               s .pre .1 .1 .1 .1 .0 .2,
               below-take (s .args .p) (n + 64 - n) (drop n w) (below-drop (s .args .p) n w (subst (Below (s .args .p)) (sym (c .before .before .before .before .before .before .before .eliminate .ensures))
-                  (eliminated-below (s .args .p) (s .args .rows .now) (s .args .pivots .now) _ l (omega arith) (loaded s _ (c .before .before .before .before .before .before .before .before .before .before .values-of .ensures)) n (omega arith)))),
+                  (eliminated-below (s .args .p) (s .args .rows .now) (s .args .pivots .now) _ l (omega arith) (below d) n (omega arith)))),
             ),
           ),
         ),
@@ -109,13 +133,14 @@ same-length c = omega arith
 returns : tie.Need-returns
 unfolding reducedRow
 returns c =
-    let s = c .before .before .before .before .before .before .before .before .before .before .before .before .before .before .before .before .before .before .before .before .before .before .before .before in
+    let d = c .before .before .before .before .before .before .before .before .before .before .before .before .before .before in
+    let s = start d in
     let n : ℕ = s .args .n in
     let i : ℕ = s .args .i in
     let e : n + 64 - n ≡ 64 = omega arith in
     let cs : take (n + 64 - n) (drop n (c .before .before .before .before .before .before .before .before .before .before .before .eliminate .last .1 .1 .1 .1 .0)) ≡ reducedRow (s .args .p) n (s .args .points .now) (s .args .rows .now) (s .args .pivots .now) (s .args .a .now) =
     ap (λ (k : ℕ). take k (drop n (c .before .before .before .before .before .before .before .before .before .before .before .eliminate .last .1 .1 .1 .1 .0))) e
-    ∙ ap (λ (z : List ℕ). take 64 (drop n z)) (c .before .before .before .before .before .before .before .before .before .before .before .eliminate .ensures ∙ ap (eliminated (s .args .p) (s .args .rows .now) (s .args .pivots .now) n) (c .before .before .before .before .before .before .before .before .before .before .before .before .before .before .values-of .ensures)) in
+    ∙ ap (λ (z : List ℕ). take 64 (drop n z)) (c .before .before .before .before .before .before .before .before .before .before .before .eliminate .ensures ∙ ap (eliminated (s .args .p) (s .args .rows .now) (s .args .pivots .now) n) (loaded d)) in
     row-in 64 (s .args .k) i (64 * i + 64 - 64 * i) _ (s .args .table .now) (c .before .before .before .before .before .before .before .before .move-on .last .1 .1 .1 .0) (c .before .before .before .correct .last .1 .1 .1 .1 .1 .1 .1 .1 .0) (omega arith) (omega arith) (omega arith) (c .before .before .before .before .before .before .before .before .move-on .ensures)
     (c .before .before .before .correct .ensures .1 ∙ ap (correctedRow (s .args .p) (s .args .place) (s .args .inverse) (s .args .gone .now) (s .args .point .now) (s .args .values .now) (s .args .a .now)) cs)
 
@@ -123,8 +148,9 @@ pub put-row-spec : {M : Type 1} → statement M
 put-row-spec =
     tie.close
     (tie.spec
-    slice-aggregate-values-of
-    values-of-requires
+    slice-aggregate-put-values
+    slice-aggregate-put-values-2
+    put-values-requires
     slice-aggregate-eliminate
     eliminate-requires
     mul-from
