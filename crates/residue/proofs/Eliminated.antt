@@ -106,6 +106,10 @@ unfolding reduced
 reduced-again p [] = refl
 reduced-again p (x ∷ l) = ap₂ (λ (y : ℕ) (r : List ℕ). y ∷ r) (reduce p x .same) (reduced-again p l)
 
+-- rows that are the same reduced are as long as each other
+pub long-as : (p : ℕ) (a b : List ℕ) → reduced p a ≡ reduced p b → length a ≡ length b
+long-as p a b e = sym (reduced-length p a) ∙ ap length e ∙ reduced-length p b
+
 -- residues stay as they are
 pub reduced-residues : (p : ℕ) (l : List ℕ) → Below p l → reduced p l ≡ l
 unfolding reduced

@@ -18,6 +18,10 @@ product-small p x y b hx hy =
     let v : y ≤ 60 = omega arith in
     mul-le-mul u v
 
+-- what four gains of a row come to is below four times this
+pub square-small : (p : ℕ) → p ≤ 61 → p * p ≤ 3721
+square-small p h = mul-le-mul h h
+
 pub reciprocal-small : (p : ℕ) → 2 ≤ p → 65536 / p ≤ 32768
 reciprocal-small p h =
     let d = div-mul-le-self 65536 p in

@@ -1,5 +1,5 @@
 // Elimination. A row gains multiples of pivot rows unreduced for as long as 16 bits hold its entries; only entries at pivots are reduced when they are read.
-// Pivot rows come four at a time: their four factors follow from the entries at the four pivots alone, so that the row itself is read and written once for all.
+// Pivot rows come four at a time: their factors follow from what row and rows have at the four pivots, so that the row itself is read and written once for all.
 use crate::arithmetic::reciprocal;
 use crate::arithmetic::reduce;
 ghost use mathlib.Core.Path.{_≡_};
@@ -41,7 +41,7 @@ fn fold(p: u16, dst: &mut [u16])
     }
 }
 
-// Room for gains of this many: the entries, which are below `top`, are reduced if they might grow too great. The answer is what they are below then.
+// Room to gain so much in each entry: the entries, which are below `top`, are reduced if they might grow too great. The answer is what they are below then.
 fn make_room(p: u16, gains: u32, top: u32, work: &mut [u16]) -> u32
     requires { ⌜ (2 ≤ p) × (p ≤ 61) ⌝ }
     requires { ⌜ (gains ≤ 14884) × (top ≤ 65536) × Below top (now work) ⌝ }

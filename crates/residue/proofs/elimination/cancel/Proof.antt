@@ -1,13 +1,14 @@
 -- `elimination::cancel` meets its contract.
-use mathlib.Core.Path.{_≡_, sym, ap, subst, _∙_}
+use mathlib.Core.Path.{sym, ap, subst, _∙_}
 use mathlib.Core.List.{List}
-use Prim.Native.Nat.{ℕ, _+_, _*_, _-_, _%_, _<_, _≤_}
-use native.Mathlib.Nat.{mod-lt, mul-le-mul}
+use Prim.Native.Nat.{ℕ, _+_, _*_, _-_, _%_, _<_}
+use native.Mathlib.Nat.{mod-lt}
 use native.Mathlib.Omega.{arith}
-use lib.ListN.{length, getD}
+use lib.ListN.{getD}
 use borrow.Author.Needs.{needs}
 use Rattle.residue.specs.Vector.{Below}
 use Rattle.residue.specs.Elimination.{gained, reduced}
+use Rattle.residue.proofs.Reduction.{square-small}
 use Rattle.residue.proofs.Eliminated.{cancel-kept, cancel-gained, gained-below}
 use Rattle.residue.proofs.elimination.cancel.Statement.{statement}
 use Rattle.residue.proofs.elimination.cancel.Tie as tie
@@ -21,9 +22,6 @@ module _ (s : tie.Start) where
 
   abbrev work : List ℕ
   work = s .args .work .now
-
-  square : p * p ≤ 61 * 61
-  square = let h : p ≤ 61 = omega arith in mul-le-mul h h
 
   -- what a gain leaves is below so much more
   more : (x t : ℕ) → Below t work → Below (t + p * p) (gained (p - x) work row)
@@ -55,7 +53,7 @@ gain-requires : tie.Need-gain-requires
 gain-requires c κs =
     let r = c .before .before in
     let s = r .before .before .before .before in
-    (sym (s .pre .1 .0 .0), λ i h. omega (arith, square s, more s (r .reduce .result) (65536 - p s * p s) (s .pre .1 .1 .1) i h))
+    (sym (s .pre .1 .0 .0), λ i h. omega (arith, square-small (p s) (omega arith), more s (r .reduce .result) (65536 - p s * p s) (s .pre .1 .1 .1) i h))
 
 same-length : tie.Need-same-length
 same-length c = search needs

@@ -1,13 +1,14 @@
 -- `elimination::cancel_four` meets its contract.
 use mathlib.Core.Path.{_≡_, sym, ap, subst, _∙_}
 use mathlib.Core.List.{List}
-use Prim.Native.Nat.{ℕ, _+_, _*_, _-_, _%_, _<_, _≤_}
-use native.Mathlib.Nat.{mod-lt, mul-le-mul}
+use Prim.Native.Nat.{ℕ, _+_, _*_, _-_, _%_, _<_}
+use native.Mathlib.Nat.{mod-lt}
 use native.Mathlib.Omega.{arith}
 use lib.ListN.{getD}
 use borrow.Author.Needs.{needs}
 use Rattle.residue.specs.Vector.{Below}
 use Rattle.residue.specs.Elimination.{eliminated, gainedFour, reduced}
+use Rattle.residue.proofs.Reduction.{square-small}
 use Rattle.residue.proofs.Fours.{cancel-four, four-below}
 use Rattle.residue.proofs.elimination.cancel_four.Statement.{statement}
 use Rattle.residue.proofs.elimination.cancel_four.Tie as tie
@@ -21,9 +22,6 @@ module _ (s : tie.Start) where
 
   rest : (x : ℕ) → x % p < p
   rest x = mod-lt x (omega arith)
-
-  square : p * p ≤ 61 * 61
-  square = let h : p ≤ 61 = omega arith in mul-le-mul h h
 
 -- what the four pivots find, when the rows are about to be gained
 module _ (c : tie.After-gain-four-arg) where
@@ -153,7 +151,7 @@ sub-gain-four-4 c = omega (arith, rest (start c) (fourth c))
 gain-four-requires : tie.Need-gain-four-requires
 gain-four-requires c κs =
     let s = start c in
-    ((s .pre .1 .0 .2, s .pre .1 .0 .0), λ i h. omega (arith, square s, stays c (65536 - 4 * (p s * p s)) (s .pre .1 .1 .1) i h))
+    ((s .pre .1 .0 .2, s .pre .1 .0 .0), λ i h. omega (arith, square-small (p s) (omega arith), stays c (65536 - 4 * (p s * p s)) (s .pre .1 .1 .1) i h))
 
 same-length : tie.Need-same-length
 same-length c = search needs

@@ -2,14 +2,14 @@
 use mathlib.Core.Path.{_≡_, sym, ap, ap₂, _∙_}
 use mathlib.Core.List.{List}
 use Prim.Native.Nat.{ℕ, _+_, _*_, _-_, _≤_}
-use native.Mathlib.Nat.{mul-le-mul}
 use native.Mathlib.Omega.{arith}
 use lib.ListN.{length, getD, take, drop}
 use borrow.Author.Needs.{needs}
 use Rattle.residue.specs.Vector.{Below}
 use Rattle.residue.specs.Elimination.{cancelled, eliminated, reduced}
+use Rattle.residue.proofs.Reduction.{square-small}
 use Rattle.residue.proofs.Vectors.{below-take, below-drop}
-use Rattle.residue.proofs.Eliminated.{cancelled-length, eliminated-more, eliminated-length, row-long, reduced-length}
+use Rattle.residue.proofs.Eliminated.{long-as, cancelled-length, eliminated-more, eliminated-length, row-long, reduced-length}
 use Rattle.residue.proofs.elimination.eliminate.Statement.{statement}
 use Rattle.residue.proofs.elimination.eliminate.Tie as tie
 
@@ -19,9 +19,6 @@ Inv-loop p found rows pivots work₀ count top₀ m gains t₀ work top t =
 
 abbrev μ-loop : tie.MeasureT-loop
 μ-loop p found rows pivots work₀ count top₀ m gains t₀ work top t = found - t
-
-square : (p : ℕ) → p ≤ 61 → p * p ≤ 61 * 61
-square p h = mul-le-mul h h
 
 -- once the blocks are met
 module _ (f : tie.After-eliminate-fours Inv-loop μ-loop) where
@@ -58,9 +55,7 @@ module _ (r : tie.After-make-room Inv-loop μ-loop) where
   row = take (128 * head .loop .t + 128 - 128 * head .loop .t) (drop (128 * head .loop .t) (start head .args .rows .now))
 
   roomy-long : length roomy ≡ 128
-  roomy-long =
-      let p = start head .args .p in
-      sym (reduced-length p roomy) ∙ ap length (r .make-room .ensures .1) ∙ reduced-length p (head .loop .work) ∙ head .loop .inv .1 .0
+  roomy-long = long-as (start head .args .p) roomy (head .loop .work) (r .make-room .ensures .1) ∙ head .loop .inv .1 .0
 
   row-fits : head .loop .t + 1 ≤ start head .args .found → length row ≡ 128
   row-fits h =
@@ -81,10 +76,10 @@ reciprocal-requires : tie.Need-reciprocal-requires Inv-loop μ-loop
 reciprocal-requires c κs = omega arith
 
 mul-gains : tie.Need-mul-gains Inv-loop μ-loop
-mul-gains c = omega (arith, square (c .before .before .before .before .before .before .before .before .before .args .p) (omega arith))
+mul-gains c = omega (arith, square-small (c .before .before .before .before .before .before .before .before .before .args .p) (omega arith))
 
 cast-gains : tie.Need-cast-gains Inv-loop μ-loop
-cast-gains c = omega (arith, square (c .before .before .before .before .before .before .before .before .before .args .p) (omega arith))
+cast-gains c = omega (arith, square-small (c .before .before .before .before .before .before .before .before .before .args .p) (omega arith))
 
 mul-t : tie.Need-mul-t Inv-loop μ-loop
 mul-t c = omega (arith, c .before .before .before .before .before .fours .ensures)
@@ -101,7 +96,7 @@ make-room-requires : tie.Need-make-room-requires Inv-loop μ-loop
 make-room-requires c κs =
     let l = c .before .before in
     let s = start l in
-    (s .pre .0, (omega (arith, square (s .args .p) (omega arith)), omega arith, l .loop .inv .1 .1 .1 .1))
+    (s .pre .0, (omega (arith, square-small (s .args .p) (omega arith)), omega arith, l .loop .inv .1 .1 .1 .1))
 
 add-cancel : tie.Need-add-cancel Inv-loop μ-loop
 add-cancel c = omega arith

@@ -1,15 +1,15 @@
 -- `elimination::eliminate_fours` meets its contract. Reduced, the loop's row is the row that has met the first 4 t pivot rows; its entries fit 16 bits.
-use mathlib.Core.Path.{_≡_, sym, ap, ap₂, subst, _∙_}
+use mathlib.Core.Path.{_≡_, sym, ap, ap₂, _∙_}
 use mathlib.Core.List.{List}
-use Prim.Native.Nat.{ℕ, _+_, _*_, _-_, _<_, _≤_}
-use native.Mathlib.Nat.{mul-le-mul}
+use Prim.Native.Nat.{ℕ, _+_, _*_, _-_, _≤_}
 use native.Mathlib.Omega.{arith}
-use lib.ListN.{length, getD, take, drop, length-drop}
+use lib.ListN.{length, take, drop, length-drop}
 use lib.Seq.{length-take-le, getD-take, getD-drop}
 use Rattle.residue.specs.Vector.{Below}
 use Rattle.residue.specs.Elimination.{eliminated, reduced}
+use Rattle.residue.proofs.Reduction.{square-small}
 use Rattle.residue.proofs.Vectors.{below-take, below-drop}
-use Rattle.residue.proofs.Eliminated.{eliminated-none, eliminated-part, eliminated-length, reduced-length, reduced-residues}
+use Rattle.residue.proofs.Eliminated.{long-as, eliminated-none, eliminated-part, eliminated-length, reduced-length, reduced-residues}
 use Rattle.residue.proofs.elimination.eliminate_fours.Statement.{statement}
 use Rattle.residue.proofs.elimination.eliminate_fours.Tie as tie
 
@@ -29,9 +29,6 @@ next-four p rows pivots w v t k j ek ej ev =
     ap₂ (λ (a b : ℕ). eliminated p (take a (drop (512 * t) rows)) (take b (drop (4 * t) pivots)) 4 v) ek ej
     ∙ ap₂ (λ (a : ℕ) (u : List ℕ). eliminated p (take 512 (drop a rows)) (take 4 (drop (4 * t) pivots)) 4 u) e ev
     ∙ sym (ap (λ (a : ℕ). eliminated p rows pivots a w) n ∙ eliminated-part p rows pivots w (4 * t) 4 4 (omega arith))
-
-square : (p : ℕ) → p ≤ 61 → p * p ≤ 61 * 61
-square p h = mul-le-mul h h
 
 -- at the loop's head the row is as long as it came
 module _ (l : tie.At-loop Inv-loop μ-loop) where
@@ -53,18 +50,16 @@ module _ (r : tie.After-make-room Inv-loop μ-loop) where
   roomy = r .make-room .last .1 .1 .1 .0
 
   roomy-long : length roomy ≡ 128
-  roomy-long =
-      let p = start head .args .p in
-      sym (reduced-length p roomy) ∙ ap length (r .make-room .ensures .1) ∙ reduced-length p (head .loop .work) ∙ long head
+  roomy-long = long-as (start head .args .p) roomy (head .loop .work) (r .make-room .ensures .1) ∙ long head
 
 mul-gains : tie.Need-mul-gains Inv-loop μ-loop
-mul-gains c = omega (arith, square (c .before .before .before .args .p) (omega arith))
+mul-gains c = omega (arith, square-small (c .before .before .before .args .p) (omega arith))
 
 cast-gains : tie.Need-cast-gains Inv-loop μ-loop
-cast-gains c = omega (arith, square (c .before .before .before .args .p) (omega arith))
+cast-gains c = omega (arith, square-small (c .before .before .before .args .p) (omega arith))
 
 mul-gains-2 : tie.Need-mul-gains-2 Inv-loop μ-loop
-mul-gains-2 c = omega (arith, square (c .before .before .before .args .p) (omega arith))
+mul-gains-2 c = omega (arith, square-small (c .before .before .before .args .p) (omega arith))
 
 loop-holds : tie.Need-loop-holds Inv-loop μ-loop
 loop-holds c =
@@ -82,7 +77,7 @@ make-room-requires : tie.Need-make-room-requires Inv-loop μ-loop
 make-room-requires c κs =
     let l = c .before .before in
     let s = start l in
-    (s .pre .0, (omega (arith, square (s .args .p) (omega arith)), omega arith, l .loop .inv .1 .1 .1))
+    (s .pre .0, (omega (arith, square-small (s .args .p) (omega arith)), omega arith, l .loop .inv .1 .1 .1))
 
 add-cancel-four : tie.Need-add-cancel-four Inv-loop μ-loop
 add-cancel-four c = omega arith
