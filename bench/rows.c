@@ -1,5 +1,6 @@
-/* Drawing up in plain C by the archive's own method: a working row of values and coefficients meets
- * the pivot rows in the order they were found. It shows how much of a ratio is the method's. */
+/* Drawing up in plain C by the method that the archive keeps to: a working row of values and
+ * coefficients meets the pivot rows in the order they were found, here one after another. It shows
+ * how much of a ratio is the method's. */
 #include "plain.h"
 
 #include "redrawn.h"
