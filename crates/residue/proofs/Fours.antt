@@ -1,15 +1,16 @@
 -- Four rows met at once: what the row gains at each place, and that it is the same as meeting them one after another.
 use mathlib.Core.Path.{_≡_, sym, ap, ap₂, _∙_}
-use mathlib.Core.List.{List}
+use mathlib.Core.List.{List, _++_}
 use Prim.Native.Nat.{ℕ, _+_, _*_, _-_, _%_, _<_, _≤_}
 use native.Mathlib.Nat.{zero-add}
 use native.Mathlib.Omega.{arith}
-use lib.ListN.{length, getD, take, drop, length-drop}
-use lib.Seq.{length-take-le, getD-take, getD-drop}
+use lib.ListN.{length, getD, take, drop, length-drop, take-append-drop}
+use lib.Seq.{length-take-le, getD-take, getD-drop, ext-getD}
 use Rattle.residue.specs.Congruence.{Mod}
 use Rattle.residue.specs.Vector.{Below}
-use Rattle.residue.specs.Elimination.{cancelled, eliminated, gained, gainedFour, met, reduced}
+use Rattle.residue.specs.Elimination.{cancelled, eliminated, gained, gainedFour, met, reduced, ZeroFrom, ZeroBehind}
 use Rattle.residue.proofs.Congruence.{rfl, of, flip, _then_}
+use Rattle.residue.proofs.Filled.{filled, filled-front}
 use Rattle.residue.proofs.Vectors.{below-take, below-drop}
 use Rattle.residue.proofs.Eliminated.{gained-length, gained-at, gained-below, cancel-gained, met-at}
 
@@ -72,6 +73,35 @@ module _ (a b c d : ℕ) (w block : List ℕ) (long : length w ≡ 128) (full : 
       ∙ ap₂ (λ (x y : ℕ). x + b * y) (gained-at a w (row block full 0) fit₁ i h ∙ ap (λ (y : ℕ). getD w i 0 + a * y) (row-at block full 0 i k ∙ ap (λ (j : ℕ). getD block j 0) (zero-add i))) (row-at block full 128 i k))
       (row-at block full 256 i k))
       (row-at block full 384 i k)
+
+  -- where the rows are 0 nothing is gained, so the loop may end before
+  pub four-within : (width : ℕ) (g : ℕ → ℕ) → width ≤ 128 → ZeroFrom width block → ((i : ℕ) → i < length w → getD (gainedFour a b c d w block) i 0 ≡ g i)
+      → filled g width w ≡ gainedFour a b c d w block
+  four-within width g h z e =
+      ap (λ (k : ℕ). filled g k w) (sym front)
+      ∙ filled-front g (take width all) w 0 (omega (arith, front)) (λ i l. getD-take width all i 0 (omega (arith, front)) ∙ e i (omega (arith, front)))
+      ∙ ap (λ (k : ℕ). take width all ++ drop k w) front ∙ ap (λ (l : List ℕ). take width all ++ l) behind ∙ take-append-drop width all
+    where
+      all : List ℕ
+      all = gainedFour a b c d w block
+
+      front : length (take width all) ≡ width
+      front = length-take-le width all (omega (arith, four-length))
+
+      none : (x y₀ y₁ y₂ y₃ : ℕ) → y₀ ≡ 0 → y₁ ≡ 0 → y₂ ≡ 0 → y₃ ≡ 0 → x ≡ x + a * y₀ + b * y₁ + c * y₂ + d * y₃
+      none x y₀ y₁ y₂ y₃ e₀ e₁ e₂ e₃ = rw (e₀, e₁, e₂, e₃) (omega arith)
+
+      behind : drop width w ≡ drop width all
+      behind =
+          ext-getD 0 (drop width w) (drop width all) (omega (arith, length-drop width w, length-drop width all, four-length))
+          (λ j l. let i : width + j < length w = omega (arith, length-drop width w) in
+          getD-drop width w j 0
+          ∙ none (getD w (width + j) 0) (getD block (width + j) 0) (getD block (128 + (width + j)) 0) (getD block (256 + (width + j)) 0) (getD block (384 + (width + j)) 0)
+          (ap (λ (k : ℕ). getD block k 0) (sym (zero-add (width + j))) ∙ z 0 (width + j) (omega arith) (omega arith) (omega arith))
+          (z 1 (width + j) (omega arith) (omega arith) (omega arith))
+          (z 2 (width + j) (omega arith) (omega arith) (omega arith))
+          (z 3 (width + j) (omega arith) (omega arith) (omega arith))
+          ∙ sym (four-at (width + j) i) ∙ sym (getD-drop width all j 0))
 
   pub four-below : (p t : ℕ) → a ≤ p → b ≤ p → c ≤ p → d ≤ p → Below p block → Below t w → Below (t + 4 * (p * p)) (gainedFour a b c d w block)
   unfolding gainedFour
@@ -164,3 +194,12 @@ module _ (p : ℕ) (w block pivots : List ℕ) (long : length w ≡ 128) (full :
       (cancel-gained p (row block full 128) (getD pivots 1 0) w₁ fits₂ (in₁ (getD pivots 1 0) q₁) (b % p) ((of is-b then flip (met₁ (getD pivots 1 0) q₁)) .same)
       ∙ ap (cancelled p (row block full 128) (getD pivots 1 0))
       (cancel-gained p (row block full 0) (getD pivots 0 0) w fits₁ (omega arith) (a % p) ((of (is-a ∙ met₀ (getD pivots 0 0))) .same))))
+
+-- the rows of a block of the table are 0 from the end of the last one on
+pub block-zero : (n found t k width : ℕ) (rows : List ℕ) → ZeroBehind n found rows → 4 * t + 4 ≤ found → k ≡ 512 → ((i : ℕ) → width ≤ i → i < 128 → n + (4 * t + 4) ≤ i)
+    → ZeroFrom width (take k (drop (512 * t) rows))
+block-zero n found t k width rows z h e r j i l m o =
+    let b = r i m o in
+    let x : 512 * t + (128 * j + i) ≡ 128 * (4 * t + j) + (n + (i - n)) = omega arith in
+    getD-take k (drop (512 * t) rows) (128 * j + i) 0 (omega arith) ∙ getD-drop (512 * t) rows (128 * j + i) 0 ∙ ap (λ (a : ℕ). getD rows a 0) x
+    ∙ z (4 * t + j) (i - n) (omega arith) (omega arith) (omega arith)

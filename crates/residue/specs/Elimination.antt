@@ -1,7 +1,8 @@
 -- Elimination over a table of pivot rows, 128 numbers each; pivot row t lies at 128 t.
 use mathlib.Core.Bool.{cond}
 use mathlib.Core.List.{List, map, zipWith}
-use Prim.Native.Nat.{ℕ, zero, suc, _+_, _*_, _-_, _%_}
+use mathlib.Core.Path.{_≡_}
+use Prim.Native.Nat.{ℕ, zero, suc, _+_, _*_, _-_, _%_, _<_, _≤_}
 use lib.ListN.{getD, take, drop}
 use lib.Dec.{eqb}
 use Rattle.residue.specs.Vector.{addScaled}
@@ -31,3 +32,11 @@ met p a b c w block i = getD w i 0 + a * (p - getD block i 0) + b * (p - getD bl
 -- each entry reduced
 unfoldable pub reduced : ℕ → List ℕ → List ℕ
 reduced p = map (λ x. x % p)
+
+-- each of the four rows of a block is 0 from the given entry on
+abbrev pub ZeroFrom : ℕ → List ℕ → Type 0
+ZeroFrom width block = (k i : ℕ) → k < 4 → width ≤ i → i < 128 → getD block (128 * k + i) 0 ≡ 0
+
+-- row t of those found is 0 behind entry n + t
+abbrev pub ZeroBehind : ℕ → ℕ → List ℕ → Type 0
+ZeroBehind n found rows = (t j : ℕ) → t < found → t < j → n + j < 128 → getD rows (128 * t + (n + j)) 0 ≡ 0

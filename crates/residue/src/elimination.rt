@@ -6,7 +6,7 @@ ghost use mathlib.Core.Path.{_≡_};
 ghost use Prim.Native.Nat.{ℕ, _+_, _-_, _*_, _/_, _^_, _<_, _≤_};
 ghost use lib.ListN.{length, getD};
 ghost use Rattle.residue.specs.Vector.{Below};
-ghost use Rattle.residue.specs.Elimination.{cancelled, eliminated, gained, gainedFour, met, reduced};
+ghost use Rattle.residue.specs.Elimination.{cancelled, eliminated, gained, gainedFour, met, reduced, ZeroFrom, ZeroBehind};
 
 // Adds c times src to dst.
 fn gain(dst: &mut [u16], c: u16, src: &[u16])
@@ -19,13 +19,14 @@ fn gain(dst: &mut [u16], c: u16, src: &[u16])
     }
 }
 
-// Adds the four rows of a block, times a, b, c and d.
-fn gain_four(dst: &mut [u16], a: u16, b: u16, c: u16, d: u16, block: &[u16])
-    requires { ⌜ (length (now dst) ≡ 128) × (length (now block) ≡ 512) ⌝ }
+// Adds the four rows of a block, times a, b, c and d; from `width` on they are 0.
+fn gain_four(width: usize, dst: &mut [u16], a: u16, b: u16, c: u16, d: u16, block: &[u16])
+    requires { ⌜ (width ≤ 128) × (length (now dst) ≡ 128) × (length (now block) ≡ 512) ⌝ }
+    requires { ⌜ ZeroFrom width (now block) ⌝ }
     requires { ⌜ Below 65536 (gainedFour a b c d (now dst) (now block)) ⌝ }
     ensures { λ _. ⌜ now (dst .exit) ≡ gainedFour a b c d (now (dst .entry)) (now (block .entry)) ⌝ }
 {
-    for i in 0..128 {
+    for i in 0..width {
         dst[i] += a * block[i] + b * block[128 + i] + c * block[256 + i] + d * block[384 + i];
     }
 }
@@ -92,10 +93,11 @@ fn standing(p: u16, block: &[u16], work: &[u16], at: usize, a: u64, b: u64, c: u
 }
 
 // Cancels the entries at four pivots, by the rows of a block, in their order. What stands at a pivot when its row is met is worked out beforehand.
-fn cancel_four(p: u16, block: &[u16], pivots: &[u8], work: &mut [u16])
+fn cancel_four(p: u16, width: usize, block: &[u16], pivots: &[u8], work: &mut [u16])
     requires { ⌜ (2 ≤ p) × (p ≤ 61) ⌝ }
     requires { ⌜ (length (now block) ≡ 512) × (length (now pivots) ≡ 4) × (length (now work) ≡ 128) ⌝ }
     requires { ⌜ Below p (now block) × Below 128 (now pivots) ⌝ }
+    requires { ⌜ (width ≤ 128) × ZeroFrom width (now block) ⌝ }
     requires { ⌜ Below (65536 - 4 * (p * p)) (now work) ⌝ }
     ensures { λ _. ⌜ reduced p (now (work .exit)) ≡ eliminated p (now (block .entry)) (now (pivots .entry)) 4 (reduced p (now (work .entry))) ⌝ }
     ensures { λ _. ⌜ ((t : ℕ) → Below t (now (work .entry)) → Below (t + 4 * (p * p)) (now (work .exit))) ⌝ }
@@ -106,6 +108,7 @@ fn cancel_four(p: u16, block: &[u16], pivots: &[u8], work: &mut [u16])
     let d = standing(p, block, work, pivots[3] as usize, a, b, c);
     let modulus = p as u64;
     gain_four(
+        width,
         work,
         p - (a % modulus) as u16,
         p - (b % modulus) as u16,
@@ -115,9 +118,28 @@ fn cancel_four(p: u16, block: &[u16], pivots: &[u8], work: &mut [u16])
     );
 }
 
+// How many entries of a row are looked at where row and pivot rows are 0 from `end` on: whole vectors, so that no tail is left to the packed loop.
+fn whole(end: usize) -> usize
+    requires { ⌜ end < 2 ^ 63 ⌝ }
+    ensures { λ w. ⌜ (w ≤ 128) × ((i : ℕ) → w ≤ i → i < 128 → end ≤ i) ⌝ }
+{
+    if 112 < end {
+        return 128;
+    }
+    (end + 15) / 16 * 16
+}
+
 // The row meets the first 4 * count pivot rows. The answer is what its entries are below then.
-fn eliminate_fours(p: u16, count: usize, rows: &[u16], pivots: &[u8], work: &mut [u16]) -> u32
-    requires { ⌜ (2 ≤ p) × (p ≤ 61) ⌝ }
+fn eliminate_fours(
+    p: u16,
+    n: usize,
+    count: usize,
+    rows: &[u16],
+    pivots: &[u8],
+    work: &mut [u16],
+) -> u32
+    requires { ⌜ (2 ≤ p) × (p ≤ 61) × (n ≤ 128) ⌝ }
+    requires { ⌜ ZeroBehind n (4 * count) (now rows) ⌝ }
     requires { ⌜ length (now work) ≡ 128 ⌝ }
     requires { ⌜ (512 * count ≤ length (now rows)) × (4 * count ≤ length (now pivots)) ⌝ }
     requires { ⌜ (Below p (now rows)) × (Below p (now work)) ⌝ }
@@ -131,7 +153,14 @@ fn eliminate_fours(p: u16, count: usize, rows: &[u16], pivots: &[u8], work: &mut
         let from = 512 * t;
         let first = 4 * t;
         top = make_room(p, gains, top, work);
-        cancel_four(p, &rows[from..from + 512], &pivots[first..first + 4], work);
+        let end = first + 4;
+        cancel_four(
+            p,
+            whole(n + end),
+            &rows[from..from + 512],
+            &pivots[first..end],
+            work,
+        );
         top += gains;
     }
     top
@@ -147,9 +176,10 @@ fn fours(p: u16, found: usize) -> usize
     found / 4
 }
 
-// The row meets the pivot rows in the order in which they were found; each cancels its entry at that row's pivot.
-pub fn eliminate(p: u16, found: usize, rows: &[u16], pivots: &[u8], work: &mut [u16])
-    requires { ⌜ (2 ≤ p) × (p ≤ 61) ⌝ }
+// The row meets the pivot rows in the order in which they were found; each cancels its entry at that row's pivot. Pivot row t is 0 behind entry n + t.
+pub fn eliminate(p: u16, n: usize, found: usize, rows: &[u16], pivots: &[u8], work: &mut [u16])
+    requires { ⌜ (2 ≤ p) × (p ≤ 61) × (n ≤ 128) ⌝ }
+    requires { ⌜ ZeroBehind n found (now rows) ⌝ }
     requires { ⌜ length (now work) ≡ 128 ⌝ }
     requires { ⌜ (128 * found ≤ length (now rows)) × (found ≤ length (now pivots)) ⌝ }
     requires { ⌜ (Below p (now rows)) × (Below p (now work)) ⌝ }
@@ -157,7 +187,7 @@ pub fn eliminate(p: u16, found: usize, rows: &[u16], pivots: &[u8], work: &mut [
     ensures { λ _. ⌜ now (work .exit) ≡ eliminated p (now (rows .entry)) (now (pivots .entry)) found (now (work .entry)) ⌝ }
 {
     let count = fours(p, found);
-    let mut top = eliminate_fours(p, count, rows, pivots, work);
+    let mut top = eliminate_fours(p, n, count, rows, pivots, work);
     let m = reciprocal(p);
     let gains = (p * p) as u32;
     for t in 4 * count..found {

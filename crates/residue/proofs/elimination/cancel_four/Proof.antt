@@ -151,7 +151,7 @@ sub-gain-four-4 c = omega (arith, rest (start c) (fourth c))
 gain-four-requires : tie.Need-gain-four-requires
 gain-four-requires c κs =
     let s = start c in
-    ((s .pre .1 .0 .2, s .pre .1 .0 .0), λ i h. omega (arith, square-small (p s) (omega arith), stays c (65536 - 4 * (p s * p s)) (s .pre .1 .1 .1) i h))
+    ((s .pre .1 .1 .1 .0 .0, s .pre .1 .0 .2, s .pre .1 .0 .0), (s .pre .1 .1 .1 .0 .1, λ i h. omega (arith, square-small (p s) (omega arith), stays c (65536 - 4 * (p s * p s)) (s .pre .1 .1 .1 .1) i h)))
 
 same-length : tie.Need-same-length
 same-length c = search needs

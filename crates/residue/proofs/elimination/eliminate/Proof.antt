@@ -14,11 +14,11 @@ use Rattle.residue.proofs.elimination.eliminate.Statement.{statement}
 use Rattle.residue.proofs.elimination.eliminate.Tie as tie
 
 abbrev Inv-loop : tie.InvT-loop
-Inv-loop p found rows pivots work₀ count top₀ m gains t₀ work top t =
+Inv-loop p n found rows pivots work₀ count top₀ m gains t₀ work top t =
     (t ≤ found) × ((length work ≡ 128) × (((w : List ℕ) → reduced p work₀ ≡ eliminated p rows pivots t₀ w → reduced p work ≡ eliminated p rows pivots t w) × ((top ≤ 65536) × Below top work)))
 
 abbrev μ-loop : tie.MeasureT-loop
-μ-loop p found rows pivots work₀ count top₀ m gains t₀ work top t = found - t
+μ-loop p n found rows pivots work₀ count top₀ m gains t₀ work top t = found - t
 
 -- once the blocks are met
 module _ (f : tie.After-eliminate-fours Inv-loop μ-loop) where
@@ -26,13 +26,13 @@ module _ (f : tie.After-eliminate-fours Inv-loop μ-loop) where
   begun = f .before .before .before .before .before .before
 
   abbrev met : List ℕ
-  met = f .eliminate-fours .last .1 .1 .1 .1 .0
+  met = f .eliminate-fours .last .1 .1 .1 .1 .1 .0
 
   met-long : length met ≡ 128
   met-long =
       let a = begun .args in
       sym (reduced-length (a .p) met) ∙ ap length (f .eliminate-fours .ensures .0)
-      ∙ eliminated-length (a .p) (a .rows .now) (a .pivots .now) (a .work .now) (begun .pre .1 .0) (4 * f .before .before .fours .result) (omega (arith, f .before .before .fours .ensures))
+      ∙ eliminated-length (a .p) (a .rows .now) (a .pivots .now) (a .work .now) (begun .pre .1 .1 .0) (4 * f .before .before .fours .result) (omega (arith, f .before .before .fours .ensures))
 
 -- at the loop's head
 module _ (l : tie.At-loop Inv-loop μ-loop) where
@@ -69,8 +69,10 @@ fours-requires c κs = search needs
 eliminate-fours-requires : tie.Need-eliminate-fours-requires Inv-loop μ-loop
 eliminate-fours-requires c κs =
     let f = c .before .fours .ensures in
-    let s = c .before .before .before .before .before in
-    (s .pre .0, (s .pre .1 .0, ((omega (arith, f), omega (arith, f)), (s .pre .1 .1 .1 .0, λ t h. s .pre .1 .1 .1 .1 t (omega (arith, f))))))
+    let s = c .before .before .before .before .before in (
+      s .pre .0,
+      (λ t j h. s .pre .1 .0 t j (omega (arith, f)), (s .pre .1 .1 .0, ((omega (arith, f), omega (arith, f)), (s .pre .1 .1 .1 .1 .0, λ t h. s .pre .1 .1 .1 .1 .1 t (omega (arith, f)))))),
+    )
 
 reciprocal-requires : tie.Need-reciprocal-requires Inv-loop μ-loop
 reciprocal-requires c κs = omega arith
@@ -96,7 +98,7 @@ make-room-requires : tie.Need-make-room-requires Inv-loop μ-loop
 make-room-requires c κs =
     let l = c .before .before in
     let s = start l in
-    (s .pre .0, (omega (arith, square-small (s .args .p) (omega arith)), omega arith, l .loop .inv .1 .1 .1 .1))
+    ((s .pre .0 .0, s .pre .0 .1), (omega (arith, square-small (s .args .p) (omega arith)), omega arith, l .loop .inv .1 .1 .1 .1))
 
 add-cancel : tie.Need-add-cancel Inv-loop μ-loop
 add-cancel c = omega arith
@@ -117,7 +119,7 @@ shared-slice-read-cancel : tie.Need-shared-slice-read-cancel Inv-loop μ-loop
 shared-slice-read-cancel c = omega arith
 
 cast-cancel : tie.Need-cast-cancel Inv-loop μ-loop
-cast-cancel c = let l = c .before .before .before .before .before .before .before in omega (arith, start l .pre .1 .1 .1 .1 (l .loop .t) (omega arith))
+cast-cancel c = let l = c .before .before .before .before .before .before .before in omega (arith, start l .pre .1 .1 .1 .1 .1 (l .loop .t) (omega arith))
 
 cancel-requires : tie.Need-cancel-requires Inv-loop μ-loop
 cancel-requires c κs =
@@ -125,13 +127,13 @@ cancel-requires c κs =
     let l = head r in
     let s = start l in
     let t = l .loop .t in
-    let h = s .pre .1 .1 .1 .1 t (omega arith) in
+    let h = s .pre .1 .1 .1 .1 .1 t (omega arith) in
     let n = roomy-long r in (
       (s .pre .0 .0, s .pre .0 .1, l .before .reciprocal .ensures),
       (
         (row-fits r (omega arith) ∙ sym n, omega (arith, h, n)),
         (
-          below-take (s .args .p) (128 * t + 128 - 128 * t) (drop (128 * t) (s .args .rows .now)) (below-drop (s .args .p) (128 * t) (s .args .rows .now) (s .pre .1 .1 .1 .0 .0)),
+          below-take (s .args .p) (128 * t + 128 - 128 * t) (drop (128 * t) (s .args .rows .now)) (below-drop (s .args .p) (128 * t) (s .args .rows .now) (s .pre .1 .1 .1 .1 .0 .0)),
           λ i k. omega (arith, r .make-room .ensures .0 .0, r .make-room .ensures .0 .1 i k),
         ),
       ),
@@ -177,7 +179,7 @@ same-length : tie.Need-same-length Inv-loop μ-loop
 same-length c =
     let f = c .before .before in
     let l = f .before .before .before in
-    ap length (f .fold .ensures) ∙ reduced-length (start l .args .p) (l .loop .work) ∙ l .loop .inv .1 .0 ∙ sym (start l .pre .1 .0)
+    ap length (f .fold .ensures) ∙ reduced-length (start l .args .p) (l .loop .work) ∙ l .loop .inv .1 .0 ∙ sym (start l .pre .1 .1 .0)
 
 returns : tie.Need-returns Inv-loop μ-loop
 returns c =

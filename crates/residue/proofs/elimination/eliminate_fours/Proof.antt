@@ -10,15 +10,16 @@ use Rattle.residue.specs.Elimination.{eliminated, reduced}
 use Rattle.residue.proofs.Reduction.{square-small}
 use Rattle.residue.proofs.Vectors.{below-take, below-drop}
 use Rattle.residue.proofs.Eliminated.{long-as, eliminated-none, eliminated-part, eliminated-length, reduced-length, reduced-residues}
+use Rattle.residue.proofs.Fours.{block-zero}
 use Rattle.residue.proofs.elimination.eliminate_fours.Statement.{statement}
 use Rattle.residue.proofs.elimination.eliminate_fours.Tie as tie
 
 abbrev Inv-loop : tie.InvT-loop
-Inv-loop p count rows pivots work₀ gains top₀ t₀ work top t =
+Inv-loop p n count rows pivots work₀ gains top₀ t₀ work top t =
     (t ≤ count) × ((reduced p work ≡ eliminated p rows pivots (4 * t) work₀) × ((top ≤ 65536) × Below top work))
 
 abbrev μ-loop : tie.MeasureT-loop
-μ-loop p count rows pivots work₀ gains top₀ t₀ work top t = count - t
+μ-loop p n count rows pivots work₀ gains top₀ t₀ work top t = count - t
 
 -- the next block of four rows
 next-four : (p : ℕ) (rows pivots w v : List ℕ) (t k j : ℕ) → k ≡ 512 → j ≡ 4 → v ≡ eliminated p rows pivots (4 * t) w
@@ -39,7 +40,7 @@ module _ (l : tie.At-loop Inv-loop μ-loop) where
   long =
       let a = start .args in
       sym (reduced-length (a .p) (l .loop .work)) ∙ ap length (l .loop .inv .1 .0)
-      ∙ eliminated-length (a .p) (a .rows .now) (a .pivots .now) (a .work .now) (start .pre .1 .0) (4 * l .loop .t) (omega arith)
+      ∙ eliminated-length (a .p) (a .rows .now) (a .pivots .now) (a .work .now) (start .pre .1 .1 .0) (4 * l .loop .t) (omega arith)
 
 -- with room made it is so still
 module _ (r : tie.After-make-room Inv-loop μ-loop) where
@@ -64,7 +65,7 @@ mul-gains-2 c = omega (arith, square-small (c .before .before .before .args .p) 
 loop-holds : tie.Need-loop-holds Inv-loop μ-loop
 loop-holds c =
     let s = c .before .before .before in
-    let b = s .pre .1 .1 .1 .0 .1 in
+    let b = s .pre .1 .1 .1 .1 .0 .1 in
     (omega arith, (reduced-residues (s .args .p) (s .args .work .now) b ∙ sym (eliminated-none (s .args .p) (s .args .rows .now) (s .args .pivots .now) (s .args .work .now)), (omega arith, b)))
 
 mul-from : tie.Need-mul-from Inv-loop μ-loop
@@ -77,7 +78,16 @@ make-room-requires : tie.Need-make-room-requires Inv-loop μ-loop
 make-room-requires c κs =
     let l = c .before .before in
     let s = start l in
-    (s .pre .0, (omega (arith, square-small (s .args .p) (omega arith)), omega arith, l .loop .inv .1 .1 .1))
+    ((s .pre .0 .0, s .pre .0 .1), (omega (arith, square-small (s .args .p) (omega arith)), omega arith, l .loop .inv .1 .1 .1))
+
+add-end : tie.Need-add-end Inv-loop μ-loop
+add-end c = omega arith
+
+add-whole : tie.Need-add-whole Inv-loop μ-loop
+add-whole c = omega arith
+
+whole-requires : tie.Need-whole-requires Inv-loop μ-loop
+whole-requires c κs = omega arith
 
 add-cancel-four : tie.Need-add-cancel-four Inv-loop μ-loop
 add-cancel-four c = omega arith
@@ -94,9 +104,6 @@ part-cancel-four-start c = omega arith
 part-cancel-four-end : tie.Need-part-cancel-four-end Inv-loop μ-loop
 part-cancel-four-end c = omega arith
 
-add-cancel-four-2 : tie.Need-add-cancel-four-2 Inv-loop μ-loop
-add-cancel-four-2 c = omega arith
-
 sub-cancel-four-2 : tie.Need-sub-cancel-four-2 Inv-loop μ-loop
 sub-cancel-four-2 c = omega arith
 
@@ -108,7 +115,8 @@ part-cancel-four-end-2 c = omega arith
 
 cancel-four-requires : tie.Need-cancel-four-requires Inv-loop μ-loop
 cancel-four-requires c κs =
-    let r = c .before .before .before .before .before in
+    let w = c .before .before .before in
+    let r = w .before .before .before in
     let l = head r in
     let s = start l in
     let t = l .loop .t in
@@ -118,18 +126,24 @@ cancel-four-requires c κs =
     let j : ℕ = 4 * t + 4 - 4 * t in
     let n = length-take-le k (drop (512 * t) rows) (omega (arith, length-drop (512 * t) rows)) in
     let m = length-take-le j (drop (4 * t) pivots) (omega (arith, length-drop (4 * t) pivots)) in (
-      s .pre .0,
+      (s .pre .0 .0, s .pre .0 .1),
       (
         (omega (arith, n), omega (arith, m), roomy-long r),
         (
-          (below-take (s .args .p) k (drop (512 * t) rows) (below-drop (s .args .p) (512 * t) rows (s .pre .1 .1 .1 .0 .0)), λ i h. rw (getD-take j (drop (4 * t) pivots) i 0 (omega (arith, m)) ∙ getD-drop (4 * t) pivots i 0) (s .pre .1 .1 .1 .1 (4 * t + i) (omega (arith, m)))),
-          λ i h. omega (arith, r .make-room .ensures .0 .0, r .make-room .ensures .0 .1 i h),
+          (
+            below-take (s .args .p) k (drop (512 * t) rows) (below-drop (s .args .p) (512 * t) rows (s .pre .1 .1 .1 .1 .0 .0)),
+            λ i h. rw (getD-take j (drop (4 * t) pivots) i 0 (omega (arith, m)) ∙ getD-drop (4 * t) pivots i 0) (s .pre .1 .1 .1 .1 .1 (4 * t + i) (omega (arith, m))),
+          ),
+          (
+            (w .whole .ensures .0, block-zero (s .args .n) (4 * s .args .count) t k (w .whole .result) rows (s .pre .1 .0) (omega arith) (omega arith) (w .whole .ensures .1)),
+            λ i h. omega (arith, r .make-room .ensures .0 .0, r .make-room .ensures .0 .1 i h),
+          ),
         ),
       ),
     )
 
 add-top : tie.Need-add-top Inv-loop μ-loop
-add-top c = omega (arith, c .before .before .before .before .before .before .before .before .make-room .ensures .0 .0)
+add-top c = omega (arith, c .before .before .before .before .before .before .before .before .before .make-room .ensures .0 .0)
 
 add-t : tie.Need-add-t Inv-loop μ-loop
 add-t c = omega arith
@@ -140,7 +154,7 @@ loop-less c = omega arith
 loop-again : tie.Need-loop-again Inv-loop μ-loop
 loop-again c =
     let called = c .before .before in
-    let r = c .before .before .before .before .before .before .before .before in
+    let r = c .before .before .before .before .before .before .before .before .before in
     let l = head r in
     let s = start l in
     let t = l .loop .t in
@@ -155,7 +169,7 @@ loop-again c =
     )
 
 same-length : tie.Need-same-length Inv-loop μ-loop
-same-length c = long (c .before) ∙ sym (start (c .before) .pre .1 .0)
+same-length c = long (c .before) ∙ sym (start (c .before) .pre .1 .1 .0)
 
 returns : tie.Need-returns Inv-loop μ-loop
 returns c =
@@ -177,12 +191,14 @@ eliminate-fours-spec =
     mul-from
     mul-first
     make-room-requires
+    add-end
+    add-whole
+    whole-requires
     add-cancel-four
     mul-cancel-four
     sub-cancel-four
     part-cancel-four-start
     part-cancel-four-end
-    add-cancel-four-2
     sub-cancel-four-2
     part-cancel-four-start-2
     part-cancel-four-end-2

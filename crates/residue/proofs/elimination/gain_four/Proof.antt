@@ -5,8 +5,8 @@ use Prim.Native.Nat.{ℕ, _+_, _*_, _-_, _<_, _≤_}
 use native.Mathlib.Omega.{arith}
 use lib.ListN.{length, getD}
 use Rattle.residue.specs.Elimination.{gainedFour}
-use Rattle.residue.proofs.Filled.{filled, filled-none, kept-length, own, filled-more, filled-all}
-use Rattle.residue.proofs.Fours.{four-length, four-at}
+use Rattle.residue.proofs.Filled.{filled, filled-none, kept-length, own, filled-more}
+use Rattle.residue.proofs.Fours.{four-length, four-at, four-within}
 use Rattle.residue.proofs.elimination.gain_four.Statement.{statement}
 use Rattle.residue.proofs.elimination.gain_four.Tie as tie
 
@@ -18,10 +18,10 @@ abbrev entry : ℕ → ℕ → ℕ → ℕ → List ℕ → List ℕ → ℕ →
 entry a b c d dst block i = getD dst i 0 + gains a b c d block i
 
 abbrev Inv-loop : tie.InvT-loop
-Inv-loop dst₀ a b c d block i₀ dst i = (i ≤ 128) × (dst ≡ filled (entry a b c d dst₀ block) i dst₀)
+Inv-loop width dst₀ a b c d block i₀ dst i = (i ≤ width) × (dst ≡ filled (entry a b c d dst₀ block) i dst₀)
 
 abbrev μ-loop : tie.MeasureT-loop
-μ-loop dst₀ a b c d block i₀ dst i = 128 - i
+μ-loop width dst₀ a b c d block i₀ dst i = width - i
 
 -- at the loop's head
 module _ (l : tie.At-loop Inv-loop μ-loop) where
@@ -42,10 +42,10 @@ module _ (s : tie.Start Inv-loop μ-loop) where
   ends : (i : ℕ) → i < length (s .args .dst .now)
       → getD (gainedFour (s .args .a) (s .args .b) (s .args .c) (s .args .d) (s .args .dst .now) (s .args .block .now)) i 0
       ≡ entry (s .args .a) (s .args .b) (s .args .c) (s .args .d) (s .args .dst .now) (s .args .block .now) i
-  ends i h = four-at (s .args .a) (s .args .b) (s .args .c) (s .args .d) (s .args .dst .now) (s .args .block .now) (s .pre .0 .0) (s .pre .0 .1) i h ∙ omega arith
+  ends i h = four-at (s .args .a) (s .args .b) (s .args .c) (s .args .d) (s .args .dst .now) (s .args .block .now) (s .pre .0 .1) (s .pre .0 .2) i h ∙ omega arith
 
   lasts : length (gainedFour (s .args .a) (s .args .b) (s .args .c) (s .args .d) (s .args .dst .now) (s .args .block .now)) ≡ length (s .args .dst .now)
-  lasts = four-length (s .args .a) (s .args .b) (s .args .c) (s .args .d) (s .args .dst .now) (s .args .block .now) (s .pre .0 .0) (s .pre .0 .1)
+  lasts = four-length (s .args .a) (s .args .b) (s .args .c) (s .args .d) (s .args .dst .now) (s .args .block .now) (s .pre .0 .1) (s .pre .0 .2)
 
 -- in a turn: the sum fits 16 bits
 fits : (c : tie.In-loop Inv-loop μ-loop)
@@ -56,7 +56,7 @@ fits c =
     let s = start (c .before) in
     let i = c .before .loop .i in
     let h : i < length (s .args .dst .now) = omega arith in
-    omega (arith, ends s i h, here (c .before), s .pre .1 i (omega (arith, lasts s)))
+    omega (arith, ends s i h, here (c .before), s .pre .1 .1 i (omega (arith, lasts s)))
 
 loop-holds : tie.Need-loop-holds Inv-loop μ-loop
 loop-holds c = (omega arith, filled-none _ _)
@@ -145,7 +145,10 @@ same-length c = long (c .before)
 returns : tie.Need-returns Inv-loop μ-loop
 returns c =
     let l = c .before in
-    l .loop .inv .1 ∙ filled-all (g l) (l .loop .i) _ (start l .args .dst .now) 0 (omega arith) (lasts (start l)) (ends (start l))
+    let s = start l in
+    let e : l .loop .i ≡ s .args .width = omega arith in
+    l .loop .inv .1 ∙ ap (λ (k : ℕ). filled (g l) k (s .args .dst .now)) e
+    ∙ four-within (s .args .a) (s .args .b) (s .args .c) (s .args .d) (s .args .dst .now) (s .args .block .now) (s .pre .0 .1) (s .pre .0 .2) (s .args .width) (g l) (s .pre .0 .0) (s .pre .1 .0) (ends s)
 
 pub gain-four-spec : {M : Type 1} → statement M
 gain-four-spec =
