@@ -12,7 +12,7 @@ ghost use mathlib.Core.Path.{_≡_};
 ghost use Prim.Native.Nat.{ℕ, _+_, _*_, _<_, _≤_};
 ghost use lib.ListN.{length, getD, take, drop, set, replicate};
 ghost use Rattle.residue.specs.Vector.{Below};
-ghost use Rattle.residue.specs.Elimination.{eliminated};
+ghost use Rattle.residue.specs.Elimination.{eliminated, ZeroBehind};
 ghost use Rattle.monomial.specs.Monomial.{timesVariable};
 ghost use Rattle.monomial.specs.Order.{orderOf};
 ghost use Rattle.basis.specs.Layout.{fill, over};
@@ -44,12 +44,13 @@ fn reduce(
     requires { ⌜ (length (now own) ≡ 64) × ((length (now rows) ≡ 8192) × (length (now pivots) ≡ 64)) ⌝ }
     requires { ⌜ (Below p (now own)) × (Below p (now rows)) ⌝ }
     requires { ⌜ ((t : ℕ) → t < found → getD (now pivots) t 0 < n) ⌝ }
+    requires { ⌜ ZeroBehind n found (now rows) ⌝ }
     requires { ⌜ now work ≡ replicate 128 0 ⌝ }
     ensures { λ q. ⌜ now (work .exit) ≡ eliminated p (now (rows .entry)) (now (pivots .entry)) found (fill 128 (take n (now (own .entry)))) ⌝ }
     ensures { λ q. ⌜ q ≡ firstNonzero n (now (work .exit)) ⌝ }
 {
     rows::copy(&own[..n], &mut work[..n]);
-    eliminate(p, found, rows, pivots, work);
+    eliminate(p, n, found, rows, pivots, work);
     rows::first_nonzero(work, n)
 }
 

@@ -37,7 +37,7 @@ fn put_row(
 {
     let mut work = [0u16; 128];
     put_values(p, &[1u8], a, n, points, &mut work);
-    eliminate(p, n, rows, pivots, &mut work);
+    eliminate(p, 128, n, rows, pivots, &mut work);
     let from = 64 * i;
     insert::move_on(64, from, 64 * k, table);
     correct::correct(

@@ -50,6 +50,9 @@ fn normalise(p: u16, own: usize, at: usize, work: &mut [u16])
 {
     let c = inverse(p, work[at]);
     work[own] = 1;
+    if c == 1 {
+        return;
+    }
     let len = own + 1;
     scale(p, &mut work[..len], c);
 }

@@ -48,7 +48,7 @@ pub fn solve(p: u16, n: usize, rows: &[u16], pivots: &[u8], work: &mut [u16], ou
     ensures { λ _. ⌜ now (work .exit) ≡ eliminated p (now (rows .entry)) (now (pivots .entry)) n (now (work .entry)) ⌝ }
     ensures { λ _. ⌜ now (out .exit) ≡ over (fill 64 (solution p n (now (rows .entry)) (now (pivots .entry)) (now (work .entry)))) (now (out .entry)) ⌝ }
 {
-    eliminate(p, n, rows, pivots, work);
+    eliminate(p, 128, n, rows, pivots, work);
     put_answer(p, &work[n..n + n], &mut out[..64]);
 }
 

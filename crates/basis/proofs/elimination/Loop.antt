@@ -6,7 +6,7 @@ use native.Mathlib.Omega.{arith}
 use lib.ListN.{length, getD, set, take, drop, replicate, length-append}
 use Rattle.residue.specs.Inverse.{inverseOf}
 use Rattle.residue.specs.Vector.{Below}
-use Rattle.residue.specs.Elimination.{eliminated}
+use Rattle.residue.specs.Elimination.{eliminated, ZeroBehind}
 use Rattle.monomial.specs.Monomial.{timesVariable}
 use Rattle.monomial.specs.Order.{Order, orderOf}
 use Rattle.basis.specs.declared.candidate.Candidate.{Candidate}
@@ -42,6 +42,7 @@ pub record Sized (p n found : ℕ) (standard leads coefficients rows pivots valu
   pub values-below : Below p values
   pub ranks-below : Below (2 ^ 56) ranks
   pub pivots-inside : (t : ℕ) → t < found → getD pivots t 0 < n
+  pub rows-zero : ZeroBehind n found rows
 
 -- the points under the settings
 abbrev pub pointsOf : (p m order n : ℕ) → List ℕ → List (Point (suc (p - 1)) m)
@@ -123,6 +124,7 @@ module _ {p m order n : ℕ} {points : List ℕ} where
         values-below = residues-of values (H .values-below);
         ranks-below = H .ranks-below;
         pivots-inside = λ t h. H .pivot-rows .pivot t (omega arith);
+        rows-zero = λ t j h. H .pivot-rows .beyond t j (omega arith);
       }
 
       module _ {r : ℕ} {at exponents : List ℕ} {rank : ℕ} {own : List ℕ} (h : Head p m order n points found r standard leads coefficients rows pivots values ranks steps at exponents rank own) where

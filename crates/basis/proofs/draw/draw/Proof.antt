@@ -42,7 +42,7 @@ reduce-requires c κs =
         (l .loop .inv .in-hand .own-long, (z .rows-long, z .pivots-long)),
         (
           (own-below (given l) (l .loop .inv), z .rows-below),
-          (z .pivots-inside, refl),
+          (z .pivots-inside, (z .rows-zero, refl)),
         ),
       ),
     )

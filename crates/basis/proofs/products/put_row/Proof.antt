@@ -58,7 +58,7 @@ eliminate-requires : tie.Need-eliminate-requires
 eliminate-requires c κs =
     let d = c .before .before in
     let s = start d in
-    ((s .pre .0 .0, s .pre .0 .1), (d .put-values .kept .1 .1 .1 .1 .1 .0, ((omega arith, omega arith), ((s .pre .1 .1 .1 .1 .0 .1, below d), λ t h. omega (arith, s .pre .1 .1 .1 .1 .1 t h)))))
+    ((s .pre .0 .0, s .pre .0 .1, omega arith), (λ t j h l m. absurd (omega arith), (d .put-values .kept .1 .1 .1 .1 .1 .0, ((omega arith, omega arith), ((s .pre .1 .1 .1 .1 .0 .1, below d), λ t h. omega (arith, s .pre .1 .1 .1 .1 .1 t h))))))
 
 mul-from : tie.Need-mul-from
 mul-from c = omega arith
@@ -85,7 +85,7 @@ part-work-end : tie.Need-part-work-end
 part-work-end c = omega arith
 
 add-correct-2 : tie.Need-add-correct-2
-add-correct-2 c = omega arith
+add-correct-2 c = omega (arith, c .before .before .before .before .before .before .before .before .before .before .before .before .before .before .before .before .before .before .before .before .pre .1 .1 .1 .0)
 
 sub-correct-2 : tie.Need-sub-correct-2
 sub-correct-2 c = omega arith
@@ -94,7 +94,7 @@ part-correct-start : tie.Need-part-correct-start
 part-correct-start c = omega arith
 
 part-correct-end : tie.Need-part-correct-end
-part-correct-end c = omega arith
+part-correct-end c = omega (arith, c .before .before .before .before .before .before .before .before .before .before .before .before .before .before .before .before .before .before .before .before .pre .1 .1 .1 .0)
 
 correct-requires : tie.Need-correct-requires
 correct-requires c κs =
@@ -106,8 +106,8 @@ correct-requires c κs =
     let long = c .before .before .before .before .move-on .kept .1 .1 .1 .0 in
     let e : n + 64 - n ≡ 64 = omega arith in
     let r = length-take-le (64 * i + 64 - 64 * i) (drop (64 * i) moved) (simp length-drop (omega arith)) in
-    let w = c .before .before .before .before .before .before .before .eliminate .last .1 .1 .1 .1 .0 in
-    let h = c .before .before .before .before .before .before .before .eliminate .kept .1 .1 .1 .1 .0 in
+    let w = c .before .before .before .before .before .before .before .eliminate .last .1 .1 .1 .1 .1 .0 in
+    let h = c .before .before .before .before .before .before .before .eliminate .kept .1 .1 .1 .1 .1 .0 in
     let l = d .put-values .kept .1 .1 .1 .1 .1 .0 in
     let z = length-take-le (n + 64 - n) (drop n w) (simp length-drop (omega arith)) in (
       (s .pre .0 .0, s .pre .0 .1, s .pre .0 .3, s .pre .0 .4),
@@ -138,8 +138,8 @@ returns c =
     let n : ℕ = s .args .n in
     let i : ℕ = s .args .i in
     let e : n + 64 - n ≡ 64 = omega arith in
-    let cs : take (n + 64 - n) (drop n (c .before .before .before .before .before .before .before .before .before .before .before .eliminate .last .1 .1 .1 .1 .0)) ≡ reducedRow (s .args .p) n (s .args .points .now) (s .args .rows .now) (s .args .pivots .now) (s .args .a .now) =
-    ap (λ (k : ℕ). take k (drop n (c .before .before .before .before .before .before .before .before .before .before .before .eliminate .last .1 .1 .1 .1 .0))) e
+    let cs : take (n + 64 - n) (drop n (c .before .before .before .before .before .before .before .before .before .before .before .eliminate .last .1 .1 .1 .1 .1 .0)) ≡ reducedRow (s .args .p) n (s .args .points .now) (s .args .rows .now) (s .args .pivots .now) (s .args .a .now) =
+    ap (λ (k : ℕ). take k (drop n (c .before .before .before .before .before .before .before .before .before .before .before .eliminate .last .1 .1 .1 .1 .1 .0))) e
     ∙ ap (λ (z : List ℕ). take 64 (drop n z)) (c .before .before .before .before .before .before .before .before .before .before .before .eliminate .ensures ∙ ap (eliminated (s .args .p) (s .args .rows .now) (s .args .pivots .now) n) (loaded d)) in
     row-in 64 (s .args .k) i (64 * i + 64 - 64 * i) _ (s .args .table .now) (c .before .before .before .before .before .before .before .before .move-on .last .1 .1 .1 .0) (c .before .before .before .correct .last .1 .1 .1 .1 .1 .1 .1 .1 .0) (omega arith) (omega arith) (omega arith) (c .before .before .before .before .before .before .before .before .move-on .ensures)
     (c .before .before .before .correct .ensures .1 ∙ ap (correctedRow (s .args .p) (s .args .place) (s .args .inverse) (s .args .gone .now) (s .args .point .now) (s .args .values .now) (s .args .a .now)) cs)

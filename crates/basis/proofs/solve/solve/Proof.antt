@@ -19,7 +19,7 @@ use Rattle.basis.proofs.solve.solve.Tie as tie
 abbrev start : tie.After-eliminate → tie.Start
 start e = e .before .before .before .before .before .before
 
-reduced : (e : tie.After-eliminate) → Below (start e .args .p) (e .eliminate .last .1 .1 .1 .1 .0)
+reduced : (e : tie.After-eliminate) → Below (start e .args .p) (e .eliminate .last .1 .1 .1 .1 .1 .0)
 reduced e =
     let s = start e in
     let n : ℕ = s .args .n in
@@ -29,7 +29,7 @@ reduced e =
 eliminate-requires : tie.Need-eliminate-requires
 eliminate-requires c κs =
     let s = c .before .before .before .before .before in
-    (s .pre .0, (s .pre .1 .0 .1, (s .pre .1 .1 .0, (s .pre .1 .1 .1 .0, λ t h. omega (arith, s .pre .1 .1 .1 .1 t h)))))
+    ((s .pre .0 .0, s .pre .0 .1, omega arith), (λ t j h l m. absurd (omega arith), (s .pre .1 .0 .1, (s .pre .1 .1 .0, (s .pre .1 .1 .1 .0, λ t h. omega (arith, s .pre .1 .1 .1 .1 t h))))))
 
 add-put-answer : tie.Need-add-put-answer
 add-put-answer c = omega arith
@@ -59,16 +59,16 @@ put-answer-requires c κs =
     let e = c .before .before .before .before .before in
     let s = start e in
     let n : ℕ = s .args .n in
-    let k = length-take (n + n - n) (drop n (e .eliminate .last .1 .1 .1 .1 .0)) in (
+    let k = length-take (n + n - n) (drop n (e .eliminate .last .1 .1 .1 .1 .1 .0)) in (
       s .pre .0 .1,
       (
-        below-take (s .args .p) (n + n - n) (drop n (e .eliminate .last .1 .1 .1 .1 .0)) (below-drop (s .args .p) n (e .eliminate .last .1 .1 .1 .1 .0) (reduced e)),
+        below-take (s .args .p) (n + n - n) (drop n (e .eliminate .last .1 .1 .1 .1 .1 .0)) (below-drop (s .args .p) n (e .eliminate .last .1 .1 .1 .1 .1 .0) (reduced e)),
         (omega arith, length-take-le 64 (s .args .out .now) (s .pre .1 .0 .2)),
       ),
     )
 
 same-length : tie.Need-same-length
-same-length c = c .before .before .before .before .before .before .before .before .eliminate .kept .1 .1 .1 .1 .0
+same-length c = c .before .before .before .before .before .before .before .before .eliminate .kept .1 .1 .1 .1 .1 .0
 
 same-length-2 : tie.Need-same-length-2
 same-length-2 c = search needs
