@@ -110,6 +110,9 @@ reduced-again p (x ∷ l) = ap₂ (λ (y : ℕ) (r : List ℕ). y ∷ r) (reduce
 pub long-as : (p : ℕ) (a b : List ℕ) → reduced p a ≡ reduced p b → length a ≡ length b
 long-as p a b e = sym (reduced-length p a) ∙ ap length e ∙ reduced-length p b
 
+pub entry-as : (p : ℕ) (a b : List ℕ) → reduced p a ≡ reduced p b → (i : ℕ) → i < length a → getD a i 0 % p ≡ getD b i 0 % p
+entry-as p a b e i h = sym (reduced-at p a i h) ∙ ap (λ (l : List ℕ). getD l i 0) e ∙ reduced-at p b i (omega (arith, long-as p a b e))
+
 -- residues stay as they are
 pub reduced-residues : (p : ℕ) (l : List ℕ) → Below p l → reduced p l ≡ l
 unfolding reduced

@@ -56,20 +56,23 @@ fn make_room(p: u16, gains: u32, top: u32, work: &mut [u16]) -> u32
     p as u32
 }
 
-// Cancels the entry at a place by a row that is 1 there.
-fn cancel(p: u16, m: u16, row: &[u16], at: usize, work: &mut [u16])
+// Cancels the entry at a place, by a row that is 1 there. The entries are below `top`; the answer is what they are below then.
+fn cancel(p: u16, m: u16, row: &[u16], at: usize, top: u32, work: &mut [u16]) -> u32
     requires { ⌜ (2 ≤ p) × (p ≤ 61) × (m ≡ 65536 / p) ⌝ }
     requires { ⌜ (length (now row) ≡ length (now work)) × (at < length (now work)) ⌝ }
     requires { ⌜ Below p (now row) ⌝ }
-    requires { ⌜ Below (65536 - p * p) (now work) ⌝ }
+    requires { ⌜ (top ≤ 65536) × Below top (now work) ⌝ }
     ensures { λ _. ⌜ reduced p (now (work .exit)) ≡ cancelled p (now (row .entry)) at (reduced p (now (work .entry))) ⌝ }
-    ensures { λ _. ⌜ ((t : ℕ) → Below t (now (work .entry)) → Below (t + p * p) (now (work .exit))) ⌝ }
+    ensures { λ t. ⌜ (t ≤ 65536) × Below t (now (work .exit)) ⌝ }
 {
     let x = reduce(p, m, work[at]);
     if x == 0 {
-        return;
+        return top;
     }
+    let gains = (p * p) as u32;
+    let room = make_room(p, gains, top, work);
     gain(work, p - x, row);
+    room + gains
 }
 
 // What an entry x is, up to multiples of p, once a row is met that has e at its place and found y at its pivot.
@@ -189,12 +192,10 @@ pub fn eliminate(p: u16, n: usize, found: usize, rows: &[u16], pivots: &[u8], wo
     let count = fours(p, found);
     let mut top = eliminate_fours(p, n, count, rows, pivots, work);
     let m = reciprocal(p);
-    let gains = (p * p) as u32;
     for t in 4 * count..found {
         let from = 128 * t;
-        top = make_room(p, gains, top, work);
-        cancel(p, m, &rows[from..from + 128], pivots[t] as usize, work);
-        top += gains;
+        let at = pivots[t] as usize;
+        top = cancel(p, m, &rows[from..from + 128], at, top, work);
     }
     fold(p, work);
 }

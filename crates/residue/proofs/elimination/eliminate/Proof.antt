@@ -7,18 +7,17 @@ use lib.ListN.{length, getD, take, drop}
 use borrow.Author.Needs.{needs}
 use Rattle.residue.specs.Vector.{Below}
 use Rattle.residue.specs.Elimination.{cancelled, eliminated, reduced}
-use Rattle.residue.proofs.Reduction.{square-small}
 use Rattle.residue.proofs.Vectors.{below-take, below-drop}
-use Rattle.residue.proofs.Eliminated.{long-as, cancelled-length, eliminated-more, eliminated-length, row-long, reduced-length}
+use Rattle.residue.proofs.Eliminated.{cancelled-length, eliminated-more, eliminated-length, row-long, reduced-length}
 use Rattle.residue.proofs.elimination.eliminate.Statement.{statement}
 use Rattle.residue.proofs.elimination.eliminate.Tie as tie
 
 abbrev Inv-loop : tie.InvT-loop
-Inv-loop p n found rows pivots work₀ count top₀ m gains t₀ work top t =
+Inv-loop p n found rows pivots work₀ count top₀ m t₀ work top t =
     (t ≤ found) × ((length work ≡ 128) × (((w : List ℕ) → reduced p work₀ ≡ eliminated p rows pivots t₀ w → reduced p work ≡ eliminated p rows pivots t w) × ((top ≤ 65536) × Below top work)))
 
 abbrev μ-loop : tie.MeasureT-loop
-μ-loop p n found rows pivots work₀ count top₀ m gains t₀ work top t = found - t
+μ-loop p n found rows pivots work₀ count top₀ m t₀ work top t = found - t
 
 -- once the blocks are met
 module _ (f : tie.After-eliminate-fours Inv-loop μ-loop) where
@@ -42,26 +41,15 @@ module _ (l : tie.At-loop Inv-loop μ-loop) where
   now-met : reduced (start .args .p) (l .loop .work) ≡ eliminated (start .args .p) (start .args .rows .now) (start .args .pivots .now) (l .loop .t) (start .args .work .now)
   now-met = l .loop .inv .1 .1 .0 (start .args .work .now) (l .before .before .before .before .eliminate-fours .ensures .0)
 
--- with room made
-module _ (r : tie.After-make-room Inv-loop μ-loop) where
-  abbrev head : tie.At-loop Inv-loop μ-loop
-  head = r .before .before .before
-
-  abbrev roomy : List ℕ
-  roomy = r .make-room .last .1 .1 .1 .0
-
   -- the row that is met next
   abbrev row : List ℕ
-  row = take (128 * head .loop .t + 128 - 128 * head .loop .t) (drop (128 * head .loop .t) (start head .args .rows .now))
+  row = take (128 * l .loop .t + 128 - 128 * l .loop .t) (drop (128 * l .loop .t) (start .args .rows .now))
 
-  roomy-long : length roomy ≡ 128
-  roomy-long = long-as (start head .args .p) roomy (head .loop .work) (r .make-room .ensures .1) ∙ head .loop .inv .1 .0
-
-  row-fits : head .loop .t + 1 ≤ start head .args .found → length row ≡ 128
+  row-fits : l .loop .t + 1 ≤ start .args .found → length row ≡ 128
   row-fits h =
-      let t = head .loop .t in
+      let t = l .loop .t in
       let e : 128 * t + 128 - 128 * t ≡ 128 = omega arith in
-      ap (λ (k : ℕ). length (take k (drop (128 * t) (start head .args .rows .now)))) e ∙ row-long t (start head .args .rows .now) (omega arith)
+      ap (λ (k : ℕ). length (take k (drop (128 * t) (start .args .rows .now)))) e ∙ row-long t (start .args .rows .now) (omega arith)
 
 fours-requires : tie.Need-fours-requires Inv-loop μ-loop
 fours-requires c κs = search needs
@@ -77,12 +65,6 @@ eliminate-fours-requires c κs =
 reciprocal-requires : tie.Need-reciprocal-requires Inv-loop μ-loop
 reciprocal-requires c κs = omega arith
 
-mul-gains : tie.Need-mul-gains Inv-loop μ-loop
-mul-gains c = omega (arith, square-small (c .before .before .before .before .before .before .before .before .before .args .p) (omega arith))
-
-cast-gains : tie.Need-cast-gains Inv-loop μ-loop
-cast-gains c = omega (arith, square-small (c .before .before .before .before .before .before .before .before .before .args .p) (omega arith))
-
 mul-t : tie.Need-mul-t Inv-loop μ-loop
 mul-t c = omega (arith, c .before .before .before .before .before .fours .ensures)
 
@@ -94,11 +76,11 @@ loop-holds c =
 mul-from : tie.Need-mul-from Inv-loop μ-loop
 mul-from c = omega arith
 
-make-room-requires : tie.Need-make-room-requires Inv-loop μ-loop
-make-room-requires c κs =
-    let l = c .before .before in
-    let s = start l in
-    ((s .pre .0 .0, s .pre .0 .1), (omega (arith, square-small (s .args .p) (omega arith)), omega arith, l .loop .inv .1 .1 .1 .1))
+shared-slice-read-at : tie.Need-shared-slice-read-at Inv-loop μ-loop
+shared-slice-read-at c = omega arith
+
+cast-at : tie.Need-cast-at Inv-loop μ-loop
+cast-at c = let l = c .before .before in omega (arith, start l .pre .1 .1 .1 .1 .1 (l .loop .t) (omega arith))
 
 add-cancel : tie.Need-add-cancel Inv-loop μ-loop
 add-cancel c = omega arith
@@ -115,32 +97,22 @@ part-cancel-start c = omega arith
 part-cancel-end : tie.Need-part-cancel-end Inv-loop μ-loop
 part-cancel-end c = omega arith
 
-shared-slice-read-cancel : tie.Need-shared-slice-read-cancel Inv-loop μ-loop
-shared-slice-read-cancel c = omega arith
-
-cast-cancel : tie.Need-cast-cancel Inv-loop μ-loop
-cast-cancel c = let l = c .before .before .before .before .before .before .before in omega (arith, start l .pre .1 .1 .1 .1 .1 (l .loop .t) (omega arith))
-
 cancel-requires : tie.Need-cancel-requires Inv-loop μ-loop
 cancel-requires c κs =
-    let r = c .before .before .before .before .before in
-    let l = head r in
+    let l = c .before .before .before .before in
     let s = start l in
     let t = l .loop .t in
     let h = s .pre .1 .1 .1 .1 .1 t (omega arith) in
-    let n = roomy-long r in (
+    let n = l .loop .inv .1 .0 in (
       (s .pre .0 .0, s .pre .0 .1, l .before .reciprocal .ensures),
       (
-        (row-fits r (omega arith) ∙ sym n, omega (arith, h, n)),
+        (row-fits l (omega arith) ∙ sym n, omega (arith, h, n)),
         (
           below-take (s .args .p) (128 * t + 128 - 128 * t) (drop (128 * t) (s .args .rows .now)) (below-drop (s .args .p) (128 * t) (s .args .rows .now) (s .pre .1 .1 .1 .1 .0 .0)),
-          λ i k. omega (arith, r .make-room .ensures .0 .0, r .make-room .ensures .0 .1 i k),
+          l .loop .inv .1 .1 .1,
         ),
       ),
     )
-
-add-top : tie.Need-add-top Inv-loop μ-loop
-add-top c = omega (arith, c .before .before .before .before .before .before .before .before .make-room .ensures .0 .0)
 
 add-t : tie.Need-add-t Inv-loop μ-loop
 add-t c = omega arith
@@ -151,23 +123,22 @@ loop-less c = omega arith
 loop-again : tie.Need-loop-again Inv-loop μ-loop
 loop-again c =
     let called = c .before .before in
-    let r = c .before .before .before .before .before .before .before .before in
-    let l = head r in
+    let l = called .before .before .before .before .before in
     let s = start l in
     let t = l .loop .t in
     let p = s .args .p in
     let at = getD (s .args .pivots .now) t 0 in
     let e : 128 * t + 128 - 128 * t ≡ 128 = omega arith in
-    let n : length (reduced p (roomy r)) ≡ length (row r) = reduced-length p (roomy r) ∙ roomy-long r ∙ sym (row-fits r (omega arith)) in
-    let after : List ℕ = called .cancel .last .1 .1 .1 .1 .0 in (
+    let n : length (reduced p (l .loop .work)) ≡ length (row l) = reduced-length p (l .loop .work) ∙ l .loop .inv .1 .0 ∙ sym (row-fits l (omega arith)) in
+    let after : List ℕ = called .cancel .last .1 .1 .1 .1 .1 .0 in (
       omega arith,
       (
-        sym (reduced-length p after) ∙ ap length (called .cancel .ensures .0) ∙ cancelled-length p (row r) at (reduced p (roomy r)) n ∙ n ∙ row-fits r (omega arith),
+        sym (reduced-length p after) ∙ ap length (called .cancel .ensures .0) ∙ cancelled-length p (row l) at (reduced p (l .loop .work)) n ∙ n ∙ row-fits l (omega arith),
         (
           λ w k. called .cancel .ensures .0
-              ∙ ap₂ (λ (j : ℕ) (v : List ℕ). cancelled p (take j (drop (128 * t) (s .args .rows .now))) at v) e (r .make-room .ensures .1 ∙ l .loop .inv .1 .1 .0 w k)
+              ∙ ap₂ (λ (j : ℕ) (v : List ℕ). cancelled p (take j (drop (128 * t) (s .args .rows .now))) at v) e (l .loop .inv .1 .1 .0 w k)
               ∙ sym (eliminated-more p (s .args .rows .now) (s .args .pivots .now) w t),
-          (r .make-room .ensures .0 .0, called .cancel .ensures .1 (r .make-room .result) (r .make-room .ensures .0 .1)),
+          called .cancel .ensures .1,
         ),
       ),
     )
@@ -198,21 +169,17 @@ eliminate-spec =
     fours-requires
     eliminate-fours-requires
     reciprocal-requires
-    mul-gains
-    cast-gains
     mul-t
     loop-holds
     mul-from
-    make-room-requires
+    shared-slice-read-at
+    cast-at
     add-cancel
     mul-cancel
     sub-cancel
     part-cancel-start
     part-cancel-end
-    shared-slice-read-cancel
-    cast-cancel
     cancel-requires
-    add-top
     add-t
     loop-less
     loop-again
