@@ -1,5 +1,5 @@
-/* Drawing up in plain C by the method that the archive keeps to: a working row of values and
- * coefficients meets the pivot rows in the order they were found, here one after another. It shows
+/* Drawing up in plain C by the archive's own method: a working row of values and coefficients meets
+ * the pivot rows in the order they were found, four at a time, and modulo 2 one at a time. It shows
  * how much of a ratio is the method's. */
 #include "plain.h"
 
@@ -33,25 +33,69 @@ static void fold(uint16_t *to, unsigned length, uint16_t magic, uint16_t p)
         to[i] = reduce(to[i], magic, p);
 }
 
-/* The entry at each pivot is reduced when it is read; all entries when they might grow too great. */
-static void eliminate(const struct rows *w, uint16_t *values, uint16_t *coefficients)
+/* The same with four rows. */
+static void add_four(uint16_t *restrict to, const uint16_t factor[4], uint16_t (*from)[MOST], unsigned length)
 {
-    unsigned found = w->candidates.found, gained = 0;
-    uint16_t p = (uint16_t)w->p;
-    for (unsigned j = 0; j < found; j++) {
-        uint16_t entry = reduce(values[w->pivot[j]], w->magic, p);
-        if (entry == 0)
-            continue;
-        if (gained++ == w->room) {
-            fold(values, w->n, w->magic, p);
-            fold(coefficients, found, w->magic, p);
-            gained = 1;
-        }
-        add_scaled(values, (uint16_t)(p - entry), w->values[j], w->n);
-        add_scaled(coefficients, (uint16_t)(p - entry), w->coefficients[j], j + 1);
+    unsigned width = (length + LANES - 1) / LANES * LANES;
+    uint16_t a = factor[0], b = factor[1], c = factor[2], d = factor[3];
+    for (unsigned i = 0; i < width; i++)
+        to[i] = (uint16_t)(to[i] + a * from[0][i] + b * from[1][i] + c * from[2][i] + d * from[3][i]);
+}
+
+/* Meets pivot rows j to j + 3. What stands at a pivot when its row is met follows, up to multiples of
+ * p, from the entries at the four pivots, so the row itself is read and written once for all. */
+static void cancel_four(struct rows *w, unsigned j, uint16_t *values, uint16_t *coefficients)
+{
+    uint64_t p = w->p, standing[4];
+    uint16_t factor[4];
+    for (unsigned k = 0; k < 4; k++) {
+        unsigned at = w->pivot[j + k];
+        standing[k] = values[at];
+        for (unsigned l = 0; l < k; l++)
+            standing[k] += standing[l] * (p - w->values[j + l][at]);
+        uint64_t rest = standing[k] % p;
+        factor[k] = (uint16_t)(rest == 0 ? 0 : p - rest);
     }
-    fold(values, w->n, w->magic, p);
-    fold(coefficients, found, w->magic, p);
+    add_four(values, factor, w->values + j, w->n);
+    add_four(coefficients, factor, w->coefficients + j, j + 4);
+}
+
+static void fold_both(const struct rows *w, uint16_t *values, uint16_t *coefficients)
+{
+    fold(values, w->n, w->magic, (uint16_t)w->p);
+    fold(coefficients, w->candidates.found, w->magic, (uint16_t)w->p);
+}
+
+/* Meets pivot row j. The entry at its pivot is reduced when it is read; whether there was a gain. */
+static int cancel(const struct rows *w, unsigned j, uint16_t *values, uint16_t *coefficients)
+{
+    uint16_t p = (uint16_t)w->p, entry = reduce(values[w->pivot[j]], w->magic, p);
+    if (entry == 0)
+        return 0;
+    add_scaled(values, (uint16_t)(p - entry), w->values[j], w->n);
+    add_scaled(coefficients, (uint16_t)(p - entry), w->coefficients[j], j + 1);
+    return 1;
+}
+
+/* All entries are reduced when they might grow too great, and at the end. */
+static void eliminate(struct rows *w, uint16_t *values, uint16_t *coefficients)
+{
+    unsigned found = w->candidates.found, gained = 0, j = 0;
+    for (; w->p > 2 && j + 4 <= found; j += 4, gained += 4) {
+        if (gained + 4 > w->room) {
+            fold_both(w, values, coefficients);
+            gained = 0;
+        }
+        cancel_four(w, j, values, coefficients);
+    }
+    for (; j < found; j++) {
+        if (gained == w->room) {
+            fold_both(w, values, coefficients);
+            gained = 0;
+        }
+        gained += (unsigned)cancel(w, j, values, coefficients);
+    }
+    fold_both(w, values, coefficients);
 }
 
 /* Keeps a pivot row, scaled to 1 at its pivot. */
