@@ -85,7 +85,7 @@ pub fn first_row(
 }
 
 // A row of coefficients plus factor times the lost row, with the factor put into the column of its lead.
-pub fn put_corrected(
+fn put_corrected(
     p: u16,
     place: usize,
     factor: u16,

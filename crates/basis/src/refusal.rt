@@ -10,7 +10,7 @@ ghost use Rattle.basis.specs.Refusal.{firstOf};
 ghost use Rattle.basis.specs.Settings.{settingsCases};
 
 // Whether one of four tables of these lengths is shorter than its size.
-pub fn too_short(states: usize, standard: usize, leads: usize, coefficients: usize) -> bool
+fn too_short(states: usize, standard: usize, leads: usize, coefficients: usize) -> bool
     ensures { λ b. ⌜ b ≡ (ltb states 512 || ltb standard 512 || ltb leads 3592 || ltb coefficients 28736) ⌝ }
 {
     if states < 512 {
@@ -26,7 +26,7 @@ pub fn too_short(states: usize, standard: usize, leads: usize, coefficients: usi
 }
 
 // A table or buffer is too short, a length is wrong, there are too many points or terms.
-pub fn by_sizes(settings: Settings, short: bool, wrong: bool, many: bool) -> u8
+fn by_sizes(settings: Settings, short: bool, wrong: bool, many: bool) -> u8
     ensures { λ k. ⌜ k ≡ firstOf (settingsCases settings ++ ((short, 6) ∷ (wrong, 7) ∷ (many, 8) ∷ [])) ⌝ }
 {
     let k = settings_refusal(settings);

@@ -41,7 +41,7 @@ pub fn first_nonzero(work: &[u16], n: usize) -> usize
     n
 }
 
-// Makes the working row a pivot row: its coefficient for its own monomial becomes 1, and then its value at the pivot.
+// Makes the working row a pivot row: its coefficient for its own monomial becomes 1, and then its value at the pivot, unless that is 1 already.
 fn normalise(p: u16, own: usize, at: usize, work: &mut [u16])
     requires { ⌜ (2 ≤ p) × (p ≤ 61) ⌝ }
     requires { ⌜ (own < length (now work)) × (at < length (now work)) ⌝ }

@@ -16,7 +16,7 @@ ghost use Rattle.basis.specs.Solving.{occurs};
 ghost use Rattle.basis.specs.Interpolants.{solution, termValues, names};
 
 // Minus residues, as bytes.
-pub fn put_negatives(p: u16, from: &[u16], to: &mut [u8])
+fn put_negatives(p: u16, from: &[u16], to: &mut [u8])
     requires { ⌜ p ≤ 61 ⌝ }
     requires { ⌜ Below p (now from) ⌝ }
     requires { ⌜ length (now from) ≤ length (now to) ⌝ }

@@ -12,6 +12,7 @@ use crate::records;
 use crate::records::Entries;
 use crate::records::HeaderAt;
 use crate::tables;
+use basis::bytes;
 
 // The number of a refusal, or 0, with the record at fault.
 pub struct Refusal {
@@ -112,8 +113,8 @@ fn read_entries(
     if repeated != 0 {
         return refused(11, repeated as u16 + 1);
     }
-    tables::copy_over(&rows, states);
-    tables::copy_over(&residues, values);
+    bytes::copy(&rows, states);
+    bytes::copy(&residues, values);
     Read {
         refusal: 0,
         at: 0,

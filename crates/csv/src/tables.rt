@@ -4,7 +4,6 @@ ghost use mathlib.Core.List.{[]};
 ghost use Prim.Native.Nat.{_+_, _*_, _≤_};
 ghost use lib.ListN.{length};
 ghost use Rattle.basis.specs.Levels.{isAmong, groups};
-ghost use Rattle.basis.specs.Layout.{over};
 ghost use Rattle.csv.specs.Reading.{firstRepeat};
 ghost use Rattle.csv.specs.Points.{rowAt, earlier};
 use crate::forms;
@@ -38,14 +37,4 @@ pub fn first_repeat(points: &[u8], n: usize) -> usize
         }
     }
     0
-}
-
-// The new bytes in the place of the first of the old ones.
-pub fn copy_over(new: &[u8], old: &mut [u8])
-    requires { ⌜ length (now new) ≤ length (now old) ⌝ }
-    ensures { λ _. ⌜ now (old .exit) ≡ over (now (new .entry)) (now (old .entry)) ⌝ }
-{
-    for i in 0..new.len() {
-        old[i] = new[i];
-    }
 }

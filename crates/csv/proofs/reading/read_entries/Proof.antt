@@ -152,20 +152,20 @@ returns-3 c =
     ∙ sym (past (c .before .before .before .before .before .before .before .before .before .before) (entriesCases (says s))))
     (λ e. omega arith)
 
-slice-aggregate-copy-over : tie.Need-slice-aggregate-copy-over
-slice-aggregate-copy-over c = search needs
+slice-aggregate-copy : tie.Need-slice-aggregate-copy
+slice-aggregate-copy c = search needs
 
-copy-over-requires : tie.Need-copy-over-requires
-copy-over-requires c κs =
+copy-requires : tie.Need-copy-requires
+copy-requires c κs =
     let h = space (c .before .before .before .before .before .before .before .before .before .before .before) .states in
     let e = rows-length (c .before .before .before .before .before .before .before .before) in
     omega arith
 
-slice-aggregate-copy-over-2 : tie.Need-slice-aggregate-copy-over-2
-slice-aggregate-copy-over-2 c = search needs
+slice-aggregate-copy-2 : tie.Need-slice-aggregate-copy-2
+slice-aggregate-copy-2 c = search needs
 
-copy-over-requires-2 : tie.Need-copy-over-requires-2
-copy-over-requires-2 c κs =
+copy-requires-2 : tie.Need-copy-requires-2
+copy-requires-2 c κs =
     let h = space (c .before .before .before .before .before .before .before .before .before .before .before .before .before .before .before .before) .values in
     let e = residues-length (c .before .before .before .before .before .before .before .before .before .before .before .before .before) in
     omega arith
@@ -187,8 +187,8 @@ returns-4 c =
     let s = c .before .before .before .before .before .before .before .before .before .before .before .before .before .before .before .before .before .before .before .before .before .before .before .before in
     let f = c .before .before .before .before .before .before .before .before .before .before .before .before .before .before .before .before .fill-entries .ensures .1 in
     assembled (s .args .modulus) (s .args .variables) (s .args .order) (s .args .n) (text s) (s .args .states .now) (s .args .values .now) _ _ (count s)
-    (c .before .before .before .before .before .before .before .copy-over .ensures ∙ ap (λ (t : List ℕ). over t (s .args .states .now)) (f .0))
-    (c .before .before .copy-over2 .ensures ∙ ap (λ (t : List ℕ). over t (s .args .values .now)) (f .1))
+    (c .before .before .before .before .before .before .before .copy .ensures ∙ ap (λ (t : List ℕ). over t (s .args .states .now)) (f .0))
+    (c .before .before .copy2 .ensures ∙ ap (λ (t : List ℕ). over t (s .args .values .now)) (f .1))
     ∙ when-accepted _ _ _ _
     (entries-pass (says s) (sym (outside-is (c .before .before .before .before .before .before .before .before .before .before .before .before .before .before .before .before)) ∙ c .before .before .before .before .before .before .before .before .before .before .before .before .before .if2 .left) (sym (repeated-is (c .before .before .before .before .before .before .before .before .before .before .before)) ∙ c .before .before .before .before .before .before .before .before .before .before .if3 .left)
     ∙ sym (past (c .before .before .before .before .before .before .before .before .before .before .before .before .before .before .before .before .before .before .before) (entriesCases (says s))))
@@ -214,10 +214,10 @@ read-entries-spec =
     add-refused-2
     refused-requires-3
     returns-3
-    slice-aggregate-copy-over
-    copy-over-requires
-    slice-aggregate-copy-over-2
-    copy-over-requires-2
+    slice-aggregate-copy
+    copy-requires
+    slice-aggregate-copy-2
+    copy-requires-2
     cast-t18
     cast-t38
     same-length
