@@ -1,4 +1,4 @@
-/* Part "examples": those of document 01 that are not proved from the definitions, and the fresh basis. */
+/* Part "examples": those of docs/SCOPE.md that are not proved from the definitions, and the fresh basis. */
 #include "guard.h"
 #include "parts.h"
 

@@ -1,4 +1,4 @@
-/* The calls once more, written in plain C from document 01 and the readings taken of its open points, to
+/* The calls once more, written in plain C from docs/SCOPE.md and the readings taken of its open points, to
  * compare the archive with.
  * Each has the type of the exported call of the same name. */
 #ifndef REFERENCE_H

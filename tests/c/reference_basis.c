@@ -1,4 +1,4 @@
-/* The basis of a list of points by document 01's definitions: every monomial that could matter is
+/* The basis of a list of points by docs/SCOPE.md's definitions: every monomial that could matter is
  * looked at in increasing order, and the coefficients come from solving linear equations. */
 #include "reference.h"
 

@@ -1,4 +1,4 @@
-/* The six calls over tables, by document 01: the refusals in their order, then the answer. */
+/* The six calls over tables, by docs/SCOPE.md: the refusals in their order, then the answer. */
 #include "reference.h"
 
 #include <string.h>
@@ -220,7 +220,7 @@ uint32_t reference_interpolate(uint64_t modulus, uint64_t variables, uint64_t or
     return (uint32_t)refusal;
 }
 
-/* Variables in increasing order; document 01 leaves the order free. */
+/* Variables in increasing order; docs/SCOPE.md leaves the order free. */
 uint32_t reference_wiring(uint64_t modulus, uint64_t variables, uint64_t order, uint64_t n, uint64_t r,
                           const uint8_t *states, size_t states_length,
                           const uint8_t *standard, size_t standard_length,

@@ -1,4 +1,4 @@
-/* The text reader by document 01: first the records and the contents of their fields, then their
+/* The text reader by docs/SCOPE.md: first the records and the contents of their fields, then their
  * form, then the remaining refusals in order. */
 #include "reference.h"
 

@@ -1,4 +1,4 @@
--- The marked examples of document 01, computed from the definitions: one claim over their list. What additions return is the reference list's, by the
+-- The marked examples of docs/SCOPE.md, computed from the definitions: one claim over their list. What additions return is the reference list's, by the
 -- agreement, so that the examples of additions compute no tables.
 use mathlib.Core.Path.{_≡_, refl, sym, _∙_, subst}
 use mathlib.Core.List.{List, [], _∷_, map}

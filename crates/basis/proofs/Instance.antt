@@ -1,4 +1,4 @@
--- The space of document 01 obeys the laws of the theory, in any number of variables, under every modulus and every order by one argument.
+-- The space of docs/SCOPE.md obeys the laws of the theory, in any number of variables, under every modulus and every order by one argument.
 use mathlib.Core.Path.{_≡_, refl, sym, _∙_, ap, subst}
 use mathlib.Core.List.{List, [], _∷_}
 use mathlib.Core.Logic.{inl, inr, _≢_}

@@ -1,4 +1,4 @@
--- What is claimed of every list of additions: document 01, 'The two desks', as one statement. proofs/agreement has its proof.
+-- What is claimed of every list of additions: docs/SCOPE.md, 'The two desks', as one statement. proofs/agreement has its proof.
 use mathlib.Core.Path.{_≡_}
 use mathlib.Core.Bool.{false}
 use mathlib.Core.List.{List, []}

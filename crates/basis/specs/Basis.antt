@@ -1,4 +1,4 @@
--- What a basis of a list of points is, and what an interpolant is (document 01, 'The sheet'), said and not computed.
+-- What a basis of a list of points is, and what an interpolant is (docs/SCOPE.md, 'The sheet'), said and not computed.
 use mathlib.Core.Path.{_≡_}
 use mathlib.Core.List.{List, [], _∷_}
 use mathlib.Core.Logic.{_↔_}

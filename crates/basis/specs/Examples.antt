@@ -1,4 +1,4 @@
--- The eleven examples marked * in document 01, section 'Examples', as one list, and what each of them says.
+-- The eleven examples marked * in docs/SCOPE.md, 'Examples', as one list, and what each of them says.
 use mathlib.Core.Path.{_≡_}
 use mathlib.Core.List.{List, [], _∷_, map}
 use Prim.Native.Nat.{ℕ, _-_, _%_, _<_}

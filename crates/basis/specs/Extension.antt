@@ -1,4 +1,4 @@
--- One point more (document 01, 'The sheet': 'Adding a state follows Lemma 2'), computed. The interpolants are Newton's.
+-- One point more (docs/SCOPE.md, 'The sheet': adding follows Lemma 2), computed. The interpolants are Newton's.
 use mathlib.Core.List.{List, [], _∷_}
 use mathlib.Core.Bool.{Bool, false, cond, _||_}
 use Prim.Native.Nat.{ℕ, zero, suc, _+_, _*_, _%_}

@@ -1,4 +1,4 @@
--- The space of document 01: monomials in m variables as lists of exponents, points as lists of residues, one of the three orders.
+-- The space of docs/SCOPE.md: monomials in m variables as lists of exponents, points as lists of residues, one of the three orders.
 use mathlib.Core.Path.{_≡_, _∙_}
 use mathlib.Core.List.{List, [], _∷_, map}
 use Prim.Native.Nat.{ℕ, suc, _%_, suc-le-suc, zero-le}

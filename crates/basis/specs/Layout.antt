@@ -1,4 +1,4 @@
--- How lists of numbers lie in lent bytes: document 01, 'The sheet'.
+-- How lists of numbers lie in lent bytes: docs/SCOPE.md, 'The sheet'.
 use mathlib.Core.Path.{_≡_, refl, ap}
 use mathlib.Core.Bool.{Bool}
 use mathlib.Core.List.{List, [], _∷_, _++_}

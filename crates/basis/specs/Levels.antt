@@ -1,4 +1,4 @@
--- Levels and their residues: document 01, 'What the desk does'. A level that is out of range has no residue; 0 stands in its place, and no accepted call
+-- Levels and their residues: docs/SCOPE.md, 'What the desk does'. A level that is out of range has no residue; 0 stands in its place, and no accepted call
 -- has one.
 use mathlib.Core.Bool.{Bool, true, false, not, _&&_, _||_}
 use mathlib.Core.List.{List, [], _∷_, map}

@@ -1,4 +1,4 @@
--- Polynomials, their values, and the leading and standard monomials of a list of points (document 01, 'The sheet', Definitions).
+-- Polynomials, their values, and the leading and standard monomials of a list of points (docs/SCOPE.md, 'The sheet', Definitions).
 use mathlib.Core.List.{List, [], _∷_}
 use mathlib.Core.Logic.{_≢_}
 use mathlib.Core.Bool.{cond}

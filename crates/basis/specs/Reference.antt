@@ -1,4 +1,4 @@
--- Lists of additions: document 01, 'The two desks'. The reference list is that section's book.
+-- Lists of additions: docs/SCOPE.md, 'The two desks'. The reference list is that section's book.
 use mathlib.Core.Logic.{_≢_}
 use mathlib.Core.Bool.{not, cond}
 use mathlib.Core.List.{List, [], _∷_, _++_}

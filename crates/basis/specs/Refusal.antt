@@ -1,4 +1,4 @@
--- Refusals: document 01, 'Refused, in this order of checking'.
+-- Refusals: docs/SCOPE.md, 'Refused, in this order of checking'.
 use mathlib.Core.Bool.{Bool, cond}
 use mathlib.Core.List.{List, [], _∷_}
 use Prim.Native.Nat.{ℕ}

@@ -1,4 +1,4 @@
--- The settings of a call: document 01, 'What the desk does', and the refusals that look at them alone.
+-- The settings of a call: docs/SCOPE.md, 'What the desk does', and the refusals that look at them alone.
 use mathlib.Core.Bool.{not, _&&_}
 use mathlib.Core.List.{List, [], _∷_}
 use lib.Dec.{leb, ltb}

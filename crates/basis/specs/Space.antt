@@ -1,5 +1,5 @@
 -- What the definitions of the basis are over: monomials under an order, points, and residues modulo p.
--- The instance at document 01's monomials and residues is in Instance.antt; nothing else is asked of it here than what is listed.
+-- The instance at docs/SCOPE.md's monomials and residues is in Instance.antt; nothing else is asked of it here than what is listed.
 use mathlib.Core.Path.{_≡_}
 use mathlib.Core.Bool.{Bool, true}
 use Prim.Native.Nat.{ℕ, Ordering, Ordering·lt}

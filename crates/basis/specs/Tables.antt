@@ -1,4 +1,4 @@
--- The four lent tables of a list of points under settings: document 01, 'The sheet'.
+-- The four lent tables of a list of points under settings: docs/SCOPE.md, 'The sheet'.
 use mathlib.Core.Bool.{Bool, _&&_, _||_}
 use mathlib.Core.List.{List, map}
 use Prim.Native.Nat.{ℕ, suc, _-_}

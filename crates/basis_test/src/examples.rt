@@ -1,4 +1,4 @@
-// Document 01's examples that are not marked, and the three points of its examples with each byte of their tables changed.
+// docs/SCOPE.md's examples that are not marked, and the three points of its examples with each byte of their tables changed.
 use crate::buffers;
 use crate::damage;
 use crate::grid;

@@ -1,4 +1,4 @@
-// Holds every call of the crate basis to stored results and to document 01's list of refusals.
+// Holds every call of the crate basis to stored results and to docs/SCOPE.md's list of refusals.
 mod added;
 mod alike;
 mod answered;

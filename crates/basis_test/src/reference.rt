@@ -1,4 +1,4 @@
-// A plain list of points kept beside the tables, fed the settings and the levels of each addition, and its answers (document 01, 'The two desks').
+// A plain list of points kept beside the tables, fed the settings and the levels of each addition, and its answers (docs/SCOPE.md, 'The two desks').
 use crate::buffers;
 
 // The residue of a level that is given as a byte, 255 being -1; 255 where it is out of range.

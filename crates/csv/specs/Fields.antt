@@ -1,4 +1,4 @@
--- Bytes to records of fields: RFC 4180 with LF accepted as well as CRLF as a record's end (document 01, 'Reading text').
+-- Bytes to records of fields: RFC 4180 with LF accepted as well as CRLF as a record's end (docs/SCOPE.md, 'Reading text').
 use mathlib.Core.Bool.{Bool, true, false, not, cond, _||_}
 use mathlib.Core.List.{List, [], _∷_}
 use mathlib.Core.Option.{Option, some, none}

@@ -1,4 +1,4 @@
--- The forms of fields: document 01, 'Reading text'. Quoted fields count by their content.
+-- The forms of fields: docs/SCOPE.md, 'Reading text'. Quoted fields count by their content.
 use mathlib.Core.Bool.{Bool, cond, _&&_}
 use mathlib.Core.List.{List, [], _∷_}
 use mathlib.Core.Option.{Option, some, none, Option·map}

@@ -1,4 +1,4 @@
--- What is printed: document 01, 'The program reads standard input and prints'.
+-- What is printed: docs/SCOPE.md, 'Examples': the program.
 use mathlib.Core.Path.{_≡_}
 use mathlib.Core.Bool.{cond}
 use mathlib.Core.List.{List, [], _∷_, _++_, map, flatten, zipWith}

@@ -1,4 +1,4 @@
--- Reading a text: its refusals with the record at fault, in document 01's order of checking, and what an accepted text leaves.
+-- Reading a text: its refusals with the record at fault, in docs/SCOPE.md's order of checking, and what an accepted text leaves.
 use mathlib.Core.Bool.{Bool, true, false, not, cond, _&&_, _||_}
 use mathlib.Core.List.{List, [], _∷_, _++_, map}
 use mathlib.Core.Option.{Option, some, none, Option·getD}

@@ -73,7 +73,7 @@ pub data Checked : Type 0 where
   ends : (rest : List ℕ) → Checked
   refuses : (refusal at : ℕ) → Checked
 
--- document 01's number for each case: a record that is no entry is refused with 2
+-- docs/SCOPE.md's number for each case: a record that is no entry is refused with 2
 unfoldable pub checked : ℕ → Part (List ℤ) → Checked
 checked at (part levels rest) = ends rest
 checked at faulty = refuses 2 at

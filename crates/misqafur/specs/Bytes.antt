@@ -1,4 +1,4 @@
--- Bytes handed in by C: "Calls linked from C take signed bytes as plain bytes of the same bits, 255 being -1" (document 01, 'What the desk does').
+-- Bytes handed in by C: a signed byte comes as the plain byte of the same bits, 255 being -1 (docs/SCOPE.md, 'What the desk does').
 use mathlib.Core.List.{List, map}
 use Prim.Native.Nat.{ℕ}
 use lib.IntN.{ℤ}

@@ -3,7 +3,7 @@ use Prim.Native.Nat.{Ordering, Ordering·lt, Ordering·eq, Ordering·gt}
 use Rattle.monomial.specs.declared.order.Comparison.{Comparison}
 use Rattle.monomial.specs.declared.order.Comparison.the-variants.{Less, Equal, Greater}
 
--- less, equal or greater, in the order of document 01, 'Monomial orders'
+-- less, equal or greater, in the order of docs/SCOPE.md, 'Monomial orders'
 abbrev pub comparisonOf : Ordering → Comparison
 comparisonOf Ordering·lt = Less
 comparisonOf Ordering·eq = Equal

@@ -1,4 +1,4 @@
--- Increasing lists, as the tables of monomials are (document 01, 'The sheet': tables).
+-- Increasing lists, as the tables of monomials are (docs/SCOPE.md, 'The sheet': tables).
 use mathlib.Core.Path.{_≡_}
 use mathlib.Core.List.{List, [], _∷_}
 use Prim.Native.Nat.{Ordering, Ordering·lt, Ordering·eq, Ordering·gt}

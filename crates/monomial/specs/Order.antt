@@ -1,4 +1,4 @@
--- The monomial orders, in the words of document 01, 'Monomial orders'. x1 is the greatest variable, xm the smallest.
+-- The monomial orders, in the words of docs/SCOPE.md, 'Monomial orders'. x1 is the greatest variable, xm the smallest.
 use mathlib.Core.List.{List, [], _∷_}
 use Prim.Native.Nat.{ℕ, zero, suc, compare, Ordering, Ordering·lt, Ordering·eq, Ordering·gt}
 use Rattle.monomial.specs.Monomial.{degree}
@@ -9,7 +9,7 @@ pub data Order : Type 0 where
   grlex : Order
   grevlex : Order
 
--- the order of a number; one above 2 is refused before it is read here (document 01, 'Refused', 5)
+-- the order of a number; one above 2 is refused before it is read here (docs/SCOPE.md, 'Refused, in this order of checking', 5)
 unfoldable pub orderOf : ℕ → Order
 orderOf zero = lex
 orderOf (suc zero) = grlex

@@ -1,4 +1,4 @@
-// Residues modulo one of the 18 primes of document 01.
+// Residues modulo one of the 18 primes of docs/SCOPE.md.
 pub mod arithmetic;
 pub mod elimination;
 pub mod inverse;

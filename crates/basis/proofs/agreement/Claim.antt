@@ -1,4 +1,4 @@
--- THE claim over any list of additions (document 01, 'The two desks').
+-- THE claim over any list of additions (docs/SCOPE.md, 'The two desks').
 use mathlib.Core.Path.{_≡_, refl, sym, _∙_, ap}
 use mathlib.Core.List.{List, [], _∷_, _++_, append-nil}
 use Prim.Native.Nat.{ℕ, zero, suc, _≤_}

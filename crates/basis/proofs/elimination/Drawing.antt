@@ -1,4 +1,4 @@
--- Drawing up from all points (document 01, 'Buchberger and Möller, 1982'): monomials in increasing order, each a product of a standard monomial found; what has
+-- Drawing up from all points, after Buchberger and Möller (docs/SCOPE.md, 'The sheet'): monomials in increasing order, each a product of a standard monomial found; what has
 -- been decided is the basis up to the last of them. A monomial all of whose divisors are standard is a lead if its values are a combination of those of the
 -- standard monomials found, and else standard.
 use mathlib.Core.Path.{_≡_, sym, _∙_, ap, subst}

@@ -1,4 +1,4 @@
--- How many standard monomials and rows there are, and how large their degrees (document 01, 'The sheet').
+-- How many standard monomials and rows there are, and how large their degrees (docs/SCOPE.md, 'The sheet').
 use mathlib.Core.Path.{_≡_, refl, _∙_, ap}
 use mathlib.Core.List.{List, [], _∷_}
 use mathlib.Core.Logic.{_⊎_, inl, inr}

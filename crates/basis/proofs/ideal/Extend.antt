@@ -1,4 +1,4 @@
--- One point more (document 01, 'Adding a state follows Lemma 2'): the first lead whose row is not zero there becomes standard, and the leads and interpolants follow.
+-- One point more (docs/SCOPE.md, 'The sheet': adding follows Lemma 2): the first lead whose row is not zero there becomes standard, and the leads and interpolants follow.
 use mathlib.Core.Path.{_≡_, refl, sym, _∙_, subst}
 use mathlib.Core.List.{List, _∷_}
 use mathlib.Core.Logic.{_⊎_, inl, inr, _≢_}

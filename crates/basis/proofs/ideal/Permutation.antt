@@ -1,4 +1,4 @@
--- The basis, its interpolants and its remainders depend on the points and not on their order (document 01, 'The two desks': 'in any order').
+-- The basis, its interpolants and its remainders depend on the points and not on their order (docs/SCOPE.md, 'The two desks').
 use mathlib.Core.Path.{_≡_, refl, sym, _∙_}
 use mathlib.Core.List.{List, [], _∷_, _++_}
 use mathlib.Core.Logic.{inl, inr, _≢_}
