@@ -6,12 +6,12 @@ use native.Mathlib.Omega.{arith}
 use native.Mathlib.Nat.{le-of-suc-le-suc}
 use lib.IntN.{ℤ}
 use lib.ListN.{length, take, drop, length-map}
-use Rattle.basis.specs.declared.settings.Settings.{Settings}
-use Rattle.basis.specs.Levels.{residues, groups}
-use Rattle.basis.specs.Layout.{fill}
-use Rattle.basis.specs.Instance.{reduced, pointOf}
-use Rattle.basis.specs.Tables.{pointsIn}
-use Rattle.basis.proofs.Places.{length-groups, groups-more}
+use Rattle.specification.specs.declared.settings.Settings.{Settings}
+use Rattle.specification.specs.Levels.{residues, groups}
+use Rattle.specification.specs.Layout.{fill}
+use Rattle.specification.specs.Instance.{reduced, pointOf}
+use Rattle.specification.specs.Tables.{pointsIn}
+use Rattle.specification.proofs.Places.{length-groups, groups-more}
 
 module _ {A B : Type 0} (f : A → B) where
   pub map-take : (k : ℕ) (l : List A) → map f (take k l) ≡ take k (map f l)

@@ -12,11 +12,11 @@ use Rattle.residue.proofs.Congruence.{rfl, of, flip, reduce, _then_, _plus_, _t
 use Rattle.residue.proofs.Vectors.{map-at, powered-length, powered-at, powered-below}
 use Rattle.monomial.specs.Monomial.{valueAt}
 use Rattle.monomial.proofs.Loops.{value-again, value-end}
-use Rattle.basis.specs.Levels.{groups}
-use Rattle.basis.specs.Layout.{over}
+use Rattle.specification.specs.Levels.{groups}
+use Rattle.specification.specs.Layout.{over}
 use Rattle.basis.specs.Drawing.{columnOf}
-use Rattle.basis.proofs.Layouts.{take-over}
-use Rattle.basis.proofs.Places.{length-groups, groups-at}
+use Rattle.specification.proofs.Layouts.{take-over}
+use Rattle.specification.proofs.Places.{length-groups, groups-at}
 use Rattle.basis.proofs.ValueRows.{column-long}
 use Rattle.basis.specs.Interpolants.{termValues}
 use Rattle.basis.proofs.Copies.{map-same}

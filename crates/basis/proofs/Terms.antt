@@ -18,13 +18,13 @@ use Rattle.residue.proofs.Congruence.{reduce, scale, _then_, _plus_}
 use Rattle.residue.proofs.Vectors.{map-at, dot-more}
 use Rattle.monomial.specs.Monomial.{valueAt}
 use Rattle.monomial.specs.Order.{Order}
-use Rattle.basis.specs.Levels.{groups}
-use Rattle.basis.specs.Layout.{fill}
-use Rattle.basis.specs.Polynomial.{eval}
-use Rattle.basis.specs.Instance.{Point, monomialOf, spaceOf}
-use Rattle.basis.specs.Solving.{allZero, withinVariables, occurs, polynomialOf}
-use Rattle.basis.proofs.Equality.{and-left, and-right}
-use Rattle.basis.proofs.Places.{length-groups, groups-step, groups-end, groups-at}
+use Rattle.specification.specs.Levels.{groups}
+use Rattle.specification.specs.Layout.{fill}
+use Rattle.specification.specs.Polynomial.{eval}
+use Rattle.specification.specs.Instance.{Point, monomialOf, spaceOf}
+use Rattle.specification.specs.Solving.{allZero, withinVariables, occurs, polynomialOf}
+use Rattle.specification.proofs.Equality.{and-left, and-right}
+use Rattle.specification.proofs.Places.{length-groups, groups-step, groups-end, groups-at}
 
 -- Are all zero? The entry at i is 0 or not, or there is no further one.
 module _ (l : List ℕ) (i : ℕ) (h : i < length l) where

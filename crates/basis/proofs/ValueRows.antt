@@ -14,13 +14,13 @@ use Rattle.residue.proofs.Vectors.{map-at, pointwise-length, pointwise-at, poin
 use Rattle.residue.proofs.Moduli.{below-at}
 use Rattle.monomial.specs.Order.{Order}
 use Rattle.monomial.specs.Rank.{variableRank}
-use Rattle.basis.specs.Levels.{groups}
-use Rattle.basis.specs.Layout.{fill, inPlaces, over}
+use Rattle.specification.specs.Levels.{groups}
+use Rattle.specification.specs.Layout.{fill, inPlaces, over}
 use Rattle.basis.specs.Working.{withPlace}
 use Rattle.basis.specs.Drawing.{stepsOf, columnOf, columnsOf, productValues}
-use Rattle.basis.proofs.Layouts.{length-fill, fill-at, fill-exact, take-fill, length-over, over-all}
+use Rattle.specification.proofs.Layouts.{length-fill, fill-at, fill-exact, take-fill, length-over, over-all}
 use Rattle.basis.proofs.elimination.Exponents.{variable-small}
-use Rattle.basis.proofs.Places.{length-groups, groups-at, place-at, no-places, over-zeros, place-more}
+use Rattle.specification.proofs.Places.{length-groups, groups-at, place-at, no-places, over-zeros, place-more}
 use Rattle.basis.proofs.WorkingRows.{replaced-length, replaced-below, replaced-before, replaced-here}
 
 -- a part that was lent, and came back written over at its front

@@ -11,11 +11,11 @@ use native.Mathlib.Omega.{arith}
 use lib.ListN.{length, set, length-append}
 use lib.Dec.{T}
 use Rattle.residue.specs.Lists.{Among}
-use Rattle.basis.specs.Layout.{fill}
-use Rattle.basis.specs.Solving.{Once, occurs, Names}
+use Rattle.specification.specs.Layout.{fill}
+use Rattle.specification.specs.Solving.{Once, occurs, Names}
 use Rattle.basis.specs.Interpolants.{names}
-use Rattle.basis.proofs.Layouts.{fill-at}
-use Rattle.basis.proofs.ideal.Lists.{snoc-of, snoc-in}
+use Rattle.specification.proofs.Layouts.{fill-at}
+use Rattle.specification.proofs.ideal.Lists.{snoc-of, snoc-in}
 
 -- one number more at the end of a list that is filled up
 pub fill-put : (w : ℕ) (l : List ℕ) (v : ℕ) → length l < w → set (fill w l) (length l) v ≡ fill w (l ++ (v ∷ []))

@@ -15,7 +15,7 @@ use Rattle.residue.specs.Congruence.{Mod}
 use Rattle.residue.specs.Vector.{Below, scaled}
 use Rattle.residue.proofs.Congruence.{of, reduce, _then_}
 use Rattle.residue.proofs.Vectors.{scaled-length, scaled-at, scaled-below, below-take, below-drop, below-append, below-set}
-use Rattle.basis.specs.Solving.{allZero}
+use Rattle.specification.specs.Solving.{allZero}
 use Rattle.basis.specs.Working.{firstNonzero, pivotRow, withRow}
 
 -- what lies behind a new front is the row's own

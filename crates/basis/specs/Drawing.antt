@@ -10,11 +10,11 @@ use Rattle.residue.specs.Vector.{Below, pointwise}
 use Rattle.residue.specs.Elimination.{eliminated}
 use Rattle.monomial.specs.Order.{Order}
 use Rattle.monomial.specs.Rank.{variableRank}
-use Rattle.basis.specs.declared.settings.Settings.{Settings}
-use Rattle.basis.specs.Levels.{groups, noRepeat}
-use Rattle.basis.specs.Layout.{fill, inPlaces, over}
-use Rattle.basis.specs.BasisOf.{interpolantOf}
-use Rattle.basis.specs.Tables.{spaceUnder, pointsUnder, rowCount, tablesOf, pointsIn}
+use Rattle.specification.specs.declared.settings.Settings.{Settings}
+use Rattle.specification.specs.Levels.{groups, noRepeat}
+use Rattle.specification.specs.Layout.{fill, inPlaces, over}
+use Rattle.specification.specs.BasisOf.{interpolantOf}
+use Rattle.specification.specs.Tables.{spaceUnder, pointsUnder, rowCount, tablesOf, pointsIn}
 
 -- the ranks of x1 to x8
 unfoldable pub stepsOf : Order → List ℕ

@@ -6,8 +6,8 @@ use lib.ListN.{length, take, drop}
 use Rattle.residue.specs.Vector.{dotOf}
 use Rattle.residue.specs.Elimination.{eliminated}
 use Rattle.monomial.specs.Monomial.{valueAt}
-use Rattle.basis.specs.Levels.{groups}
-use Rattle.basis.specs.Solving.{occurs}
+use Rattle.specification.specs.Levels.{groups}
+use Rattle.specification.specs.Solving.{occurs}
 
 -- minus the coefficients of a working row, after it met the pivot rows of all n points
 unfoldable pub solution : ℕ → ℕ → List ℕ → List ℕ → List ℕ → List ℕ

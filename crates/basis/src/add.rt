@@ -3,9 +3,9 @@ use crate::bytes;
 use crate::correct;
 use crate::insert;
 use crate::products::add_products;
-use crate::settings::Settings;
 use crate::tables;
 use residue::inverse::inverse;
+use specification::settings::Settings;
 ghost use mathlib.Core.Path.{_≡_};
 ghost use Prim.Native.Nat.{ℕ, _+_, _<_, _≤_};
 ghost use lib.ListN.{length, getD, take, replicate};
@@ -14,8 +14,8 @@ ghost use mathlib.Core.List.{[], _∷_, _++_};
 ghost use Rattle.residue.specs.Modulus.{isModulus};
 ghost use Rattle.residue.specs.Vector.{Below};
 ghost use Rattle.basis.specs.Insertions.{rowAt, grown, othersOf, othersCorrected, standardGrown, grownBy, NewPoint, Tabled};
-ghost use Rattle.basis.specs.Tables.{rowCount, tablesOf, pointsIn};
-ghost use Rattle.basis.specs.Layout.{over};
+ghost use Rattle.specification.specs.Tables.{rowCount, tablesOf, pointsIn};
+ghost use Rattle.specification.specs.Layout.{over};
 ghost use Rattle.basis.specs.Drawing.{settingsOf, PointsGiven, DrawnUp};
 
 // The leads but that of row j, and their rows corrected.

@@ -15,8 +15,8 @@ ghost use Rattle.residue.specs.Vector.{Below};
 ghost use Rattle.residue.specs.Elimination.{eliminated, ZeroBehind};
 ghost use Rattle.monomial.specs.Monomial.{timesVariable};
 ghost use Rattle.monomial.specs.Order.{orderOf};
-ghost use Rattle.basis.specs.Layout.{fill, over};
-ghost use Rattle.basis.specs.Tables.{pointsIn};
+ghost use Rattle.specification.specs.Layout.{fill, over};
+ghost use Rattle.specification.specs.Tables.{pointsIn};
 ghost use Rattle.basis.specs.Working.{firstNonzero, withPlace};
 ghost use Rattle.basis.specs.Drawing.{stepsOf, productValues, settingsOf, PointsGiven, DrawnUp};
 

@@ -5,8 +5,8 @@ use crate::lists::Progress;
 use crate::refused;
 use basis::adding;
 use basis::bytes;
-use basis::settings::Answer;
-use basis::settings::Settings;
+use specification::settings::Answer;
+use specification::settings::Settings;
 
 pub struct Tried {
     pub passed: bool,

@@ -8,7 +8,7 @@ use crate::lists::Setup;
 use crate::offers;
 use basis::answers;
 use basis::calls;
-use basis::settings::Answer;
+use specification::settings::Answer;
 
 fn front(levels: &[i8; 512], n: usize) -> &[i8] {
     buffers::signed_front(levels, n)

@@ -6,7 +6,7 @@ use crate::damage;
 use crate::lists::Progress;
 use crate::lists::Setup;
 use basis::calls;
-use basis::settings::Settings;
+use specification::settings::Settings;
 
 fn modulus(kind: u32, p: u8) -> u64 {
     match kind {

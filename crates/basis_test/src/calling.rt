@@ -1,7 +1,7 @@
 // The calls that answer from lent tables, as one call with a name.
 use basis::answers;
 use basis::calls;
-use basis::settings::Settings;
+use specification::settings::Settings;
 
 pub enum Call {
     Check,

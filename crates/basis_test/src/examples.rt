@@ -3,7 +3,7 @@ use crate::buffers;
 use crate::damage;
 use crate::grid;
 use basis::calls;
-use basis::settings::Settings;
+use specification::settings::Settings;
 
 // The refusal of drawing up, which leaves the tables as they were if there is one; 255 if not.
 fn drawn(settings: Settings, levels: &[i8]) -> u8 {

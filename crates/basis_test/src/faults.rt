@@ -1,6 +1,6 @@
 // Faults of a call, by the refusals that they are cases of, and what is handed in where a call has some of them.
 use crate::grid;
-use basis::settings::Settings;
+use specification::settings::Settings;
 
 // Bit k of the faults is the case of refusal k.
 pub const MODULUS: u32 = 8;

@@ -10,7 +10,7 @@ use crate::offers;
 use crate::reference;
 use crate::tally::Tally;
 use basis::bytes;
-use basis::settings::Settings;
+use specification::settings::Settings;
 
 const MODULI: [u8; 18] = [
     2,

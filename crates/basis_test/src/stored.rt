@@ -3,7 +3,7 @@ use crate::answered;
 use crate::buffers;
 use crate::damage;
 use crate::tally::Tally;
-use basis::settings::Settings;
+use specification::settings::Settings;
 
 // What a pass over the cases tries.
 pub enum Part {

@@ -6,8 +6,8 @@ use native.Mathlib.Omega.{arith}
 use lib.ListN.{length, getD, take, drop, length-map}
 use lib.Seq.{take-take}
 use Rattle.residue.proofs.Vectors.{zip-length, zip-at, map-at}
-use Rattle.basis.specs.Levels.{groups}
-use Rattle.basis.proofs.Places.{length-groups, groups-at}
+use Rattle.specification.specs.Levels.{groups}
+use Rattle.specification.proofs.Places.{length-groups, groups-at}
 use Rattle.csv.specs.Printing.{line, rowLine}
 use Rattle.csv.specs.Appending.{inTable}
 

@@ -9,9 +9,9 @@ use native.Mathlib.Omega.{arith}
 use lib.ListN.{length, take, drop, replicate}
 use lib.Seq.{drop-drop}
 use lib.Dec.{eqb, eqb·suc-zero}
-use Rattle.basis.specs.Levels.{groups, sameList, isAmong}
-use Rattle.basis.specs.Layout.{fill, inPlaces}
-use Rattle.basis.proofs.Layouts.{places-back, table-split}
+use Rattle.specification.specs.Levels.{groups, sameList, isAmong}
+use Rattle.specification.specs.Layout.{fill, inPlaces}
+use Rattle.specification.proofs.Layouts.{places-back, table-split}
 use Rattle.csv.specs.Reading.{further, firstRepeat}
 use Rattle.csv.specs.Points.{rowAt, earlier}
 

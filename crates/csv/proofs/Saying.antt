@@ -18,18 +18,18 @@ use Rattle.residue.specs.Modulus.{isModulus}
 use Rattle.residue.specs.Vector.{Below}
 use Rattle.residue.proofs.Moduli.{modulus-range}
 use Rattle.residue.proofs.Vectors.{map-at}
-use Rattle.basis.specs.declared.settings.Settings.{Settings}
-use Rattle.basis.specs.Levels.{isResidue, inRange, residues, noRepeat}
-use Rattle.basis.specs.Layout.{fill, inPlaces, over, length-fill}
+use Rattle.specification.specs.declared.settings.Settings.{Settings}
+use Rattle.specification.specs.Levels.{isResidue, inRange, residues, noRepeat}
+use Rattle.specification.specs.Layout.{fill, inPlaces, over, length-fill}
 use Rattle.basis.specs.Drawing.{PointsGiven}
-use Rattle.basis.specs.Tables.{pointsIn}
+use Rattle.specification.specs.Tables.{pointsIn}
 use Rattle.basis.specs.Drawing as D
-use Rattle.basis.proofs.Equality.{true-of, of-true, and-left, and-right, and-both}
-use Rattle.basis.specs.Instance.{reduced}
-use Rattle.basis.proofs.Layouts.{take-fill, over-all}
-use Rattle.basis.proofs.ideal.Lists.{getD-among, among-map}
-use Rattle.basis.proofs.agreement.Points.{IsPoint, residues-same, length-residues}
-use Rattle.basis.proofs.agreement.Refusals.{Accepted}
+use Rattle.specification.proofs.Equality.{true-of, of-true, and-left, and-right, and-both}
+use Rattle.specification.specs.Instance.{reduced}
+use Rattle.specification.proofs.Layouts.{take-fill, over-all}
+use Rattle.specification.proofs.ideal.Lists.{getD-among, among-map}
+use Rattle.specification.proofs.agreement.Points.{IsPoint, residues-same, length-residues}
+use Rattle.specification.proofs.agreement.Refusals.{Accepted}
 use Rattle.basis.proofs.calls.Given as G
 use Rattle.csv.specs.declared.reading.Refusal.{Refusal}
 use Rattle.csv.specs.Forms.{Header}

@@ -8,7 +8,7 @@ use lib.IntN.{ℤ, pos}
 use lib.ListN.{length, take, drop}
 use lib.Dec.{eqb}
 use Rattle.residue.specs.Level.{residueOf}
-use Rattle.basis.specs.Levels.{isResidue, residueOr0, inRange}
+use Rattle.specification.specs.Levels.{isResidue, residueOr0, inRange}
 use Rattle.csv.specs.Fields.{Field, field, broken, Part, part, faulty}
 use Rattle.csv.specs.Reading.{Entries, valueOf}
 use Rattle.csv.specs.Records.{entriesAt}

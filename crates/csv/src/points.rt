@@ -5,7 +5,7 @@ ghost use mathlib.Core.List.{[], map};
 ghost use Prim.Native.Nat.{_≤_};
 ghost use lib.ListN.{length, drop};
 ghost use Rattle.residue.specs.Level.{residueOf};
-ghost use Rattle.basis.specs.Layout.{fill, inPlaces, over};
+ghost use Rattle.specification.specs.Layout.{fill, inPlaces, over};
 ghost use Rattle.csv.specs.Fields.{broken, faulty};
 ghost use Rattle.csv.specs.Said.{signedOf};
 ghost use Rattle.csv.specs.Reading.{pointOf, valueOf, isOutside, firstFault};

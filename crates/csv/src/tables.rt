@@ -3,7 +3,7 @@ ghost use mathlib.Core.Path.{_≡_};
 ghost use mathlib.Core.List.{[]};
 ghost use Prim.Native.Nat.{_+_, _*_, _≤_};
 ghost use lib.ListN.{length};
-ghost use Rattle.basis.specs.Levels.{isAmong, groups};
+ghost use Rattle.specification.specs.Levels.{isAmong, groups};
 ghost use Rattle.csv.specs.Reading.{firstRepeat};
 ghost use Rattle.csv.specs.Points.{rowAt, earlier};
 use crate::forms;

@@ -11,7 +11,7 @@ use lib.Seq.{length-take-le}
 use Rattle.residue.specs.Inverse.{inverseOf}
 use Rattle.monomial.specs.Monomial.{timesVariable}
 use Rattle.monomial.specs.Order.{orderOf, cmp}
-use Rattle.basis.specs.Levels.{groups}
+use Rattle.specification.specs.Levels.{groups}
 use Rattle.basis.specs.Insertions.{Grown, grown, rowAt, placeOf, dividedBy, rowValueAt, othersOf, othersCorrected, grownBy, withRowAt, correctedRow, reducedRow, putWithRow, productPut, productsPut}
 use Rattle.basis.proofs.adding.Searches.{place-within}
 use Rattle.basis.proofs.adding.Writes.{length-row}

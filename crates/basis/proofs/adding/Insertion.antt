@@ -13,14 +13,14 @@ use Rattle.residue.specs.Lists.{Among}
 use Rattle.monomial.specs.Monomial.{divides}
 use Rattle.monomial.specs.Increasing.{Increasing, placed, inserted}
 use Rattle.monomial.proofs.Orders.Increasing.{below-member}
-use Rattle.basis.specs.Layout.{fill, inPlaces, over}
-use Rattle.basis.specs.Space.{Space}
-use Rattle.basis.specs.Extension.{slot, without, divided}
+use Rattle.specification.specs.Layout.{fill, inPlaces, over}
+use Rattle.specification.specs.Space.{Space}
+use Rattle.specification.specs.Extension.{slot, without, divided}
 use Rattle.basis.specs.Insertions.{insertedAt, removedAt, placeOf, dividedBy, takenOut, withRowAt}
-use Rattle.basis.proofs.Layouts.{fill-twice, length-places, table-split}
-use Rattle.basis.proofs.Places.{places-append, over-zeros}
-use Rattle.basis.proofs.ideal.Laws.{Laws, Decides, so, not-so, Compares, lt, eq, gt, compared, same-told, less-ne}
-use Rattle.basis.proofs.ideal.Lists.{getD-among}
+use Rattle.specification.proofs.Layouts.{fill-twice, length-places, table-split}
+use Rattle.specification.proofs.Places.{places-append, over-zeros}
+use Rattle.specification.proofs.ideal.Laws.{Laws, Decides, so, not-so, Compares, lt, eq, gt, compared, same-told, less-ne}
+use Rattle.specification.proofs.ideal.Lists.{getD-among}
 
 pub map-inserted : {A B : Type 0} (f : A → B) (i : ℕ) (a : A) (l : List A) → map f (insertedAt i a l) ≡ insertedAt i (f a) (map f l)
 unfolding insertedAt

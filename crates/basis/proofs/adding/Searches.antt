@@ -11,9 +11,9 @@ use lib.Dec.{eqb, isLe}
 use borrow.Author.Tests.{eq-eqb, ne-eqb}
 use Rattle.monomial.specs.Monomial.{divides}
 use Rattle.monomial.specs.Comparison.{comparisonOf}
-use Rattle.basis.specs.Levels.{groups}
+use Rattle.specification.specs.Levels.{groups}
 use Rattle.basis.specs.Insertions.{isGreater, placeOf, dividedBy, firstFrom}
-use Rattle.basis.proofs.Places.{groups-step, groups-end}
+use Rattle.specification.proofs.Places.{groups-step, groups-end}
 
 -- The place among increasing rows.
 module _ (c : List ℕ → List ℕ → Ordering) (a t : List ℕ) (k i : ℕ) (h : i < k) where

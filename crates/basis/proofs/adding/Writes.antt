@@ -10,10 +10,10 @@ use lib.ListN.{length, getD, set, take, drop, replicate, length-append, length-t
 use lib.Seq.{getD-take, getD-drop, length-take-le, take-all, take-take, take-append-le, drop-drop, drop-cons, take-at, drop-at, set-at}
 use Rattle.residue.specs.Vector.{Below}
 use Rattle.residue.proofs.Vectors.{below-append, below-take, below-drop, below-zeros}
-use Rattle.basis.specs.Layout.{fill, inPlaces, over}
+use Rattle.specification.specs.Layout.{fill, inPlaces, over}
 use Rattle.basis.specs.Insertions.{rowAt, insertedAt, movedOn, takenOut, rowValueAt, correctedBy, correctedRow, correctedRows, withRowAt, rowsLeft}
-use Rattle.basis.proofs.Layouts.{length-fill, fill-exact, fill-append, length-places, length-over, over-all}
-use Rattle.basis.proofs.Places.{places-append}
+use Rattle.specification.proofs.Layouts.{length-fill, fill-exact, fill-append, length-places, length-over, over-all}
+use Rattle.specification.proofs.Places.{places-append}
 
 pub fill-cut : (k : ℕ) (l : List ℕ) → k ≤ length l → fill k l ≡ take k l
 unfolding fill

@@ -17,26 +17,26 @@ use Rattle.residue.proofs.Vectors.{map-at}
 use Rattle.residue.proofs.Moduli.{modulus-range}
 use Rattle.monomial.specs.Monomial.{valueAt as valueOf}
 use Rattle.monomial.specs.Order.{orderOf}
-use Rattle.basis.specs.declared.settings.Settings.{Settings}
-use Rattle.basis.specs.Layout.{fill, inPlaces, over}
-use Rattle.basis.specs.BasisOf.{standardOf, valueAt, interpolantOf, remainderOf}
-use Rattle.basis.specs.Tables.{spaceUnder, pointsUnder, tablesOf}
-use Rattle.basis.specs.Polynomial.{Polynomial, eval}
-use Rattle.basis.specs.Instance.{Point, reduced, pointOf}
-use Rattle.basis.specs.Levels.{inRange, residues, groups}
-use Rattle.basis.specs.Solving.{withinVariables, polynomialOf}
+use Rattle.specification.specs.declared.settings.Settings.{Settings}
+use Rattle.specification.specs.Layout.{fill, inPlaces, over}
+use Rattle.specification.specs.BasisOf.{standardOf, valueAt, interpolantOf, remainderOf}
+use Rattle.specification.specs.Tables.{spaceUnder, pointsUnder, tablesOf}
+use Rattle.specification.specs.Polynomial.{Polynomial, eval}
+use Rattle.specification.specs.Instance.{Point, reduced, pointOf}
+use Rattle.specification.specs.Levels.{inRange, residues, groups}
+use Rattle.specification.specs.Solving.{withinVariables, polynomialOf}
 use Rattle.basis.specs.Interpolants.{solution, names}
 use Rattle.basis.specs.Drawing.{Solves}
-use Rattle.basis.proofs.Layouts.{fill-append, fill-zeros}
-use Rattle.basis.proofs.Places.{table-groups}
+use Rattle.specification.proofs.Layouts.{fill-append, fill-zeros}
+use Rattle.specification.proofs.Places.{table-groups}
 use Rattle.basis.proofs.Terms.{terms-value}
 use Rattle.basis.proofs.Wiring.{names-filled}
-use Rattle.basis.proofs.ideal.Lists.{getD-among, index-of}
-use Rattle.basis.proofs.ideal.Basis.{interpolant-fits, interpolant-agree, value-at}
-use Rattle.basis.proofs.ideal.Counts.{standard-length}
-use Rattle.basis.proofs.agreement.Points.{Points, point-same, residues-same}
-use Rattle.basis.proofs.agreement.Refusals.{Accepted}
-use Rattle.basis.proofs.agreement.Drawings.{laws-under, distinct-points}
+use Rattle.specification.proofs.ideal.Lists.{getD-among, index-of}
+use Rattle.specification.proofs.ideal.Basis.{interpolant-fits, interpolant-agree, value-at}
+use Rattle.specification.proofs.ideal.Counts.{standard-length}
+use Rattle.specification.proofs.agreement.Points.{Points, point-same, residues-same}
+use Rattle.specification.proofs.agreement.Refusals.{Accepted}
+use Rattle.specification.proofs.agreement.Drawings.{laws-under, distinct-points}
 
 -- a point of the space
 abbrev pub pointUnder : (s : Settings) → List ℕ → Point (suc (s .modulus - 1)) (s .variables)

@@ -16,24 +16,24 @@ use Rattle.residue.specs.Vector.{Below, dotOf}
 use Rattle.residue.proofs.Moduli.{modulus-range}
 use Rattle.residue.proofs.Vectors.{map-at}
 use Rattle.monomial.specs.Monomial.{valueAt}
-use Rattle.basis.specs.declared.settings.Settings.{Settings}
-use Rattle.basis.specs.Refusal.{firstOf}
-use Rattle.basis.specs.Settings.{settingsCases}
-use Rattle.basis.specs.Levels.{inRange, residues, groups}
-use Rattle.basis.specs.Layout.{fill, inPlaces, begins}
-use Rattle.basis.specs.BasisOf.{standardOf, interpolantOf}
-use Rattle.basis.specs.Tables.{Tables, spaceUnder, pointsUnder, tablesOf, tooShort, pointsIn, recognised}
-use Rattle.basis.specs.Solving.{interpolantIn, withinVariables, polynomialUnder, remainderIn}
+use Rattle.specification.specs.declared.settings.Settings.{Settings}
+use Rattle.specification.specs.Refusal.{firstOf}
+use Rattle.specification.specs.Settings.{settingsCases}
+use Rattle.specification.specs.Levels.{inRange, residues, groups}
+use Rattle.specification.specs.Layout.{fill, inPlaces, begins}
+use Rattle.specification.specs.BasisOf.{standardOf, interpolantOf}
+use Rattle.specification.specs.Tables.{Tables, spaceUnder, pointsUnder, tablesOf, tooShort, pointsIn, recognised}
+use Rattle.specification.specs.Solving.{interpolantIn, withinVariables, polynomialUnder, remainderIn}
 use Rattle.basis.specs.Interpolants.{solution, termValues, names}
 use Rattle.basis.specs.Drawing.{Solves}
-use Rattle.basis.proofs.Equality.{of-true, neither, and-left, and-right, same-is}
-use Rattle.basis.proofs.Layouts.{length-fill}
-use Rattle.basis.proofs.Places.{length-groups}
+use Rattle.specification.proofs.Equality.{of-true, neither, and-left, and-right, same-is}
+use Rattle.specification.proofs.Layouts.{length-fill}
+use Rattle.specification.proofs.Places.{length-groups}
 use Rattle.basis.proofs.PointTables.{length-points, points-in}
 use Rattle.basis.proofs.ValueRows.{below-fill}
 use Rattle.basis.proofs.elimination.Grounds.{places-below}
-use Rattle.basis.proofs.agreement.Points.{IsPoint, Points, length-residues}
-use Rattle.basis.proofs.agreement.Refusals.{Accepted, Large, large-of}
+use Rattle.specification.proofs.agreement.Points.{IsPoint, Points, length-residues}
+use Rattle.specification.proofs.agreement.Refusals.{Accepted, Large, large-of}
 use Rattle.basis.proofs.calls.Given.{read}
 use Rattle.basis.proofs.calls.Refusing.{Passed, passed, Parts, recognised-parts}
 use Rattle.basis.proofs.calls.Answers.{below-reduced, residues-below, solution-is, remainder-is, valuesIn, value-in, names-in}

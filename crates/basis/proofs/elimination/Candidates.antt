@@ -21,16 +21,16 @@ use Rattle.basis.specs.declared.candidate.LeastRank.the-variants as Leas
 use Rattle.basis.specs.declared.candidate.Parents.{Parents}
 use Rattle.basis.specs.declared.candidate.Candidate.{Candidate}
 use Rattle.basis.specs.declared.candidate.Candidate.the-variants as Candidate
-use Rattle.basis.specs.Layout.{fill, inPlaces}
-use Rattle.basis.specs.Space.{Space, Less}
-use Rattle.basis.specs.Polynomial.{Distinct}
-use Rattle.basis.specs.BasisOf.{standardOf, leadsOf}
-use Rattle.basis.specs.Instance.{Monomial, Point, spaceOf}
+use Rattle.specification.specs.Layout.{fill, inPlaces}
+use Rattle.specification.specs.Space.{Space, Less}
+use Rattle.specification.specs.Polynomial.{Distinct}
+use Rattle.specification.specs.BasisOf.{standardOf, leadsOf}
+use Rattle.specification.specs.Instance.{Monomial, Point, spaceOf}
 use Rattle.basis.specs.Candidates.{leastOf, passed, parentsOf, occurringIn, isWhole, Next, ended, atLeast, nextFrom, nextOf}
-use Rattle.basis.proofs.Instance.{monomial-path, laws, degree-timesVariable, standard-total}
-use Rattle.basis.proofs.Places.{place-at}
-use Rattle.basis.proofs.ideal.Laws.{Laws}
-use Rattle.basis.proofs.ideal.Lists.{getD-among}
+use Rattle.specification.proofs.Instance.{monomial-path, laws, degree-timesVariable, standard-total}
+use Rattle.specification.proofs.Places.{place-at}
+use Rattle.specification.proofs.ideal.Laws.{Laws}
+use Rattle.specification.proofs.ideal.Lists.{getD-among}
 use Rattle.basis.proofs.elimination.Drawing as drawing
 use Rattle.basis.proofs.elimination.Drawing.{Drawn, Bordered, drawn-standard, drawn-leads, bordered, standard-room}
 use Rattle.basis.proofs.elimination.Positions.{productAt, Positions, Lowest, Advances, none-left, next-at, bordered-at, at-bordered, advanced}

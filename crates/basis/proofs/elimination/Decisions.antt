@@ -17,17 +17,17 @@ use Rattle.residue.proofs.Inverses.{inverse-mod}
 use Rattle.residue.proofs.Moduli.{modulus-range}
 use Rattle.residue.proofs.Vectors.{below-take, below-set}
 use Rattle.monomial.specs.Order.{Order}
-use Rattle.basis.specs.Layout.{fill, inPlaces}
-use Rattle.basis.specs.Space.{Space}
-use Rattle.basis.specs.Basis.{Row}
-use Rattle.basis.specs.BasisOf.{standardOf, leadsOf}
-use Rattle.basis.specs.Instance.{Monomial, Point, spaceOf, pointOf}
+use Rattle.specification.specs.Layout.{fill, inPlaces}
+use Rattle.specification.specs.Space.{Space}
+use Rattle.specification.specs.Basis.{Row}
+use Rattle.specification.specs.BasisOf.{standardOf, leadsOf}
+use Rattle.specification.specs.Instance.{Monomial, Point, spaceOf, pointOf}
 use Rattle.basis.specs.Working.{firstNonzero, pivotRow, withRow, withPlace}
-use Rattle.basis.proofs.Instance.{laws, standard-total}
-use Rattle.basis.proofs.Layouts.{length-fill}
+use Rattle.specification.proofs.Instance.{laws, standard-total}
+use Rattle.specification.proofs.Layouts.{length-fill}
 use Rattle.basis.proofs.WorkingRows.{zero-before, not-zero-there}
 use Rattle.basis.proofs.ValueRows.{table-more, places-filled, place-length, place-below, place-before, place-here}
-use Rattle.basis.proofs.ideal.Laws.{Laws}
+use Rattle.specification.proofs.ideal.Laws.{Laws}
 use Rattle.basis.proofs.elimination.Drawing.{Drawn, is-lead, is-standard, standard-room, leads-room}
 use Rattle.basis.proofs.elimination.Positions.{grown}
 use Rattle.basis.proofs.elimination.PivotRows.{PivotRows, Working, ZeroAt, vanishes, eliminated-works, eliminated-zero}

@@ -16,9 +16,9 @@ use Rattle.monomial.proofs.Orders.Answers.{Says, less, same, more, says, said, 
 use Rattle.monomial.proofs.Orders.Lawful.{lawful}
 use Rattle.monomial.proofs.Padding.{degree-one, pad, length-pad, degree-pad, timesVariable-pad}
 use Rattle.monomial.proofs.Ranks.{rank-pad-cmp, rank-fits, rank-timesVariable}
-use Rattle.basis.specs.Layout.{fill, length-fill}
-use Rattle.basis.proofs.Instance.{degree-timesVariable}
-use Rattle.basis.proofs.Layouts.{fill-at, fill-append, fill-zeros}
+use Rattle.specification.specs.Layout.{fill, length-fill}
+use Rattle.specification.proofs.Instance.{degree-timesVariable}
+use Rattle.specification.proofs.Layouts.{fill-at, fill-append, fill-zeros}
 use Rattle.basis.proofs.elimination.Occurring.{Occurs}
 
 pub fill-pad : (a : List ℕ) → length a ≤ 8 → fill 8 a ≡ pad a

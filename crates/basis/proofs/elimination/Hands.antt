@@ -13,16 +13,16 @@ use Rattle.residue.proofs.Vectors.{below-take, below-drop, below-zeros}
 use Rattle.monomial.specs.Monomial.{timesVariable}
 use Rattle.monomial.specs.Order.{Order, lex, grlex, grevlex}
 use Rattle.monomial.specs.Rank.{key, rankOf}
-use Rattle.basis.specs.Layout.{fill}
-use Rattle.basis.specs.Space.{Space}
-use Rattle.basis.specs.Instance.{Monomial, Point, spaceOf}
+use Rattle.specification.specs.Layout.{fill}
+use Rattle.specification.specs.Space.{Space}
+use Rattle.specification.specs.Instance.{Monomial, Point, spaceOf}
 use Rattle.basis.specs.Drawing.{stepsOf, columnOf, productValues}
-use Rattle.basis.proofs.Instance.{laws, standard-exponent}
-use Rattle.basis.proofs.Layouts.{fill-at, fill-zeros}
-use Rattle.basis.proofs.Places.{place-at, no-places}
+use Rattle.specification.proofs.Instance.{laws, standard-exponent}
+use Rattle.specification.proofs.Layouts.{fill-at, fill-zeros}
+use Rattle.specification.proofs.Places.{place-at, no-places}
 use Rattle.basis.proofs.ValueRows.{zeros-long, part-long, steps-at, column-long, column-at, product-long, product-below, product-at}
-use Rattle.basis.proofs.ideal.Laws.{Laws}
-use Rattle.basis.proofs.ideal.Lists.{getD-among}
+use Rattle.specification.proofs.ideal.Laws.{Laws}
+use Rattle.specification.proofs.ideal.Lists.{getD-among}
 use Rattle.basis.proofs.elimination.Drawing.{bordered-start, front-start, start-standard, start-lead, front-next, take-standard, take-lead}
 use Rattle.basis.proofs.elimination.Positions.{productAt, positions-start}
 use Rattle.basis.proofs.elimination.NextPivot.{no-rows}

@@ -11,12 +11,12 @@ use Rattle.residue.specs.Modulus.{isModulus}
 use Rattle.residue.specs.Vector.{Below}
 use Rattle.monomial.specs.Order.{Order}
 use Rattle.monomial.specs.Rank.{rankOf}
-use Rattle.basis.specs.Layout.{fill, inPlaces}
-use Rattle.basis.specs.Space.{Space}
-use Rattle.basis.specs.Polynomial.{Distinct}
-use Rattle.basis.specs.Basis.{Rows}
-use Rattle.basis.specs.BasisOf.{standardOf, leadsOf}
-use Rattle.basis.specs.Instance.{Monomial, Point, spaceOf, pointOf}
+use Rattle.specification.specs.Layout.{fill, inPlaces}
+use Rattle.specification.specs.Space.{Space}
+use Rattle.specification.specs.Polynomial.{Distinct}
+use Rattle.specification.specs.Basis.{Rows}
+use Rattle.specification.specs.BasisOf.{standardOf, leadsOf}
+use Rattle.specification.specs.Instance.{Monomial, Point, spaceOf, pointOf}
 use Rattle.basis.proofs.elimination.Drawing.{Drawn, Front, Bordered}
 use Rattle.basis.proofs.elimination.Positions.{Positions}
 use Rattle.basis.proofs.elimination.PivotRows.{PivotRows}

@@ -12,13 +12,13 @@ use Rattle.residue.proofs.Congruence.{of, flip, _then_, _plus_, scale, lin}
 use Rattle.residue.proofs.Sums.{sum-zero}
 use Rattle.residue.proofs.Vectors.{below-take, below-drop}
 use Rattle.monomial.specs.Increasing.{Increasing}
-use Rattle.basis.specs.Space.{Space}
-use Rattle.basis.specs.Polynomial.{eval, coefficient, terms}
-use Rattle.basis.specs.Basis.{Row}
-use Rattle.basis.proofs.ideal.Laws.{Laws}
-use Rattle.basis.proofs.ideal.Lists.{getD-among, index-of}
-use Rattle.basis.proofs.ideal.Newton.{at-lin}
-use Rattle.basis.proofs.ideal.Sound.{eval-at}
+use Rattle.specification.specs.Space.{Space}
+use Rattle.specification.specs.Polynomial.{eval, coefficient, terms}
+use Rattle.specification.specs.Basis.{Row}
+use Rattle.specification.proofs.ideal.Laws.{Laws}
+use Rattle.specification.proofs.ideal.Lists.{getD-among, index-of}
+use Rattle.specification.proofs.ideal.Newton.{at-lin}
+use Rattle.specification.proofs.ideal.Sound.{eval-at}
 use Rattle.basis.proofs.ValueRows.{part-long}
 use Rattle.basis.proofs.elimination.Pivots.{Spanned}
 use Rattle.basis.proofs.elimination.Combinations.{sumTo, sumTo-front, sumTo-cong, combination}

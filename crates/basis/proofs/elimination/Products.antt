@@ -15,7 +15,7 @@ use Rattle.basis.specs.declared.candidate.Parents.{Parents}
 use Rattle.basis.specs.declared.candidate.Candidate.{Candidate}
 use Rattle.basis.specs.declared.candidate.Candidate.the-variants as Candidate
 use Rattle.basis.specs.Candidates.{rankAt, lowest, leastOf, isOf, passed, parentsOf, occurringIn, Next, ended, isWhole, atLeast, nextFrom, nextOf}
-use Rattle.basis.proofs.ideal.Laws.{Decides, so, not-so}
+use Rattle.specification.proofs.ideal.Laws.{Decides, so, not-so}
 use Rattle.basis.proofs.elimination.Turns.{parents}
 
 -- how many products with the first k variables are not passed

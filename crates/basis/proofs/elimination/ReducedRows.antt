@@ -12,8 +12,8 @@ use Rattle.residue.specs.Vector.{Below}
 use Rattle.residue.specs.Elimination.{eliminated}
 use Rattle.residue.proofs.Congruence.{of, flip, reduce, negative, _then_, _plus_, lin, small}
 use Rattle.residue.proofs.Vectors.{map-at}
-use Rattle.basis.specs.Layout.{fill}
-use Rattle.basis.proofs.Layouts.{length-fill, fill-at}
+use Rattle.specification.specs.Layout.{fill}
+use Rattle.specification.proofs.Layouts.{length-fill, fill-at}
 use Rattle.basis.proofs.elimination.Combinations.{combination, combination-add, combination-zero}
 use Rattle.basis.proofs.elimination.PivotRows.{PivotRows, Working, ZeroAt, vanishes, eliminated-works, eliminated-zero}
 

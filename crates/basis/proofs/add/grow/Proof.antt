@@ -10,10 +10,10 @@ use Rattle.residue.specs.Inverse.{inverseOf}
 use Rattle.residue.proofs.Vectors.{below-take, below-drop}
 use Rattle.residue.proofs.Inverses.{inverse-below}
 use Rattle.monomial.specs.Order.{orderOf, cmp}
-use Rattle.basis.specs.Levels.{groups}
-use Rattle.basis.specs.Layout.{over}
+use Rattle.specification.specs.Levels.{groups}
+use Rattle.specification.specs.Layout.{over}
 use Rattle.basis.specs.Insertions.{rowAt, placeOf, rowValueAt, withRowAt, standardGrown}
-use Rattle.basis.proofs.Layouts.{over-all}
+use Rattle.specification.proofs.Layouts.{over-all}
 use Rattle.basis.proofs.ValueRows.{zeros-long}
 use Rattle.basis.proofs.adding.Searches.{place-within}
 use Rattle.basis.proofs.adding.Writes.{value-below, part-small}

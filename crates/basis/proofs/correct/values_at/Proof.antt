@@ -7,9 +7,9 @@ use lib.ListN.{length, getD, take, drop, length-drop}
 use lib.Seq.{length-take-le}
 use Rattle.residue.proofs.Filled.{filled, filled-none, kept-length, filled-more}
 use Rattle.monomial.specs.Monomial.{valueAt}
-use Rattle.basis.specs.Levels.{groups}
+use Rattle.specification.specs.Levels.{groups}
 use Rattle.basis.proofs.Copies.{mapped}
-use Rattle.basis.proofs.Places.{length-groups, groups-at}
+use Rattle.specification.proofs.Places.{length-groups, groups-at}
 use Rattle.basis.proofs.correct.values_at.Statement.{statement}
 use Rattle.basis.proofs.correct.values_at.Tie as tie
 

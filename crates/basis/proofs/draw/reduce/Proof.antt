@@ -8,8 +8,8 @@ use lib.Seq.{length-take-le}
 use Rattle.residue.specs.Vector.{Below}
 use Rattle.residue.specs.Elimination.{eliminated}
 use Rattle.residue.proofs.Vectors.{below-take}
-use Rattle.basis.specs.Layout.{fill}
-use Rattle.basis.proofs.Layouts.{length-fill}
+use Rattle.specification.specs.Layout.{fill}
+use Rattle.specification.proofs.Layouts.{length-fill}
 use Rattle.basis.proofs.ValueRows.{zeros-long, below-fill, load}
 use Rattle.basis.proofs.draw.reduce.Statement.{statement}
 use Rattle.basis.proofs.draw.reduce.Tie as tie

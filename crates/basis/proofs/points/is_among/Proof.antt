@@ -8,10 +8,10 @@ use lib.Dec.{eqb}
 use borrow.Author.Tests.{eq-eqb, ne-eqb}
 use Rattle.residue.specs.Vector.{Below}
 use Rattle.residue.proofs.Vectors.{below-take, below-drop}
-use Rattle.basis.specs.Levels.{groups, sameList, keyOf, isAmong}
+use Rattle.specification.specs.Levels.{groups, sameList, keyOf, isAmong}
 use Rattle.basis.proofs.Keys.{key-same}
 use Rattle.basis.proofs.ValueRows.{part-long}
-use Rattle.basis.proofs.Places.{among-on, among-hit, among-end}
+use Rattle.specification.proofs.Places.{among-on, among-hit, among-end}
 use Rattle.basis.proofs.points.is_among.Statement.{statement}
 use Rattle.basis.proofs.points.is_among.Tie as tie
 

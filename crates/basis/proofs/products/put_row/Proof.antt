@@ -10,8 +10,8 @@ use Rattle.residue.specs.Elimination.{eliminated}
 use Rattle.residue.proofs.Vectors.{below-take, below-drop}
 use Rattle.residue.proofs.Eliminated.{eliminated-below}
 use Rattle.monomial.specs.Monomial.{valueAt}
-use Rattle.basis.specs.Levels.{groups}
-use Rattle.basis.specs.Layout.{over}
+use Rattle.specification.specs.Levels.{groups}
+use Rattle.specification.specs.Layout.{over}
 use Rattle.basis.specs.Insertions.{correctedRow, reducedRow}
 use Rattle.basis.proofs.adding.Writes.{row-in, values-below}
 use Rattle.basis.proofs.adding.NewRows.{one-term}

@@ -6,10 +6,10 @@ use native.Mathlib.Omega.{arith}
 use lib.ListN.{length, take}
 use mathlib.Core.Logic.{⊎-elim}
 use lib.ListN.{set, length-append}
-use Rattle.basis.specs.Levels.{groups}
-use Rattle.basis.specs.Layout.{fill}
+use Rattle.specification.specs.Levels.{groups}
+use Rattle.specification.specs.Layout.{fill}
 use Rattle.basis.specs.Interpolants.{names}
-use Rattle.basis.proofs.Layouts.{length-fill, fill-zeros}
+use Rattle.specification.proofs.Layouts.{length-fill, fill-zeros}
 use Rattle.basis.proofs.Wiring.{fill-put, names-on, names-off, names-length}
 use Rattle.basis.proofs.solve.put_names.Statement.{statement}
 use Rattle.basis.proofs.solve.put_names.Tie as tie

@@ -9,9 +9,9 @@ use lib.Seq.{length-take-le}
 use Rattle.residue.specs.Vector.{Below}
 use Rattle.residue.proofs.Vectors.{below-take, below-drop}
 use Rattle.residue.proofs.Eliminated.{eliminated-below}
-use Rattle.basis.specs.Layout.{fill}
+use Rattle.specification.specs.Layout.{fill}
 use Rattle.basis.specs.Interpolants.{solution}
-use Rattle.basis.proofs.Layouts.{answered}
+use Rattle.specification.proofs.Layouts.{answered}
 use Rattle.basis.proofs.solve.solve.Statement.{statement}
 use Rattle.basis.proofs.solve.solve.Tie as tie
 

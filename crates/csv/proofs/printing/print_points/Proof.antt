@@ -6,8 +6,8 @@ use native.Mathlib.Omega.{arith}
 use lib.ListN.{length, take}
 use lib.Seq.{length-take-le}
 use Rattle.residue.proofs.Moduli.{modulus-range}
-use Rattle.basis.specs.Levels.{groups}
-use Rattle.basis.specs.Layout.{length-fill}
+use Rattle.specification.specs.Levels.{groups}
+use Rattle.specification.specs.Layout.{length-fill}
 use Rattle.basis.proofs.Wiring.{names-length}
 use Rattle.csv.proofs.Appended.{put-within}
 use Rattle.basis.proofs.calls.Given.{drawn-long}

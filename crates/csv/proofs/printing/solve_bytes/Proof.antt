@@ -5,10 +5,10 @@ use Prim.Native.Nat.{ℕ}
 use native.Mathlib.Omega.{arith}
 use lib.ListN.{length}
 use Rattle.residue.specs.Vector.{Below}
-use Rattle.basis.specs.Layout.{fill, length-fill}
+use Rattle.specification.specs.Layout.{fill, length-fill}
 use Rattle.basis.specs.Interpolants.{solution}
-use Rattle.basis.proofs.Layouts.{over-all}
-use Rattle.basis.proofs.Places.{over-zeros}
+use Rattle.specification.proofs.Layouts.{over-all}
+use Rattle.specification.proofs.Places.{over-zeros}
 use Rattle.basis.proofs.ValueRows.{below-fill}
 use borrow.Author.Needs.{needs}
 use Rattle.csv.proofs.printing.solve_bytes.Statement.{statement}

@@ -7,9 +7,9 @@ use native.Mathlib.Omega.{arith}
 use lib.IntN.{ℤ}
 use lib.ListN.{length, drop, length-map}
 use Rattle.residue.proofs.Moduli.{modulus-range}
-use Rattle.basis.specs.Levels.{groups}
-use Rattle.basis.specs.Layout.{inPlaces, over}
-use Rattle.basis.proofs.Layouts.{length-fill, fill-zeros}
+use Rattle.specification.specs.Levels.{groups}
+use Rattle.specification.specs.Layout.{inPlaces, over}
+use Rattle.specification.proofs.Layouts.{length-fill, fill-zeros}
 use Rattle.csv.specs.Reading.{Case, Entries, pointOf, valueOf, isOutside, pointsOf, firstOutside, firstRepeat, entriesCases, settingsCases, firstCase, ended, refused}
 use Rattle.csv.specs.Points.{levelsAt, saying}
 use Rattle.csv.specs.declared.reading.Read.{Read}

@@ -1,0 +1,9 @@
+-- The theory over the definitions: the basis exists, is unique and is what is computed; agreement; the worked examples.
+pub mod Cases
+pub mod Equality
+pub mod Layouts
+pub mod Places
+pub mod ideal
+pub mod agreement
+pub mod Instance
+pub mod Examples

@@ -1,0 +1,33 @@
+-- How lists of numbers lie in lent bytes: docs/SCOPE.md, 'The sheet'.
+use mathlib.Core.Path.{_≡_, refl, ap}
+use mathlib.Core.Bool.{Bool}
+use mathlib.Core.List.{List, [], _∷_, _++_}
+use Prim.Native.Nat.{ℕ, zero, suc}
+use lib.ListN.{length, take, drop}
+use Rattle.specification.specs.Levels.{sameList}
+
+-- a list cut or filled up with zeros to k numbers
+unfoldable pub fill : ℕ → List ℕ → List ℕ
+fill zero l = []
+fill (suc k) [] = 0 ∷ fill k []
+fill (suc k) (a ∷ l) = a ∷ fill k l
+
+-- it has k numbers
+pub length-fill : (k : ℕ) (l : List ℕ) → length (fill k l) ≡ k
+unfolding fill
+length-fill zero l = refl
+length-fill (suc k) [] = ap suc (length-fill k [])
+length-fill (suc k) (a ∷ l) = ap suc (length-fill k l)
+
+-- rows one after the other, each in a place of the given width
+unfoldable pub inPlaces : ℕ → List (List ℕ) → List ℕ
+inPlaces width [] = []
+inPlaces width (row ∷ rows) = fill width row ++ inPlaces width rows
+
+-- new numbers in the place of the first ones of a lent list; any length beyond is left untouched
+unfoldable pub over : List ℕ → List ℕ → List ℕ
+over new old = new ++ drop (length new) old
+
+-- the first numbers of a lent list are these
+unfoldable pub begins : List ℕ → List ℕ → Bool
+begins new old = sameList new (take (length new) old)
