@@ -6,6 +6,7 @@ pub mod Layout
 pub mod Space
 pub mod Polynomial
 pub mod Basis
+pub mod Ideal
 pub mod Extension
 pub mod BasisOf
 pub mod Instance
