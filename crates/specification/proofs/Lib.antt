@@ -6,4 +6,6 @@ pub mod Places
 pub mod ideal
 pub mod agreement
 pub mod Instance
+pub mod Recognised
+pub mod CallByCall
 pub mod Examples

@@ -15,4 +15,5 @@ pub mod Adding
 pub mod Solving
 pub mod Reference
 pub mod Agreement
+pub mod CallByCall
 pub mod Examples

@@ -26,7 +26,7 @@ use Rattle.specification.proofs.agreement.Run.{same-tables, At, held-po
 use Rattle.specification.proofs.agreement.Drawings.{laws-under, distinct-points, few-rows, drawn-same}
 
 -- the front of a list is what it begins with
-over-begins : (a t : List ℕ) → T (begins a t) → over a t ≡ t
+pub over-begins : (a t : List ℕ) → T (begins a t) → over a t ≡ t
 unfolding begins over
 over-begins a t h = ap (λ (z : List ℕ). z ++ drop (length a) t) (same-is a (take (length a) t) h) ∙ take-append-drop (length a) t
 
@@ -64,7 +64,7 @@ module _ (s : Settings) (fine : firstOf (settingsCases s) ≡ 0) (start : Tables
   }
 
 -- a buffer that a call without a refusal has filled
-filled : (k : ℕ) (l buffer : List ℕ) → k ≡ 0 → filling k l buffer .buffer ≡ over l buffer
+pub filled : (k : ℕ) (l buffer : List ℕ) → k ≡ 0 → filling k l buffer .buffer ≡ over l buffer
 unfolding filling
 filled k l buffer e = rw e
 

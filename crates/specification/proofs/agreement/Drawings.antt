@@ -50,7 +50,7 @@ module _ (s : Settings) (ok : Accepted s) where
   abbrev pt : List ℕ → Point (suc (s .modulus - 1)) (s .variables)
   pt = pointOf (s .modulus - 1) (s .variables)
 
-  among-under : (K : List (List ℕ)) (P : List ℕ) → Among P K → Among (pt P) (pointsUnder s K)
+  pub among-under : (K : List (List ℕ)) (P : List ℕ) → Among P K → Among (pt P) (pointsUnder s K)
   among-under (Q ∷ K) P (inl e) = inl (ap pt e)
   among-under (Q ∷ K) P (inr q) = inr (among-under K P q)
 
