@@ -15,4 +15,6 @@ pub mod Sound
 pub mod Basis
 pub mod Counts
 pub mod Groebner
+pub mod Generated
+pub mod Division
 pub mod Permutation

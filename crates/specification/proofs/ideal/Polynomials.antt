@@ -106,14 +106,14 @@ module _ (D : Space) (L : Laws D) where
       shape : (u h w : ℕ) → (c * h + u) * w ≡ u * w + c * (w * h)
       shape u h w = omega arith
 
-  abbrev AllZero : (Mono → ℕ) → List Mono → Type 0
+  abbrev pub AllZero : (Mono → ℕ) → List Mono → Type 0
   AllZero c l = (a : Mono) → Among a l → c a ≈ 0
 
   -- a greatest monomial with a coefficient that is not zero
-  abbrev Top : (Mono → ℕ) → List Mono → Type 0
+  abbrev pub Top : (Mono → ℕ) → List Mono → Type 0
   Top c l = (a : Mono) × Among a l × (¬ (c a ≈ 0)) × ((b : Mono) → Among b l → Less D a b → c b ≈ 0)
 
-  top : (c : Mono → ℕ) (l : List Mono) → Increasing cmp l → AllZero c l ⊎ Top c l
+  pub top : (c : Mono → ℕ) (l : List Mono) → Increasing cmp l → AllZero c l ⊎ Top c l
   top c [] i = inl (λ a m. absurd m)
   top c (a ∷ l) i = go (top c l (i .1)) (decided (zero-told q (c a)))
     where
