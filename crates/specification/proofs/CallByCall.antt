@@ -15,7 +15,8 @@ use Rattle.specification.specs.declared.settings.Settings.{Settings}
 use Rattle.specification.specs.Refusal.{firstOf}
 use Rattle.specification.specs.Levels.{inRange, residues, noRepeat}
 use Rattle.specification.specs.Polynomial.{Distinct}
-use Rattle.specification.specs.BasisOf.{remainderOf, interpolantOf, valueAt}
+use Rattle.specification.specs.Basis.{IsBasis}
+use Rattle.specification.specs.BasisOf.{standardOf, leadsOf, rowsOf, remainderOf, interpolantOf, valueAt}
 use Rattle.specification.specs.Instance.{pointOf}
 use Rattle.specification.specs.Tables.{Tables, spaceUnder, pointsUnder, rowCount, tablesOf, written, pointsIn, recognised}
 use Rattle.specification.specs.Adding.{holding, byRefusal, pointsOffered, addCases, addRefusal, addOutcome, drawCases, drawRefusal, drawOutcome}
@@ -25,6 +26,7 @@ use Rattle.specification.specs.CallByCall.{HoldsBasis, Interpolates}
 use Rattle.specification.proofs.Equality.{of-true, neither, is-among}
 use Rattle.specification.proofs.ideal.Lists.{among-map}
 use Rattle.specification.proofs.ideal.Basis.{basis-is, interpolant-fits, interpolant-values, remainder-fits}
+use Rattle.specification.proofs.ideal.Division.{basis-reduced}
 use Rattle.specification.proofs.agreement.Points.{IsPoint, Points, no-points, point-same, length-residues, levels-point, of-once, points-more}
 use Rattle.specification.proofs.agreement.Refusals.{Accepted, accepted, written-recognised}
 use Rattle.specification.proofs.agreement.Run.{number-of}
@@ -42,13 +44,17 @@ module _ (s : Settings) (ok : Accepted s) (S : List (List ℕ)) (h : Points s S)
   holds-basis lent en er et = record {
     points = same-points S (h .points);
     distinct = distinct-points s ok S h;
-    basis = basis-is (spaceUnder s) (laws-under s ok) (pointsUnder s S) (distinct-points s ok S h);
+    basis = is;
+    groebner = basis-reduced (spaceUnder s) (laws-under s ok) (pointsUnder s S) _ _ _ is;
     count = en;
     rows = er;
     tables = et;
     few-points = h .few;
     few-rows = few-rows s ok S h;
   }
+    where
+      is : let D = spaceUnder s in let K = pointsUnder s S in IsBasis D K (standardOf D K) (leadsOf D K) (rowsOf D K)
+      is = basis-is (spaceUnder s) (laws-under s ok) (pointsUnder s S) (distinct-points s ok S h)
 
   -- a call that writes tables
   written-basis : (k : ℕ) (t : Tables) → byRefusal k t (holding s S t) .answer .refusal ≡ 0

@@ -16,5 +16,6 @@ pub mod Basis
 pub mod Counts
 pub mod Groebner
 pub mod Generated
+pub mod Rows
 pub mod Division
 pub mod Permutation

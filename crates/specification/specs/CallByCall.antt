@@ -10,16 +10,18 @@ use Rattle.specification.specs.Levels.{residues}
 use Rattle.specification.specs.Layout.{fill, over}
 use Rattle.specification.specs.Polynomial.{eval, Distinct, terms}
 use Rattle.specification.specs.Basis.{IsBasis, Fits}
+use Rattle.specification.specs.Ideal.{rowPolynomials, ReducedGroebner}
 use Rattle.specification.specs.BasisOf.{standardOf, leadsOf, rowsOf, valueAt}
 use Rattle.specification.specs.Instance.{Point}
 use Rattle.specification.specs.Tables.{Tables, spaceUnder, pointsUnder, rowCount, tablesOf, written}
 
--- n, r and the tables at exit are the basis of the points S, laid out in the sizes of the lent tables.
+-- n, r and the tables at exit are the basis of the points S by definition, laid out in the sizes of the lent tables.
 pub record HoldsBasis (s : Settings) (S : List (List ℕ)) (lent : Tables) (n r : ℕ) (end : Tables) : Type 0 where
   -- each point is m residues, and none stands twice
   pub points : map (λ P. P .0) (pointsUnder s S) ≡ S
   pub distinct : Distinct (spaceUnder s) (pointsUnder s S)
   pub basis : let D = spaceUnder s in let K = pointsUnder s S in IsBasis D K (standardOf D K) (leadsOf D K) (rowsOf D K)
+  pub groebner : let D = spaceUnder s in let K = pointsUnder s S in ReducedGroebner D K (rowPolynomials D (standardOf D K) (leadsOf D K) (rowsOf D K))
   -- its layout; nothing of it is cut off, and bytes past the sizes are as they were
   pub count : n ≡ length S
   pub rows : r ≡ rowCount s S

@@ -1,13 +1,15 @@
--- The ideal that polynomials generate: sums of their products with polynomials. For docs/SCOPE.md, 'The sheet': the rows generate all polynomials that
--- are zero at every state (proofs/ideal/Division).
+-- The ideal that polynomials generate, and the reduced Gröbner basis of the polynomials that vanish at points. No contract cites these: proofs/ideal/Division
+-- shows that the basis of docs/SCOPE.md, 'The sheet', is that one.
 use mathlib.Core.List.{List, [], _∷_, _++_, map}
+use mathlib.Core.Logic.{_↔_, _≢_}
 use Prim.Native.Nat.{ℕ, suc, _*_, _<_}
 use Rattle.residue.specs.Congruence.{Mod}
-use Rattle.specification.specs.Space.{Space}
-use Rattle.specification.specs.Polynomial.{Polynomial, coefficient, terms}
+use Rattle.residue.specs.Lists.{Among}
+use Rattle.specification.specs.Space.{Space, Divides}
+use Rattle.specification.specs.Polynomial.{Polynomial, coefficient, Vanishes, Greatest, Leading, terms}
 
 module _ (D : Space) where
-  open Space D using (q, m, Mono, x)
+  open Space D using (q, m, Mono, Pt, x)
 
   abbrev pub Variable : Type 0
   Variable = (k : ℕ) × (k < m)
@@ -41,3 +43,12 @@ module _ (D : Space) where
   rowPolynomials standard [] rows = []
   rowPolynomials standard (a ∷ leads) [] = []
   rowPolynomials standard (a ∷ leads) (r ∷ rows) = ((1, a) ∷ terms D r standard) ∷ rowPolynomials standard leads rows
+
+  -- gs is the reduced Gröbner basis of the ideal of all polynomials that vanish at S (Farr and Gao, section 2): it generates the ideal; the greatest monomial
+  -- of a polynomial of the ideal is a multiple of that of one of gs; each of gs is monic; and no monomial of one is a multiple of the greatest of another.
+  pub record ReducedGroebner (S : List Pt) (gs : List (Polynomial D)) : Type 0 where
+    pub generates : (f : Polynomial D) → Vanishes D f S ↔ Generated gs f
+    pub leading : (a : Mono) → Leading D S a → (g : Polynomial D) × (c : Mono) × Among g gs × Greatest D g c × Divides D c a
+    pub monic : (g : Polynomial D) → Among g gs → (a : Mono) × Greatest D g a × Mod (suc q) (coefficient D g a) 1
+    pub reduced : (g h : Polynomial D) → Among g gs → Among h gs → g ≢ h
+        → (a b : Mono) → Greatest D g a → ¬ Mod (suc q) (coefficient D h b) 0 → ¬ Divides D a b

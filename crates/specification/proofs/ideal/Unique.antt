@@ -87,7 +87,7 @@ module _ (D : Space) (L : Laws D) where
   fits-row S l a cs r = record { long = r .long; residues = r .residues; vanishes = λ P m. lin (r .values P m) 0 (val a P) (omega arith) }
 
   -- 01: 'There is one such combination'
-  row-unique : (S : List Pt) (l : List Mono) → Increasing cmp l → ((a : Mono) → Among a l → Standard D S a)
+  pub row-unique : (S : List Pt) (l : List Mono) → Increasing cmp l → ((a : Mono) → Among a l → Standard D S a)
       → (a : Mono) (cs ds : List ℕ) → Row D S l a cs → Row D S l a ds → cs ≡ ds
   row-unique S l i s a cs ds r t = fits-unique S l i s (λ P. q * val a P) cs ds (row-fits S l a cs r) (row-fits S l a ds t)
 
