@@ -29,10 +29,10 @@ use Rattle.specification.proofs.ideal.Basis.{basis-is, interpolant-fits
 use Rattle.specification.proofs.ideal.Division.{basis-reduced}
 use Rattle.specification.proofs.agreement.Points.{IsPoint, Points, no-points, point-same, length-residues, levels-point, of-once, points-more}
 use Rattle.specification.proofs.agreement.Refusals.{Accepted, accepted, written-recognised}
-use Rattle.specification.proofs.agreement.Run.{number-of}
+use Rattle.specification.proofs.agreement.Run.{number-of, same-tables}
 use Rattle.specification.proofs.agreement.Drawings.{laws-under, among-under, distinct-points, few-rows}
-use Rattle.specification.proofs.agreement.Claim.{filled}
-use Rattle.specification.proofs.Recognised.{none-of, offered, length-read, is-read, read, recognised-parts}
+use Rattle.specification.proofs.agreement.Claim.{over-begins, filled}
+use Rattle.specification.proofs.Recognised.{none-of, offered, length-read, is-read, read, Parts, recognised-parts}
 
 module _ (s : Settings) (ok : Accepted s) (S : List (List ℕ)) (h : Points s S) where
   -- each point is its m residues
@@ -64,11 +64,18 @@ module _ (s : Settings) (ok : Accepted s) (S : List (List ℕ)) (h : Points s S)
 
 -- Recognised tables.
 module _ (s : Settings) (ok : Accepted s) (n r : ℕ) (t : Tables) (few : n ≤ 64) (known : recognised s n r t ≡ true) where
-  known-points : Points s (pointsIn s n (t .states))
-  known-points = read s ok n (t .states) few (recognised-parts s n r t known .once)
+  parts : Parts s n r t
+  parts = recognised-parts s n r t known
 
-  known-basis : HoldsBasis s (pointsIn s n (t .states)) t n r t
-  known-basis = let p = recognised-parts s n r t known in holds-basis s ok _ known-points t (sym (length-read s ok n (t .states))) (p .rows) (p .tables)
+  pub known-points : Points s (pointsIn s n (t .states))
+  known-points = read s ok n (t .states) few (of-true (parts .once))
+
+  known-tables : t ≡ written (tablesOf s (pointsIn s n (t .states))) t
+  unfolding written
+  known-tables = sym (same-tables (over-begins _ (t .states) (of-true (parts .states))) (over-begins _ (t .standard) (of-true (parts .standard))) (over-begins _ (t .leads) (of-true (parts .leads))) (over-begins _ (t .coefficients) (of-true (parts .coefficients))))
+
+  pub known-basis : HoldsBasis s (pointsIn s n (t .states)) t n r t
+  known-basis = holds-basis s ok _ known-points t (sym (length-read s ok n (t .states))) (parts .rows) known-tables
 
 -- The basis of distinct points is recognised, and nothing else is: refusal 10 is given in its case alone.
 module _ (s : Settings) (ok : Accepted s) (n r : ℕ) (t : Tables) (few : n ≤ 64) where
@@ -90,10 +97,10 @@ module _ (s : Settings) (ok : Accepted s) (n r : ℕ) (t : Tables) (few : n ≤ 
       told S h = subst (λ (u : Tables). recognised s n r u ≡ true) (sym (h .tables)) (rw (h .count, h .rows) (written-recognised s ok S (is-points S h) t))
 
 -- Drawing up leaves the basis of the points offered.
-pub drawn : (s : Settings) (t : Tables) (levels : List ℤ) → let o = drawOutcome s t levels in o .answer .refusal ≡ 0
+pub draw-leaves : (s : Settings) (t : Tables) (levels : List ℤ) → let o = drawOutcome s t levels in o .answer .refusal ≡ 0
     → HoldsBasis s (pointsOffered s levels) t (o .answer .n) (o .answer .r) (o .tables)
 unfolding drawOutcome drawRefusal drawCases
-drawn s t levels e =
+draw-leaves s t levels e =
     let z = none-of s _ tt (sym (number-of (drawRefusal s t levels) t s (pointsOffered s levels)) ∙ e) in
     let ok = accepted s (z .0) in
     let n = z .1 in
@@ -102,10 +109,10 @@ drawn s t levels e =
     written-basis s ok (pointsOffered s levels) h (drawRefusal s t levels) t e
 
 -- Adding leaves the basis of the points of the tables with the new one at their end.
-pub added : (s : Settings) (n r : ℕ) (t : Tables) (levels : List ℤ) → let o = addOutcome s n r t levels in o .answer .refusal ≡ 0
+pub add-leaves : (s : Settings) (n r : ℕ) (t : Tables) (levels : List ℤ) → let o = addOutcome s n r t levels in o .answer .refusal ≡ 0
     → HoldsBasis s (pointsIn s n (t .states) ++ (residues (s .modulus) levels ∷ [])) t (o .answer .n) (o .answer .r) (o .tables)
 unfolding addOutcome addRefusal addCases
-added s n r t levels e =
+add-leaves s n r t levels e =
     let S = pointsIn s n (t .states) in
     let P = residues (s .modulus) levels in
     let z = none-of s _ tt (sym (number-of (addRefusal s n r t levels) t s (S ++ (P ∷ []))) ∙ e) in
@@ -117,16 +124,16 @@ added s n r t levels e =
     written-basis s ok (S ++ (P ∷ [])) h (addRefusal s n r t levels) t e
 
 -- Tables that are checked are the basis of their points.
-pub checked : (s : Settings) (n r : ℕ) (t : Tables) → checkRefusal s n r t ≡ 0 → HoldsBasis s (pointsIn s n (t .states)) t n r t
+pub check-passes : (s : Settings) (n r : ℕ) (t : Tables) → checkRefusal s n r t ≡ 0 → HoldsBasis s (pointsIn s n (t .states)) t n r t
 unfolding checkRefusal
-checked s n r t e = let z = none-of s _ tt e in
+check-passes s n r t e = let z = none-of s _ tt e in
     known-basis s (accepted s (z .0)) n r t (ltb-false 64 n (z .1 .1 .0)) (not-false (recognised s n r t) (z .1 .1 .1 .0))
 
 -- The interpolant call leaves the interpolant of the values at the points of the tables.
-pub interpolated : (s : Settings) (n r : ℕ) (t : Tables) (values : List ℤ) (buffer : List ℕ) → interpolateOutcome s n r t values buffer .refusal ≡ 0
+pub interpolate-leaves : (s : Settings) (n r : ℕ) (t : Tables) (values : List ℤ) (buffer : List ℕ) → interpolateOutcome s n r t values buffer .refusal ≡ 0
     → HoldsBasis s (pointsIn s n (t .states)) t n r t × Interpolates s (pointsIn s n (t .states)) values buffer (interpolateOutcome s n r t values buffer .buffer)
 unfolding interpolateOutcome interpolantIn valuesCases filling
-interpolated s n r t values buffer e =
+interpolate-leaves s n r t values buffer e =
     let S = pointsIn s n (t .states) in
     let z = none-of s _ tt e in
     let ok = accepted s (z .0) in
@@ -144,10 +151,10 @@ interpolated s n r t values buffer e =
     )
 
 -- The remainder call leaves the remainder of the polynomial at the points of the tables.
-pub remained : (s : Settings) (n r : ℕ) (t : Tables) (terms : List ℤ) (exponents buffer : List ℕ) → remainderOutcome s n r t terms exponents buffer .refusal ≡ 0
+pub remainder-leaves : (s : Settings) (n r : ℕ) (t : Tables) (terms : List ℤ) (exponents buffer : List ℕ) → remainderOutcome s n r t terms exponents buffer .refusal ≡ 0
     → HoldsBasis s (pointsIn s n (t .states)) t n r t × Remains s (pointsIn s n (t .states)) terms exponents buffer (remainderOutcome s n r t terms exponents buffer .buffer)
 unfolding remainderOutcome remainderIn remainderCases filling
-remained s n r t terms exponents buffer e =
+remainder-leaves s n r t terms exponents buffer e =
     let S = pointsIn s n (t .states) in
     let z = none-of s _ tt e in
     let ok = accepted s (z .0) in

@@ -1,6 +1,7 @@
--- What a call stands on whose number is 0: no case holds; its points, offered as levels or read from a table, are points; its tables are those of their basis.
+-- What a call stands on whose number is 0: no case holds; its points, offered as levels or read from a table, are points; its tables are
+-- those of their basis.
 use mathlib.Core.Path.{_≡_, refl, sym, _∙_, ap, subst}
-use mathlib.Core.Bool.{true, _&&_}
+use mathlib.Core.Bool.{Bool, true, false, _&&_, true≢false}
 use mathlib.Core.List.{List, [], _∷_, _++_, map}
 use mathlib.Core.Logic.{inl, inr}
 use Prim.Native.Nat.{ℕ, zero, suc, _-_, _*_, _/_, _%_, _≤_}
@@ -10,7 +11,8 @@ use native.Mathlib.Omega.{arith}
 use lib.IntN.{ℤ}
 use lib.ListN.{length, take, drop, length-drop, length-map}
 use lib.Seq.{length-take-le}
-use lib.Dec.{T, eqb, eqb→eq}
+use lib.Dec.{T, eqb}
+use borrow.Author.Tests.{eqb-true}
 use Rattle.residue.specs.Lists.{Among}
 use Rattle.residue.proofs.Moduli.{modulus-range}
 use Rattle.specification.specs.declared.settings.Settings.{Settings}
@@ -19,18 +21,15 @@ use Rattle.specification.specs.Settings.{settingsCases}
 use Rattle.specification.specs.Levels.{inRange, residues, groups, noRepeat}
 use Rattle.specification.specs.Layout.{begins}
 use Rattle.specification.specs.Instance.{Point, reduced, pointOf}
-use Rattle.specification.specs.Tables.{Tables, pointsUnder, rowCount, tablesOf, written, pointsIn, recognised}
+use Rattle.specification.specs.Tables.{Tables, pointsUnder, rowCount, tablesOf, pointsIn, recognised}
 use Rattle.specification.specs.Adding.{pointsOffered}
 use Rattle.specification.proofs.Cases.{numbered, None, none-holds, first-stop}
-use Rattle.specification.proofs.Equality.{of-true, and-left, and-right}
 use Rattle.specification.proofs.Instance.{point-of}
 use Rattle.specification.proofs.Layouts.{fill-exact}
 use Rattle.specification.proofs.Places.{length-groups}
 use Rattle.specification.proofs.ideal.Lists.{among-map}
 use Rattle.specification.proofs.agreement.Points.{IsPoint, Points, residues-same, length-residues}
 use Rattle.specification.proofs.agreement.Refusals.{Accepted, settings-pass}
-use Rattle.specification.proofs.agreement.Run.{same-tables}
-use Rattle.specification.proofs.agreement.Claim.{over-begins}
 
 -- no case of the settings holds, and none of those behind them
 pub none-of : (s : Settings) (l : List Case) → T (numbered l) → firstOf (settingsCases s ++ l) ≡ 0 → (firstOf (settingsCases s) ≡ 0) × None l
@@ -104,33 +103,29 @@ module _ (s : Settings) (ok : Accepted s) where
   pub read : (n : ℕ) (t : List ℕ) → n ≤ 64 → T (noRepeat (pointsIn s n t)) → Points s (pointsIn s n t)
   read n t few once = record { points = read-each n t; once = once; few = omega (arith, length-read n t) }
 
--- Refusal 10 is not given.
+-- Refusal 10, test by test: what it says that tables are recognised.
 module _ (s : Settings) (n r : ℕ) (t : Tables) where
-  abbrev readIn : List (List ℕ)
+  abbrev pub readIn : List (List ℕ)
   readIn = pointsIn s n (t .states)
 
   pub record Parts : Type 0 where
-    pub once : T (noRepeat readIn)
+    pub once : noRepeat readIn ≡ true
     pub rows : r ≡ rowCount s readIn
-    pub tables : t ≡ written (tablesOf s readIn) t
+    pub states : begins (tablesOf s readIn .states) (t .states) ≡ true
+    pub standard : begins (tablesOf s readIn .standard) (t .standard) ≡ true
+    pub leads : begins (tablesOf s readIn .leads) (t .leads) ≡ true
+    pub coefficients : begins (tablesOf s readIn .coefficients) (t .coefficients) ≡ true
+
+  both : (a b : Bool) → (a && b) ≡ true → (a ≡ true) × (b ≡ true)
+  both true b e = (refl, e)
+  both false b e = absurd (true≢false (sym e))
 
   pub recognised-parts : recognised s n r t ≡ true → Parts
-  unfolding recognised written
+  unfolding recognised
   recognised-parts e =
-      let N = noRepeat readIn in
-      let R = eqb r (rowCount s readIn) in
-      let new = tablesOf s readIn in
-      let A = begins (new .states) (t .states) in
-      let B = begins (new .standard) (t .standard) in
-      let C = begins (new .leads) (t .leads) in
-      let E = begins (new .coefficients) (t .coefficients) in
-      let c = and-left (N && R && A && B && C) E (of-true e) in
-      let b = and-left (N && R && A && B) C c in
-      let a = and-left (N && R && A) B b in
-      let k = and-left (N && R) A a in
-      record {
-        once = and-left N R k;
-        rows = eqb→eq r (rowCount s readIn) (and-right N R k);
-        tables = sym (same-tables (over-begins _ (t .states) (and-right (N && R) A a)) (over-begins _ (t .standard) (and-right (N && R && A) B b))
-            (over-begins _ (t .leads) (and-right (N && R && A && B) C c)) (over-begins _ (t .coefficients) (and-right (N && R && A && B && C) E (of-true e))));
-      }
+      let a = both _ (begins (tablesOf s readIn .coefficients) (t .coefficients)) e in
+      let b = both _ (begins (tablesOf s readIn .leads) (t .leads)) (a .0) in
+      let c = both _ (begins (tablesOf s readIn .standard) (t .standard)) (b .0) in
+      let d = both _ (begins (tablesOf s readIn .states) (t .states)) (c .0) in
+      let f = both (noRepeat readIn) (eqb r (rowCount s readIn)) (d .0) in
+      record { once = f .0; rows = eqb-true r (rowCount s readIn) (f .1); states = d .1; standard = c .1; leads = b .1; coefficients = a .1 }
