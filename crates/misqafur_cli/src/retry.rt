@@ -12,7 +12,7 @@ pub enum Moved {
 // wait before each, these last a hundred and fifty years.
 pub const TRIES: u64 = 1000000000000;
 
-// Waits five milliseconds. No call waits until bytes can be moved, so they are asked for again and again, at a pace that leaves the processor to others.
+// Waits five milliseconds. There is no poll to wait by until bytes can be moved, so the call is repeated, at a pace that leaves the processor to others.
 fn pause() {
     let asked = timespec {
         tv_sec: 0,
