@@ -1,10 +1,10 @@
 #!/usr/bin/env python3
 """Write the stored cases of the test program basis_test: points, and what every call must answer and leave for them.
 
-usage: tools/basis_cases.py VECTORS
-VECTORS holds vectors/ (NAME.csv with what the program prints for it in NAME.txt) and remainders/ (NAME.rem: the same
-points, two polynomials and their remainders). The bases, interpolants and remainders were computed by Singular 4.3.1
-and agree with Macaulay2 1.21.
+usage: tools/basis_cases.py CASES
+Writes the cases to the file CASES (crates/basis_test/data/cases). They are made of tests/texts/vectors (NAME.csv with
+what the program prints for it in NAME.txt) and tests/remainders (NAME.rem: the same points, two polynomials and their
+remainders). The bases, interpolants and remainders were computed by Singular 4.3.1 and agree with Macaulay2 1.21.
 
 A case is a head of 14 bytes and, in this order: levels and values, as signed bytes; the bytes that the tables of
 points, standard monomials, leading monomials and coefficients begin with; the interpolant; 8 bytes, 1 for each
@@ -14,9 +14,12 @@ bytes each, the lowest first: the number of rows, of levels, and of the bytes of
 coefficients. Of the coefficients of a polynomial every second is written as the negative level of the same residue.
 """
 import os, sys
-from text_cases import levels_in
 
-HERE = os.path.join(os.path.dirname(os.path.abspath(__file__)), "..", "crates", "basis_test")
+sys.dont_write_bytecode = True
+from text_cases import TESTS, levels_in
+
+VECTORS = os.path.join(TESTS, "texts", "vectors")
+REMAINDERS = os.path.join(TESTS, "remainders")
 
 
 def signed(levels):
@@ -71,25 +74,23 @@ def polynomials(path, p, states):
     return found
 
 
-def case(root, name):
-    with open(os.path.join(root, "vectors", name + ".csv"), "rb") as file:
+def case(name):
+    with open(os.path.join(VECTORS, name + ".csv"), "rb") as file:
         (p, m, order), records = levels_in(file.read())
     levels = [level for record in records for level in record[:m]]
     states = b"".join(padded([level % p for level in record[:m]]) for record in records)
-    r, standard, leads, coefficients, answers = printed(os.path.join(root, "vectors", name + ".txt"), m)
+    r, standard, leads, coefficients, answers = printed(os.path.join(VECTORS, name + ".txt"), m)
     words = (r, len(levels), len(states), len(leads), len(coefficients))
     head = bytes([p, m, order, len(records)]) + b"".join(word.to_bytes(2, "little") for word in words)
     given = signed(levels) + signed(record[m] for record in records)
     tables = states + standard + leads + coefficients
-    return head + given + tables + answers + polynomials(os.path.join(root, "remainders", name + ".rem"), p, states)
+    return head + given + tables + answers + polynomials(os.path.join(REMAINDERS, name + ".rem"), p, states)
 
 
 def main():
-    root = sys.argv[1]
-    names = sorted(name[:-4] for name in os.listdir(os.path.join(root, "remainders")))
-    os.makedirs(os.path.join(HERE, "data"), exist_ok=True)
-    with open(os.path.join(HERE, "data", "cases"), "wb") as file:
-        file.write(b"".join(case(root, name) for name in names))
+    names = sorted(name[:-4] for name in os.listdir(REMAINDERS))
+    with open(sys.argv[1], "wb") as file:
+        file.write(b"".join(case(name) for name in names))
 
 
 if __name__ == "__main__":
