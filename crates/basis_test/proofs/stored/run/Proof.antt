@@ -1,17 +1,14 @@
--- `run_cases` is safe and ends.
+-- `run` is safe and ends.
 use Prim.Native.Nat.{_-_}
 use native.Mathlib.Omega.{arith}
-use Rattle.basis_test.proofs.stored.run_cases.Statement.{statement}
-use Rattle.basis_test.proofs.stored.run_cases.Tie as tie
+use Rattle.basis_test.proofs.stored.run.Statement.{statement}
+use Rattle.basis_test.proofs.stored.run.Tie as tie
 
 abbrev Inv-loop : tie.InvT-loop
-Inv-loop fd part tally₀ i₀ tally i = Unit {0}
+Inv-loop fd counts₀ i₀ counts i = Unit {0}
 
 abbrev μ-loop : tie.MeasureT-loop
-μ-loop fd part tally₀ i₀ tally i = 65536 - i
-
-new-requires : tie.Need-new-requires Inv-loop μ-loop
-new-requires c κs = tt
+μ-loop fd counts₀ i₀ counts i = 65536 - i
 
 loop-holds : tie.Need-loop-holds Inv-loop μ-loop
 loop-holds c = tt
@@ -21,6 +18,9 @@ read-head-requires c κs = tt
 
 returns : tie.Need-returns Inv-loop μ-loop
 returns c = tt
+
+failures-requires : tie.Need-failures-requires Inv-loop μ-loop
+failures-requires c κs = tt
 
 run-case-requires : tie.Need-run-case-requires Inv-loop μ-loop
 run-case-requires c κs = tt
@@ -40,16 +40,16 @@ loop-again c = tt
 returns-2 : tie.Need-returns-2 Inv-loop μ-loop
 returns-2 c = tt
 
-pub run-cases-spec : {M : Type 1} → statement M
-run-cases-spec =
+pub run-spec : {M : Type 1} → statement M
+run-spec =
     tie.close
     (tie.spec
     Inv-loop
     μ-loop
-    new-requires
     loop-holds
     read-head-requires
     returns
+    failures-requires
     run-case-requires
     tell-requires
     add-i
