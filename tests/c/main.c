@@ -10,7 +10,7 @@
 static const struct {
     const char *name;
     struct score (*run)(const struct options *);
-} parts[] = {{"calls", stored_calls}, {"texts", stored_texts},   {"examples", examples},
+} parts[] = {{"calls", stored_calls}, {"texts", stored_texts},   {"examples", examples},  {"levels", levels},
              {"short", short_buffers}, {"long", long_buffers},
              {"stack", stack_depth},   {"lists", lists},         {"random", random_calls}};
 

@@ -33,5 +33,6 @@ struct score random_calls(const struct options *options);
 struct score short_buffers(const struct options *options);
 struct score long_buffers(const struct options *options);
 struct score stack_depth(const struct options *options);
+struct score levels(const struct options *options);
 
 #endif
