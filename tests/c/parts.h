@@ -34,5 +34,7 @@ struct score short_buffers(const struct options *options);
 struct score long_buffers(const struct options *options);
 struct score stack_depth(const struct options *options);
 struct score levels(const struct options *options);
+struct score past_sizes(const struct options *options);
+struct score overlapping(const struct options *options);
 
 #endif
