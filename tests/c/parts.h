@@ -36,5 +36,6 @@ struct score stack_depth(const struct options *options);
 struct score levels(const struct options *options);
 struct score past_sizes(const struct options *options);
 struct score overlapping(const struct options *options);
+struct score all_faults(const struct options *options);
 
 #endif
