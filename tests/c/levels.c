@@ -126,7 +126,8 @@ static void try_unpackable(struct score *score, struct made *made)
             make_single(made, DRAW_UP, 5, 0);
             made->call.variables = m;
             lend(made, GIVEN, misqafur_pack_levels(NULL, many[i], m, NULL));
-            count(score, made->call.buffer[GIVEN].length <= MISQAFUR_LEVELS_SIZE && perform(&archive, &made->call) == 8);
+            count(score, made->call.buffer[GIVEN].length <= MISQAFUR_LEVELS_SIZE &&
+                             perform(&archive, &made->call) == 8);
         }
     for (int i = 0; i < 4; i++) {
         make_single(made, DRAW_UP, 5, 0);

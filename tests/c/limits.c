@@ -169,7 +169,8 @@ struct score stack_depth(const struct options *options)
     }
     free(made);
     for (int kind = 0; kind < KINDS; kind++) {
-        printf("  %-11s took %zu bytes of stack; the header promises %d\n", kind_names[kind], deepest[kind], MISQAFUR_STACK);
+        printf("  %-11s took %zu bytes of stack; the header promises %d\n", kind_names[kind], deepest[kind],
+               MISQAFUR_STACK);
         count(&score, 0 < deepest[kind] && deepest[kind] <= MISQAFUR_STACK);
     }
     return score;
