@@ -6,18 +6,22 @@
 
 #include <stdio.h>
 #include <stdlib.h>
+#include <string.h>
 
 #define CALLS_OF_EACH_KIND 20
 #define FOUR_GIB ((size_t)1 << 32)
 
-/* A random call whose tables and answer buffers have just their sizes. */
+/* A random call, whole or damaged, whose tables and answer buffers have just their sizes. */
 static void make_exact(struct made *made, enum kind kind, uint64_t seed)
 {
+    memset(made, 0, sizeof *made);
     made->chance.state = seed;
     if (kind == READ_TEXT)
         make_text(made);
     else
         make_call(made, kind);
+    if (kind != READ_TEXT && once_in(&made->chance, 2))
+        damage(made);
     for (int i = 0; i < BUFFERS; i++) {
         size_t size = buffer_size(kind, (enum buffer)i);
         if (size > 0)

@@ -103,17 +103,18 @@ static int overlap_holds(struct guard *guard, const struct call *call, struct me
     return 1;
 }
 
-/* Whether each two read-only buffers of a kind shared bytes in some call that was taken, and some did only in part. */
+/* Whether each two read-only buffers shared bytes in some call that was taken, some in whole and some in part. */
 static int all_met(enum kind kind, const struct met *met)
 {
-    long part = 0;
+    long whole = 0, part = 0;
     int all = 1, last = kind == CHECK ? COEFFICIENTS : kind == REMAINDER ? EXPONENTS : GIVEN;
     for (int i = 0; i <= last; i++)
         for (int k = 0; k < i; k++) {
             all &= met->whole[i][k] + met->part[i][k] > 0;
+            whole += met->whole[i][k];
             part += met->part[i][k];
         }
-    return all && part > 0;
+    return all && whole > 0 && part > 0;
 }
 
 struct score overlapping(const struct options *options)
