@@ -1,4 +1,5 @@
-/* misqafur.h: the calls of libmisqafur.a, for hosts in C (C11 or later) and C++.
+/* misqafur.h: the calls of libmisqafur.a, for hosts in C (C99 or later) and C++ (C++11 or later) on
+ * x86-64 Linux.
  *
  * From up to 64 points whose coordinates are residues modulo a prime p, the library works out the
  * standard monomials and the reduced Groebner basis of the ideal of all polynomials that vanish at
@@ -18,15 +19,18 @@
  *   leads         3,592 bytes: r leading monomials, 8 exponents each, increasing
  *   coefficients  28,736 bytes: those of element i begin at byte 64i, one residue for each standard
  *                 monomial in table order; element i is its leading monomial plus their combination
- * Every other byte of these sizes is 0. The basis of no points has n = 0, r = 1 and four tables of
- * zeros: its one element is the monomial 1.
+ * Of the 8 bytes of a point or a monomial the first belongs to x1, the second to x2 and so on to xm;
+ * bytes m to 7 are 0. Every other byte of these sizes is 0 too. The basis of no points has n = 0,
+ * r = 1 and four tables of zeros: its one element is the monomial 1.
  *
  * Lent memory. Each buffer is a pointer and its length in bytes; with length 0 the pointer may be
- * NULL. A buffer may be longer than its size: no byte past the size is read or written. No byte
- * that a call may write may be lent to it twice; buffers that are only read may overlap.
+ * NULL. A table or answer buffer may be longer than its size: no byte past the size is read or
+ * written. Levels, values, terms and text are read where their length is not refused, and else not at
+ * all. No byte that a call may write may be lent to it twice; buffers that are only read may overlap.
  *
  * Refusals. A call that succeeds answers refusal 0 with its counts. Otherwise it answers the first
- * of these that holds, in this order, the rest of the answer is 0, and no lent byte has changed:
+ * of these that holds, in this order, and no lent byte has changed. The number comes alone, all else
+ * in the answer being 0; only the reader adds the record at fault:
  *    1  the text is longer than 16,384 bytes
  *    2  the text breaks the rules, or a record's field count differs from the header's
  *    3  the modulus is not one of the 18
@@ -86,6 +90,7 @@
 #define MISQAFUR_COEFFICIENTS_SIZE 28736
 #define MISQAFUR_RESIDUES_SIZE 64 /* an interpolant, a remainder, the values read from a text */
 #define MISQAFUR_WIRING_SIZE 8
+#define MISQAFUR_LEVELS_SIZE 520 /* what misqafur_pack_levels asks for: 8 levels for each of 65 points */
 
 #define MISQAFUR_MAX_POINTS 64
 #define MISQAFUR_MAX_VARIABLES 8
@@ -179,7 +184,9 @@ uint32_t misqafur_wiring(uint64_t modulus, uint64_t variables, uint64_t order, u
  * value, each an optional minus sign and one to three digits.
  * Reads: the text; of the other buffers their lengths alone.
  * Writes: 512 bytes of states, the points' residues in the layout of that table, then zeros;
- * 64 bytes of values, their residues in the points' order, then zeros.
+ * 64 bytes of values, their residues in the points' order, then zeros. Residues are levels, so the
+ * values can be handed on as they are; a point has 8 bytes here and m levels in misqafur_draw_up,
+ * for which misqafur_pack_levels packs them.
  * Answers n and the settings (misqafur_read_points, _modulus, _variables, _order).
  * A refusal comes with the record at fault, the header being 1 (misqafur_read_record).
  * Refusals: 1 (record 0), 2 (the earliest such record), 3 and 4 (record 1), 6 (record 0; a buffer
@@ -188,10 +195,33 @@ uint32_t misqafur_wiring(uint64_t modulus, uint64_t variables, uint64_t order, u
 uint64_t misqafur_read_text(const uint8_t *text, size_t text_length, uint8_t *states, size_t states_length,
                             uint8_t *values, size_t values_length);
 
-/* A level, value or coefficient as the byte that the calls take. */
+/* A level, value or coefficient as the byte that the calls take. Any number outside -127 to 127 becomes
+ * 128, which is -128: with every modulus that byte is refused with 9, as the number itself is to be. */
 static inline uint8_t misqafur_level(int level)
 {
-    return (uint8_t)(level & 255);
+    if (level < -127 || level > 127)
+        return 128;
+    return (uint8_t)level;
+}
+
+/* Packs the points of a states table, 8 bytes each, as the levels that misqafur_draw_up takes, m each,
+ * and answers their number, n * m. Adding needs no packing: point i has its m levels at states + 8 * i.
+ * Reads: the first 8 * n bytes of states, which has MISQAFUR_STATES_SIZE. Writes: the first n * m bytes
+ * of levels, which has MISQAFUR_LEVELS_SIZE; the two do not overlap.
+ * With n above 64 or m not 1 to 8 it touches neither, and answers a number with which misqafur_draw_up
+ * refuses these points, reading no level: 65 * m, which is refused with 8, or for such an m 0, m itself
+ * being refused with 4. */
+static inline size_t misqafur_pack_levels(const uint8_t *states, uint64_t n, uint64_t variables, uint8_t *levels)
+{
+    size_t count = 0;
+    if (variables < 1 || variables > MISQAFUR_MAX_VARIABLES)
+        return 0;
+    if (n > MISQAFUR_MAX_POINTS)
+        return (size_t)((MISQAFUR_MAX_POINTS + 1) * variables);
+    for (size_t i = 0; i < n; i++)
+        for (size_t k = 0; k < variables; k++)
+            levels[count++] = states[8 * i + k];
+    return count;
 }
 
 /* The refusal in the answer of any call but the reader; 0 for none. */

@@ -1,22 +1,29 @@
 #!/usr/bin/env python3
 """Write the stored cases of the test program basis_test: points, and what every call must answer and leave for them.
 
-usage: tools/basis_cases.py VECTORS
-VECTORS holds vectors/ (NAME.csv with what the program prints for it in NAME.txt) and remainders/ (NAME.rem: the same
+usage: tools/basis_cases.py CASES STDOUT [PATTERN]
+Writes the cases to the file CASES (crates/basis_test/data/cases) and what the program prints for them to STDOUT
+(crates/basis_test/stdout); of the cases only those whose names match PATTERN, if it is given. They are made of
+tests/texts/vectors (NAME.csv with what the program prints for it in NAME.txt) and tests/remainders (NAME.rem: the same
 points, two polynomials and their remainders). The bases, interpolants and remainders were computed by Singular 4.3.1
 and agree with Macaulay2 1.21.
 
-A case is a head of 14 bytes and, in this order: levels and values, as signed bytes; the bytes that the tables of
+A case is a head of 18 bytes and, in this order: levels and values, as signed bytes; the bytes that the tables of
 points, standard monomials, leading monomials and coefficients begin with; the interpolant; 8 bytes, 1 for each
 variable of the wiring list; and two polynomials, each its number of terms, their coefficients as signed bytes, 8
-exponents a term, and the remainder. The head: modulus, variables, order and number of points (1 byte each); then two
-bytes each, the lowest first: the number of rows, of levels, and of the bytes of points, leading monomials and
-coefficients. Of the coefficients of a polynomial every second is written as the negative level of the same residue.
+exponents a term, and the remainder. The head: modulus (2 bytes, the lowest first, as in all numbers of two), variables,
+order, refusal and number of points (1 byte each); then two bytes each: the number of rows, of levels, of levels before
+the last point, and of the bytes of points, leading monomials and coefficients. Of the coefficients of a polynomial every
+second is written as the negative level of the same residue. A case that is refused has its levels behind the head, and
+nothing else.
 """
-import os, sys
-from text_cases import levels_in
+import fnmatch, os, sys
 
-HERE = os.path.join(os.path.dirname(os.path.abspath(__file__)), "..", "crates", "basis_test")
+sys.dont_write_bytecode = True
+from text_cases import TESTS, levels_in, write
+
+VECTORS = os.path.join(TESTS, "texts", "vectors")
+REMAINDERS = os.path.join(TESTS, "remainders")
 
 
 def signed(levels):
@@ -71,25 +78,56 @@ def polynomials(path, p, states):
     return found
 
 
-def case(root, name):
-    with open(os.path.join(root, "vectors", name + ".csv"), "rb") as file:
-        (p, m, order), records = levels_in(file.read())
+def head(settings, refusal, n, *words):
+    p, m, order = settings
+    return p.to_bytes(2, "little") + bytes([m, order, refusal, n]) + b"".join(word.to_bytes(2, "little") for word in words)
+
+
+def accepted(name):
+    text, result = (os.path.join(VECTORS, name + end) for end in (".csv", ".txt"))
+    with open(text, "rb") as file:
+        settings, records = levels_in(file.read())
+    p, m, _ = settings
     levels = [level for record in records for level in record[:m]]
     states = b"".join(padded([level % p for level in record[:m]]) for record in records)
-    r, standard, leads, coefficients, answers = printed(os.path.join(root, "vectors", name + ".txt"), m)
-    words = (r, len(levels), len(states), len(leads), len(coefficients))
-    head = bytes([p, m, order, len(records)]) + b"".join(word.to_bytes(2, "little") for word in words)
+    r, standard, leads, coefficients, answers = printed(result, m)
+    before = m * max(len(records) - 1, 0)
+    front = head(settings, 0, len(records), r, len(levels), before, len(states), len(leads), len(coefficients))
     given = signed(levels) + signed(record[m] for record in records)
     tables = states + standard + leads + coefficients
-    return head + given + tables + answers + polynomials(os.path.join(root, "remainders", name + ".rem"), p, states)
+    return front + given + tables + answers + polynomials(os.path.join(REMAINDERS, name + ".rem"), p, states)
+
+
+def refused(settings, levels, refusal):
+    return head(settings, refusal, 0, 0, len(levels), 0, 0, 0, 0) + signed(levels)
+
+
+def refusals():
+    """The examples of docs/SCOPE.md that are refused, by name: moduli, numbers of variables, orders, and a 65th point."""
+    primes = [p for p in range(2, 62) if all(p % d for d in range(2, p))]
+    for p in [p for p in range(68) if p not in primes] + [256 + p for p in primes]:
+        yield "modulus-%d" % p, refused((p, 1, 0), [1], 3)
+    for m in (0, 9, 16, 64, 255):
+        yield "variables-%d" % m, refused((61, m, 2), [1] * m, 4)
+    for order in (3, 255):
+        yield "order-%d" % order, refused((61, 1, order), [1], 5)
+    points = [level for k in range(64) for level in (k % 11 - 11 * (k % 3 == 0 < k % 11), k // 11)]
+    for name, last, refusal in (("again", [0, 0], 11), ("outside", [11, 0], 9), ("far", [127, -128], 9)):
+        yield "points-64-%s" % name, refused((11, 2, 1), points[:-2] + last, refusal)
+        yield "points-65-%s" % name, refused((11, 2, 1), points + last, 8)
+    yield "points-65-new", refused((11, 2, 1), points + [9, 5], 8)
 
 
 def main():
-    root = sys.argv[1]
-    names = sorted(name[:-4] for name in os.listdir(os.path.join(root, "remainders")))
-    os.makedirs(os.path.join(HERE, "data"), exist_ok=True)
-    with open(os.path.join(HERE, "data", "cases"), "wb") as file:
-        file.write(b"".join(case(root, name) for name in names))
+    names = sorted(name[:-4] for name in os.listdir(REMAINDERS))
+    found = dict([(name, accepted(name)) for name in names] + list(refusals()))
+    cases = [found[name] for name in fnmatch.filter(found, sys.argv[3] if len(sys.argv) > 3 else "*")]
+    bases = [case for case in cases if case[4] == 0]
+    added = sum(case[5] > 0 for case in bases)
+    parts = [("bases drawn up", len(bases)), ("last points added", added), ("interpolants", len(bases)),
+             ("wiring lists", len(bases)), ("remainders", 2 * len(bases)), ("lists refused", len(cases) - len(bases))]
+    parts.append(("sum", sum(count for _, count in parts)))
+    write(cases, "".join("%s: %d passed, 0 failed\n" % part for part in parts))
 
 
 if __name__ == "__main__":

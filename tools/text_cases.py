@@ -1,9 +1,11 @@
 #!/usr/bin/env python3
 """Write the cases of the test program csv_test: stored texts with what the text reader must answer and leave.
 
-usage: tools/text_cases.py VECTORS
-VECTORS holds vectors/, refusals/, edges/ (NAME.csv with the expected print in NAME.txt) and fuzz.txt
-(lines `HEX -> refused N R` and `HEX -> read P M ORDER N`). Points and values are read by Python's own csv module.
+usage: tools/text_cases.py CASES STDOUT [STEP]
+Writes the cases to the file CASES (crates/csv_test/data/texts) and what the program prints for them to STDOUT
+(crates/csv_test/stdout); of the cases only every STEP-th, if it is given. They are made of the folders of tests/texts
+(NAME.csv with the expected print in NAME.txt) and of tests/c/data/fuzz.txt (lines `HEX -> refused N R` and
+`HEX -> read P M ORDER N`). Points and values are read by Python's own csv module.
 
 A case is 14 bytes, the text, and for an accepted text 8n bytes of points and n of values. The 14 bytes: the text's
 length (3 bytes, the lowest first), the lengths to lend for states (2) and values (1), refusal (1), record (2),
@@ -12,7 +14,7 @@ modulus (2), variables, order and count (1 each).
 import csv, io, os, re, sys
 
 ORDERS = {"": 0, "lex": 0, "grlex": 1, "grevlex": 2}
-HERE = os.path.join(os.path.dirname(os.path.abspath(__file__)), "..", "crates", "csv_test")
+TESTS = os.path.join(os.path.dirname(os.path.abspath(__file__)), "..", "tests")
 
 
 def levels_in(text):
@@ -87,16 +89,21 @@ def lengths():
     yield case(many, refusal=8, record=66)
 
 
-def main():
-    root = sys.argv[1]
-    cases = [c for name in ("vectors", "refusals", "edges") for c in stored(os.path.join(root, name))]
-    cases += fuzz(os.path.join(root, "fuzz.txt"))
-    cases += lengths()
-    os.makedirs(os.path.join(HERE, "data"), exist_ok=True)
-    with open(os.path.join(HERE, "data", "texts"), "wb") as file:
+def write(cases, stdout):
+    """The cases and the print due, into the files that the command names."""
+    assert cases
+    with open(sys.argv[1], "wb") as file:
         file.write(b"".join(cases))
-    with open(os.path.join(HERE, "stdout"), "w") as file:
-        file.write("%d passed\n" % len(cases))
+    with open(sys.argv[2], "w") as file:
+        file.write(stdout)
+
+
+def main():
+    cases = [c for name in ("vectors", "refusals", "edges") for c in stored(os.path.join(TESTS, "texts", name))]
+    cases += fuzz(os.path.join(TESTS, "c", "data", "fuzz.txt"))
+    cases += lengths()
+    cases = cases[:: int(sys.argv[3]) if len(sys.argv) > 3 else 1]
+    write(cases, "%d passed\n" % len(cases))
 
 
 if __name__ == "__main__":

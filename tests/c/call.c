@@ -6,6 +6,19 @@
 const char *const kind_names[KINDS] = {"add_point", "draw_up", "check",    "interpolate",
                                        "remainder", "wiring",  "read_text"};
 
+/* Those that every call over tables can answer, and those of one that is handed values or terms. */
+#define EARLY (1 << 3 | 1 << 4 | 1 << 5 | 1 << 6)
+#define ANSWERING (EARLY | 1 << 7 | 1 << 8 | 1 << 9 | 1 << 10)
+
+const uint32_t possible_refusals[KINDS] = {[ADD_POINT] = ANSWERING | 1 << 11,
+                                           [DRAW_UP] = EARLY | 1 << 7 | 1 << 8 | 1 << 9 | 1 << 11,
+                                           [CHECK] = EARLY | 1 << 8 | 1 << 10,
+                                           [INTERPOLATE] = ANSWERING,
+                                           [REMAINDER] = ANSWERING,
+                                           [WIRING] = ANSWERING,
+                                           [READ_TEXT] = 1 << 1 | 1 << 2 | 1 << 3 | 1 << 4 | 1 << 6 | 1 << 8 |
+                                                         1 << 9 | 1 << 11};
+
 const size_t table_sizes[4] = {MISQAFUR_STATES_SIZE, MISQAFUR_STANDARD_SIZE, MISQAFUR_LEADS_SIZE,
                                MISQAFUR_COEFFICIENTS_SIZE};
 
@@ -15,8 +28,12 @@ const struct calls archive = {misqafur_add_point, misqafur_draw_up, misqafur_che
 const struct calls reference = {reference_add_point, reference_draw_up, reference_check, reference_interpolate,
                                 reference_remainder, reference_wiring,  reference_read_text};
 
-size_t out_size(enum kind kind)
+size_t buffer_size(enum kind kind, enum buffer which)
 {
+    if (which == STATES || (which <= COEFFICIENTS && kind != READ_TEXT))
+        return table_sizes[which];
+    if (which != OUT)
+        return 0;
     if (kind == WIRING)
         return MISQAFUR_WIRING_SIZE;
     return kind == INTERPOLATE || kind == REMAINDER || kind == READ_TEXT ? MISQAFUR_RESIDUES_SIZE : 0;

@@ -33,6 +33,9 @@ enum buffer {
     BUFFERS
 };
 
+/* Bit k of a kind's entry: the call can answer refusal k. */
+extern const uint32_t possible_refusals[KINDS];
+
 /* The size that a table must have. */
 extern const size_t table_sizes[4];
 
@@ -50,7 +53,7 @@ struct call {
 /* Has the call performed on its buffers, and gives the number returned. */
 uint64_t perform(const struct calls *by, const struct call *call);
 
-/* The answer buffer's size; 0 where a kind has none. */
-size_t out_size(enum kind kind);
+/* The size that a table or answer buffer must have in calls of this kind; 0 for any other buffer. */
+size_t buffer_size(enum kind kind, enum buffer which);
 
 #endif

@@ -1,5 +1,6 @@
 /* Part "examples": those of docs/SCOPE.md that are not proved from the definitions, and the fresh basis. */
 #include "guard.h"
+#include "made.h"
 #include "parts.h"
 
 #include <stdio.h>
@@ -45,19 +46,18 @@ static uint32_t draw(struct tables *t, uint64_t p, uint64_t m, const uint8_t *le
 
 static void settings(struct score *score, struct tables *t)
 {
-    static const uint8_t levels[9] = {0};
-    const uint64_t moduli[3] = {61, 67, 1}, variables[2] = {8, 9};
-    for (int i = 0; i < 3; i++) {
-        uint32_t expected = i == 0 ? 0 : 3;
+    static const uint8_t levels[64] = {0};
+    for (uint64_t p = 0; p < 4096; p++) {
+        uint32_t expected = p < 256 && memchr(primes, (int)p, sizeof primes) != NULL ? 0 : 3;
         fresh(t);
-        say(score, "modulus, adding", add(t, moduli[i], 2, levels) == expected);
-        say(score, "modulus, drawing up", draw(t, moduli[i], 2, levels, 2) == expected);
+        say(score, "modulus, adding", add(t, p, 2, levels) == expected);
+        say(score, "modulus, drawing up", draw(t, p, 2, levels, 2) == expected);
     }
-    for (int i = 0; i < 2; i++) {
-        uint32_t expected = i == 0 ? 0 : 4;
+    for (uint64_t m = 0; m < 64; m++) {
+        uint32_t expected = 1 <= m && m <= 8 ? 0 : 4;
         fresh(t);
-        say(score, "variables, adding", add(t, 61, variables[i], levels) == expected);
-        say(score, "variables, drawing up", draw(t, 61, variables[i], levels, variables[i]) == expected);
+        say(score, "variables, adding", add(t, 61, m, levels) == expected);
+        say(score, "variables, drawing up", draw(t, 61, m, levels, m) == expected);
     }
 }
 
@@ -67,6 +67,20 @@ static void many_points(uint8_t levels[130])
     for (int i = 0; i < 65; i++) {
         levels[2 * i] = (uint8_t)(i % 61);
         levels[2 * i + 1] = (uint8_t)(i / 61 + i % 3);
+    }
+}
+
+/* Each number of points up to 65, the last one as it is or with a level out of range. */
+static void numbers_of_points(struct score *score, struct tables *t)
+{
+    uint8_t levels[130];
+    for (size_t n = 0; n <= 65; n++) {
+        many_points(levels);
+        say(score, "a number of points", draw(t, 61, 2, levels, 2 * n) == (n > 64 ? 8 : 0));
+        if (n > 0)
+            levels[2 * n - 1] = 61;
+        say(score, "a number of points, the last out of range",
+            draw(t, 61, 2, levels, 2 * n) == (n > 64 ? 8 : n > 0 ? 9 : 0));
     }
 }
 
@@ -133,6 +147,7 @@ struct score examples(const struct options *options)
     struct score score = {0, 0};
     (void)options;
     settings(&score, &tables);
+    numbers_of_points(&score, &tables);
     points(&score, &tables);
     texts(&score);
     no_points(&score);

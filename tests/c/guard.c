@@ -10,12 +10,12 @@
 #include <sys/mman.h>
 #include <unistd.h>
 
-#define PAGE 4096
+#define EDGE (1 << 20) /* bytes that cannot be touched, on either side of a room */
 #define MARGIN 64
 #define MARK 0xC3
 
 struct guard {
-    uint8_t *room[BUFFERS]; /* ROOM bytes between two forbidden pages */
+    uint8_t *room[BUFFERS]; /* ROOM bytes between two edges that cannot be touched */
     struct bytes lent[BUFFERS];
     uint8_t plain[BUFFERS][ROOM]; /* the reference's copies */
 };
@@ -47,10 +47,10 @@ struct guard *guard_new(void)
     if (guard == NULL)
         abort();
     for (int i = 0; i < BUFFERS; i++) {
-        uint8_t *at = mmap(NULL, ROOM + 2 * PAGE, PROT_NONE, MAP_PRIVATE | MAP_ANONYMOUS, -1, 0);
-        if (at == MAP_FAILED || mprotect(at + PAGE, ROOM, PROT_READ | PROT_WRITE) != 0)
+        uint8_t *at = mmap(NULL, ROOM + 2 * EDGE, PROT_NONE, MAP_PRIVATE | MAP_ANONYMOUS, -1, 0);
+        if (at == MAP_FAILED || mprotect(at + EDGE, ROOM, PROT_READ | PROT_WRITE) != 0)
             abort();
-        guard->room[i] = at + PAGE;
+        guard->room[i] = at + EDGE;
         guard->lent[i] = (struct bytes){NULL, 0};
     }
     return guard;
@@ -59,7 +59,7 @@ struct guard *guard_new(void)
 void guard_free(struct guard *guard)
 {
     for (int i = 0; i < BUFFERS; i++)
-        munmap(guard->room[i] - PAGE, ROOM + 2 * PAGE);
+        munmap(guard->room[i] - EDGE, ROOM + 2 * EDGE);
     free(guard);
 }
 
@@ -137,16 +137,26 @@ int same_bytes(const struct call *a, const struct call *b, const char *name)
     return 1;
 }
 
-int agrees(struct guard *guard, const struct call *call, uint64_t choice, const char *name, uint64_t *number)
+/* Performs the call with its buffers claimed to be longer; they are as long as before afterwards. */
+static uint64_t perform_claiming(const struct calls *by, const struct call *call, const size_t more[BUFFERS])
+{
+    struct call claimed = *call;
+    for (int i = 0; i < BUFFERS; i++)
+        claimed.buffer[i].length += more[i];
+    return perform(by, &claimed);
+}
+
+static int compare_with_reference(struct guard *guard, const struct call *call, uint64_t choice,
+                                  const size_t more[BUFFERS], const char *name, uint64_t *number)
 {
     struct call tested = guard_lend(guard, call, choice), expected = *call;
     for (int i = 0; i < BUFFERS; i++) {
         copy(guard->plain[i], &call->buffer[i]);
         expected.buffer[i].at = guard->plain[i];
     }
-    uint64_t wanted = perform(&reference, &expected);
+    uint64_t wanted = perform_claiming(&reference, &expected, more);
     performing = name;
-    *number = perform(&archive, &tested);
+    *number = perform_claiming(&archive, &tested, more);
     if (*number != wanted) {
         fprintf(stderr, "%s: returned %" PRIx64 " (hex), the reference %" PRIx64 "\n", name, *number, wanted);
         return 0;
@@ -157,4 +167,28 @@ int agrees(struct guard *guard, const struct call *call, uint64_t choice, const 
         return 0;
     }
     return same_bytes(&tested, &expected, name);
+}
+
+int agrees(struct guard *guard, const struct call *call, uint64_t choice, const char *name, uint64_t *number)
+{
+    static const size_t none[BUFFERS] = {0};
+    return compare_with_reference(guard, call, choice, none, name, number);
+}
+
+int agrees_claiming(struct guard *guard, const struct call *call, const size_t more[BUFFERS], const char *name,
+                    uint64_t *number)
+{
+    return compare_with_reference(guard, call, 0, more, name, number);
+}
+
+int refuses(struct guard *guard, const struct call *call, uint64_t choice, uint64_t due, const char *name)
+{
+    struct call lent = guard_lend(guard, call, choice);
+    performing = name;
+    uint64_t number = perform(&archive, &lent);
+    if (number != due || !guard_intact(guard)) {
+        fprintf(stderr, "%s: returned %" PRIx64 " (hex), due is %" PRIx64 "\n", name, number, due);
+        return 0;
+    }
+    return same_bytes(&lent, call, name);
 }

@@ -25,6 +25,14 @@ int guard_intact(const struct guard *guard);
  * *number is what the archive returned. */
 int agrees(struct guard *guard, const struct call *call, uint64_t choice, const char *name, uint64_t *number);
 
+/* The same, but each buffer is claimed to be longer by so many bytes than it is: the forbidden page stands at
+ * its true end, so that a byte past it is not touched unnoticed. */
+int agrees_claiming(struct guard *guard, const struct call *call, const size_t more[BUFFERS], const char *name,
+                    uint64_t *number);
+
+/* Whether the archive answers just this number, on copies of the buffers, and no lent byte changes. */
+int refuses(struct guard *guard, const struct call *call, uint64_t choice, uint64_t due, const char *name);
+
 /* Whether every buffer of the first call has the bytes of the second's. If not, it says on standard error where. */
 int same_bytes(const struct call *a, const struct call *b, const char *name);
 

@@ -143,7 +143,7 @@ static void set_given(struct made *made)
         set_terms(made);
     if (kind == ADD_POINT)
         set_levels_in_range(made, made->call.variables);
-    size_t size = out_size(kind);
+    size_t size = buffer_size(kind, OUT);
     if (size > 0) {
         fill(made, OUT, 400);
         set_length(made, OUT, size + surplus(&made->chance));

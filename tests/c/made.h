@@ -24,6 +24,16 @@ void make_text(struct made *made);
 /* Changes one thing about the call. */
 void damage(struct made *made);
 
+/* Calls with a set of faults: bit k of the set is a case of refusal k, and each fault has its forms by the variant.
+ * The number due for a text is given with its record; 0 where there is no fault. */
+#define FAULT_VARIANTS 10
+int has_fault(uint32_t faults, int refusal);
+void make_faulty_call(struct made *made, enum kind kind, uint32_t faults, uint32_t variant);
+uint64_t make_faulty_text(struct made *made, uint32_t faults, uint32_t variant);
+
+/* Tables and answer buffers of their sizes and some bytes more, unless one is too short as fault 6. */
+void set_faulty_sizes(struct made *made, uint32_t faults, uint32_t variant);
+
 /* At most n distinct random points of m residues, 8 bytes each; gives how many were found. */
 size_t random_points(struct chance *c, int p, int m, size_t n, uint8_t points[512]);
 

@@ -10,8 +10,10 @@
 static const struct {
     const char *name;
     struct score (*run)(const struct options *);
-} parts[] = {{"calls", stored_calls},  {"texts", stored_texts},   {"examples", examples},    {"lists", lists},
-             {"random", random_calls}, {"short", short_buffers}, {"long", long_buffers}, {"stack", stack_depth}};
+} parts[] = {{"calls", stored_calls}, {"texts", stored_texts},   {"examples", examples},  {"levels", levels},
+             {"short", short_buffers}, {"long", long_buffers},   {"past", past_sizes},    {"overlap", overlapping},
+             {"faults", all_faults},   {"bytes", changed_bytes}, {"counts", wrong_counts},
+             {"stack", stack_depth},   {"lists", lists},         {"random", random_calls}};
 
 static struct score run_part(const char *name, const struct options *options)
 {
@@ -35,6 +37,10 @@ int main(int count, char **words)
     guard_watch();
     for (int i = 5; i < count; i++) {
         struct score score = run_part(words[i], &options);
+        if (score.passed + score.failed == 0) {
+            fprintf(stderr, "%s: nothing was tried\n", words[i]);
+            score.failed = 1;
+        }
         printf("%s: %ld passed, %ld failed\n", words[i], score.passed, score.failed);
         fflush(stdout);
         sum.passed += score.passed;

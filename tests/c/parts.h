@@ -33,5 +33,11 @@ struct score random_calls(const struct options *options);
 struct score short_buffers(const struct options *options);
 struct score long_buffers(const struct options *options);
 struct score stack_depth(const struct options *options);
+struct score levels(const struct options *options);
+struct score past_sizes(const struct options *options);
+struct score overlapping(const struct options *options);
+struct score all_faults(const struct options *options);
+struct score changed_bytes(const struct options *options);
+struct score wrong_counts(const struct options *options);
 
 #endif

@@ -21,13 +21,6 @@ struct worker {
     long returned[KINDS][12]; /* how often each refusal came, and 0 */
 };
 
-/* The refusals that each kind of call can answer. */
-static const int possible[KINDS][12] = {
-    [ADD_POINT] = {3, 4, 5, 6, 7, 8, 9, 10, 11}, [DRAW_UP] = {3, 4, 5, 6, 7, 8, 9, 11},
-    [CHECK] = {3, 4, 5, 6, 8, 10},               [INTERPOLATE] = {3, 4, 5, 6, 7, 8, 9, 10},
-    [REMAINDER] = {3, 4, 5, 6, 7, 8, 9, 10},     [WIRING] = {3, 4, 5, 6, 7, 8, 9, 10},
-    [READ_TEXT] = {1, 2, 3, 4, 6, 8, 9, 11}};
-
 static int random_case(struct guard *guard, struct made *made, uint64_t seed, enum kind kind, uint64_t index,
                        uint64_t *number)
 {
@@ -72,10 +65,11 @@ static int all_came_up(long returned[KINDS][12])
     for (int kind = 0; kind < KINDS; kind++) {
         printf("  %-11s taken %ld; refused", kind_names[kind], returned[kind][0]);
         all &= returned[kind][0] > 0;
-        for (int i = 0; possible[kind][i] != 0; i++) {
-            long times = returned[kind][possible[kind][i]];
-            printf(" %d: %ld", possible[kind][i], times);
-            all &= times > 0;
+        for (int k = 1; k < 12; k++) {
+            if ((possible_refusals[kind] >> k & 1) == 0)
+                continue;
+            printf(" %d: %ld", k, returned[kind][k]);
+            all &= returned[kind][k] > 0;
         }
         printf("\n");
     }

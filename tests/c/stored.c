@@ -11,6 +11,10 @@
 
 #define LINE 65536
 
+/* How many results are stored: a file that ends early has fewer. */
+#define STORED_CALLS 560
+#define STORED_TEXTS 2000
+
 /* One block of calls.txt: the call, and what is expected of it. */
 struct block {
     struct call call;
@@ -23,6 +27,13 @@ struct block {
     size_t answer_length;
     uint8_t bytes[BUFFERS][ROOM];
 };
+
+/* A stored file that does not have the form expected ends the program. */
+static void need(int holds)
+{
+    if (!holds)
+        abort();
+}
 
 /* All numbers of a line; gives how many. */
 static size_t numbers(const char *line, long *to, size_t most)
@@ -41,8 +52,7 @@ static void read_buffer(struct block *b, enum buffer which, const char *line)
 {
     static long list[ROOM];
     size_t count = numbers(line, list, ROOM);
-    if (count == 0 || count - 1 != (size_t)list[0])
-        abort();
+    need(count > 0 && count - 1 == (size_t)list[0]);
     for (size_t i = 1; i < count; i++)
         b->bytes[which][i - 1] = (uint8_t)(list[i] & 255);
     b->call.buffer[which] = (struct bytes){b->bytes[which], count - 1};
@@ -78,8 +88,7 @@ static void read_point(struct block *b, const char *line)
 static void read_lengths(struct block *b, const char *line)
 {
     long lengths[4];
-    if (numbers(line, lengths, 4) != 4)
-        abort();
+    need(numbers(line, lengths, 4) == 4);
     memset(b->bytes, 170, 4 * sizeof b->bytes[0]);
     if (b->call.kind != DRAW_UP)
         reference_draw_up(b->base[0], b->base[1], b->base[2], b->bytes[STATES], ROOM, b->bytes[STANDARD], ROOM,
@@ -91,8 +100,7 @@ static void read_lengths(struct block *b, const char *line)
 static void read_poke(struct block *b, const char *line)
 {
     long poke[3];
-    if (numbers(line, poke, 3) != 3)
-        abort();
+    need(numbers(line, poke, 3) == 3);
     b->bytes[poke[0]][poke[1]] = (uint8_t)poke[2];
 }
 
@@ -117,13 +125,13 @@ static void take(struct block *b, const char *word, const char *rest)
     if (strcmp(word, "call") == 0)
         begin(b, rest);
     else if (strcmp(word, "settings") == 0)
-        sscanf(rest, "%" SCNu64 " %" SCNu64 " %" SCNu64, &c->modulus, &c->variables, &c->order);
+        need(sscanf(rest, "%" SCNu64 " %" SCNu64 " %" SCNu64, &c->modulus, &c->variables, &c->order) == 3);
     else if (strcmp(word, "base") == 0)
-        sscanf(rest, "%" SCNu64 " %" SCNu64 " %" SCNu64, &b->base[0], &b->base[1], &b->base[2]);
+        need(sscanf(rest, "%" SCNu64 " %" SCNu64 " %" SCNu64, &b->base[0], &b->base[1], &b->base[2]) == 3);
     else if (strcmp(word, "state") == 0)
         read_point(b, rest);
     else if (strcmp(word, "claim") == 0)
-        sscanf(rest, "%" SCNu64 " %" SCNu64, &c->n, &c->r);
+        need(sscanf(rest, "%" SCNu64 " %" SCNu64, &c->n, &c->r) == 2);
     else if (strcmp(word, "lengths") == 0)
         read_lengths(b, rest);
     else if (strcmp(word, "poke") == 0)
@@ -135,14 +143,14 @@ static void take(struct block *b, const char *word, const char *rest)
     else if (strcmp(word, "buffer") == 0)
         read_out(b, rest);
     else if (strcmp(word, "number") == 0)
-        numbers(rest, b->number, 4);
+        need(numbers(rest, b->number, 4) > 0);
     else if (strcmp(word, "tables") == 0)
-        sscanf(rest, "%" SCNx64 " %" SCNx64 " %" SCNx64 " %" SCNx64, &b->hashes[0], &b->hashes[1], &b->hashes[2],
-               &b->hashes[3]);
+        need(sscanf(rest, "%" SCNx64 " %" SCNx64 " %" SCNx64 " %" SCNx64, &b->hashes[0], &b->hashes[1],
+                    &b->hashes[2], &b->hashes[3]) == 4);
     else if (strcmp(word, "answer") == 0)
         read_answer(b, rest);
     else
-        abort();
+        need(0);
 }
 
 /* FNV-1a, 64 bits. */
@@ -195,6 +203,15 @@ static FILE *open_data(const char *folder, const char *name)
     return file;
 }
 
+/* Whether as many results were tried as are stored. */
+static int all_read(const struct score *score, long stored, const char *name)
+{
+    long tried = score->passed + score->failed;
+    if (tried != stored)
+        fprintf(stderr, "%s: %ld results tried, %ld are stored\n", name, tried, stored);
+    return tried == stored;
+}
+
 struct score stored_calls(const struct options *options)
 {
     static char line[LINE];
@@ -216,6 +233,7 @@ struct score stored_calls(const struct options *options)
             fprintf(stderr, "calls.txt: the block that ends at line %ld does not hold\n", at);
         count(&score, holds);
     }
+    count(&score, all_read(&score, STORED_CALLS, "calls.txt"));
     fclose(file);
     guard_free(guard);
     return score;
@@ -250,9 +268,10 @@ struct score stored_texts(const struct options *options)
     memset(values, 170, sizeof values);
     for (long at = 1; fgets(line, LINE, file) != NULL; at++) {
         char *result = strstr(line, " -> ");
+        need(result != NULL);
         size_t length = (size_t)(result - line) / 2;
         for (size_t i = 0; i < length; i++)
-            sscanf(line + 2 * i, "%2hhx", &text[i]);
+            need(sscanf(line + 2 * i, "%2hhx", &text[i]) == 1);
         struct call call = {.kind = READ_TEXT};
         call.buffer[GIVEN] = (struct bytes){text, length};
         call.buffer[STATES] = (struct bytes){states, sizeof states};
@@ -262,6 +281,7 @@ struct score stored_texts(const struct options *options)
             fprintf(stderr, "fuzz.txt: line %ld does not hold\n", at);
         count(&score, holds);
     }
+    count(&score, all_read(&score, STORED_TEXTS, "fuzz.txt"));
     fclose(file);
     guard_free(guard);
     return score;

@@ -1,4 +1,4 @@
-// Adding a point, by Lemma 2 of the source: a row is lost, its lead becomes standard, and its products with the variables become leads.
+// Adding a point, by Lemma 2 of Farr and Gao: a row is lost, its lead becomes standard, and its products with the variables become leads.
 use crate::bytes;
 use crate::correct;
 use crate::insert;

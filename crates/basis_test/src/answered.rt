@@ -1,17 +1,30 @@
 // One stored case against each call: the refusal, the counts and every byte that is left.
 use crate::buffers;
+use crate::refused;
 use crate::stored::Head;
+use basis::adding;
 use basis::answers;
 use basis::calls;
+use basis::settings::Answer;
+
+fn is_due(got: Answer, head: Head) -> bool {
+    if got.refusal != 0 {
+        return false;
+    }
+    if got.n != head.n {
+        return false;
+    }
+    got.r == head.r
+}
 
 // Drawing up: the counts, and every byte of the tables with the guards behind them.
 pub fn drawn(
     head: Head,
     levels: &[i8],
-    states: &[u8; 520],
-    standard: &[u8; 520],
-    leads: &[u8; 3600],
-    coefficients: &[u8; 28744],
+    states: &[u8; 512],
+    standard: &[u8; 512],
+    leads: &[u8; 3592],
+    coefficients: &[u8; 28736],
 ) -> bool {
     let mut new_states = [170u8; 520];
     let mut new_standard = [170u8; 520];
@@ -26,16 +39,10 @@ pub fn drawn(
         &mut new_coefficients,
         levels,
     );
-    if got.refusal != 0 {
+    if !is_due(got, head) {
         return false;
     }
-    if got.n != head.n {
-        return false;
-    }
-    if got.r != head.r {
-        return false;
-    }
-    buffers::same_tables(
+    buffers::hold(
         &new_states,
         &new_standard,
         &new_leads,
@@ -47,15 +54,120 @@ pub fn drawn(
     )
 }
 
+// The refusal of a point that is offered once more, and of one whose levels are out of range.
+fn again(head: Head) -> u8 {
+    if head.n == 64 { 8 } else { 11 }
+}
+
+fn outside(head: Head) -> u8 {
+    if head.n == 64 { 8 } else { 9 }
+}
+
+// Adding the last point to the others leaves the same as drawing up all; then it is refused, and so is one out of range, and neither changes a byte.
+fn add(
+    head: Head,
+    levels: &[i8],
+    states: &mut [u8; 520],
+    standard: &mut [u8; 520],
+    leads: &mut [u8; 3600],
+    coefficients: &mut [u8; 28744],
+) -> bool {
+    let settings = head.settings;
+    let before = calls::draw_up(
+        settings,
+        states,
+        standard,
+        leads,
+        coefficients,
+        buffers::signed_front(levels, head.before as usize),
+    );
+    let last = buffers::signed_back(levels, head.before as usize);
+    let got = adding::add_point(
+        settings,
+        before.n as u64,
+        before.r as u64,
+        states,
+        standard,
+        leads,
+        coefficients,
+        last,
+    );
+    if !is_due(got, head) {
+        return false;
+    }
+    let repeated = adding::add_point(
+        settings,
+        got.n as u64,
+        got.r as u64,
+        states,
+        standard,
+        leads,
+        coefficients,
+        last,
+    );
+    if !refused::is_due(repeated, again(head)) {
+        return false;
+    }
+    let large = adding::add_point(
+        settings,
+        got.n as u64,
+        got.r as u64,
+        states,
+        standard,
+        leads,
+        coefficients,
+        buffers::signed_front(&[127i8; 8], last.len()),
+    );
+    refused::is_due(large, outside(head))
+}
+
+pub fn added(
+    head: Head,
+    levels: &[i8],
+    states: &[u8; 512],
+    standard: &[u8; 512],
+    leads: &[u8; 3592],
+    coefficients: &[u8; 28736],
+) -> bool {
+    let mut new_states = [170u8; 520];
+    let mut new_standard = [170u8; 520];
+    let mut new_leads = [170u8; 3600];
+    let mut new_coefficients = [170u8; 28744];
+    let passed = add(
+        head,
+        levels,
+        &mut new_states,
+        &mut new_standard,
+        &mut new_leads,
+        &mut new_coefficients,
+    );
+    if !passed {
+        return false;
+    }
+    buffers::hold(
+        &new_states,
+        &new_standard,
+        &new_leads,
+        &new_coefficients,
+        states,
+        standard,
+        leads,
+        coefficients,
+    )
+}
+
+// The interpolant: the next bytes of the case.
 pub fn interpolated(
+    fd: i32,
     head: Head,
     states: &[u8],
     standard: &[u8],
     leads: &[u8],
     coefficients: &[u8],
     values: &[i8],
-    want: &[u8],
 ) -> bool {
+    let mut want = [0u8; 64];
+    buffers::read_front(fd, &mut want, head.n as usize);
     let mut out = [170u8; 72];
     let settings = head.settings;
     let refusal = answers::interpolate(
@@ -72,7 +184,7 @@ pub fn interpolated(
     if refusal != 0 {
         return false;
     }
-    check::same(&out, want)
+    buffers::holds(&out, &want)
 }
 
 // Strikes a listed variable out of those that occur; a place past the list's end holds 0.
@@ -102,7 +214,8 @@ fn names(count: u8, list: &[u8; 16], variables: &mut [u8; 8]) -> bool {
     true
 }
 
-pub fn wired(
+// Whether the list is that of these variables.
+fn lists(
     head: Head,
     states: &[u8],
     standard: &[u8],
@@ -136,14 +249,37 @@ pub fn wired(
     check::same(variables, &[0u8; 8])
 }
 
-// A polynomial's remainder: the next of the file.
+// The wiring list: the next bytes say which variables occur.
+pub fn wired(
+    fd: i32,
+    head: Head,
+    states: &[u8],
+    standard: &[u8],
+    leads: &[u8],
+    coefficients: &[u8],
+    values: &[i8],
+) -> bool {
+    let mut variables = [0u8; 8];
+    buffers::read_front(fd, &mut variables, 8);
+    lists(
+        head,
+        states,
+        standard,
+        leads,
+        coefficients,
+        values,
+        &mut variables,
+    )
+}
+
+// A polynomial's remainder: the next bytes.
 pub fn reduced(
     fd: i32,
     head: Head,
-    states: &[u8; 520],
-    standard: &[u8; 520],
-    leads: &[u8; 3600],
-    coefficients: &[u8; 28744],
+    states: &[u8; 512],
+    standard: &[u8; 512],
+    leads: &[u8; 3592],
+    coefficients: &[u8; 28736],
 ) -> bool {
     let count = buffers::read_byte(fd) as usize;
     let size = 8 * count;
@@ -151,8 +287,8 @@ pub fn reduced(
     buffers::read_levels(fd, &mut terms, count);
     let mut exponents = [0u8; 2048];
     buffers::read_front(fd, &mut exponents, size);
-    let mut want = [170u8; 72];
-    buffers::read_buffer(fd, &mut want, 64, head.n as u16);
+    let mut want = [0u8; 64];
+    buffers::read_front(fd, &mut want, head.n as usize);
     let mut out = [170u8; 72];
     let settings = head.settings;
     let refusal = answers::remainder(
@@ -170,5 +306,5 @@ pub fn reduced(
     if refusal != 0 {
         return false;
     }
-    check::same(&out, &want)
+    buffers::holds(&out, &want)
 }

@@ -1,5 +1,4 @@
 // Parts and contents of buffers. A part that is too long is the whole buffer, so that no caller has to prove a bound.
-use basis::bytes;
 use residue::level;
 
 pub fn front(s: &[u8], n: usize) -> &[u8] {
@@ -10,43 +9,20 @@ pub fn front_mut(s: &mut [u8], n: usize) -> &mut [u8] {
     if n <= s.len() { &mut s[..n] } else { s }
 }
 
-pub fn signed_front(s: &[i8], n: usize) -> &[i8] {
-    if n <= s.len() { &s[..n] } else { s }
-}
-
 pub fn back(s: &[u8], n: usize) -> &[u8] {
     if n <= s.len() { &s[n..] } else { s }
 }
 
-pub fn part(s: &[u8], from: usize, n: usize) -> &[u8] {
-    front(back(s, from), n)
+pub fn signed_front(s: &[i8], n: usize) -> &[i8] {
+    if n <= s.len() { &s[..n] } else { s }
 }
 
-// A byte of 8 in one of 64 places; 0 where there is none.
-pub fn at(table: &[u8; 512], place: usize, i: usize) -> u8 {
-    if place < 64 {
-        if i < 8 {
-            return table[8 * place + i];
-        }
-    }
-    0
-}
-
-pub fn set(s: &mut [u8], at: usize, value: u8) {
-    if at < s.len() {
-        s[at] = value;
-    }
-}
-
-// Changes these bits of one byte; done twice, the byte is as before.
-pub fn flip(table: &mut [u8], at: usize, bits: u8) {
-    if at < table.len() {
-        table[at] = table[at] ^ bits;
-    }
+pub fn signed_back(s: &[i8], n: usize) -> &[i8] {
+    if n <= s.len() { &s[n..] } else { s }
 }
 
 // Bytes as levels of the same bits.
-pub fn put_signed(from: &[u8], levels: &mut [i8]) {
+fn put_signed(from: &[u8], levels: &mut [i8]) {
     if from.len() <= levels.len() {
         for i in 0..from.len() {
             levels[i] = level::signed(from[i]);
@@ -54,22 +30,22 @@ pub fn put_signed(from: &[u8], levels: &mut [i8]) {
     }
 }
 
-// The next n bytes of a file.
+// The next bytes of a file: whether there are as many.
+pub fn read_all(fd: i32, buffer: &mut [u8]) -> bool {
+    let got = io::read_full(fd, buffer);
+    got == buffer.len()
+}
+
+// The next n bytes.
 pub fn read_front(fd: i32, buffer: &mut [u8], n: usize) {
     io::read_full(fd, front_mut(buffer, n));
 }
 
-// The next n bytes of a file as levels, at most 512.
+// The next n bytes as levels, at most 512.
 pub fn read_levels(fd: i32, levels: &mut [i8], n: usize) {
     let mut read = [0u8; 512];
     read_front(fd, &mut read, n);
     put_signed(front(&read, n), levels);
-}
-
-// A buffer of the file's bytes and zeros up to its size; behind that it stays as it was.
-pub fn read_buffer(fd: i32, buffer: &mut [u8], size: usize, n: u16) {
-    bytes::clear(front_mut(buffer, size));
-    read_front(fd, buffer, n as usize);
 }
 
 pub fn read_byte(fd: i32) -> u8 {
@@ -78,44 +54,33 @@ pub fn read_byte(fd: i32) -> u8 {
     byte[0]
 }
 
-// Whether four tables hold the same bytes as four others, the guards included.
-pub fn same_tables(
-    states: &[u8; 520],
-    standard: &[u8; 520],
-    leads: &[u8; 3600],
-    coefficients: &[u8; 28744],
-    others: &[u8; 520],
-    other_standard: &[u8; 520],
-    other_leads: &[u8; 3600],
-    other_coefficients: &[u8; 28744],
-) -> bool {
-    if !check::same(states, others) {
+// Whether a buffer begins with these bytes, and the guard of 8 bytes behind them is still 170.
+pub fn holds(buffer: &[u8], want: &[u8]) -> bool {
+    if !check::same(front(buffer, want.len()), want) {
         return false;
     }
-    if !check::same(standard, other_standard) {
-        return false;
-    }
-    if !check::same(leads, other_leads) {
-        return false;
-    }
-    check::same(coefficients, other_coefficients)
+    check::same(back(buffer, want.len()), &[170u8; 8])
 }
 
-// Whether no byte of four tables has changed since each was filled with 170.
-pub fn untouched(
+// Whether four lent tables hold these bytes.
+pub fn hold(
     states: &[u8; 520],
     standard: &[u8; 520],
     leads: &[u8; 3600],
     coefficients: &[u8; 28744],
+    due_states: &[u8; 512],
+    due_standard: &[u8; 512],
+    due_leads: &[u8; 3592],
+    due_coefficients: &[u8; 28736],
 ) -> bool {
-    same_tables(
-        states,
-        standard,
-        leads,
-        coefficients,
-        &[170u8; 520],
-        &[170u8; 520],
-        &[170u8; 3600],
-        &[170u8; 28744],
-    )
+    if !holds(states, due_states) {
+        return false;
+    }
+    if !holds(standard, due_standard) {
+        return false;
+    }
+    if !holds(leads, due_leads) {
+        return false;
+    }
+    holds(coefficients, due_coefficients)
 }

@@ -1,69 +1,78 @@
-// How many trials of each kind passed in all lists of additions, and how many did not.
-use crate::tally::Tally;
+// How many trials of each part passed, and how many did not.
+use libc::STDOUT_FILENO;
 
-// What is counted: at k the additions whose answer has to be k, which is none of these places; failures stand 16 places on.
-pub const HELD: usize = 12;
+// The parts and their sum; the failures of each stand 8 places on.
+pub const DRAWN: usize = 0;
 
-pub const BETWEEN: usize = 13;
+pub const ADDED: usize = 1;
 
-pub const DRAWN: usize = 14;
+pub const INTERPOLATED: usize = 2;
 
-pub const REDUCED: usize = 15;
+pub const WIRED: usize = 3;
 
-pub const FULL: usize = 6;
+pub const REDUCED: usize = 4;
 
-const FAILED: usize = 5;
+pub const REFUSED: usize = 5;
 
-pub fn count(counts: &mut [u64; 32], k: usize, passed: bool) {
-    if passed {
-        bump(counts, k);
-    } else {
-        bump(counts, std::num::wrapping_add_usize(k, 16));
-        bump(counts, FAILED);
-    }
-}
+const SUM: usize = 6;
 
-fn bump(counts: &mut [u64; 32], at: usize) {
-    if at < 32 {
+// The counts stay far below 2^64, and wrapping asks for no proof of it.
+fn bump(counts: &mut [u64; 16], at: usize) {
+    if at < 16 {
         counts[at] = std::num::wrapping_add_u64(counts[at], 1);
     }
 }
 
-// All failures so far.
-pub fn failures(counts: &[u64; 32]) -> u64 {
-    counts[FAILED]
-}
-
-// The line of a count.
-fn print(counts: &[u64; 32], k: usize, name: &[u8]) -> Tally {
-    if 16 <= k {
-        return Tally::new();
+pub fn count(counts: &mut [u64; 16], part: usize, passed: bool) {
+    if passed {
+        bump(counts, part);
+        bump(counts, SUM);
+    } else {
+        bump(counts, std::num::wrapping_add_usize(part, 8));
+        bump(counts, SUM + 8);
     }
-    Tally::of(counts[k], counts[k + 16]).print(name)
 }
 
-// The lines of the additions by their answer.
-fn print_additions(counts: &[u64; 32]) -> Tally {
-    let added = print(counts, 0, b"points added");
-    let lengths = print(counts, 7, b"additions refused with 7");
-    let full = print(counts, 8, b"additions refused with 8");
-    let outside = print(counts, 9, b"additions refused with 9");
-    let repeated = print(counts, 11, b"additions refused with 11");
-    added.plus(lengths).plus(full).plus(outside).plus(repeated)
+// All failures so far.
+pub fn failures(counts: &[u64; 16]) -> u64 {
+    counts[SUM + 8]
 }
 
-// The lines of all counts, and their sum.
-pub fn print_all(counts: &[u64; 32]) -> Tally {
-    let added = print_additions(counts);
-    let held = print(counts, HELD, b"points as in the plain list");
-    let between = print(counts, BETWEEN, b"calls between additions");
-    let drawn = print(counts, DRAWN, b"the same points drawn up");
-    let reduced = print(counts, REDUCED, b"remainders with either tables");
-    let full = print(counts, FULL, b"lists of 64 points");
-    added
-        .plus(held)
-        .plus(between)
-        .plus(drawn)
-        .plus(reduced)
-        .plus(full)
+// Whether nothing was tried.
+pub fn is_empty(counts: &[u64; 16]) -> bool {
+    if counts[SUM] != 0 {
+        return false;
+    }
+    failures(counts) == 0
+}
+
+// Names a case by its place where one of its trials has failed.
+pub fn tell(counts: &[u64; 16], before: u64, place: u64) {
+    if failures(counts) != before {
+        io::write_all(STDOUT_FILENO, b"failed at ");
+        io::print_decimal(STDOUT_FILENO, place);
+        io::write_all(STDOUT_FILENO, b"\n");
+    }
+}
+
+// The line of a part.
+fn print(counts: &[u64; 16], part: usize, name: &[u8]) {
+    if part < 8 {
+        io::write_all(STDOUT_FILENO, name);
+        io::write_all(STDOUT_FILENO, b": ");
+        io::print_decimal(STDOUT_FILENO, counts[part]);
+        io::write_all(STDOUT_FILENO, b" passed, ");
+        io::print_decimal(STDOUT_FILENO, counts[part + 8]);
+        io::write_all(STDOUT_FILENO, b" failed\n");
+    }
+}
+
+pub fn print_all(counts: &[u64; 16]) {
+    print(counts, DRAWN, b"bases drawn up");
+    print(counts, ADDED, b"last points added");
+    print(counts, INTERPOLATED, b"interpolants");
+    print(counts, WIRED, b"wiring lists");
+    print(counts, REDUCED, b"remainders");
+    print(counts, REFUSED, b"lists refused");
+    print(counts, SUM, b"sum");
 }

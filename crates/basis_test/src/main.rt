@@ -1,61 +1,29 @@
-// Holds every call of the crate basis to stored results and to docs/SCOPE.md's list of refusals.
-mod added;
-mod alike;
+// Holds every call of the crate basis to stored cases (tools/basis_cases.py): what Singular and Macaulay2 computed for lists of points, and lists that are
+// refused. The cases are those of standard input, or where it has none those of the file `cases`.
 mod answered;
-mod between;
 mod buffers;
-mod calling;
-mod chance;
 mod counts;
-mod damage;
-mod examples;
-mod faults;
-mod grid;
-mod lists;
-mod offers;
-mod reference;
 mod refused;
 mod stored;
-mod tally;
-mod trials;
 
-use stored::Part;
-use tally::Tally;
-use trials::Kind;
+use libc::STDIN_FILENO;
 
-fn stored_parts() -> Tally {
-    let drawn = stored::run(Part::DrawUp, b"stored bases");
-    let interpolated = stored::run(Part::Interpolate, b"stored interpolants");
-    let wired = stored::run(Part::Wiring, b"stored wiring lists");
-    let reduced = stored::run(Part::Remainder, b"stored remainders");
-    let damaged = stored::run(Part::Bytes, b"one byte changed");
-    let counted = stored::run(Part::Counts, b"claimed counts");
-    drawn
-        .plus(interpolated)
-        .plus(wired)
-        .plus(reduced)
-        .plus(damaged)
-        .plus(counted)
-}
-
-fn made_parts() -> Tally {
-    let bytes = trials::run(Kind::EveryByte, 33384, b"every byte changed");
-    let drawing = trials::run(Kind::FaultyDrawUp, 5120, b"faults in drawing up");
-    let answering = trials::run(Kind::FaultyAnswer, 20480, b"faults in answering");
-    let adding = trials::run(Kind::FaultyAdd, 5120, b"faults in adding");
-    let moduli = trials::run(Kind::Moduli, 4096, b"moduli");
-    let variables = trials::run(Kind::Variables, 64, b"numbers of variables");
-    let points = trials::run(Kind::Points, 148, b"numbers of points");
-    bytes
-        .plus(drawing)
-        .plus(answering)
-        .plus(adding)
-        .plus(moduli)
-        .plus(variables)
-        .plus(points)
+fn run_file(counts: &mut [u64; 16]) {
+    let path = b"cases";
+    let fd = os::open_read(path);
+    if fd < 0 {
+        os::fail(path);
+        return;
+    }
+    stored::run(fd, counts);
+    libc::close(fd);
 }
 
 fn main() {
-    let stored = stored_parts();
-    stored.plus(made_parts()).plus(lists::run()).print(b"sum");
+    let mut counts = [0u64; 16];
+    stored::run(STDIN_FILENO, &mut counts);
+    if counts::is_empty(&counts) {
+        run_file(&mut counts);
+    }
+    counts::print_all(&counts);
 }

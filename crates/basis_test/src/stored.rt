@@ -1,27 +1,19 @@
-// The stored cases (tools/basis_cases.py): what Singular and Macaulay2 computed for lists of points, against every call.
+// The stored cases, one after the other.
 use crate::answered;
 use crate::buffers;
-use crate::damage;
-use crate::tally::Tally;
+use crate::counts;
+use crate::refused;
 use specification::settings::Settings;
 
-// What a pass over the cases tries.
-pub enum Part {
-    DrawUp,
-    Interpolate,
-    Wiring,
-    Remainder,
-    Bytes,
-    Counts,
-}
-
-// The head of a case: settings, counts, and how many bytes of it follow.
+// The head of a case: settings, the refusal due, counts, and how many bytes of it follow.
 pub struct Head {
     pub more: bool,
     pub settings: Settings,
+    pub refusal: u8,
     pub n: u8,
     pub r: u16,
     pub levels: u16,
+    pub before: u16,
     pub points: u16,
     pub leads: u16,
     pub coefficients: u16,
@@ -35,144 +27,134 @@ fn word(low: u8, high: u8) -> u16 {
     low as u16 + 256 * (high as u16)
 }
 
+fn wide_word(low: u8, high: u8) -> u64 {
+    word(low, high) as u64
+}
+
 fn read_head(fd: i32) -> Head {
-    let mut head = [0u8; 14];
-    let got = io::read_full(fd, &mut head);
+    let mut head = [0u8; 18];
+    let got = buffers::read_all(fd, &mut head);
     let settings = Settings {
-        modulus: wide(head[0]),
-        variables: wide(head[1]),
-        order: wide(head[2]),
+        modulus: wide_word(head[0], head[1]),
+        variables: wide(head[2]),
+        order: wide(head[3]),
     };
     Head {
-        more: got == 14,
+        more: got,
         settings,
-        n: head[3],
-        r: word(head[4], head[5]),
-        levels: word(head[6], head[7]),
-        points: word(head[8], head[9]),
-        leads: word(head[10], head[11]),
-        coefficients: word(head[12], head[13]),
+        refusal: head[4],
+        n: head[5],
+        r: word(head[6], head[7]),
+        levels: word(head[8], head[9]),
+        before: word(head[10], head[11]),
+        points: word(head[12], head[13]),
+        leads: word(head[14], head[15]),
+        coefficients: word(head[16], head[17]),
     }
 }
 
-// All of a case but its polynomials, which follow in the file.
-fn try_case(
-    part: Part,
+// The calls that take points.
+fn try_points(
     head: Head,
     levels: &[i8],
-    values: &[i8],
-    states: &mut [u8; 520],
-    standard: &mut [u8; 520],
-    leads: &mut [u8; 3600],
-    coefficients: &mut [u8; 28744],
-    interpolant: &[u8],
-    variables: &mut [u8; 8],
-    tally: Tally,
-) -> Tally {
-    match part {
-        Part::DrawUp => tally.with(answered::drawn(
-            head,
-            levels,
-            states,
-            standard,
-            leads,
-            coefficients,
-        )),
-        Part::Interpolate => tally.with(answered::interpolated(
-            head,
-            states,
-            standard,
-            leads,
-            coefficients,
-            values,
-            interpolant,
-        )),
-        Part::Wiring => tally.with(answered::wired(
-            head,
-            states,
-            standard,
-            leads,
-            coefficients,
-            values,
-            variables,
-        )),
-        _ => damage::attempts(
-            part,
-            head,
-            values,
-            states,
-            standard,
-            leads,
-            coefficients,
-            tally,
-        ),
+    states: &[u8; 512],
+    standard: &[u8; 512],
+    leads: &[u8; 3592],
+    coefficients: &[u8; 28736],
+    counts: &mut [u64; 16],
+) {
+    let drawn = answered::drawn(head, levels, states, standard, leads, coefficients);
+    counts::count(counts, counts::DRAWN, drawn);
+    if head.n != 0 {
+        let added = answered::added(head, levels, states, standard, leads, coefficients);
+        counts::count(counts, counts::ADDED, added);
     }
 }
 
-// Reads a case and tries one part of it.
-fn run_case(fd: i32, part: Part, head: Head, tally: Tally) -> Tally {
-    let n = head.n as u16;
-    let mut levels = [0i8; 512];
-    buffers::read_levels(fd, &mut levels, head.levels as usize);
-    let mut values = [0i8; 64];
-    buffers::read_levels(fd, &mut values, n as usize);
-    let mut states = [170u8; 520];
-    buffers::read_buffer(fd, &mut states, 512, head.points);
-    let mut standard = [170u8; 520];
-    buffers::read_buffer(fd, &mut standard, 512, head.points);
-    let mut leads = [170u8; 3600];
-    buffers::read_buffer(fd, &mut leads, 3592, head.leads);
-    let mut coefficients = [170u8; 28744];
-    buffers::read_buffer(fd, &mut coefficients, 28736, head.coefficients);
-    let mut interpolant = [170u8; 72];
-    buffers::read_buffer(fd, &mut interpolant, 64, n);
-    let mut variables = [0u8; 8];
-    buffers::read_front(fd, &mut variables, 8);
-    let tried = try_case(
-        part,
+// The calls that answer; the answers due follow in the file.
+fn try_answers(
+    fd: i32,
+    head: Head,
+    all_values: &[i8; 64],
+    states: &[u8; 512],
+    standard: &[u8; 512],
+    leads: &[u8; 3592],
+    coefficients: &[u8; 28736],
+    counts: &mut [u64; 16],
+) {
+    let values = buffers::signed_front(all_values, head.n as usize);
+    let interpolated = answered::interpolated(
+        fd,
         head,
-        buffers::signed_front(&levels, head.levels as usize),
-        buffers::signed_front(&values, n as usize),
-        &mut states,
-        &mut standard,
-        &mut leads,
-        &mut coefficients,
-        &interpolant,
-        &mut variables,
-        tally,
+        states,
+        standard,
+        leads,
+        coefficients,
+        values,
     );
-    let first = answered::reduced(fd, head, &states, &standard, &leads, &coefficients);
-    let second = answered::reduced(fd, head, &states, &standard, &leads, &coefficients);
-    if let Part::Remainder = part {
-        return tried.with(first).with(second);
-    }
-    tried
+    counts::count(counts, counts::INTERPOLATED, interpolated);
+    let wired = answered::wired(fd, head, states, standard, leads, coefficients, values);
+    counts::count(counts, counts::WIRED, wired);
+    let first = answered::reduced(fd, head, states, standard, leads, coefficients);
+    counts::count(counts, counts::REDUCED, first);
+    let second = answered::reduced(fd, head, states, standard, leads, coefficients);
+    counts::count(counts, counts::REDUCED, second);
 }
 
-// All cases of the file. A proved loop has to end, so it counts its turns.
-fn run_cases(fd: i32, part: Part) -> Tally {
-    let mut tally = Tally::new();
+// Reads the tables of a case that is accepted and tries every call.
+fn run_basis(fd: i32, head: Head, levels: &[i8], counts: &mut [u64; 16]) {
+    let mut values = [0i8; 64];
+    buffers::read_levels(fd, &mut values, head.n as usize);
+    let mut states = [0u8; 512];
+    buffers::read_front(fd, &mut states, head.points as usize);
+    let mut standard = [0u8; 512];
+    buffers::read_front(fd, &mut standard, head.points as usize);
+    let mut leads = [0u8; 3592];
+    buffers::read_front(fd, &mut leads, head.leads as usize);
+    let mut coefficients = [0u8; 28736];
+    buffers::read_front(fd, &mut coefficients, head.coefficients as usize);
+    try_points(
+        head,
+        levels,
+        &states,
+        &standard,
+        &leads,
+        &coefficients,
+        counts,
+    );
+    try_answers(
+        fd,
+        head,
+        &values,
+        &states,
+        &standard,
+        &leads,
+        &coefficients,
+        counts,
+    );
+}
+
+fn run_case(fd: i32, head: Head, counts: &mut [u64; 16]) {
+    let mut levels = [0i8; 512];
+    let count = head.levels as usize;
+    buffers::read_levels(fd, &mut levels, count);
+    if head.refusal == 0 {
+        run_basis(fd, head, buffers::signed_front(&levels, count), counts);
+    } else {
+        let passed = refused::drawn(head, buffers::signed_front(&levels, count));
+        counts::count(counts, counts::REFUSED, passed);
+    }
+}
+
+// All cases of a file. A proved loop has to end, so it counts its turns.
+pub fn run(fd: i32, counts: &mut [u64; 16]) {
     for i in 0..65536u64 {
         let head = read_head(fd);
         if !head.more {
-            return tally;
+            return;
         }
-        let failed = tally.failed;
-        tally = run_case(fd, part, head, tally);
-        tally.tell(failed, i);
+        let failed = counts::failures(counts);
+        run_case(fd, head, counts);
+        counts::tell(counts, failed, i);
     }
-    tally
-}
-
-// A part over all stored cases; none passes where the file cannot be opened.
-pub fn run(part: Part, name: &[u8]) -> Tally {
-    let path = b"cases";
-    let fd = os::open_read(path);
-    if fd < 0 {
-        os::fail(path);
-        return Tally::new();
-    }
-    let tally = run_cases(fd, part);
-    libc::close(fd);
-    tally.print(name)
 }

@@ -1,4 +1,5 @@
--- The definitions of the crate csv. A reader of `read_text` needs Fields, Forms and Reading; the others are the inner functions' answers.
+-- The definitions of the crate csv. A reader of `read_text` needs Fields, Forms and Reading, one of `print_text` also Printing and Appending; the others
+-- are the inner functions' answers.
 pub mod Fields
 pub mod Forms
 pub mod Reading

@@ -22,7 +22,7 @@ digitsOf (suc turns) n = cond (ltb n 10) ((48 + n) ∷ []) (digitsOf turns (n / 
 unfoldable pub decimal : ℕ → List ℕ
 decimal n = digitsOf (suc n) n
 
--- 'One space before each number or colon, LF at each end.'
+-- one space in front of each number and each colon, LF at the end of each line
 unfoldable pub spaced : ℕ → List ℕ
 spaced n = 32 ∷ decimal n
 
@@ -64,28 +64,28 @@ line word l = word ++ (numbers l ++ lineEnd)
 unfoldable pub labelled : List ℕ → ℕ → List ℕ
 labelled word n = word ++ spaced n
 
--- 'First line: n, n, r.'
+-- the first line: n, n and r
 unfoldable pub firstLine : ℕ → ℕ → List ℕ
 firstLine n r = labelled points-word n ++ (labelled (32 ∷ standard-word) n ++ (labelled (32 ∷ rows-word) r ++ lineEnd))
 
--- '`standard`: m exponents.'
+-- after `standard` m exponents
 unfoldable pub standardLines : List (List ℕ) → List ℕ
 standardLines standard = flatten (map (line standard-word) standard)
 
--- '`row`: the lead's m exponents, a colon, n coefficients.'
+-- after `row` the lead's m exponents and, behind a colon, n coefficients
 unfoldable pub rowLine : List ℕ → List ℕ → List ℕ
 rowLine lead coefficients = row-word ++ (numbers lead ++ line colon coefficients)
 
 unfoldable pub rowLines : List (List ℕ) → List (List ℕ) → List ℕ
 rowLines leads rows = flatten (zipWith rowLine leads rows)
 
--- '`interpolant`: n coefficients. `wiring`: gene numbers.'
+-- all lines; after `interpolant` n coefficients, after `wiring` variables
 unfoldable pub basisLines : (standard leads rows : List (List ℕ)) (interpolant names : List ℕ) → List ℕ
 basisLines standard leads rows interpolant names =
     firstLine (length standard) (length leads)
     ++ (standardLines standard ++ (rowLines leads rows ++ (line interpolant-word interpolant ++ line wiring-word names)))
 
--- 'A refusal prints only one line: `refused`, the number, the record.'
+-- a refusal is a single line, `refused` with number and record
 unfoldable pub refusalLine : ℕ → ℕ → List ℕ
 refusalLine refusal at = labelled refused-word refusal ++ (spaced at ++ lineEnd)
 

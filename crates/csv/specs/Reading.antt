@@ -84,7 +84,7 @@ firstRepeat seen (P ∷ S) = cond (isAmong P seen) 1 (further (firstRepeat (P �
 abbrev pub Case : Type 0
 Case = Bool × ℕ × ℕ
 
--- what the settings, the number of entries and the lent lengths decide: "In text, 3 and 4 give record 1, and 6 gives record 0"; record 66 is the 65th behind
+-- what the settings, the number of entries and the lent lengths decide: 3 and 4 come with record 1, and 6 with record 0; record 66 is the 65th behind
 -- the header
 unfoldable pub settingsCases : ℕ → ℕ → ℕ → ℕ → ℕ → List Case
 settingsCases p m n states values =

@@ -1,7 +1,9 @@
-// Runs every stored text through the text reader, and holds the answer and the lent buffers to what is stored with it (tools/text_cases.py).
+// Runs every stored text through the text reader, and holds the answer and the lent buffers to what is stored with it (tools/text_cases.py). The texts are
+// those of standard input, or where none of them passes those of the file `texts`.
 use csv::forms;
 use csv::reading;
 use csv::reading::Read;
+use libc::STDIN_FILENO;
 use libc::STDOUT_FILENO;
 
 // Numbers stored in two or three bytes, the lowest first.
@@ -174,15 +176,24 @@ fn run_all(fd: i32) -> u64 {
     passed
 }
 
-fn main() {
+// The cases of the file `texts`.
+fn run_file() -> u64 {
     let path = b"texts";
     let fd = os::open_read(path);
     if fd < 0 {
         os::fail(path);
-        return;
+        return 0;
     }
     let passed = run_all(fd);
     libc::close(fd);
+    passed
+}
+
+fn main() {
+    let mut passed = run_all(STDIN_FILENO);
+    if passed == 0 {
+        passed = run_file();
+    }
     io::print_decimal(STDOUT_FILENO, passed);
     io::write_all(STDOUT_FILENO, b" passed\n");
 }

@@ -9,6 +9,6 @@ unfoldable pub inverseBelow : ℕ → ℕ → ℕ → ℕ
 inverseBelow p x zero = 0
 inverseBelow p x (suc n) = cond (eqb ((x * n) % p) 1) n (inverseBelow p x n)
 
--- "The entry for 0 is 0; for any other residue the product with its entry is 1 modulo p". 0 as well where p is no modulus or x no residue.
+-- That of 0 is 0; any other residue times its inverse leaves 1 modulo p (docs/SCOPE.md, 'What the desk does'). 0 as well where p is no modulus or x no residue.
 unfoldable pub inverseOf : ℕ → ℕ → ℕ
 inverseOf p x = cond (isModulus p && ltb x p) (inverseBelow p x p) 0

@@ -4,7 +4,7 @@ use mathlib.Core.Bool.{Bool, false, _||_}
 use mathlib.Core.List.{List, [], _∷_, foldr}
 use lib.Dec.{eqb}
 
--- the 18 primes ("p is one of 18 primes")
+-- the 18 primes (docs/SCOPE.md, 'What the desk does')
 unfoldable pub primes : List ℕ
 primes = 2 ∷ 3 ∷ 5 ∷ 7 ∷ 11 ∷ 13 ∷ 17 ∷ 19 ∷ 23 ∷ 29 ∷ 31 ∷ 37 ∷ 41 ∷ 43 ∷ 47 ∷ 53 ∷ 59 ∷ 61 ∷ []
 

@@ -13,14 +13,14 @@ use Rattle.specification.specs.Polynomial.{eval, Vanishes, Standard, Min
 module _ (D : Space) where
   open Space D using (q, Mono, Pt, cmp)
 
-  -- 'The row's polynomial is that monomial plus a combination of standard monomials, and is zero at every state': the coefficients are residues,
+  -- A row is its lead plus standard monomials with coefficients, and vanishes at every point: the coefficients are residues,
   -- one for each standard monomial in table order.
   pub record Row (S : List Pt) (standard : List Mono) (a : Mono) (cs : List ℕ) : Type 0 where
     pub long : length cs ≡ length standard
     pub residues : (c : ℕ) → Among c cs → c < suc q
     pub vanishes : Vanishes D ((1, a) ∷ terms D cs standard) S
 
-  -- 'Rows: one for each leading monomial that no other leading monomial divides properly', in the order of the leads.
+  -- A row for each lead, in the order of the leads.
   abbrev pub Rows : List Pt → List Mono → List Mono → List (List ℕ) → Type 0
   Rows S standard [] [] = Unit {0}
   Rows S standard [] (r ∷ rs) = ⊥
@@ -35,7 +35,7 @@ module _ (D : Space) where
     pub leads-members : (a : Mono) → Among a leads ↔ Minimal D S a
     pub rows-are : Rows S standard leads rows
 
-  -- The interpolant of the values φ: 'residues over the standard monomials' whose combination has these values at the points.
+  -- The interpolant of the values φ: residues for the standard monomials, whose combination has these values at the points.
   -- The remainder of a polynomial f is the interpolant of its values, eval f.
   pub record Fits (S : List Pt) (standard : List Mono) (φ : Pt → ℕ) (cs : List ℕ) : Type 0 where
     pub long : length cs ≡ length standard

@@ -9,7 +9,7 @@ use Rattle.specification.specs.Extension.{Basis, grow}
 module _ (D : Space) where
   open Space D using (q, Mono, Pt, one, val, samePoint)
 
-  -- 'With n = 0 there is one row, the monomial 1.'
+  -- the only row for n = 0 is the monomial 1
   unfoldable pub basisOf : List Pt → Basis D
   basisOf [] = record { standard = []; leads = one ∷ []; interpolant = λ φ. [] }
   basisOf (P ∷ S) = grow D P (basisOf S)
@@ -33,10 +33,10 @@ module _ (D : Space) where
   valueAt (Q ∷ S) [] P = 0
   valueAt (Q ∷ S) (v ∷ vs) P = cond (samePoint P Q) v (valueAt S vs P)
 
-  -- 'The interpolant of n values (.. in state order)'
+  -- the interpolant of n values in the points' order
   abbrev pub interpolantOf : List Pt → List ℕ → List ℕ
   interpolantOf S vs = basisOf S .interpolant (valueAt S vs)
 
-  -- 'the remainder of a polynomial'
+  -- the remainder of a polynomial
   abbrev pub remainderOf : List Pt → Polynomial D → List ℕ
   remainderOf S f = basisOf S .interpolant (eval D f)

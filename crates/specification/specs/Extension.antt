@@ -48,7 +48,7 @@ module _ (D : Space) where
   unfoldable pub gap : List Mono → Pt → ℕ → List ℕ → ℕ
   gap l P v cs = v + q * eval D (terms D cs l) P
 
-  -- 'the first row, in increasing order, whose value at the new point is not zero': its lead. The row of a lead is the lead less its interpolant.
+  -- the lead of the first of the increasing rows that does not vanish at the new point. The row of a lead is the lead less its interpolant.
   unfoldable pub first : Basis → Pt → List Mono → Mono
   first b P [] = one
   first b P (a ∷ l) = cond (eqb (gap (b .standard) P (val a P) (b .interpolant (val a)) % suc q) 0) (first b P l) a
@@ -57,7 +57,7 @@ module _ (D : Space) where
   unfoldable pub newton : List Mono → Pt → Mono → List ℕ → ℕ → ℕ → List ℕ → List ℕ
   newton l P a ν i v cs = let k = (gap l P v cs * i) % suc q in slot a k l (minus cs k ν)
 
-  -- The basis of one point more: 'a new state takes one row away', its lead becomes standard.
+  -- The basis of one point more: it costs one row, whose lead becomes standard.
   unfoldable pub grow : Pt → Basis → Basis
   grow P b = let a = first b P (b .leads) in
       let ν = b .interpolant (val a) in

@@ -10,7 +10,7 @@ use Rattle.specification.specs.Space.{Space, Less, Divides, same}
 module _ (D : Space) where
   open Space D using (q, Mono, Pt, val)
 
-  -- Terms, each a coefficient and a monomial. 'Repeated terms of a polynomial add up.'
+  -- Terms, each a coefficient and a monomial. Repeated terms are added up.
   abbrev pub Polynomial : Type 0
   Polynomial = List (ℕ × Mono)
 
@@ -26,23 +26,23 @@ module _ (D : Space) where
   abbrev pub coefficient : Polynomial → Mono → ℕ
   coefficient f a = sumOver (λ t. t .0 * hit a (t .1)) f
 
-  -- 'some polynomial that is zero at every state'
+  -- the polynomial vanishes at all points
   abbrev pub Vanishes : Polynomial → List Pt → Type 0
   Vanishes f S = (P : Pt) → Among P S → Mod (suc q) (eval f P) 0
 
-  -- 'has it as its greatest monomial'
+  -- the monomial is its greatest
   abbrev pub Greatest : Polynomial → Mono → Type 0
   Greatest f a = (¬ Mod (suc q) (coefficient f a) 0) × ((b : Mono) → Less D a b → Mod (suc q) (coefficient f b) 0)
 
-  -- 'A monomial is a leading one if some polynomial that is zero at every state has it as its greatest monomial.'
+  -- Leading is a monomial that is the greatest of some polynomial which vanishes at all points.
   abbrev pub Leading : List Pt → Mono → Type 0
   Leading S a = (f : Polynomial) × Vanishes f S × Greatest f a
 
-  -- 'Any other monomial is standard.'
+  -- Standard is every other.
   abbrev pub Standard : List Pt → Mono → Type 0
   Standard S a = ¬ Leading S a
 
-  -- 'each leading monomial that no other leading monomial divides properly'
+  -- a leading monomial without another leading one as a proper divisor: the lead of a row
   abbrev pub Minimal : List Pt → Mono → Type 0
   Minimal S a = Leading S a × ((b : Mono) → Divides D b a → b ≢ a → Standard S b)
 

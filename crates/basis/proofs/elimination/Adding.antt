@@ -102,7 +102,7 @@ module _ (D : Space) where
     first-at (a ∷ h) (suc j) mem z ne = cond-so (zero-told q (gapOf D (basisOf D S) P (val a))) (z 0 (omega arith)) (first D (basisOf D S) P h) a
         ∙ first-at h j (omega arith) (λ i k. z (suc i) (omega arith)) ne
 
-    -- 01: 'take the first row, in increasing order, whose value at the new point is not zero': its lead becomes standard
+    -- docs/SCOPE.md, 'The sheet': of the increasing rows the first that does not vanish at the new point is taken; its lead becomes standard
     pub grow-at : (j : ℕ) → j < length (leadsOf D S) → ((i : ℕ) → i < j → valueOf S P i ≈ 0) → ¬ (valueOf S P j ≈ 0)
         → (standardOf D (P ∷ S) ≡ inserted cmp (getD (leadsOf D S) j one) (standardOf D S)) × (leadsOf D (P ∷ S) ≡ extended D (leadsOf D S) (getD (leadsOf D S) j one) m)
     unfolding basisOf grow

@@ -45,11 +45,11 @@ module _ (D : Space) where
     pub staircase : Staircase D S (standardOf D S) (leadsOf D S) (coefficientsOf S)
     staircase = sound D L S d .staircase
 
-    -- 01, 'The sheet', definitions of leading and standard monomials
+    -- docs/SCOPE.md, 'The sheet', Definitions: leading and standard monomials
     pub standard-iff : (a : Mono) → Among a (standardOf D S) ↔ Standard D S a
     standard-iff = inside-iff D L S (standardOf D S) (leadsOf D S) (coefficientsOf S) staircase
 
-    -- 01: 'The interpolant of n values .. residues over the standard monomials' exists, of any values, and is the computed one.
+    -- docs/SCOPE.md, 'The sheet', Answers: an interpolant exists, of any values, and is the computed one.
     pub interpolant-fits : (φ : Pt → ℕ) → Fits D S (standardOf D S) φ (basisOf D S .interpolant φ)
     interpolant-fits φ = record {
       long = sound D L S d .long φ;
@@ -65,14 +65,14 @@ module _ (D : Space) where
     interpolant-agree φ ψ h = let f = interpolant-fits φ in
         interpolant-only ψ (basisOf D S .interpolant φ) (record { long = f .long; residues = f .residues; values = λ P mem. f .values P mem then h P mem })
 
-    -- 01: 'The row's polynomial is that monomial plus a combination of standard monomials, and is zero at every state. There is one such combination'
+    -- docs/SCOPE.md, 'The sheet', Definitions: a lead plus standard monomials with coefficients, zero at every point; there is only one such row
     pub row-is : (a : Mono) → Row D S (standardOf D S) a (rowOf D S a)
     row-is a = fits-row D L S (standardOf D S) a (rowOf D S a) (interpolant-fits (λ P. q * val a P))
 
     pub row-only : (a : Mono) (cs : List ℕ) → Row D S (standardOf D S) a cs → cs ≡ rowOf D S a
     row-only a cs r = interpolant-only (λ P. q * val a P) cs (row-fits D L S (standardOf D S) a cs r)
 
-    -- 01, 'The sheet': the computed tables are the basis,
+    -- docs/SCOPE.md, 'The sheet': the computed tables are the basis,
     pub basis-is : IsBasis D S (standardOf D S) (leadsOf D S) (rowsOf D S)
     basis-is = record {
       standard-increasing = staircase .increasing;
@@ -110,7 +110,7 @@ module _ (D : Space) where
         opposite t mem = flip (interp-unique D S (standardOf D S) (coefficientsOf S) (staircase .base) (λ P. q * val a P) (λ b. q * coefficientsOf S (val a) b)
             (λ P z. scaled P then scale q (staircase .base .interp (val a) P z)) t mem)
 
-    -- 01: 'and its monomials are all smaller'
+    -- docs/SCOPE.md, 'The sheet', Definitions: the monomials of a row are smaller than its lead
     pub row-smaller : (a : Mono) → ¬ Among a (standardOf D S) → Greatest D ((1, a) ∷ terms D (rowOf D S a) (standardOf D S)) a
     row-smaller a out = ((λ z. g .0 (flip (row-pair a (hit D a)) then z)), λ b h. row-pair a (hit D b) then g .1 b h)
       where
@@ -121,7 +121,7 @@ module _ (D : Space) where
     pub row-value : (a : Mono) (Q : Pt) → eval D ((1, a) ∷ terms D (rowOf D S a) (standardOf D S)) Q ≈ error D (standardOf D S) (coefficientsOf S) Q (val a)
     row-value a Q = row-pair a (λ b. val b Q) then row-at D (standardOf D S) (coefficientsOf S) a (λ b. val b Q)
 
-    -- 01: 'the remainder of a polynomial': it has the polynomial's values at the points, and is alone in that
+    -- docs/SCOPE.md, 'The sheet', Answers: a polynomial's remainder has the polynomial's values at the points, and is alone in that
     pub remainder-fits : (f : Polynomial D) → Fits D S (standardOf D S) (eval D f) (remainderOf D S f)
     remainder-fits f = interpolant-fits (eval D f)
 
@@ -139,7 +139,7 @@ module _ (D : Space) where
         cond-not (point-told D L (getD S i P) Q) (λ e. d .0 (getD S i P) (getD-among S i P (omega arith)) (sym e)) v (valueAt D S vs (getD S i P))
         ∙ value-at S vs i P (d .1) (omega arith) (omega arith)
 
-    -- 01: 'The interpolant of n values (as levels, in state order)' has the i-th value at the i-th point
+    -- docs/SCOPE.md, 'The sheet', Answers: the interpolant of n values in the points' order has the i-th value at the i-th point
     pub interpolant-values : (S : List Pt) → Distinct D S → (vs : List ℕ) (i : ℕ) (P : Pt) → i < length S → i < length vs
         → eval D (terms D (interpolantOf D S vs) (standardOf D S)) (getD S i P) ≈ getD vs i 0
     interpolant-values S d vs i P h k = interpolant-fits L S d (valueAt D S vs) .values (getD S i P) (getD-among S i P h) then of (value-at S vs i P d h k)

@@ -25,7 +25,7 @@ module _ (D : Space) (L : Laws D) where
   turns : (S : List Pt) (P : Pt) → Distinct D (P ∷ S) → First D (standardOf D S) (leadsOf D S) (interpolation D (basisOf D S)) P (first D (basisOf D S) P (leadsOf D S))
   turns S P d = turned D L S (basisOf D S) (sound D L S (d .1)) P (d .0)
 
-  -- 01: 'There are as many standard monomials as states, n.'
+  -- docs/SCOPE.md, 'The sheet', Definitions: the standard monomials are n in number, like the points
   pub standard-length : (S : List Pt) → Distinct D S → length (standardOf D S) ≡ length S
   unfolding basisOf grow
   standard-length [] d = refl
@@ -33,7 +33,7 @@ module _ (D : Space) (L : Laws D) where
       (first-outside D L S (standardOf D S) (leadsOf D S) (interpolation D (basisOf D S)) (sound D L S (d .1) .staircase) P (first D (basisOf D S) P (leadsOf D S)) (turns S P d))
       ∙ ap suc (standard-length S (d .1))
 
-  -- 01: 'Row count r is at most 1 + n(m-1)'
+  -- docs/SCOPE.md, 'The sheet', Definitions: r is 1 + n(m-1) at most
   pub leads-length : (S : List Pt) → Distinct D S → length (leadsOf D S) + length S ≤ 1 + length S * m
   unfolding basisOf grow
   leads-length [] d = omega arith

@@ -120,7 +120,7 @@ module _ (D : Space) where
               new (s .0) (s .2) (s .5) (decided (divided-told D L (without D α leads) (x (s .0) α)))
           go b mem d (no e) = (b, extended-old D L leads α m b (without-in D L α leads b mem e), d)
 
-      -- 'a new state takes one row away and brings at most m'
+      -- a new point costs one row and brings up to m
       pub fewer-leads : length (extended D leads α m) < length leads + m
       fewer-leads = omega (arith, extended-length-le D L leads α m, without-length D L α leads lead)
 

@@ -86,7 +86,7 @@ module _ (D : Space) (L : Laws D) where
   pub fits-row : (S : List Pt) (l : List Mono) (a : Mono) (cs : List ℕ) → Fits D S l (λ P. q * val a P) cs → Row D S l a cs
   fits-row S l a cs r = record { long = r .long; residues = r .residues; vanishes = λ P m. lin (r .values P m) 0 (val a P) (omega arith) }
 
-  -- 01: 'There is one such combination'
+  -- docs/SCOPE.md, 'The sheet', Definitions: there is only one such row
   pub row-unique : (S : List Pt) (l : List Mono) → Increasing cmp l → ((a : Mono) → Among a l → Standard D S a)
       → (a : Mono) (cs ds : List ℕ) → Row D S l a cs → Row D S l a ds → cs ≡ ds
   row-unique S l i s a cs ds r t = fits-unique S l i s (λ P. q * val a P) cs ds (row-fits S l a cs r) (row-fits S l a ds t)
@@ -101,7 +101,7 @@ module _ (D : Space) (L : Laws D) where
   rows-unique S l i s (a ∷ hs) (y ∷ rs) (z ∷ ts) r t =
       ap₂ (λ (u : List ℕ) (v : List (List ℕ)). u ∷ v) (row-unique S l i s a y z (r .0) (t .0)) (rows-unique S l i s hs rs ts (r .1) (t .1))
 
-  -- 01, 'The sheet': the definitions determine the tables.
+  -- docs/SCOPE.md, 'The sheet': the definitions determine the tables.
   pub basis-unique : (S : List Pt) (standard standard′ leads leads′ : List Mono) (rows rows′ : List (List ℕ))
       → IsBasis D S standard leads rows → IsBasis D S standard′ leads′ rows′ → (standard ≡ standard′) × (leads ≡ leads′) × (rows ≡ rows′)
   basis-unique S standard standard′ leads leads′ rows rows′ h k = (

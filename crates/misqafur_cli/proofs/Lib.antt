@@ -1,0 +1,2 @@
+-- The lemmas of the crate misqafur_cli.
+pub mod Counted
