@@ -6,9 +6,9 @@ use Prim.Native.Nat.{ℕ, _<_, _≤_}
 use native.Mathlib.Omega.{arith}
 use lib.ListN.{length, getD, replicate, length-map, length-replicate, getD-replicate}
 use Rattle.residue.specs.Lists.{Among}
+use Rattle.residue.specs.Layout.{over}
 use Rattle.residue.proofs.Filled.{filled, filled-front, filled-all}
 use Rattle.residue.proofs.Vectors.{map-at}
-use Rattle.specification.specs.Layout.{over}
 
 -- two rules that give the same at each member
 pub map-same : {A B : Type 0} (f g : A → B) (l : List A) → ((a : A) → Among a l → f a ≡ g a) → map f l ≡ map g l

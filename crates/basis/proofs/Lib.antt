@@ -1,6 +1,5 @@
 -- The lemmas of the crate basis.
 pub mod Copies
-pub mod Keys
 pub mod LevelLists
 pub mod PointTables
 pub mod Terms

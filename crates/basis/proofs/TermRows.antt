@@ -8,17 +8,16 @@ use lib.ListN.{length, getD, take, drop, replicate, length-map, length-replicate
 use lib.Seq.{ext-getD, length-take-le, take-all, take-at, drop-at}
 use Rattle.residue.specs.Congruence.{Mod}
 use Rattle.residue.specs.Vector.{Below, addScaled, powered, dotOf}
+use Rattle.residue.specs.Layout.{groups, over}
 use Rattle.residue.proofs.Congruence.{rfl, of, flip, reduce, _then_, _plus_, _times_}
 use Rattle.residue.proofs.Vectors.{map-at, powered-length, powered-at, powered-below}
+use Rattle.residue.proofs.Layouts.{take-over}
+use Rattle.residue.proofs.Places.{length-groups, groups-at}
 use Rattle.monomial.specs.Monomial.{valueAt}
 use Rattle.monomial.proofs.Loops.{value-again, value-end}
-use Rattle.specification.specs.Levels.{groups}
-use Rattle.specification.specs.Layout.{over}
 use Rattle.basis.specs.Drawing.{columnOf}
-use Rattle.specification.proofs.Layouts.{take-over}
-use Rattle.specification.proofs.Places.{length-groups, groups-at}
-use Rattle.basis.proofs.ValueRows.{column-long}
 use Rattle.basis.specs.Interpolants.{termValues}
+use Rattle.basis.proofs.ValueRows.{column-long}
 use Rattle.basis.proofs.Copies.{map-same}
 use Rattle.basis.proofs.Terms.{values, length-values, value-none, value-more}
 

@@ -12,19 +12,18 @@ use lib.Dec.{T, eqb, eqb→eq}
 use borrow.Author.Tests.{eq-eqb, ne-eqb}
 use mathlib.Core.Logic.{inl, inr}
 use Rattle.residue.specs.Congruence.{Mod}
-use Rattle.residue.specs.Lists.{Among}
+use Rattle.residue.specs.Lists.{Among, allZero}
 use Rattle.residue.specs.Vector.{dotOf}
+use Rattle.residue.specs.Layout.{groups, fill}
 use Rattle.residue.proofs.Congruence.{reduce, scale, _then_, _plus_}
 use Rattle.residue.proofs.Vectors.{map-at, dot-more}
+use Rattle.residue.proofs.Tests.{and-left, and-right}
+use Rattle.residue.proofs.Places.{length-groups, groups-step, groups-end, groups-at}
 use Rattle.monomial.specs.Monomial.{valueAt}
 use Rattle.monomial.specs.Order.{Order}
-use Rattle.specification.specs.Levels.{groups}
-use Rattle.specification.specs.Layout.{fill}
 use Rattle.specification.specs.Polynomial.{eval}
 use Rattle.specification.specs.Instance.{Point, monomialOf, spaceOf}
-use Rattle.specification.specs.Solving.{allZero, withinVariables, occurs, polynomialOf}
-use Rattle.specification.proofs.Equality.{and-left, and-right}
-use Rattle.specification.proofs.Places.{length-groups, groups-step, groups-end, groups-at}
+use Rattle.specification.specs.Solving.{withinVariables, occurs, polynomialOf}
 
 -- Are all zero? The entry at i is 0 or not, or there is no further one.
 module _ (l : List ℕ) (i : ℕ) (h : i < length l) where

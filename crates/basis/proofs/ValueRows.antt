@@ -6,21 +6,20 @@ use native.Mathlib.Nat.{not-suc-le-zero}
 use native.Mathlib.Numerals.{add-one}
 use native.Mathlib.Decide.{decLt}
 use native.Mathlib.Omega.{arith}
-use lib.ListN.{length, getD, take, drop, replicate, length-append, length-map, length-drop, length-replicate, List·getD-append, List·getD-eq-default}
+use lib.ListN.{length, getD, take, drop, replicate, length-append, length-map, length-drop, length-replicate, List·getD-append}
 use lib.Seq.{getD-take, getD-drop, getD-append-add, length-take-le, take-take}
 use lib.Dec.{eqb, eqb→eq}
 use Rattle.residue.specs.Vector.{Below, pointwise}
+use Rattle.residue.specs.Layout.{groups, fill, inPlaces, over}
 use Rattle.residue.proofs.Vectors.{map-at, pointwise-length, pointwise-at, pointwise-below, below-drop, below-append}
 use Rattle.residue.proofs.Moduli.{below-at}
+use Rattle.residue.proofs.Layouts.{take-fill, length-over, over-all}
+use Rattle.residue.proofs.Places.{length-groups, groups-at, place-at, no-places, over-zeros, place-more}
 use Rattle.monomial.specs.Order.{Order}
 use Rattle.monomial.specs.Rank.{variableRank}
-use Rattle.specification.specs.Levels.{groups}
-use Rattle.specification.specs.Layout.{fill, inPlaces, over}
 use Rattle.basis.specs.Working.{withPlace}
 use Rattle.basis.specs.Drawing.{stepsOf, columnOf, columnsOf, productValues}
-use Rattle.specification.proofs.Layouts.{length-fill, fill-at, fill-exact, take-fill, length-over, over-all}
 use Rattle.basis.proofs.elimination.Exponents.{variable-small}
-use Rattle.specification.proofs.Places.{length-groups, groups-at, place-at, no-places, over-zeros, place-more}
 use Rattle.basis.proofs.WorkingRows.{replaced-length, replaced-below, replaced-before, replaced-here}
 
 -- a part that was lent, and came back written over at its front
@@ -49,12 +48,6 @@ pub table-more : (w N k : ℕ) (S : List (List ℕ)) (r t : List ℕ) → t ≡ 
     → withPlace w k r t ≡ fill N (inPlaces w (S ++ (r ∷ [])))
 unfolding withPlace
 table-more w N k S r t e c h l = place-more w N S r t (over r (take w (drop (w * k) t))) (w * k) w e (ap (λ (z : ℕ). w * z) c) refl h l refl
-
--- a row that is filled up already
-pub places-filled : (w : ℕ) (S : List (List ℕ)) (r : List ℕ) → inPlaces w (S ++ (fill w r ∷ [])) ≡ inPlaces w (S ++ (r ∷ []))
-unfolding inPlaces
-places-filled w [] r = ap (λ (z : List ℕ). z ++ []) (fill-exact w (fill w r) (length-fill w r))
-places-filled w (x ∷ S) r = ap (λ (z : List ℕ). fill w x ++ z) (places-filled w S r)
 
 -- a place that is written whole: the table's length, residues, what lies before, and the place itself
 module _ (w k : ℕ) (new table : List ℕ) (fits : w * k + w ≤ length table) (long : length new ≡ w) where
@@ -177,14 +170,6 @@ module _ (p n : ℕ) (column values : List ℕ) (c : length column ≡ n) (h : n
 
 pub zeros-long : (l : List ℕ) (k : ℕ) → l ≡ replicate k 0 → length l ≡ k
 zeros-long l k e = ap length e ∙ length-replicate k 0
-
--- values loaded into an empty working row
-pub below-fill : (p k : ℕ) (l : List ℕ) → 0 < p → Below p l → Below p (fill k l)
-below-fill p k l z b i h = rw (fill-at k l i (omega (arith, length-fill k l))) (go (decLt i (length l)))
-  where
-    go : Dec (i < length l) → getD l i 0 < p
-    go (yes u) = b i u
-    go (no u) = let e : length l ≤ i = omega (arith, u) in rw (List·getD-eq-default l 0 e) z
 
 pub load : (own work : List ℕ) (n : ℕ) {part : List ℕ} → work ≡ replicate 128 0 → n ≤ length own → n ≤ 128 → part ≡ take n own → part ++ drop n work ≡ fill 128 (take n own)
 unfolding over

@@ -13,9 +13,9 @@ use lib.Dec.{eqb}
 use borrow.Author.Tests.{eq-eqb, ne-eqb, eqb-true, eqb-false}
 use Rattle.residue.specs.Congruence.{Mod}
 use Rattle.residue.specs.Vector.{Below, scaled}
+use Rattle.residue.specs.Lists.{allZero}
 use Rattle.residue.proofs.Congruence.{of, reduce, _then_}
 use Rattle.residue.proofs.Vectors.{scaled-length, scaled-at, scaled-below, below-take, below-drop, below-append, below-set}
-use Rattle.specification.specs.Solving.{allZero}
 use Rattle.basis.specs.Working.{firstNonzero, pivotRow, withRow}
 
 -- what lies behind a new front is the row's own

@@ -8,11 +8,11 @@ use lib.Dec.{T}
 use Rattle.residue.specs.Modulus.{isModulus}
 use Rattle.residue.specs.Vector.{Below, pointwise}
 use Rattle.residue.specs.Elimination.{eliminated}
+use Rattle.residue.specs.Layout.{groups, fill, inPlaces, over}
 use Rattle.monomial.specs.Order.{Order}
 use Rattle.monomial.specs.Rank.{variableRank}
 use Rattle.specification.specs.declared.settings.Settings.{Settings}
-use Rattle.specification.specs.Levels.{groups, noRepeat}
-use Rattle.specification.specs.Layout.{fill, inPlaces, over}
+use Rattle.specification.specs.Levels.{noRepeat}
 use Rattle.specification.specs.BasisOf.{interpolantOf}
 use Rattle.specification.specs.Tables.{spaceUnder, pointsUnder, rowCount, tablesOf, pointsIn}
 

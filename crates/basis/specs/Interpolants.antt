@@ -5,8 +5,8 @@ use Prim.Native.Nat.{ℕ, zero, suc, _-_, _%_}
 use lib.ListN.{length, take, drop}
 use Rattle.residue.specs.Vector.{dotOf}
 use Rattle.residue.specs.Elimination.{eliminated}
+use Rattle.residue.specs.Layout.{groups}
 use Rattle.monomial.specs.Monomial.{valueAt}
-use Rattle.specification.specs.Levels.{groups}
 use Rattle.specification.specs.Solving.{occurs}
 
 -- minus the coefficients of a working row, after it met the pivot rows of all n points

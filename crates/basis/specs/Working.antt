@@ -6,7 +6,7 @@ use Prim.Native.Nat.{ℕ, zero, suc, _+_, _*_}
 use lib.ListN.{getD, set, take, drop}
 use lib.Dec.{eqb}
 use Rattle.residue.specs.Vector.{scaled}
-use Rattle.specification.specs.Layout.{over}
+use Rattle.residue.specs.Layout.{over}
 
 -- the index of the first of the first n numbers that is not 0, or n
 unfoldable pub firstNonzero : ℕ → List ℕ → ℕ

@@ -13,9 +13,9 @@ ghost use mathlib.Core.Bool.{true};
 ghost use mathlib.Core.List.{[], _∷_, _++_};
 ghost use Rattle.residue.specs.Modulus.{isModulus};
 ghost use Rattle.residue.specs.Vector.{Below};
-ghost use Rattle.basis.specs.Insertions.{rowAt, grown, othersOf, othersCorrected, standardGrown, grownBy, NewPoint, Tabled};
+ghost use Rattle.residue.specs.Layout.{over};
 ghost use Rattle.specification.specs.Tables.{rowCount, tablesOf, pointsIn};
-ghost use Rattle.specification.specs.Layout.{over};
+ghost use Rattle.basis.specs.Insertions.{rowAt, grown, othersOf, othersCorrected, standardGrown, grownBy, NewPoint, Tabled};
 ghost use Rattle.basis.specs.Drawing.{settingsOf, PointsGiven, DrawnUp};
 
 // The leads but that of row j, and their rows corrected.

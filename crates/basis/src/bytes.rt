@@ -3,8 +3,8 @@ ghost use mathlib.Core.Path.{_≡_};
 ghost use Prim.Native.Nat.{_<_, _≤_};
 ghost use lib.ListN.{length, replicate};
 ghost use Rattle.residue.specs.Vector.{Below};
-ghost use Rattle.specification.specs.Levels.{sameList};
-ghost use Rattle.specification.specs.Layout.{over, begins};
+ghost use Rattle.residue.specs.Lists.{sameList};
+ghost use Rattle.residue.specs.Layout.{over, begins};
 
 // Whether two slices are equal. The differences are counted to the end, so that the loop is compiled to packed instructions.
 fn same(a: &[u8], b: &[u8]) -> bool

@@ -10,7 +10,7 @@ use specification::settings::Settings;
 ghost use mathlib.Core.Path.{_≡_};
 ghost use Prim.Native.Nat.{_≤_};
 ghost use lib.ListN.{length};
-ghost use Rattle.specification.specs.Layout.{over};
+ghost use Rattle.residue.specs.Layout.{over};
 ghost use Rattle.specification.specs.Tables.{fourTables, rowCount, tablesOf, pointsIn};
 ghost use Rattle.specification.specs.Adding.{ended, drawOutcome};
 ghost use Rattle.specification.specs.Solving.{checkRefusal};

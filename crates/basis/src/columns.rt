@@ -2,7 +2,7 @@
 ghost use mathlib.Core.Path.{_≡_};
 ghost use Prim.Native.Nat.{_<_, _≤_};
 ghost use lib.ListN.{length, replicate};
-ghost use Rattle.specification.specs.Layout.{fill, inPlaces, over};
+ghost use Rattle.residue.specs.Layout.{fill, inPlaces, over};
 ghost use Rattle.basis.specs.Drawing.{columnOf, columnsOf};
 
 // One coordinate of each point.

@@ -8,9 +8,8 @@ ghost use mathlib.Core.List.{map};
 ghost use Prim.Native.Nat.{_*_, _%_, _<_, _≤_};
 ghost use lib.ListN.{length};
 ghost use Rattle.residue.specs.Vector.{Below, addScaled};
+ghost use Rattle.residue.specs.Layout.{groups, inPlaces, over};
 ghost use Rattle.monomial.specs.Monomial.{valueAt};
-ghost use Rattle.specification.specs.Levels.{groups};
-ghost use Rattle.specification.specs.Layout.{inPlaces, over};
 ghost use Rattle.basis.specs.Insertions.{rowValueAt, valueOfRow, firstFrom, factorOf, correctedBy, correctedRow, correctedRows};
 
 // The values of k monomials at a point.

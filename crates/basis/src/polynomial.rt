@@ -7,12 +7,12 @@ ghost use mathlib.Core.List.{map};
 ghost use Prim.Native.Nat.{_*_, _%_, _<_, _≤_};
 ghost use lib.ListN.{length, replicate};
 ghost use Rattle.residue.specs.Vector.{Below, addScaled, powered};
+ghost use Rattle.residue.specs.Layout.{groups, over};
+ghost use Rattle.residue.specs.Lists.{allZero};
 ghost use Rattle.monomial.specs.Monomial.{valueAt};
-ghost use Rattle.specification.specs.Levels.{groups};
-ghost use Rattle.specification.specs.Layout.{over};
+ghost use Rattle.specification.specs.Solving.{withinVariables};
 ghost use Rattle.basis.specs.Drawing.{columnOf};
 ghost use Rattle.basis.specs.Interpolants.{termValues};
-ghost use Rattle.specification.specs.Solving.{allZero, withinVariables};
 
 pub fn all_zero(a: &[u8]) -> bool
     ensures { λ r. ⌜ r ≡ allZero (now (a .entry)) ⌝ }

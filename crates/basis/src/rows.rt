@@ -6,7 +6,7 @@ ghost use Prim.Native.Nat.{_+_, _*_, _<_, _≤_};
 ghost use lib.ListN.{length, getD, set};
 ghost use Rattle.residue.specs.Inverse.{inverseOf};
 ghost use Rattle.residue.specs.Vector.{Below};
-ghost use Rattle.specification.specs.Solving.{allZero};
+ghost use Rattle.residue.specs.Lists.{allZero};
 ghost use Rattle.basis.specs.Working.{firstNonzero, pivotRow, withRow};
 
 // Whether all numbers are 0. The largest is sought to the end, so that the loop is compiled to packed instructions.

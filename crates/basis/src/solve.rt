@@ -10,8 +10,8 @@ ghost use Prim.Native.Nat.{ℕ, _+_, _-_, _*_, _%_, _<_, _≤_};
 ghost use lib.ListN.{length, getD, take, replicate};
 ghost use Rattle.residue.specs.Vector.{Below};
 ghost use Rattle.residue.specs.Elimination.{eliminated};
-ghost use Rattle.specification.specs.Levels.{residues, groups};
-ghost use Rattle.specification.specs.Layout.{fill, over};
+ghost use Rattle.residue.specs.Layout.{groups, fill, over};
+ghost use Rattle.specification.specs.Levels.{residues};
 ghost use Rattle.specification.specs.Solving.{occurs};
 ghost use Rattle.basis.specs.Interpolants.{solution, termValues, names};
 

@@ -10,8 +10,7 @@ use lib.ListN.{length, take, length-map}
 use lib.Seq.{length-take-le}
 use lib.Dec.{eqb}
 use borrow.Author.Tests.{eqb-true}
-use Rattle.specification.specs.Levels.{groups}
-use Rattle.specification.specs.Layout.{fill, inPlaces, over}
+use Rattle.residue.specs.Layout.{groups, fill, inPlaces, over}
 use Rattle.csv.specs.Fields.{recordsOf}
 use Rattle.csv.specs.Forms.{levelOf, together, levelsOf, entryOf}
 use Rattle.csv.specs.Reading.{entryIn, pointOf, valueOf, pointsOf, valuesOf, firstRepeat, ended, accepted}

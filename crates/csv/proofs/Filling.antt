@@ -9,8 +9,8 @@ use lib.IntN.{ℤ, pos}
 use lib.ListN.{length, getD, set, take, drop, length-set, length-drop, take-append-drop}
 use lib.Seq.{take-suc, drop-cons, drop-drop, getD-at, length-take-le}
 use Rattle.residue.specs.Level.{residueOf}
+use Rattle.residue.specs.Layout.{over}
 use Rattle.specification.specs.Levels.{isResidue, residueOr0, inRange, residues}
-use Rattle.specification.specs.Layout.{over}
 use Rattle.csv.specs.Fields.{Field, field, broken, Part, part, faulty, withFirst}
 use Rattle.csv.specs.Reading.{pointOf, valueOf}
 use Rattle.csv.specs.Records.{levelField, entryPart}

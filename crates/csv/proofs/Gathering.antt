@@ -10,9 +10,9 @@ use lib.IntN.{ℤ}
 use lib.ListN.{length, getD, set, take, drop, length-map, length-take}
 use lib.Seq.{take-suc, drop-cons, length-take-le, take-all}
 use lib.Dec.{eqb·suc-zero}
+use Rattle.residue.specs.Layout.{fill, inPlaces, over}
+use Rattle.residue.proofs.Layouts.{length-fill}
 use Rattle.specification.specs.Levels.{inRange}
-use Rattle.specification.specs.Layout.{fill, inPlaces, over}
-use Rattle.specification.proofs.Layouts.{length-fill}
 use Rattle.csv.specs.Fields.{Part, part, faulty, recordsFrom, recordsOf}
 use Rattle.csv.specs.Reading.{pointOf, valueOf, isOutside, further, firstFault}
 use Rattle.csv.specs.Records.{entryPart, entriesAt, counted}

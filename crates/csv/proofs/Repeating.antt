@@ -9,9 +9,10 @@ use native.Mathlib.Omega.{arith}
 use lib.ListN.{length, take, drop, replicate}
 use lib.Seq.{drop-drop}
 use lib.Dec.{eqb, eqb·suc-zero}
-use Rattle.specification.specs.Levels.{groups, sameList, isAmong}
-use Rattle.specification.specs.Layout.{fill, inPlaces}
-use Rattle.specification.proofs.Layouts.{places-back, table-split}
+use Rattle.residue.specs.Layout.{groups, fill, inPlaces}
+use Rattle.residue.specs.Lists.{sameList}
+use Rattle.residue.proofs.Layouts.{places-back, table-split}
+use Rattle.specification.specs.Levels.{isAmong}
 use Rattle.csv.specs.Reading.{further, firstRepeat}
 use Rattle.csv.specs.Points.{rowAt, earlier}
 

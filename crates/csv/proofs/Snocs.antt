@@ -9,9 +9,9 @@ use lib.IntN.{ℤ}
 use lib.ListN.{length, getD, set, take, drop, replicate, length-append, length-map}
 use lib.Seq.{set-at, drop-cons, take-at, drop-at}
 use Rattle.residue.specs.Level.{residueOf}
+use Rattle.residue.specs.Layout.{fill, inPlaces, over}
+use Rattle.residue.proofs.Layouts.{fill-zeros, fill-append, length-places, length-fill}
 use Rattle.specification.specs.Levels.{isResidue, residueOr0, inRange, residues}
-use Rattle.specification.specs.Layout.{fill, inPlaces, over}
-use Rattle.specification.proofs.Layouts.{length-fill, fill-zeros, fill-append, length-places}
 
 pub map-snoc : {A B : Type 0} (f : A → B) (l : List A) (a : A) → map f (l ++ (a ∷ [])) ≡ map f l ++ (f a ∷ [])
 map-snoc f [] a = refl

@@ -9,7 +9,7 @@ ghost use mathlib.Core.List.{[], _∷_};
 ghost use Prim.Native.Nat.{ℕ, _+_, _*_, _<_, _≤_};
 ghost use lib.ListN.{length, getD, replicate};
 ghost use Rattle.residue.specs.Vector.{Below};
-ghost use Rattle.specification.specs.Layout.{fill};
+ghost use Rattle.residue.specs.Layout.{fill};
 ghost use Rattle.specification.specs.Tables.{pointsIn};
 ghost use Rattle.basis.specs.Drawing.{settingsOf, PointsGiven};
 ghost use Rattle.basis.specs.Interpolants.{solution};

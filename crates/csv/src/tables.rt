@@ -1,12 +1,13 @@
 // Tables of points, in rows of 8 residues.
+use crate::forms;
 ghost use mathlib.Core.Path.{_≡_};
 ghost use mathlib.Core.List.{[]};
 ghost use Prim.Native.Nat.{_+_, _*_, _≤_};
 ghost use lib.ListN.{length};
-ghost use Rattle.specification.specs.Levels.{isAmong, groups};
+ghost use Rattle.residue.specs.Layout.{groups};
+ghost use Rattle.specification.specs.Levels.{isAmong};
 ghost use Rattle.csv.specs.Reading.{firstRepeat};
 ghost use Rattle.csv.specs.Points.{rowAt, earlier};
-use crate::forms;
 
 // Whether the point in row i equals an earlier one.
 fn is_earlier(points: &[u8], i: usize) -> bool

@@ -1,4 +1,5 @@
 -- The lemmas of the crate residue that the crates above cite.
+pub mod Tests
 pub mod Congruence
 pub mod Sums
 pub mod Moduli
@@ -9,5 +10,9 @@ pub mod Powers
 pub mod Inverses
 pub mod Filled
 pub mod Vectors
+pub mod Equality
+pub mod Layouts
+pub mod Places
+pub mod Keys
 pub mod Eliminated
 pub mod Fours

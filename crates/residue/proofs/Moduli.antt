@@ -14,14 +14,7 @@ use lib.Seq.{drop-cons}
 use borrow.Author.Tests.{eqb-true, eq-eqb, ne-eqb}
 use Rattle.residue.specs.Lists.{Among}
 use Rattle.residue.specs.Modulus.{primes, isOneOf, isModulus}
-
-pub left : (a b : Bool) → T (a && b) → T a
-left true b t = tt
-left false b t = t
-
-pub right : (a b : Bool) → T (a && b) → T b
-right true b t = t
-right false b t = absurd t
+use Rattle.residue.proofs.Tests.{and-left, and-right}
 
 -- f at each number below n
 abbrev pub below : (ℕ → Bool) → ℕ → Bool
@@ -30,10 +23,10 @@ below f (suc n) = f n && below f n
 
 pub below-at : (f : ℕ → Bool) (n : ℕ) → T (below f n) → (k : ℕ) → k < n → T (f k)
 below-at f zero t k h = absurd (not-suc-le-zero h)
-below-at f (suc n) t k h = pick (ℕ-discrete k n) (below-at f n (right (f n) (below f n) t) k)
+below-at f (suc n) t k h = pick (ℕ-discrete k n) (below-at f n (and-right (f n) (below f n) t) k)
   where
     pick : Dec (k ≡ n) → (k < n → T (f k)) → T (f k)
-    pick (yes e) g = subst (λ (m : ℕ). T (f m)) (sym e) (left (f n) (below f n) t)
+    pick (yes e) g = subst (λ (m : ℕ). T (f m)) (sym e) (and-left (f n) (below f n) t)
     pick (no e) g = g (omega (arith, e))
 
 -- f at each number of a list
@@ -42,8 +35,8 @@ each f [] = true
 each f (q ∷ qs) = f q && each f qs
 
 pub each-at : (f : ℕ → Bool) (qs : List ℕ) → T (each f qs) → (p : ℕ) → Among p qs → T (f p)
-each-at f (q ∷ qs) t p (inl e) = subst (λ (m : ℕ). T (f m)) (sym e) (left (f q) (each f qs) t)
-each-at f (q ∷ qs) t p (inr m) = each-at f qs (right (f q) (each f qs) t) p m
+each-at f (q ∷ qs) t p (inl e) = subst (λ (m : ℕ). T (f m)) (sym e) (and-left (f q) (each f qs) t)
+each-at f (q ∷ qs) t p (inr m) = each-at f qs (and-right (f q) (each f qs) t) p m
 
 pub among : (qs : List ℕ) (p : ℕ) → isOneOf qs p ≡ true → Among p qs
 unfolding isOneOf
@@ -68,7 +61,7 @@ pub modulus-range : (p : ℕ) → isModulus p ≡ true → (2 ≤ p) × (p ≤ 6
 unfolding primes
 modulus-range p m =
     let t : T (leb 2 p && leb p 61) = of-modulus (λ q. leb 2 q && leb q 61) tt p m in
-    (leb→le 2 p (left (leb 2 p) (leb p 61) t), leb→le p 61 (right (leb 2 p) (leb p 61) t))
+    (leb→le 2 p (and-left (leb 2 p) (leb p 61) t), leb→le p 61 (and-right (leb 2 p) (leb p 61) t))
 
 -- the search, from its ith number on: it ends, goes on, or has found p
 module _ (qs : List ℕ) (p i : ℕ) where
@@ -86,8 +79,8 @@ module _ (qs : List ℕ) (p i : ℕ) where
 
 each-getD : (f : ℕ → Bool) (qs : List ℕ) → T (each f qs) → T (f 0) → (i : ℕ) → T (f (getD qs i 0))
 each-getD f [] t z i = z
-each-getD f (q ∷ qs) t z zero = left (f q) (each f qs) t
-each-getD f (q ∷ qs) t z (suc i) = each-getD f qs (right (f q) (each f qs) t) z i
+each-getD f (q ∷ qs) t z zero = and-left (f q) (each f qs) t
+each-getD f (q ∷ qs) t z (suc i) = each-getD f qs (and-right (f q) (each f qs) t) z i
 
 pub prime-small : (i : ℕ) → getD primes i 0 ≤ 61
 unfolding primes

@@ -1,5 +1,6 @@
 -- The definitions of the crate residue.
 pub mod Lists
+pub mod Layout
 pub mod Congruence
 pub mod Modulus
 pub mod Level

@@ -12,10 +12,12 @@ use lib.ListN.{length, getD}
 use lib.Ieee.Bits.{is-true}
 use lib.Dec.{T, T-prop, ltb, ltb→lt}
 use Rattle.residue.specs.Congruence.{Mod}
-use Rattle.residue.specs.Lists.{Among}
+use Rattle.residue.specs.Lists.{Among, sameList}
 use Rattle.residue.specs.Modulus.{isModulus}
 use Rattle.residue.proofs.Congruence.{small}
 use Rattle.residue.proofs.Inverses.{inverse-mod, one-not-zero}
+use Rattle.residue.proofs.Equality.{same-is, same-self}
+use Rattle.residue.proofs.Layouts.{fill-exact}
 use Rattle.monomial.specs.Monomial.{degree, timesVariable}
 use Rattle.monomial.specs.Order.{Order, cmp}
 use Rattle.monomial.proofs.Algebra.Division.{Step, divides-trans, divides-one, one-divides, divides-timesVariable, step, gap}
@@ -26,11 +28,8 @@ use Rattle.monomial.proofs.Orders.Growth.{cmp-timesVariable, divisor-smaller, t
 use Rattle.monomial.proofs.Padding.{degree-one}
 use Rattle.specification.specs.Space.{Divides}
 use Rattle.specification.specs.Polynomial.{Distinct}
-use Rattle.specification.specs.Levels.{sameList}
 use Rattle.specification.specs.BasisOf.{standardOf, leadsOf}
 use Rattle.specification.specs.Instance.{Monomial, Residues, Point, reduced, pointOf, spaceOf}
-use Rattle.specification.proofs.Equality.{same-is, same-self}
-use Rattle.specification.proofs.Layouts.{fill-exact}
 use Rattle.specification.proofs.ideal.Laws.{Laws}
 use Rattle.specification.proofs.ideal.Counts.{lead-degree, standard-degree}
 

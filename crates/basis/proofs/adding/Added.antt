@@ -12,31 +12,31 @@ use lib.Seq.{length-take-le}
 use Rattle.residue.specs.Lists.{Among}
 use Rattle.residue.specs.Vector.{Below}
 use Rattle.residue.specs.Elimination.{eliminated}
+use Rattle.residue.specs.Layout.{groups, fill, inPlaces, over}
+use Rattle.residue.proofs.Vectors.{below-take}
+use Rattle.residue.proofs.Tests.{true-of}
+use Rattle.residue.proofs.Layouts.{fill-exact, below-fill, length-fill}
+use Rattle.residue.proofs.Places.{places-append, over-zeros, place-more}
 use Rattle.monomial.specs.Monomial.{valueAt}
 use Rattle.monomial.specs.Order.{orderOf}
 use Rattle.monomial.proofs.Padding.{value-pad}
 use Rattle.specification.specs.declared.settings.Settings.{Settings}
-use Rattle.specification.specs.Levels.{groups, isAmong}
-use Rattle.specification.specs.Layout.{fill, inPlaces, over}
+use Rattle.specification.specs.Levels.{isAmong}
 use Rattle.specification.specs.Space.{Space}
 use Rattle.specification.specs.Polynomial.{Distinct}
 use Rattle.specification.specs.BasisOf.{standardOf, leadsOf, rowOf, rowsOf, interpolantOf}
 use Rattle.specification.specs.Instance.{Monomial, Point, reduced, pointOf}
 use Rattle.specification.specs.Tables.{spaceUnder, pointsUnder, rowCount, tablesOf, pointsIn}
-use Rattle.basis.specs.Drawing.{settingsOf, PointsGiven, DrawnUp}
-use Rattle.basis.specs.Insertions.{rowAt, valueOfRow, firstFrom, Grown, grown, standardGrown, grownBy, NewPoint, Tabled}
-use Rattle.residue.proofs.Vectors.{below-take}
-use Rattle.specification.proofs.Equality.{is-among, true-of}
+use Rattle.specification.proofs.Repeats.{is-among}
 use Rattle.specification.proofs.Instance.{laws, point-of, lead-exponent}
-use Rattle.specification.proofs.Layouts.{length-fill, fill-exact}
-use Rattle.specification.proofs.Places.{places-append, over-zeros, place-more}
-use Rattle.basis.proofs.PointTables.{length-points, points-in}
-use Rattle.basis.proofs.ValueRows.{below-fill}
 use Rattle.specification.proofs.ideal.Laws.{Laws}
 use Rattle.specification.proofs.ideal.Lists.{getD-among, among-map}
 use Rattle.specification.proofs.ideal.Basis.{row-is}
 use Rattle.specification.proofs.ideal.Counts.{leads-length, standard-length}
 use Rattle.specification.proofs.ideal.Permutation.{basis-snoc}
+use Rattle.basis.specs.Drawing.{settingsOf, PointsGiven, DrawnUp}
+use Rattle.basis.specs.Insertions.{rowAt, valueOfRow, firstFrom, Grown, grown, standardGrown, grownBy, NewPoint, Tabled}
+use Rattle.basis.proofs.PointTables.{length-points, points-in}
 use Rattle.basis.proofs.elimination.Exponents.{fill-pad}
 use Rattle.basis.proofs.elimination.Grounds.{ground, places-below}
 use Rattle.basis.proofs.adding.Corrections.{valuesAt}

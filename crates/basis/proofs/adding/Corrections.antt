@@ -9,19 +9,19 @@ use lib.ListN.{length, length-map}
 use Rattle.residue.specs.Congruence.{Mod}
 use Rattle.residue.specs.Lists.{Among, sumOver}
 use Rattle.residue.specs.Vector.{addScaled, dotOf}
+use Rattle.residue.specs.Layout.{fill}
 use Rattle.residue.proofs.Congruence.{rfl, of, _then_, _plus_, _times_, scale, reduce, negative}
+use Rattle.residue.proofs.Layouts.{fill-twice}
 use Rattle.monomial.specs.Monomial.{valueAt}
 use Rattle.monomial.specs.Order.{Order, cmp}
 use Rattle.monomial.proofs.Padding.{value-pad}
-use Rattle.specification.specs.Layout.{fill}
 use Rattle.specification.specs.Space.{Space}
 use Rattle.specification.specs.Polynomial.{terms}
 use Rattle.specification.specs.Extension.{minus}
 use Rattle.specification.specs.Instance.{Monomial, Point, spaceOf}
-use Rattle.basis.specs.Insertions.{insertedAt, placeOf, rowValueAt, factorOf, correctedBy, correctedRow}
-use Rattle.specification.proofs.Layouts.{fill-twice}
 use Rattle.specification.proofs.ideal.Laws.{Laws}
 use Rattle.specification.proofs.ideal.Columns.{minus-length}
+use Rattle.basis.specs.Insertions.{insertedAt, placeOf, rowValueAt, factorOf, correctedBy, correctedRow}
 use Rattle.basis.proofs.elimination.Adding.{rowValue, ratio, kept}
 use Rattle.basis.proofs.elimination.Exponents.{fill-pad}
 use Rattle.basis.proofs.adding.Insertion.{place-bound, slot-at}

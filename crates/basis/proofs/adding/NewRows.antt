@@ -10,28 +10,27 @@ use Rattle.residue.specs.Congruence.{Mod}
 use Rattle.residue.specs.Lists.{Among}
 use Rattle.residue.specs.Vector.{Below, dotOf}
 use Rattle.residue.specs.Elimination.{eliminated}
+use Rattle.residue.specs.Layout.{groups, fill, inPlaces, over}
 use Rattle.residue.proofs.Congruence.{of, _then_, reduce, negative, ring}
 use Rattle.residue.proofs.Vectors.{map-at}
+use Rattle.residue.proofs.Layouts.{fill-front}
+use Rattle.residue.proofs.Places.{table-groups, over-zeros}
 use Rattle.monomial.specs.Monomial.{valueAt}
 use Rattle.monomial.specs.Order.{Order}
 use Rattle.monomial.proofs.Padding.{value-pad}
-use Rattle.specification.specs.Levels.{groups}
-use Rattle.specification.specs.Layout.{fill, inPlaces, over}
 use Rattle.specification.specs.Space.{Space}
 use Rattle.specification.specs.Polynomial.{Distinct}
 use Rattle.specification.specs.BasisOf.{basisOf, rowOf, interpolantOf}
 use Rattle.specification.specs.Instance.{Monomial, Point, spaceOf}
-use Rattle.basis.specs.Insertions.{reducedRow}
-use Rattle.basis.specs.Interpolants.{termValues}
-use Rattle.basis.proofs.Copies.{map-same}
-use Rattle.specification.proofs.Layouts.{fill-front}
-use Rattle.specification.proofs.Places.{table-groups, over-zeros}
+use Rattle.specification.specs.BasisOf as B
 use Rattle.specification.proofs.ideal.Laws.{Laws}
 use Rattle.specification.proofs.ideal.Lists.{index-of}
 use Rattle.specification.proofs.ideal.Basis.{value-at, interpolant-fits, interpolant-agree}
+use Rattle.basis.specs.Insertions.{reducedRow}
+use Rattle.basis.specs.Interpolants.{termValues}
+use Rattle.basis.proofs.Copies.{map-same}
 use Rattle.basis.proofs.elimination.Exponents.{fill-pad}
 use Rattle.basis.proofs.elimination.Pivots.{interpolant-minus}
-use Rattle.specification.specs.BasisOf as B
 
 -- the values of one term with coefficient 1 are those of its monomial
 pub one-term : (p n : ℕ) (a points : List ℕ) → length a ≡ 8 → termValues p (1 ∷ []) a n points ≡ map (λ point. valueAt point a % p) (groups 8 n points)

@@ -11,26 +11,26 @@ use Rattle.residue.specs.Lists.{Among}
 use Rattle.residue.specs.Inverse.{inverseOf}
 use Rattle.residue.specs.Vector.{Below}
 use Rattle.residue.specs.Elimination.{eliminated}
+use Rattle.residue.specs.Layout.{groups, fill, inPlaces, over}
 use Rattle.residue.proofs.Vectors.{map-at}
+use Rattle.residue.proofs.Places.{table-groups, place-at}
+use Rattle.residue.proofs.Tests.{Decides, so, not-so}
 use Rattle.monomial.specs.Monomial.{timesVariable, divides}
 use Rattle.monomial.specs.Order.{orderOf, cmp}
 use Rattle.monomial.specs.Increasing.{inserted}
 use Rattle.monomial.proofs.Algebra.Division.{divides-refl}
 use Rattle.monomial.proofs.Padding.{cmp-pad, divides-pad}
-use Rattle.specification.specs.Levels.{groups}
-use Rattle.specification.specs.Layout.{fill, inPlaces, over}
 use Rattle.specification.specs.Space.{Space}
 use Rattle.specification.specs.Polynomial.{Distinct}
 use Rattle.specification.specs.Extension.{without, divided, extended}
 use Rattle.specification.specs.BasisOf.{standardOf, leadsOf, rowOf, interpolantOf}
 use Rattle.specification.specs.Instance.{Monomial, Point, spaceOf}
-use Rattle.basis.specs.Insertions.{rowAt, removedAt, placeOf, dividedBy, rowValueAt, takenOut, correctedRow, correctedRows, Grown, grown, putWithRow, productPut, productsPut, othersOf, rowsLeft, othersCorrected, standardGrown, grownBy, withRowAt, reducedRow}
-use Rattle.specification.proofs.Places.{table-groups, place-at}
-use Rattle.specification.proofs.ideal.Laws.{Laws, Decides, so, not-so}
+use Rattle.specification.proofs.ideal.Laws.{Laws}
 use Rattle.specification.proofs.ideal.Lists.{getD-among}
 use Rattle.specification.proofs.ideal.Increasing.{divided-told}
 use Rattle.specification.proofs.ideal.Leads.{Divided, extended-of, extended-length-le}
 use Rattle.specification.proofs.ideal.Basis.{staircase, row-is}
+use Rattle.basis.specs.Insertions.{rowAt, removedAt, placeOf, dividedBy, rowValueAt, takenOut, correctedRow, correctedRows, Grown, grown, putWithRow, productPut, productsPut, othersOf, rowsLeft, othersCorrected, standardGrown, grownBy, withRowAt, reducedRow}
 use Rattle.basis.proofs.elimination.Adding.{kept, grow-at, row-grown}
 use Rattle.basis.proofs.elimination.Exponents.{fill-pad, fill-timesVariable}
 use Rattle.basis.proofs.adding.Growth.{product-passed, product-put, grown-by}

@@ -9,11 +9,11 @@ use native.Mathlib.Decide.{ℕ-discrete}
 use lib.ListN.{take, drop}
 use lib.Dec.{eqb, isLe}
 use borrow.Author.Tests.{eq-eqb, ne-eqb}
+use Rattle.residue.specs.Layout.{groups}
+use Rattle.residue.proofs.Places.{groups-step, groups-end}
 use Rattle.monomial.specs.Monomial.{divides}
 use Rattle.monomial.specs.Comparison.{comparisonOf}
-use Rattle.specification.specs.Levels.{groups}
 use Rattle.basis.specs.Insertions.{isGreater, placeOf, dividedBy, firstFrom}
-use Rattle.specification.proofs.Places.{groups-step, groups-end}
 
 -- The place among increasing rows.
 module _ (c : List ℕ → List ℕ → Ordering) (a t : List ℕ) (k i : ℕ) (h : i < k) where

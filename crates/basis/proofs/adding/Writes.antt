@@ -9,17 +9,11 @@ use native.Mathlib.Numerals.{add-one}
 use lib.ListN.{length, getD, set, take, drop, replicate, length-append, length-take, List·getD-eq-default, length-drop, drop-of-length-le}
 use lib.Seq.{getD-take, getD-drop, length-take-le, take-all, take-take, take-append-le, drop-drop, drop-cons, take-at, drop-at, set-at}
 use Rattle.residue.specs.Vector.{Below}
+use Rattle.residue.specs.Layout.{fill, inPlaces, over}
 use Rattle.residue.proofs.Vectors.{below-append, below-take, below-drop, below-zeros}
-use Rattle.specification.specs.Layout.{fill, inPlaces, over}
+use Rattle.residue.proofs.Layouts.{fill-exact, fill-append, length-places, length-over, over-all, fill-cut, length-fill}
+use Rattle.residue.proofs.Places.{places-append}
 use Rattle.basis.specs.Insertions.{rowAt, insertedAt, movedOn, takenOut, rowValueAt, correctedBy, correctedRow, correctedRows, withRowAt, rowsLeft}
-use Rattle.specification.proofs.Layouts.{length-fill, fill-exact, fill-append, length-places, length-over, over-all}
-use Rattle.specification.proofs.Places.{places-append}
-
-pub fill-cut : (k : ℕ) (l : List ℕ) → k ≤ length l → fill k l ≡ take k l
-unfolding fill
-fill-cut zero l h = refl
-fill-cut (suc k) [] h = absurd (omega arith)
-fill-cut (suc k) (a ∷ l) h = ap (λ (z : List ℕ). a ∷ z) (fill-cut k l (le-of-suc-le-suc h))
 
 -- a part was copied and came back w bytes further on
 pub moved-on : (w from end k : ℕ) (t z m ys : List ℕ) → from ≤ end → end + w ≤ length t → k ≡ end - from

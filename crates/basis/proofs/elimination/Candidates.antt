@@ -12,25 +12,25 @@ use lib.ListN.{length, take, drop, getD, set, length-append, length-map, List·g
 use lib.Seq.{getD-at, getD-set-same, getD-set-other}
 use Rattle.residue.specs.Lists.{Among}
 use Rattle.residue.specs.Modulus.{isModulus}
+use Rattle.residue.specs.Layout.{fill, inPlaces}
+use Rattle.residue.proofs.Places.{place-at}
 use Rattle.monomial.specs.Monomial.{degree}
 use Rattle.monomial.specs.Order.{Order}
 use Rattle.monomial.specs.Rank.{rankOf, variableRank}
 use Rattle.monomial.specs.Increasing.{Increasing}
+use Rattle.specification.specs.Space.{Space, Less}
+use Rattle.specification.specs.Polynomial.{Distinct}
+use Rattle.specification.specs.BasisOf.{standardOf, leadsOf}
+use Rattle.specification.specs.Instance.{Monomial, Point, spaceOf}
+use Rattle.specification.proofs.Instance.{monomial-path, laws, degree-timesVariable, standard-total}
+use Rattle.specification.proofs.ideal.Laws.{Laws}
+use Rattle.specification.proofs.ideal.Lists.{getD-among}
 use Rattle.basis.specs.declared.candidate.LeastRank.{LeastRank}
 use Rattle.basis.specs.declared.candidate.LeastRank.the-variants as LeastRank
 use Rattle.basis.specs.declared.candidate.Parents.{Parents}
 use Rattle.basis.specs.declared.candidate.Candidate.{Candidate}
 use Rattle.basis.specs.declared.candidate.Candidate.the-variants as Candidate
-use Rattle.specification.specs.Layout.{fill, inPlaces}
-use Rattle.specification.specs.Space.{Space, Less}
-use Rattle.specification.specs.Polynomial.{Distinct}
-use Rattle.specification.specs.BasisOf.{standardOf, leadsOf}
-use Rattle.specification.specs.Instance.{Monomial, Point, spaceOf}
 use Rattle.basis.specs.Candidates.{leastOf, passed, parentsOf, occurringIn, isWhole, Next, ended, atLeast, nextFrom, nextOf}
-use Rattle.specification.proofs.Instance.{monomial-path, laws, degree-timesVariable, standard-total}
-use Rattle.specification.proofs.Places.{place-at}
-use Rattle.specification.proofs.ideal.Laws.{Laws}
-use Rattle.specification.proofs.ideal.Lists.{getD-among}
 use Rattle.basis.proofs.elimination.Drawing as drawing
 use Rattle.basis.proofs.elimination.Drawing.{Drawn, Bordered, drawn-standard, drawn-leads, bordered, standard-room}
 use Rattle.basis.proofs.elimination.Positions.{productAt, Positions, Lowest, Advances, none-left, next-at, bordered-at, at-bordered, advanced}

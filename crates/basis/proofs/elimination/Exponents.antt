@@ -8,6 +8,8 @@ use native.Mathlib.Omega.{arith}
 use native.Mathlib.Decide.{decLt, ℕ-discrete}
 use lib.ListN.{length, getD, set, length-set, List·getD-eq-default}
 use lib.Seq.{getD-set-same, getD-set-other, set-set, set-getD}
+use Rattle.residue.specs.Layout.{fill}
+use Rattle.residue.proofs.Layouts.{length-fill, fill-at, fill-append, fill-zeros}
 use Rattle.monomial.specs.Monomial.{degree, one, timesVariable}
 use Rattle.monomial.specs.Order.{Order, cmp}
 use Rattle.monomial.specs.Rank.{rankOf, variableRank}
@@ -16,9 +18,7 @@ use Rattle.monomial.proofs.Orders.Answers.{Says, less, same, more, says, said, 
 use Rattle.monomial.proofs.Orders.Lawful.{lawful}
 use Rattle.monomial.proofs.Padding.{degree-one, pad, length-pad, degree-pad, timesVariable-pad}
 use Rattle.monomial.proofs.Ranks.{rank-pad-cmp, rank-fits, rank-timesVariable}
-use Rattle.specification.specs.Layout.{fill, length-fill}
 use Rattle.specification.proofs.Instance.{degree-timesVariable}
-use Rattle.specification.proofs.Layouts.{fill-at, fill-append, fill-zeros}
 use Rattle.basis.proofs.elimination.Occurring.{Occurs}
 
 pub fill-pad : (a : List ℕ) → length a ≤ 8 → fill 8 a ≡ pad a

@@ -9,9 +9,9 @@ use Rattle.residue.specs.Congruence.{Mod}
 use Rattle.residue.specs.Lists.{Among}
 use Rattle.residue.specs.Modulus.{isModulus}
 use Rattle.residue.specs.Vector.{Below}
+use Rattle.residue.specs.Layout.{fill, inPlaces}
 use Rattle.monomial.specs.Order.{Order}
 use Rattle.monomial.specs.Rank.{rankOf}
-use Rattle.specification.specs.Layout.{fill, inPlaces}
 use Rattle.specification.specs.Space.{Space}
 use Rattle.specification.specs.Polynomial.{Distinct}
 use Rattle.specification.specs.Basis.{Rows}

@@ -7,19 +7,19 @@ use lib.ListN.{length, getD, set, take, drop, replicate, length-append}
 use Rattle.residue.specs.Inverse.{inverseOf}
 use Rattle.residue.specs.Vector.{Below}
 use Rattle.residue.specs.Elimination.{eliminated, ZeroBehind}
+use Rattle.residue.specs.Layout.{fill}
+use Rattle.residue.proofs.Layouts.{length-fill}
 use Rattle.monomial.specs.Monomial.{timesVariable}
 use Rattle.monomial.specs.Order.{Order, orderOf}
-use Rattle.basis.specs.declared.candidate.Candidate.{Candidate}
-use Rattle.basis.specs.declared.candidate.Candidate.the-variants as Candidate
 use Rattle.specification.specs.declared.settings.Settings.{Settings}
-use Rattle.specification.specs.Layout.{fill}
 use Rattle.specification.specs.BasisOf.{standardOf}
 use Rattle.specification.specs.Instance.{Monomial, Point}
 use Rattle.specification.specs.Tables.{spaceUnder, pointsUnder, pointsIn}
+use Rattle.basis.specs.declared.candidate.Candidate.{Candidate}
+use Rattle.basis.specs.declared.candidate.Candidate.the-variants as Candidate
 use Rattle.basis.specs.Working.{firstNonzero, pivotRow, withRow, withPlace}
 use Rattle.basis.specs.Candidates.{ended, nextOf}
 use Rattle.basis.specs.Drawing.{stepsOf, columnOf, productValues, settingsOf, PointsGiven, DrawnUp}
-use Rattle.specification.proofs.Layouts.{length-fill}
 use Rattle.basis.proofs.elimination.Positions.{productAt}
 use Rattle.basis.proofs.elimination.Candidates.{Outcome, Found, next-candidate}
 use Rattle.basis.proofs.elimination.FoundRows.{longer}

@@ -10,8 +10,8 @@ use native.Mathlib.Decide.{ℕ-discrete}
 use borrow.Author.Tests.{eqb-true, eqb-false}
 use lib.Dec.{eqb, ltb}
 use lib.ListN.{getD}
+use Rattle.residue.proofs.Tests.{Decides, so, not-so}
 use Rattle.basis.specs.Candidates.{isOf, passed, parentsOf, occurringIn}
-use Rattle.specification.proofs.ideal.Laws.{Decides, so, not-so}
 use Rattle.basis.proofs.elimination.Turns.{parents}
 use Rattle.basis.proofs.elimination.Products.{Product, product-told, passed-later}
 

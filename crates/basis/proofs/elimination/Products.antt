@@ -9,13 +9,13 @@ use borrow.Author.Tests.{ltb-true, ltb-false, eqb-true, eqb-false, eq-eqb, ne-eq
 use lib.Dec.{eqb, ltb}
 use lib.ListN.{length, take, drop, getD, set, length-set}
 use lib.Seq.{getD-set-same, getD-set-other}
+use Rattle.residue.proofs.Tests.{Decides, so, not-so}
 use Rattle.basis.specs.declared.candidate.LeastRank.{LeastRank}
 use Rattle.basis.specs.declared.candidate.LeastRank.the-variants as LeastRank
 use Rattle.basis.specs.declared.candidate.Parents.{Parents}
 use Rattle.basis.specs.declared.candidate.Candidate.{Candidate}
 use Rattle.basis.specs.declared.candidate.Candidate.the-variants as Candidate
 use Rattle.basis.specs.Candidates.{rankAt, lowest, leastOf, isOf, passed, parentsOf, occurringIn, Next, ended, isWhole, atLeast, nextFrom, nextOf}
-use Rattle.specification.proofs.ideal.Laws.{Decides, so, not-so}
 use Rattle.basis.proofs.elimination.Turns.{parents}
 
 -- how many products with the first k variables are not passed

@@ -7,12 +7,13 @@ use native.Mathlib.Omega.{arith}
 use lib.ListN.{length}
 use Rattle.residue.specs.Congruence.{Mod}
 use Rattle.residue.specs.Lists.{Among}
+use Rattle.residue.proofs.Congruence.{_then_, _plus_, scale, zero-left, zero-right, lin}
+use Rattle.residue.proofs.Tests.{decided}
 use Rattle.monomial.specs.Increasing.{inserted}
 use Rattle.monomial.proofs.Orders.Increasing.{inserted-only, inserted-increasing, inserted-adds}
-use Rattle.residue.proofs.Congruence.{_then_, _plus_, scale, zero-left, zero-right, lin}
 use Rattle.specification.specs.Space.{Space, Less, Divides}
 use Rattle.specification.specs.Extension.{without, extended}
-use Rattle.specification.proofs.ideal.Laws.{Laws, decided, Compares, lt, eq, gt, compared, same?, less-ne, trans}
+use Rattle.specification.proofs.ideal.Laws.{Laws, Compares, lt, eq, gt, compared, same?, less-ne, trans}
 use Rattle.specification.proofs.ideal.Newton.{at, error, Corrects, cancel, next-base}
 use Rattle.specification.proofs.ideal.Staircase.{Staircase, Holds, normal-form, member?}
 use Rattle.specification.proofs.ideal.ZeroSet.{zeros}

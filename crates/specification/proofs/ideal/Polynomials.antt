@@ -7,13 +7,14 @@ use Prim.Native.Nat.{ℕ, suc, _+_, _*_}
 use native.Mathlib.Omega.{arith}
 use Rattle.residue.specs.Congruence.{Mod}
 use Rattle.residue.specs.Lists.{Among, sumOver}
-use Rattle.monomial.specs.Increasing.{Increasing}
-use Rattle.monomial.proofs.Orders.Increasing.{below-member}
 use Rattle.residue.proofs.Congruence.{rfl, of, flip, _then_, _plus_, scale, zero-left, lin}
 use Rattle.residue.proofs.Sums.{each, sum-cong, sum-zero, sum-lin, sum-scale, sum-add}
+use Rattle.residue.proofs.Tests.{Decides, so, not-so, decided}
+use Rattle.monomial.specs.Increasing.{Increasing}
+use Rattle.monomial.proofs.Orders.Increasing.{below-member}
 use Rattle.specification.specs.Space.{Space, Less, same}
 use Rattle.specification.specs.Polynomial.{Polynomial, hit, coefficient, Standard, terms}
-use Rattle.specification.proofs.ideal.Laws.{Laws, Decides, so, not-so, decided, zero-told, same-told, same?, irrefl, less-ne, hit-same, hit-other, hit-sym, trans}
+use Rattle.specification.proofs.ideal.Laws.{Laws, zero-told, same-told, same?, irrefl, less-ne, hit-same, hit-other, hit-sym, trans}
 
 module _ (D : Space) where
   open Space D using (Mono)

@@ -8,9 +8,10 @@ use Rattle.residue.specs.Congruence.{Mod}
 use Rattle.residue.specs.Lists.{Among}
 use Rattle.residue.proofs.Congruence.{of, flip, _then_, scale, zero-left, zero-right, lin, ring}
 use Rattle.residue.proofs.Sums.{each, sum-cong, sum-zero}
+use Rattle.residue.proofs.Tests.{decided}
 use Rattle.specification.specs.Space.{Space}
 use Rattle.specification.specs.Polynomial.{Polynomial, eval, Vanishes}
-use Rattle.specification.proofs.ideal.Laws.{Laws, decided, point-told}
+use Rattle.specification.proofs.ideal.Laws.{Laws, point-told}
 use Rattle.specification.proofs.ideal.Newton.{cancel}
 use Rattle.specification.proofs.ideal.Staircase.{Staircase, Holds, expand, transfer, normal-form}
 

@@ -3,9 +3,9 @@ use mathlib.Core.Path.{sym, subst, refl}
 use Prim.Native.Nat.{_≤_}
 use native.Mathlib.Omega.{arith}
 use Rattle.residue.specs.Vector.{Below}
+use Rattle.residue.specs.Layout.{groups}
 use Rattle.residue.proofs.Moduli.{modulus-range}
 use Rattle.monomial.specs.Monomial.{valueAt}
-use Rattle.specification.specs.Levels.{groups}
 use Rattle.basis.proofs.elimination.Grounds.{points-long, points-below}
 use Rattle.basis.proofs.adding.Writes.{values-below}
 use Rattle.basis.proofs.adding.Added.{Sound, sound, inside, added}

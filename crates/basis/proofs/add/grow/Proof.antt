@@ -7,13 +7,12 @@ use lib.ListN.{length, take, drop, replicate, length-drop}
 use lib.Seq.{length-take-le}
 use Rattle.residue.specs.Vector.{Below}
 use Rattle.residue.specs.Inverse.{inverseOf}
+use Rattle.residue.specs.Layout.{groups, over}
 use Rattle.residue.proofs.Vectors.{below-take, below-drop}
 use Rattle.residue.proofs.Inverses.{inverse-below}
+use Rattle.residue.proofs.Layouts.{over-all}
 use Rattle.monomial.specs.Order.{orderOf, cmp}
-use Rattle.specification.specs.Levels.{groups}
-use Rattle.specification.specs.Layout.{over}
 use Rattle.basis.specs.Insertions.{rowAt, placeOf, rowValueAt, withRowAt, standardGrown}
-use Rattle.specification.proofs.Layouts.{over-all}
 use Rattle.basis.proofs.ValueRows.{zeros-long}
 use Rattle.basis.proofs.adding.Searches.{place-within}
 use Rattle.basis.proofs.adding.Writes.{value-below, part-small}

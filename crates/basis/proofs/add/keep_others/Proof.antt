@@ -4,7 +4,7 @@ use mathlib.Core.List.{List}
 use Prim.Native.Nat.{ℕ, _-_}
 use native.Mathlib.Omega.{arith}
 use Rattle.residue.specs.Vector.{Below}
-use Rattle.specification.specs.Layout.{inPlaces, over}
+use Rattle.residue.specs.Layout.{inPlaces, over}
 use Rattle.basis.specs.Insertions.{takenOut, correctedRows, othersOf, rowsLeft, othersCorrected}
 use Rattle.basis.proofs.ValueRows.{zeros-long}
 use Rattle.basis.proofs.adding.Writes.{left-below}

@@ -1,7 +1,7 @@
 -- `bytes::begins` meets its contract.
 use lib.Seq.{length-take-le}
 use mathlib.Core.Path.{sym}
-use Rattle.specification.specs.Layout.{begins}
+use Rattle.residue.specs.Layout.{begins}
 use Rattle.basis.proofs.bytes.begins.Statement.{statement}
 use Rattle.basis.proofs.bytes.begins.Tie as tie
 

@@ -7,8 +7,8 @@ use lib.ListN.{length, take}
 use lib.Seq.{take-all}
 use lib.Dec.{eqb}
 use borrow.Author.Tests.{ne-eqb}
-use Rattle.specification.specs.Levels.{sameList}
-use Rattle.specification.proofs.Equality.{same-none, same-on, same-off}
+use Rattle.residue.specs.Lists.{sameList}
+use Rattle.residue.proofs.Equality.{same-none, same-on, same-off}
 use Rattle.basis.proofs.bytes.same.Statement.{statement}
 use Rattle.basis.proofs.bytes.same.Tie as tie
 

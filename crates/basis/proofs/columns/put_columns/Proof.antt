@@ -3,9 +3,9 @@ use mathlib.Core.Path.{_≡_, sym, ap, _∙_}
 use Prim.Native.Nat.{ℕ, _+_, _*_, _-_, _≤_}
 use native.Mathlib.Omega.{arith}
 use lib.ListN.{length}
-use Rattle.specification.specs.Layout.{fill, inPlaces}
+use Rattle.residue.specs.Layout.{fill, inPlaces}
+use Rattle.residue.proofs.Layouts.{length-fill}
 use Rattle.basis.specs.Drawing.{columnsOf}
-use Rattle.specification.proofs.Layouts.{length-fill}
 use Rattle.basis.proofs.ValueRows.{part-long, zeros-long, columns-none, columns-more}
 use Rattle.basis.proofs.columns.put_columns.Statement.{statement}
 use Rattle.basis.proofs.columns.put_columns.Tie as tie

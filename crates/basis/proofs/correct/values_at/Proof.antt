@@ -5,11 +5,11 @@ use Prim.Native.Nat.{ℕ, _+_, _*_, _-_, _%_, _≤_}
 use native.Mathlib.Omega.{arith}
 use lib.ListN.{length, getD, take, drop, length-drop}
 use lib.Seq.{length-take-le}
+use Rattle.residue.specs.Layout.{groups}
 use Rattle.residue.proofs.Filled.{filled, filled-none, kept-length, filled-more}
+use Rattle.residue.proofs.Places.{length-groups, groups-at}
 use Rattle.monomial.specs.Monomial.{valueAt}
-use Rattle.specification.specs.Levels.{groups}
 use Rattle.basis.proofs.Copies.{mapped}
-use Rattle.specification.proofs.Places.{length-groups, groups-at}
 use Rattle.basis.proofs.correct.values_at.Statement.{statement}
 use Rattle.basis.proofs.correct.values_at.Tie as tie
 

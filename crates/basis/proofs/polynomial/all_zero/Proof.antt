@@ -3,7 +3,7 @@ use mathlib.Core.Path.{_≡_, refl, _∙_}
 use Prim.Native.Nat.{_-_, _≤_}
 use native.Mathlib.Omega.{arith}
 use lib.ListN.{length, drop}
-use Rattle.specification.specs.Solving.{allZero}
+use Rattle.residue.specs.Lists.{allZero}
 use Rattle.basis.proofs.Terms.{zero-on, zero-stop, zero-end}
 use Rattle.basis.proofs.polynomial.all_zero.Statement.{statement}
 use Rattle.basis.proofs.polynomial.all_zero.Tie as tie

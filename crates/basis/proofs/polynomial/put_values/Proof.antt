@@ -6,8 +6,8 @@ use native.Mathlib.Omega.{arith}
 use lib.ListN.{length, take, drop, length-drop, length-replicate}
 use lib.Seq.{length-take-le}
 use Rattle.residue.specs.Vector.{Below}
-use Rattle.specification.specs.Layout.{over}
-use Rattle.specification.proofs.Layouts.{length-over, take-over}
+use Rattle.residue.specs.Layout.{over}
+use Rattle.residue.proofs.Layouts.{length-over, take-over}
 use Rattle.basis.proofs.TermRows.{sums, sums-long, sums-below, sums-none, sums-all, row-more}
 use Rattle.basis.proofs.polynomial.put_values.Statement.{statement}
 use Rattle.basis.proofs.polynomial.put_values.Tie as tie

@@ -7,11 +7,10 @@ use lib.ListN.{getD, take, drop, replicate, length-drop}
 use lib.Seq.{length-take-le}
 use Rattle.residue.specs.Vector.{Below}
 use Rattle.residue.specs.Elimination.{eliminated}
+use Rattle.residue.specs.Layout.{groups, over}
 use Rattle.residue.proofs.Vectors.{below-take, below-drop}
 use Rattle.residue.proofs.Eliminated.{eliminated-below}
 use Rattle.monomial.specs.Monomial.{valueAt}
-use Rattle.specification.specs.Levels.{groups}
-use Rattle.specification.specs.Layout.{over}
 use Rattle.basis.specs.Insertions.{correctedRow, reducedRow}
 use Rattle.basis.proofs.adding.Writes.{row-in, values-below}
 use Rattle.basis.proofs.adding.NewRows.{one-term}

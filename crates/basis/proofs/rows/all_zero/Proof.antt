@@ -6,7 +6,7 @@ use native.Mathlib.Omega.{arith}
 use lib.ListN.{length, take}
 use lib.Seq.{take-all}
 use lib.Dec.{eqb}
-use Rattle.specification.specs.Solving.{allZero}
+use Rattle.residue.specs.Lists.{allZero}
 use Rattle.basis.proofs.WorkingRows.{zero-none, zero-larger, zero-kept}
 use Rattle.basis.proofs.rows.all_zero.Statement.{statement}
 use Rattle.basis.proofs.rows.all_zero.Tie as tie

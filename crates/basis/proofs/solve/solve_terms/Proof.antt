@@ -5,13 +5,12 @@ use Prim.Native.Nat.{ℕ, _*_}
 use native.Mathlib.Omega.{arith}
 use lib.ListN.{length, take, replicate}
 use Rattle.residue.specs.Vector.{Below}
+use Rattle.residue.specs.Layout.{fill, over}
+use Rattle.residue.proofs.Places.{over-zeros}
+use Rattle.residue.proofs.Layouts.{below-fill, length-fill}
 use Rattle.specification.specs.Levels.{residues}
-use Rattle.specification.specs.Layout.{fill, over}
-use Rattle.basis.specs.Interpolants.{solution, termValues}
-use Rattle.specification.proofs.Layouts.{length-fill}
-use Rattle.specification.proofs.Places.{over-zeros}
-use Rattle.basis.proofs.ValueRows.{below-fill}
 use Rattle.specification.proofs.agreement.Points.{length-residues}
+use Rattle.basis.specs.Interpolants.{solution, termValues}
 use Rattle.basis.proofs.calls.Answers.{front-of}
 use Rattle.basis.proofs.calls.Known.{length-terms, terms-below}
 use Rattle.basis.proofs.solve.solve_terms.Statement.{statement}

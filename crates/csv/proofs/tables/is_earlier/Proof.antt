@@ -4,7 +4,8 @@ use mathlib.Core.List.{List}
 use Prim.Native.Nat.{ℕ, _+_, _*_, _-_, _≤_}
 use native.Mathlib.Omega.{arith}
 use lib.ListN.{take, drop}
-use Rattle.specification.specs.Levels.{sameList, isAmong}
+use Rattle.residue.specs.Lists.{sameList}
+use Rattle.specification.specs.Levels.{isAmong}
 use Rattle.csv.specs.Points.{rowAt, earlier}
 use Rattle.csv.proofs.Repeating.{among-here, among-on, among-end}
 use Rattle.csv.proofs.tables.is_earlier.Statement.{statement}

@@ -7,9 +7,9 @@ use native.Mathlib.Omega.{arith}
 use lib.ListN.{length, take, drop}
 use Rattle.residue.specs.Vector.{Below}
 use Rattle.residue.proofs.Moduli.{modulus-range}
+use Rattle.residue.proofs.Layouts.{length-fill}
 use Rattle.monomial.specs.Order.{orderOf}
 use Rattle.basis.specs.Drawing.{columnOf, productValues, settingsOf, PointsGiven}
-use Rattle.specification.proofs.Layouts.{length-fill}
 use Rattle.basis.proofs.WorkingRows.{first-most}
 use Rattle.basis.proofs.ValueRows.{steps-long, steps-below, column-below, column-in}
 use Rattle.basis.proofs.elimination.Grounds.{points-long, points-below}

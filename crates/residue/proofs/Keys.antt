@@ -10,9 +10,9 @@ use lib.Seq.{getD-drop, take-all}
 use lib.Pow.{pow-add, pow-mono}
 use lib.Dec.{eqb}
 use borrow.Author.Tests.{eq-eqb, ne-eqb, eqb-true, eqb-false}
 use Rattle.residue.specs.Vector.{Below}
-use Rattle.specification.specs.Levels.{sameList, keyOf}
-use Rattle.specification.proofs.Equality.{same-none, same-more}
+use Rattle.residue.specs.Lists.{sameList, keyOf}
+use Rattle.residue.proofs.Equality.{same-none, same-more}
 
 -- one digit more
 pub digit-more : (i : ℕ) {x b : ℕ} → x < 2 ^ (8 * i) → b < 256 → 256 * x + b < 2 ^ (8 * (i + 1))

@@ -1,10 +1,9 @@
 -- How lists of numbers lie in lent bytes: docs/SCOPE.md, 'The sheet'.
-use mathlib.Core.Path.{_≡_, refl, ap}
 use mathlib.Core.Bool.{Bool}
 use mathlib.Core.List.{List, [], _∷_, _++_}
 use Prim.Native.Nat.{ℕ, zero, suc}
-use lib.ListN.{length, take, drop}
-use Rattle.specification.specs.Levels.{sameList}
+use lib.ListN.{take, drop, length}
+use Rattle.residue.specs.Lists.{sameList}
 
 -- a list cut or filled up with zeros to k numbers
 unfoldable pub fill : ℕ → List ℕ → List ℕ
@@ -12,12 +11,10 @@ fill zero l = []
 fill (suc k) [] = 0 ∷ fill k []
 fill (suc k) (a ∷ l) = a ∷ fill k l
 
--- it has k numbers
-pub length-fill : (k : ℕ) (l : List ℕ) → length (fill k l) ≡ k
-unfolding fill
-length-fill zero l = refl
-length-fill (suc k) [] = ap suc (length-fill k [])
-length-fill (suc k) (a ∷ l) = ap suc (length-fill k l)
+-- k groups of m
+unfoldable pub groups : {A : Type 0} → ℕ → ℕ → List A → List (List A)
+groups m zero l = []
+groups m (suc k) l = take m l ∷ groups m k (drop m l)
 
 -- rows one after the other, each in a place of the given width
 unfoldable pub inPlaces : ℕ → List (List ℕ) → List ℕ

@@ -1,16 +1,23 @@
 -- Laws of layouts: filling up, places of one width, and writing over the front of a lent list.
-use mathlib.Core.Path.{_≡_, refl, sym, _∙_, ap, ap₂}
+use mathlib.Core.Path.{_≡_, refl, ap, sym, _∙_, ap₂}
 use mathlib.Core.List.{List, [], _∷_, _++_, map, append-assoc, append-nil}
-use Prim.Native.Nat.{ℕ, zero, suc, _+_, _*_, _<_, _≤_}
+use Prim.Native.Nat.{ℕ, zero, suc, _<_, _≤_, _+_, _*_, _-_}
+use native.Mathlib.Nat.{not-suc-le-zero, le-of-suc-le-suc, zero-add}
 use native.Mathlib.Omega.{arith}
-use native.Mathlib.Nat.{zero-add, not-suc-le-zero, le-of-suc-le-suc}
-use lib.ListN.{length, getD, take, drop, replicate, length-append, length-replicate, length-drop, drop-of-length-le}
-use lib.Seq.{length-take-le, take-at, drop-at}
+use native.Mathlib.Decide.{decLt}
+use lib.ListN.{length, getD, take, replicate, length-append, drop, length-drop, drop-of-length-le, length-replicate, set, List·getD-eq-default}
+use lib.Seq.{take-at, drop-at, length-take-le}
 use lib.Dec.{T}
-use Rattle.specification.specs.Levels.{groups}
-pub use Rattle.specification.specs.Layout.{length-fill}
-use Rattle.specification.specs.Layout.{fill, inPlaces, over, begins}
-use Rattle.specification.proofs.Equality.{same-self}
+use Rattle.residue.specs.Layout.{fill, inPlaces, groups, over, begins}
+use Rattle.residue.specs.Vector.{Below}
+use Rattle.residue.proofs.Equality.{same-self}
+
+-- it has k numbers
+pub length-fill : (k : ℕ) (l : List ℕ) → length (fill k l) ≡ k
+unfolding fill
+length-fill zero l = refl
+length-fill (suc k) [] = ap suc (length-fill k [])
+length-fill (suc k) (a ∷ l) = ap suc (length-fill k l)
 
 pub fill-at : (k : ℕ) (l : List ℕ) (i : ℕ) → i < k → getD (fill k l) i 0 ≡ getD l i 0
 unfolding fill
@@ -122,3 +129,38 @@ take-over a t = take-at a (drop (length a) t) (length a) refl
 pub begins-over : (a t : List ℕ) → T (begins a (over a t))
 unfolding begins
 begins-over a t = rw (take-over a t) (same-self a)
+
+pub fill-cut : (k : ℕ) (l : List ℕ) → k ≤ length l → fill k l ≡ take k l
+unfolding fill
+fill-cut zero l h = refl
+fill-cut (suc k) [] h = absurd (omega arith)
+fill-cut (suc k) (a ∷ l) h = ap (λ (z : List ℕ). a ∷ z) (fill-cut k l (le-of-suc-le-suc h))
+
+-- a list filled up is the list and zeros
+pub fill-tail : (k : ℕ) (l : List ℕ) → length l ≤ k → fill k l ≡ l ++ replicate (k - length l) 0
+fill-tail k l h =
+    let e : k ≡ length l + (k - length l) = omega arith in
+    ap₂ fill e (sym (append-nil l)) ∙ fill-append l [] (k - length l) ∙ ap (λ (z : List ℕ). l ++ z) (fill-zeros (k - length l))
+
+-- one number more at the end of a list that is filled up
+pub fill-put : (w : ℕ) (l : List ℕ) (v : ℕ) → length l < w → set (fill w l) (length l) v ≡ fill w (l ++ (v ∷ []))
+unfolding fill
+fill-put zero l v h = absurd (omega arith)
+fill-put (suc w) [] v h = refl
+fill-put (suc w) (x ∷ l) v h = ap (λ (z : List ℕ). x ∷ z) (fill-put w l v (le-of-suc-le-suc h))
+
+-- cut shorter
+pub fill-take : (m k : ℕ) (l : List ℕ) → m ≤ k → k ≤ length l → fill m (take k l) ≡ take m l
+unfolding fill
+fill-take zero k l h e = refl
+fill-take (suc m) zero l h e = absurd (omega arith)
+fill-take (suc m) (suc k) [] h e = absurd (omega arith)
+fill-take (suc m) (suc k) (x ∷ l) h e = ap (λ (z : List ℕ). x ∷ z) (fill-take m k l (le-of-suc-le-suc h) (le-of-suc-le-suc e))
+
+-- values loaded into an empty working row
+pub below-fill : (p k : ℕ) (l : List ℕ) → 0 < p → Below p l → Below p (fill k l)
+below-fill p k l z b i h = rw (fill-at k l i (omega (arith, length-fill k l))) (go (decLt i (length l)))
+  where
+    go : Dec (i < length l) → getD l i 0 < p
+    go (yes u) = b i u
+    go (no u) = let e : length l ≤ i = omega (arith, u) in rw (List·getD-eq-default l 0 e) z

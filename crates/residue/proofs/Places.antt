@@ -1,20 +1,16 @@
 -- Places of one width in a table, read or written one after the other.
-use mathlib.Core.Path.{_≡_, refl, sym, _∙_, ap, ap₂}
-use mathlib.Core.Bool.{Bool, true, false, not, _&&_, _||_}
-use mathlib.Core.List.{List, [], _∷_, _++_, map, append-assoc, append-nil}
+use mathlib.Core.Path.{_≡_, refl, _∙_, ap, sym, ap₂}
 use mathlib.Core.Logic.{inl, inr}
+use mathlib.Core.List.{List, [], _∷_, _++_, map, append-assoc, append-nil}
 use Prim.Native.Nat.{ℕ, zero, suc, _+_, _*_, _-_, _<_, _≤_}
 use native.Mathlib.Omega.{arith}
 use native.Mathlib.Nat.{le-of-suc-le-suc, add-sub-cancel-left}
 use native.Mathlib.Numerals.{add-one}
-use lib.ListN.{length, take, drop, getD, List·getD-map, replicate, length-append, length-drop, length-take, length-replicate, replicate-append-replicate}
-use lib.Seq.{length-take-le, take-at, drop-at, drop-drop}
-use lib.Dec.{eqb}
+use lib.ListN.{length, take, drop, getD, length-drop, List·getD-map, replicate, length-append, length-replicate, replicate-append-replicate, length-take}
+use lib.Seq.{drop-drop, length-take-le, take-at, drop-at}
+use Rattle.residue.specs.Layout.{groups, fill, inPlaces, over}
 use Rattle.residue.specs.Lists.{Among}
-use Rattle.specification.specs.Levels.{groups, sameList, isAmong, noRepeat}
-use Rattle.specification.specs.Layout.{fill, inPlaces, over}
-use Rattle.specification.proofs.Equality.{true-of, same-self}
-use Rattle.specification.proofs.Layouts.{fill-zeros, length-places, places-back, table-split}
+use Rattle.residue.proofs.Layouts.{places-back, table-split, fill-zeros, length-places, fill-exact, length-fill}
 
 -- Reading.
 module _ {A : Type 0} (w : ℕ) where
@@ -55,59 +51,12 @@ module _ {A : Type 0} (w : ℕ) where
       let e : w + w * i ≡ w * suc i = omega arith in
       groups-at n i (drop w t) d (le-of-suc-le-suc h) ∙ rw (drop-drop (w * i) w t, e)
 
--- A search for a point along the places.
-module _ (P t : List ℕ) (n i : ℕ) (h : i < n) where
-  pub among-on : sameList P (take 8 (drop (8 * i) t)) ≡ false → isAmong P (groups 8 (n - (i + 1)) (drop (8 * (i + 1)) t)) ≡ isAmong P (groups 8 (n - i) (drop (8 * i) t))
-  unfolding isAmong
-  among-on e = rw (groups-step 8 n i t h) (simp e)
-
-  pub among-hit : sameList P (take 8 (drop (8 * i) t)) ≡ true → true ≡ isAmong P (groups 8 (n - i) (drop (8 * i) t))
-  unfolding isAmong
-  among-hit e = rw (groups-step 8 n i t h) (simp e)
-
-pub among-end : (P t : List ℕ) (n i : ℕ) → n ≤ i → false ≡ isAmong P (groups 8 (n - i) t)
-unfolding isAmong
-among-end P t n i h = rw (groups-end 8 n i t h)
-
--- A search for a repeat.
-module _ (t : List ℕ) (n i : ℕ) (h : i < n) where
-  abbrev pub again : Bool
-  again = isAmong (take 8 (drop (8 * i) t)) (groups 8 (n - (i + 1)) (drop (8 * (i + 1)) t))
-
-  pub repeat-on : again ≡ false → noRepeat (groups 8 (n - (i + 1)) (drop (8 * (i + 1)) t)) ≡ noRepeat (groups 8 (n - i) (drop (8 * i) t))
-  unfolding noRepeat
-  repeat-on e = rw (groups-step 8 n i t h) (simp e)
-
-  pub repeat-hit : again ≡ true → false ≡ noRepeat (groups 8 (n - i) (drop (8 * i) t))
-  unfolding noRepeat
-  repeat-hit e = rw (groups-step 8 n i t h) (simp e)
-
-pub repeat-end : (t : List ℕ) (n i : ℕ) → n ≤ i → true ≡ noRepeat (groups 8 (n - i) t)
-unfolding noRepeat
-repeat-end t n i h = rw (groups-end 8 n i t h)
-
--- Rows of one length are equal, repeat or stand in a list exactly where they do so filled up.
-same-filled : (k : ℕ) (a b : List ℕ) → length a ≡ length b → length a ≤ k → sameList (fill k a) (fill k b) ≡ sameList a b
-unfolding fill sameList
-same-filled k [] [] e h = true-of (sameList (fill k []) (fill k [])) (same-self (fill k []))
-same-filled k [] (y ∷ b) e h = absurd (omega arith)
-same-filled k (x ∷ a) [] e h = absurd (omega arith)
-same-filled zero (x ∷ a) (y ∷ b) e h = absurd (omega arith)
-same-filled (suc k) (x ∷ a) (y ∷ b) e h = ap (λ (z : Bool). eqb x y && z) (same-filled k a b (omega arith) (le-of-suc-le-suc h))
-
-module _ (k m : ℕ) (fits : m ≤ k) where
-  pub among-filled : (P : List ℕ) (S : List (List ℕ)) → length P ≡ m → ((Q : List ℕ) → Among Q S → length Q ≡ m) → isAmong (fill k P) (map (fill k) S) ≡ isAmong P S
-  unfolding isAmong
-  among-filled P [] e h = refl
-  among-filled P (Q ∷ S) e h =
-      let l = h Q (inl refl) in
-      ap₂ _||_ (same-filled k P Q (omega arith) (omega arith)) (among-filled P S e (λ R q. h R (inr q)))
-
-  pub repeat-filled : (S : List (List ℕ)) → ((Q : List ℕ) → Among Q S → length Q ≡ m) → noRepeat (map (fill k) S) ≡ noRepeat S
-  unfolding noRepeat
-  repeat-filled [] h = refl
-  repeat-filled (P ∷ S) h =
-      ap₂ (λ (a b : Bool). not a && b) (among-filled P S (h P (inl refl)) (λ R q. h R (inr q))) (repeat-filled S (λ R q. h R (inr q)))
+-- each group has its width
+pub groups-long : {A : Type 0} (w k : ℕ) (l : List A) → w * k ≤ length l → (e : List A) → Among e (groups w k l) → length e ≡ w
+unfolding groups
+groups-long w zero l h e q = absurd q
+groups-long w (suc k) l h e (inl f) = ap length f ∙ length-take-le w l (omega arith)
+groups-long w (suc k) l h e (inr q) = groups-long w k (drop w l) (rw (length-drop w l) (omega arith)) e q
 
 -- the places of a table, filled up
 pub table-groups : (w N : ℕ) (S : List (List ℕ)) → w * length S ≤ N → groups w (length S) (fill N (inPlaces w S)) ≡ map (fill w) S
@@ -167,3 +116,9 @@ part-fits m at i from table few h e =
 pub no-places : (w N : ℕ) → replicate N 0 ≡ fill N (inPlaces w [])
 unfolding inPlaces
 no-places w N = sym (fill-zeros N)
+
+-- a row that is filled up already
+pub places-filled : (w : ℕ) (S : List (List ℕ)) (r : List ℕ) → inPlaces w (S ++ (fill w r ∷ [])) ≡ inPlaces w (S ++ (r ∷ []))
+unfolding inPlaces
+places-filled w [] r = ap (λ (z : List ℕ). z ++ []) (fill-exact w (fill w r) (length-fill w r))
+places-filled w (x ∷ S) r = ap (λ (z : List ℕ). fill w x ++ z) (places-filled w S r)
