@@ -10,7 +10,7 @@ use Rattle.residue.specs.Congruence.{Mod}
 use Rattle.residue.specs.Vector.{Below, addScaled, powered, dotOf}
 use Rattle.residue.specs.Layout.{groups, over}
 use Rattle.residue.proofs.Congruence.{rfl, of, flip, reduce, _then_, _plus_, _times_}
-use Rattle.residue.proofs.Vectors.{map-at, powered-length, powered-at, powered-below}
+use Rattle.residue.proofs.Vectors.{map-at, powered-length, powered-at, powered-below, map-same}
 use Rattle.residue.proofs.Layouts.{take-over}
 use Rattle.residue.proofs.Places.{length-groups, groups-at}
 use Rattle.monomial.specs.Monomial.{valueAt}
@@ -18,7 +18,6 @@ use Rattle.monomial.proofs.Loops.{value-again, value-end}
 use Rattle.basis.specs.Drawing.{columnOf}
 use Rattle.basis.specs.Interpolants.{termValues}
 use Rattle.basis.proofs.ValueRows.{column-long}
-use Rattle.basis.proofs.Copies.{map-same}
 use Rattle.basis.proofs.Terms.{values, length-values, value-none, value-more}
 
 -- a variable with exponent 0

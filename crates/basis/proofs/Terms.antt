@@ -25,20 +25,6 @@ use Rattle.specification.specs.Polynomial.{eval}
 use Rattle.specification.specs.Instance.{Point, monomialOf, spaceOf}
 use Rattle.specification.specs.Solving.{withinVariables, occurs, polynomialOf}
 
--- Are all zero? The entry at i is 0 or not, or there is no further one.
-module _ (l : List ℕ) (i : ℕ) (h : i < length l) where
-  pub zero-on : getD l i 0 ≡ 0 → allZero (drop (i + 1) l) ≡ allZero (drop i l)
-  unfolding allZero
-  zero-on e = rw (add-one, drop-cons l i 0 h) (simp (eq-eqb (getD l i 0) 0 e))
-
-  pub zero-stop : (getD l i 0 ≡ 0 → ⊥) → false ≡ allZero (drop i l)
-  unfolding allZero
-  zero-stop e = rw (drop-cons l i 0 h) (simp (ne-eqb (getD l i 0) 0 e))
-
-pub zero-end : (l : List ℕ) (i : ℕ) → length l ≤ i → true ≡ allZero (drop i l)
-unfolding allZero
-zero-end l i h = rw (drop-of-length-le l {i = i} h)
-
 -- Has no term a variable above m? The same, term by term.
 module _ (m k i : ℕ) (t : List ℕ) (h : i < k) where
   pub within-on : allZero (drop m (take 8 (drop (8 * i) t))) ≡ true

@@ -6,65 +6,19 @@ use native.Mathlib.Nat.{not-suc-le-zero}
 use native.Mathlib.Numerals.{add-one}
 use native.Mathlib.Decide.{decLt}
 use native.Mathlib.Omega.{arith}
-use lib.ListN.{length, getD, take, drop, replicate, length-append, length-map, length-drop, length-replicate, List·getD-append}
+use lib.ListN.{length, getD, take, drop, replicate, length-append, length-map, List·getD-append}
 use lib.Seq.{getD-take, getD-drop, getD-append-add, length-take-le, take-take}
 use lib.Dec.{eqb, eqb→eq}
 use Rattle.residue.specs.Vector.{Below, pointwise}
 use Rattle.residue.specs.Layout.{groups, fill, inPlaces, over}
 use Rattle.residue.proofs.Vectors.{map-at, pointwise-length, pointwise-at, pointwise-below, below-drop, below-append}
 use Rattle.residue.proofs.Moduli.{below-at}
-use Rattle.residue.proofs.Layouts.{take-fill, length-over, over-all}
-use Rattle.residue.proofs.Places.{length-groups, groups-at, place-at, no-places, over-zeros, place-more}
+use Rattle.residue.proofs.Layouts.{take-fill, length-over}
+use Rattle.residue.proofs.Places.{length-groups, groups-at, place-at, no-places, place-more}
 use Rattle.monomial.specs.Order.{Order}
 use Rattle.monomial.specs.Rank.{variableRank}
-use Rattle.basis.specs.Working.{withPlace}
 use Rattle.basis.specs.Drawing.{stepsOf, columnOf, columnsOf, productValues}
 use Rattle.basis.proofs.elimination.Exponents.{variable-small}
-use Rattle.basis.proofs.WorkingRows.{replaced-length, replaced-below, replaced-before, replaced-here}
-
--- a part that was lent, and came back written over at its front
-pub put-place : (w k j : ℕ) (new table : List ℕ) {part : List ℕ} → j ≡ w → part ≡ over new (take j (drop (w * k) table))
-    → take (w * k) table ++ (part ++ drop j (drop (w * k) table)) ≡ withPlace w k new table
-unfolding withPlace
-put-place w k j new table {part} e h =
-    ap (λ (l : List ℕ). take (w * k) table ++ (l ++ drop j (drop (w * k) table))) h
-    ∙ ap (λ (i : ℕ). take (w * k) table ++ (over new (take i (drop (w * k) table)) ++ drop i (drop (w * k) table))) e
-
--- the part is as long as the place
-pub part-long : (at j w : ℕ) (table : List ℕ) → j ≡ w → at + w ≤ length table → length (take j (drop at table)) ≡ w
-part-long at j w table e h = length-take-le j (drop at table) (simp length-drop (omega arith)) ∙ e
-
--- a whole place, written and read
-pub put-whole : (w k j : ℕ) (new table : List ℕ) {part : List ℕ} → j ≡ w → w * k + w ≤ length table → length new ≡ w → part ≡ new
-    → take (w * k) table ++ (part ++ drop j (drop (w * k) table)) ≡ withPlace w k new table
-put-whole w k j new table e h l g = put-place w k j new table e (g ∙ sym (over-all new _ (l ∙ sym (part-long (w * k) j w table e h))))
-
-pub read-whole : (at j w : ℕ) (table old : List ℕ) → j ≡ w → at + w ≤ length table → length old ≡ w → over (take j (drop at table)) old ≡ take w (drop at table)
-read-whole at j w table old e h l =
-    over-all (take j (drop at table)) old (part-long at j w table e h ∙ sym l) ∙ ap (λ (i : ℕ). take i (drop at table)) e
-
--- one row more in a table whose places behind are 0
-pub table-more : (w N k : ℕ) (S : List (List ℕ)) (r t : List ℕ) → t ≡ fill N (inPlaces w S) → k ≡ length S → w * k + w ≤ N → length r ≤ w
-    → withPlace w k r t ≡ fill N (inPlaces w (S ++ (r ∷ [])))
-unfolding withPlace
-table-more w N k S r t e c h l = place-more w N S r t (over r (take w (drop (w * k) t))) (w * k) w e (ap (λ (z : ℕ). w * z) c) refl h l refl
-
--- a place that is written whole: the table's length, residues, what lies before, and the place itself
-module _ (w k : ℕ) (new table : List ℕ) (fits : w * k + w ≤ length table) (long : length new ≡ w) where
-  whole : withPlace w k new table ≡ take (w * k) table ++ (new ++ drop w (drop (w * k) table))
-  whole = sym (put-whole w k w new table refl fits long refl)
-
-  pub place-length : length (withPlace w k new table) ≡ length table
-  place-length = rw whole (replaced-length (w * k) w new table fits long)
-
-  pub place-below : (p : ℕ) → Below p new → Below p table → Below p (withPlace w k new table)
-  place-below p b c = rw whole (replaced-below (w * k) w new table fits long p b c)
-
-  pub place-before : (i : ℕ) → i < w * k → getD (withPlace w k new table) i 0 ≡ getD table i 0
-  place-before i h = rw whole (replaced-before (w * k) w new table fits long i h)
-
-  pub place-here : (i : ℕ) → i < w → getD (withPlace w k new table) (w * k + i) 0 ≡ getD new i 0
-  place-here i h = rw whole (replaced-here (w * k) w new table fits long i h)
 
 -- the ranks of the variables
 abbrev indices : List ℕ
@@ -167,12 +121,3 @@ module _ (p n : ℕ) (column values : List ℕ) (c : length column ≡ n) (h : n
   pub product-made : {part : List ℕ} → part ≡ pointwise p (take n values) column → part ++ drop n values ≡ productValues p n column values
   unfolding productValues over
   product-made e = ap₂ (λ (a : List ℕ) (i : ℕ). a ++ drop i values) e (sym made-long)
-
-pub zeros-long : (l : List ℕ) (k : ℕ) → l ≡ replicate k 0 → length l ≡ k
-zeros-long l k e = ap length e ∙ length-replicate k 0
-
-pub load : (own work : List ℕ) (n : ℕ) {part : List ℕ} → work ≡ replicate 128 0 → n ≤ length own → n ≤ 128 → part ≡ take n own → part ++ drop n work ≡ fill 128 (take n own)
-unfolding over
-load own work n {part} e h l f =
-    let g : length (take n own) ≡ n = length-take-le n own h in
-    ap₂ (λ (a w : List ℕ). a ++ drop n w) f e ∙ ap (λ (i : ℕ). take n own ++ drop i (replicate 128 0)) (sym g) ∙ over-zeros (take n own) 128 (omega arith)

@@ -4,12 +4,9 @@ pub mod Pivots
 pub mod Span
 pub mod Drawing
 pub mod Positions
-pub mod Combinations
-pub mod PivotRows
 pub mod ReducedRows
 pub mod Turns
 pub mod Products
-pub mod NextPivot
 pub mod Occurring
 pub mod Exponents
 pub mod Candidates

@@ -1,9 +1,9 @@
 // Adding a point, by Lemma 2 of the source: a row is lost, its lead becomes standard, and its products with the variables become leads.
-use crate::bytes;
 use crate::correct;
 use crate::insert;
 use crate::products::add_products;
 use crate::tables;
+use residue::bytes;
 use residue::inverse::inverse;
 use specification::settings::Settings;
 ghost use mathlib.Core.Path.{_≡_};

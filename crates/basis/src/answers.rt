@@ -1,10 +1,10 @@
 // The public calls that answer from the basis of lent tables: interpolant, remainder, wiring list.
-use crate::bytes;
 use crate::points;
 use crate::polynomial;
 use crate::recognise::recognise;
 use crate::refusal;
 use crate::solve;
+use residue::bytes;
 use specification::settings::Settings;
 use specification::settings::Wired;
 ghost use mathlib.Core.Path.{_≡_};

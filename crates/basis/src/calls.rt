@@ -1,10 +1,10 @@
 // The public calls that draw up and check tables. Every refusal is decided before a lent byte is written.
-use crate::bytes;
 use crate::draw::draw;
 use crate::points;
 use crate::recognise::recognise;
 use crate::refusal;
 use crate::settings::refused;
+use residue::bytes;
 use specification::settings::Answer;
 use specification::settings::Settings;
 ghost use mathlib.Core.Path.{_≡_};

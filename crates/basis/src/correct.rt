@@ -1,7 +1,7 @@
 // Rows of the basis when a point is added: their values there, the first that is not 0, and the others corrected by it.
-use crate::bytes;
 use monomial::value::value;
 use residue::arithmetic;
+use residue::bytes;
 use residue::vector;
 ghost use mathlib.Core.Path.{_≡_};
 ghost use mathlib.Core.List.{map};

@@ -2,7 +2,6 @@
 mod add;
 pub mod adding;
 pub mod answers;
-pub mod bytes;
 pub mod calls;
 mod candidate;
 mod columns;
@@ -14,7 +13,6 @@ mod polynomial;
 mod products;
 mod recognise;
 pub mod refusal;
-mod rows;
 pub mod settings;
 pub mod solve;
 mod tables;

@@ -1,5 +1,6 @@
 // Polynomials handed in: term after term a coefficient and 8 exponents.
 use crate::columns::put_column;
+use residue::bytes;
 use residue::vector::add_scaled;
 use residue::vector::multiply_powers;
 ghost use mathlib.Core.Path.{_≡_};
@@ -8,22 +9,10 @@ ghost use Prim.Native.Nat.{_*_, _%_, _<_, _≤_};
 ghost use lib.ListN.{length, replicate};
 ghost use Rattle.residue.specs.Vector.{Below, addScaled, powered};
 ghost use Rattle.residue.specs.Layout.{groups, over};
-ghost use Rattle.residue.specs.Lists.{allZero};
 ghost use Rattle.monomial.specs.Monomial.{valueAt};
 ghost use Rattle.specification.specs.Solving.{withinVariables};
 ghost use Rattle.basis.specs.Drawing.{columnOf};
 ghost use Rattle.basis.specs.Interpolants.{termValues};
-
-pub fn all_zero(a: &[u8]) -> bool
-    ensures { λ r. ⌜ r ≡ allZero (now (a .entry)) ⌝ }
-{
-    for i in 0..a.len() {
-        if a[i] != 0 {
-            return false;
-        }
-    }
-    true
-}
 
 // Whether no variable above m has an exponent but 0 in the first k terms.
 pub fn within_variables(m: usize, k: usize, exponents: &[u8]) -> bool
@@ -34,7 +23,7 @@ pub fn within_variables(m: usize, k: usize, exponents: &[u8]) -> bool
     for i in 0..k {
         let place = 8 * i;
         let term = &exponents[place..place + 8];
-        if !all_zero(&term[m..]) {
+        if !bytes::all_zero(&term[m..]) {
             return false;
         }
     }

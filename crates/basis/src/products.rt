@@ -1,8 +1,8 @@
 // The new leads when a point is added, the products of the lost lead with the variables, and their rows.
-use crate::bytes;
 use crate::correct;
 use crate::insert;
 use crate::polynomial::put_values;
+use residue::bytes;
 use residue::elimination::eliminate;
 ghost use mathlib.Core.Path.{_≡_};
 ghost use Prim.Native.Nat.{ℕ, _+_, _*_, _<_, _≤_};

@@ -1,8 +1,8 @@
 // What elimination of the values at all points gives: the interpolant, and the variables that occur in it.
-use crate::bytes;
 use crate::points;
 use crate::polynomial::put_values;
 use residue::arithmetic;
+use residue::bytes;
 use residue::elimination::eliminate;
 ghost use mathlib.Core.Path.{_≡_};
 ghost use mathlib.Core.List.{map};

@@ -1,5 +1,5 @@
 // The four tables together: compared with lent ones, and written to them.
-use crate::bytes;
+use residue::bytes;
 ghost use mathlib.Core.Path.{_≡_};
 ghost use mathlib.Core.Bool.{_&&_};
 ghost use Prim.Native.Nat.{_≤_};

@@ -4,7 +4,7 @@ use crate::faults;
 use crate::lists::Progress;
 use crate::refused;
 use basis::adding;
-use basis::bytes;
+use residue::bytes;
 use specification::settings::Answer;
 use specification::settings::Settings;
 

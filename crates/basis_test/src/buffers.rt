@@ -1,5 +1,5 @@
 // Parts and contents of buffers. A part that is too long is the whole buffer, so that no caller has to prove a bound.
-use basis::bytes;
+use residue::bytes;
 use residue::level;
 
 pub fn front(s: &[u8], n: usize) -> &[u8] {

@@ -9,7 +9,7 @@ use crate::counts;
 use crate::offers;
 use crate::reference;
 use crate::tally::Tally;
-use basis::bytes;
+use residue::bytes;
 use specification::settings::Settings;
 
 const MODULI: [u8; 18] = [

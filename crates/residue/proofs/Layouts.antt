@@ -10,7 +10,7 @@ use lib.Seq.{take-at, drop-at, length-take-le}
 use lib.Dec.{T}
 use Rattle.residue.specs.Layout.{fill, inPlaces, groups, over, begins}
 use Rattle.residue.specs.Vector.{Below}
-use Rattle.residue.proofs.Equality.{same-self}
+use Rattle.residue.proofs.bytes.Equality.{same-self}
 
 -- it has k numbers
 pub length-fill : (k : ℕ) (l : List ℕ) → length (fill k l) ≡ k

@@ -10,9 +10,8 @@ pub mod Powers
 pub mod Inverses
 pub mod Filled
 pub mod Vectors
-pub mod Equality
 pub mod Layouts
 pub mod Places
-pub mod Keys
+pub mod Replaced
 pub mod Eliminated
 pub mod Fours

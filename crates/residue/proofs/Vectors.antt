@@ -1,5 +1,6 @@
 -- Vectors of residues: their lengths, their entries, and that these are residues.
-use mathlib.Core.Path.{_≡_, refl, ap, _∙_, subst}
+use mathlib.Core.Path.{_≡_, refl, ap, _∙_, subst, ap₂}
+use mathlib.Core.Logic.{inl, inr}
 use mathlib.Core.List.{List, [], _∷_, _++_, map, zipWith}
 use Prim.Native.Nat.{ℕ, zero, suc, _+_, _*_, _%_, _^_, _<_}
 use native.Mathlib.Nat.{mod-lt, not-suc-le-zero, le-of-suc-le-suc}
@@ -8,6 +9,7 @@ use native.Mathlib.Omega.{arith}
 use lib.ListN.{length, getD, set, take, drop, replicate, length-map, length-take, length-drop, length-replicate, getD-replicate}
 use lib.Seq.{getD-take, getD-drop}
 use Rattle.residue.specs.Vector.{Below, addScaled, scaled, pointwise, powered, dotOf}
+use Rattle.residue.specs.Lists.{Among}
 
 -- two lists joined entry by entry, and a list changed entry by entry
 module _ {A B C : Type 0} (f : A → B → C) where
@@ -112,3 +114,8 @@ below-set p (suc k) a (x ∷ l) s b (suc i) h = below-set p k a l s (λ j t. b (
 
 pub below-zeros : (p k : ℕ) → 0 < p → Below p (replicate k 0)
 below-zeros p k z i h = rw (getD-replicate {A = ℕ} k i 0 0 (subst (λ (n : ℕ). i < n) (length-replicate {A = ℕ} k 0) h)) z
+
+-- two rules that give the same at each member
+pub map-same : {A B : Type 0} (f g : A → B) (l : List A) → ((a : A) → Among a l → f a ≡ g a) → map f l ≡ map g l
+map-same f g [] h = refl
+map-same {B = B} f g (a ∷ l) h = ap₂ (λ (x : B) (z : List B). x ∷ z) (h a (inl refl)) (map-same f g l (λ b mem. h b (inr mem)))

@@ -1,7 +1,7 @@
 -- How lists of numbers lie in lent bytes: docs/SCOPE.md, 'The sheet'.
 use mathlib.Core.Bool.{Bool}
 use mathlib.Core.List.{List, [], _∷_, _++_}
-use Prim.Native.Nat.{ℕ, zero, suc}
+use Prim.Native.Nat.{ℕ, zero, suc, _*_}
 use lib.ListN.{take, drop, length}
 use Rattle.residue.specs.Lists.{sameList}
 
@@ -28,3 +28,7 @@ over new old = new ++ drop (length new) old
 -- the first numbers of a lent list are these
 unfoldable pub begins : List ℕ → List ℕ → Bool
 begins new old = sameList new (take (length new) old)
+
+-- numbers at the front of place k of a table whose places have the given width
+unfoldable pub withPlace : ℕ → ℕ → List ℕ → List ℕ → List ℕ
+withPlace width k new table = take (width * k) table ++ (over new (take width (drop (width * k) table)) ++ drop width (drop (width * k) table))

@@ -9,7 +9,7 @@ use lib.ListN.{take, drop, length}
 use lib.Dec.{T}
 use Rattle.residue.specs.Lists.{Among, sameList}
 use Rattle.residue.specs.Layout.{groups, fill}
-use Rattle.residue.proofs.Equality.{same-is, same-self, same-filled}
+use Rattle.residue.proofs.bytes.Equality.{same-is, same-self, same-filled}
 use Rattle.residue.proofs.Places.{groups-step, groups-end}
 use Rattle.specification.specs.Levels.{isAmong, noRepeat}
 

@@ -13,7 +13,7 @@ use Rattle.residue.specs.Lists.{Among}
 use Rattle.residue.specs.Vector.{Below}
 use Rattle.residue.specs.Elimination.{eliminated}
 use Rattle.residue.specs.Layout.{groups, fill, inPlaces, over}
-use Rattle.residue.proofs.Vectors.{below-take}
+use Rattle.residue.proofs.Vectors.{below-take, map-same}
 use Rattle.residue.proofs.Tests.{true-of}
 use Rattle.residue.proofs.Layouts.{fill-exact, below-fill, length-fill}
 use Rattle.residue.proofs.Places.{places-append, over-zeros, place-more}
@@ -41,7 +41,6 @@ use Rattle.basis.proofs.elimination.Exponents.{fill-pad}
 use Rattle.basis.proofs.elimination.Grounds.{ground, places-below}
 use Rattle.basis.proofs.adding.Corrections.{valuesAt}
 use Rattle.basis.proofs.adding.LostRow.{lost, lost-one}
-use Rattle.basis.proofs.Copies.{map-same}
 use Rattle.basis.proofs.adding.NewTables.{table, read, few-standard, short, most, grown-are, standard-are}
 
 -- residues are kept

@@ -12,7 +12,7 @@ use Rattle.residue.specs.Vector.{Below, dotOf}
 use Rattle.residue.specs.Elimination.{eliminated}
 use Rattle.residue.specs.Layout.{groups, fill, inPlaces, over}
 use Rattle.residue.proofs.Congruence.{of, _then_, reduce, negative, ring}
-use Rattle.residue.proofs.Vectors.{map-at}
+use Rattle.residue.proofs.Vectors.{map-at, map-same}
 use Rattle.residue.proofs.Layouts.{fill-front}
 use Rattle.residue.proofs.Places.{table-groups, over-zeros}
 use Rattle.monomial.specs.Monomial.{valueAt}
@@ -28,7 +28,6 @@ use Rattle.specification.proofs.ideal.Lists.{index-of}
 use Rattle.specification.proofs.ideal.Basis.{value-at, interpolant-fits, interpolant-agree}
 use Rattle.basis.specs.Insertions.{reducedRow}
 use Rattle.basis.specs.Interpolants.{termValues}
-use Rattle.basis.proofs.Copies.{map-same}
 use Rattle.basis.proofs.elimination.Exponents.{fill-pad}
 use Rattle.basis.proofs.elimination.Pivots.{interpolant-minus}
 

@@ -14,7 +14,7 @@ use Rattle.residue.specs.Layout.{groups, fill, inPlaces, begins}
 use Rattle.residue.proofs.Moduli.{modulus-range}
 use Rattle.residue.proofs.Vectors.{map-at}
 use Rattle.residue.proofs.Tests.{of-true, neither, and-left, and-right}
-use Rattle.residue.proofs.Equality.{same-is}
+use Rattle.residue.proofs.bytes.Equality.{same-is}
 use Rattle.residue.proofs.Places.{length-groups, groups-long}
 use Rattle.residue.proofs.Layouts.{below-fill, length-fill}
 use Rattle.monomial.specs.Monomial.{valueAt}

@@ -12,13 +12,18 @@ use Rattle.residue.specs.Inverse.{inverseOf}
 use Rattle.residue.specs.Lists.{Among}
 use Rattle.residue.specs.Vector.{Below}
 use Rattle.residue.specs.Elimination.{eliminated}
-use Rattle.residue.specs.Layout.{fill, inPlaces}
+use Rattle.residue.specs.Layout.{fill, inPlaces, withPlace}
+use Rattle.residue.specs.Rows.{firstNonzero, pivotRow, withRow}
 use Rattle.residue.proofs.Congruence.{of, _then_}
 use Rattle.residue.proofs.Inverses.{inverse-mod}
 use Rattle.residue.proofs.Moduli.{modulus-range}
 use Rattle.residue.proofs.Vectors.{below-take, below-set}
 use Rattle.residue.proofs.Places.{places-filled}
 use Rattle.residue.proofs.Layouts.{length-fill}
+use Rattle.residue.proofs.rows.Zeros.{zero-before, not-zero-there}
+use Rattle.residue.proofs.Replaced.{table-more, place-length, place-below, place-before, place-here}
+use Rattle.residue.proofs.elimination.PivotRows.{PivotRows, Working, ZeroAt, vanishes, eliminated-works, eliminated-zero}
+use Rattle.residue.proofs.elimination.NextPivot.{next-pivot}
 use Rattle.monomial.specs.Order.{Order}
 use Rattle.specification.specs.Space.{Space}
 use Rattle.specification.specs.Basis.{Row}
@@ -26,14 +31,9 @@ use Rattle.specification.specs.BasisOf.{standardOf, leadsOf}
 use Rattle.specification.specs.Instance.{Monomial, Point, spaceOf, pointOf}
 use Rattle.specification.proofs.Instance.{laws, standard-total}
 use Rattle.specification.proofs.ideal.Laws.{Laws}
-use Rattle.basis.specs.Working.{firstNonzero, pivotRow, withRow, withPlace}
-use Rattle.basis.proofs.WorkingRows.{zero-before, not-zero-there}
-use Rattle.basis.proofs.ValueRows.{table-more, place-length, place-below, place-before, place-here}
 use Rattle.basis.proofs.elimination.Drawing.{Drawn, is-lead, is-standard, standard-room, leads-room}
 use Rattle.basis.proofs.elimination.Positions.{grown}
-use Rattle.basis.proofs.elimination.PivotRows.{PivotRows, Working, ZeroAt, vanishes, eliminated-works, eliminated-zero}
 use Rattle.basis.proofs.elimination.ReducedRows.{loaded}
-use Rattle.basis.proofs.elimination.NextPivot.{next-pivot}
 use Rattle.basis.proofs.elimination.Exponents.{rank-small}
 use Rattle.basis.proofs.elimination.Candidates.{ranked-more}
 use Rattle.basis.proofs.elimination.Matrix.{valuesOf, same-values, more-values, new-values, is-row, not-combined, row-spanned}

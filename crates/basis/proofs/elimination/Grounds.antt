@@ -20,6 +20,8 @@ use Rattle.residue.proofs.Moduli.{modulus-range}
 use Rattle.residue.proofs.Vectors.{map-at, below-append}
 use Rattle.residue.proofs.Layouts.{fill-at, below-fill, length-fill}
 use Rattle.residue.proofs.Places.{groups-at}
+use Rattle.residue.proofs.elimination.Combinations.{combination}
+use Rattle.residue.proofs.elimination.PivotRows.{PivotRows}
 use Rattle.monomial.specs.Order.{orderOf}
 use Rattle.specification.specs.declared.settings.Settings.{Settings}
 use Rattle.specification.specs.Space.{Space}
@@ -35,8 +37,6 @@ use Rattle.specification.proofs.ideal.Counts.{standard-length}
 use Rattle.specification.proofs.agreement.Drawings.{distinct-under}
 use Rattle.basis.specs.Drawing.{settingsOf, PointsGiven, DrawnUp}
 use Rattle.basis.proofs.PointTables.{length-points, points-in}
-use Rattle.basis.proofs.elimination.Combinations.{combination}
-use Rattle.basis.proofs.elimination.PivotRows.{PivotRows}
 use Rattle.basis.proofs.elimination.ReducedRows.{solves}
 use Rattle.basis.proofs.elimination.Matrix.{valuesOf, terms-places}
 use Rattle.basis.proofs.elimination.FoundRows.{rows-only}

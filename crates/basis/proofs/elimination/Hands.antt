@@ -13,6 +13,8 @@ use Rattle.residue.proofs.Moduli.{modulus-range}
 use Rattle.residue.proofs.Vectors.{below-take, below-drop, below-zeros}
 use Rattle.residue.proofs.Layouts.{fill-at, fill-zeros}
 use Rattle.residue.proofs.Places.{place-at, no-places}
+use Rattle.residue.proofs.Replaced.{zeros-long, part-long}
+use Rattle.residue.proofs.elimination.NextPivot.{no-rows}
 use Rattle.monomial.specs.Monomial.{timesVariable}
 use Rattle.monomial.specs.Order.{Order, lex, grlex, grevlex}
 use Rattle.monomial.specs.Rank.{key, rankOf}
@@ -22,10 +24,9 @@ use Rattle.specification.proofs.Instance.{laws, standard-exponent}
 use Rattle.specification.proofs.ideal.Laws.{Laws}
 use Rattle.specification.proofs.ideal.Lists.{getD-among}
 use Rattle.basis.specs.Drawing.{stepsOf, columnOf, productValues}
-use Rattle.basis.proofs.ValueRows.{zeros-long, part-long, steps-at, column-long, column-at, product-long, product-below, product-at}
+use Rattle.basis.proofs.ValueRows.{steps-at, column-long, column-at, product-long, product-below, product-at}
 use Rattle.basis.proofs.elimination.Drawing.{bordered-start, front-start, start-standard, start-lead, front-next, take-standard, take-lead}
 use Rattle.basis.proofs.elimination.Positions.{productAt, positions-start}
-use Rattle.basis.proofs.elimination.NextPivot.{no-rows}
 use Rattle.basis.proofs.elimination.Exponents.{fill-timesVariable}
 use Rattle.basis.proofs.elimination.Candidates.{Found}
 use Rattle.basis.proofs.elimination.Held.{Ground, Held, InHand, pointAt}

@@ -10,6 +10,7 @@ use Rattle.residue.specs.Lists.{Among}
 use Rattle.residue.specs.Modulus.{isModulus}
 use Rattle.residue.specs.Vector.{Below}
 use Rattle.residue.specs.Layout.{fill, inPlaces}
+use Rattle.residue.proofs.elimination.PivotRows.{PivotRows}
 use Rattle.monomial.specs.Order.{Order}
 use Rattle.monomial.specs.Rank.{rankOf}
 use Rattle.specification.specs.Space.{Space}
@@ -19,7 +20,6 @@ use Rattle.specification.specs.BasisOf.{standardOf, leadsOf}
 use Rattle.specification.specs.Instance.{Monomial, Point, spaceOf, pointOf}
 use Rattle.basis.proofs.elimination.Drawing.{Drawn, Front, Bordered}
 use Rattle.basis.proofs.elimination.Positions.{Positions}
-use Rattle.basis.proofs.elimination.PivotRows.{PivotRows}
 use Rattle.basis.proofs.elimination.Candidates.{tableOf, Ranked}
 use Rattle.basis.proofs.elimination.Matrix.{valuesOf}
 

@@ -7,7 +7,8 @@ use lib.ListN.{length, getD, set, take, drop, replicate, length-append}
 use Rattle.residue.specs.Inverse.{inverseOf}
 use Rattle.residue.specs.Vector.{Below}
 use Rattle.residue.specs.Elimination.{eliminated, ZeroBehind}
-use Rattle.residue.specs.Layout.{fill}
+use Rattle.residue.specs.Layout.{fill, withPlace}
+use Rattle.residue.specs.Rows.{firstNonzero, pivotRow, withRow}
 use Rattle.residue.proofs.Layouts.{length-fill}
 use Rattle.monomial.specs.Monomial.{timesVariable}
 use Rattle.monomial.specs.Order.{Order, orderOf}
@@ -17,7 +18,6 @@ use Rattle.specification.specs.Instance.{Monomial, Point}
 use Rattle.specification.specs.Tables.{spaceUnder, pointsUnder, pointsIn}
 use Rattle.basis.specs.declared.candidate.Candidate.{Candidate}
 use Rattle.basis.specs.declared.candidate.Candidate.the-variants as Candidate
-use Rattle.basis.specs.Working.{firstNonzero, pivotRow, withRow, withPlace}
 use Rattle.basis.specs.Candidates.{ended, nextOf}
 use Rattle.basis.specs.Drawing.{stepsOf, columnOf, productValues, settingsOf, PointsGiven, DrawnUp}
 use Rattle.basis.proofs.elimination.Positions.{productAt}

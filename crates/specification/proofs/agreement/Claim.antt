@@ -7,7 +7,7 @@ use lib.IntN.{ℤ}
 use lib.ListN.{length, take, drop, replicate, length-take, take-append-drop}
 use lib.Dec.{T}
 use Rattle.residue.specs.Layout.{fill, inPlaces, over, begins}
-use Rattle.residue.proofs.Equality.{same-is}
+use Rattle.residue.proofs.bytes.Equality.{same-is}
 use Rattle.residue.proofs.Layouts.{fill-zeros, length-fill}
 use Rattle.specification.specs.declared.settings.Settings.{Settings}
 use Rattle.specification.specs.Refusal.{firstOf}

@@ -11,9 +11,9 @@ use Rattle.residue.specs.Layout.{groups, over}
 use Rattle.residue.proofs.Vectors.{below-take, below-drop}
 use Rattle.residue.proofs.Inverses.{inverse-below}
 use Rattle.residue.proofs.Layouts.{over-all}
+use Rattle.residue.proofs.Replaced.{zeros-long}
 use Rattle.monomial.specs.Order.{orderOf, cmp}
 use Rattle.basis.specs.Insertions.{rowAt, placeOf, rowValueAt, withRowAt, standardGrown}
-use Rattle.basis.proofs.ValueRows.{zeros-long}
 use Rattle.basis.proofs.adding.Searches.{place-within}
 use Rattle.basis.proofs.adding.Writes.{value-below, part-small}
 use Rattle.basis.proofs.adding.Growth.{grown-by}

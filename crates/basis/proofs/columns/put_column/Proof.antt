@@ -4,8 +4,8 @@ use Prim.Native.Nat.{_+_, _*_, _-_, _≤_}
 use native.Mathlib.Omega.{arith}
 use lib.ListN.{length, getD}
 use Rattle.residue.proofs.Filled.{filled, filled-none, kept-length, filled-more}
+use Rattle.residue.proofs.bytes.Copies.{front}
 use Rattle.basis.specs.Drawing.{columnOf}
-use Rattle.basis.proofs.Copies.{front}
 use Rattle.basis.proofs.ValueRows.{column-long, column-at}
 use Rattle.basis.proofs.columns.put_column.Statement.{statement}
 use Rattle.basis.proofs.columns.put_column.Tie as tie

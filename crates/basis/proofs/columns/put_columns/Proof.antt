@@ -5,8 +5,9 @@ use native.Mathlib.Omega.{arith}
 use lib.ListN.{length}
 use Rattle.residue.specs.Layout.{fill, inPlaces}
 use Rattle.residue.proofs.Layouts.{length-fill}
+use Rattle.residue.proofs.Replaced.{part-long, zeros-long}
 use Rattle.basis.specs.Drawing.{columnsOf}
-use Rattle.basis.proofs.ValueRows.{part-long, zeros-long, columns-none, columns-more}
+use Rattle.basis.proofs.ValueRows.{columns-none, columns-more}
 use Rattle.basis.proofs.columns.put_columns.Statement.{statement}
 use Rattle.basis.proofs.columns.put_columns.Tie as tie
 

@@ -8,8 +8,8 @@ use lib.Seq.{length-take-le}
 use Rattle.residue.specs.Layout.{groups}
 use Rattle.residue.proofs.Filled.{filled, filled-none, kept-length, filled-more}
 use Rattle.residue.proofs.Places.{length-groups, groups-at}
+use Rattle.residue.proofs.bytes.Copies.{mapped}
 use Rattle.monomial.specs.Monomial.{valueAt}
-use Rattle.basis.proofs.Copies.{mapped}
 use Rattle.basis.proofs.correct.values_at.Statement.{statement}
 use Rattle.basis.proofs.correct.values_at.Tie as tie
 

@@ -10,7 +10,7 @@ use Rattle.residue.specs.Elimination.{eliminated}
 use Rattle.residue.specs.Layout.{fill}
 use Rattle.residue.proofs.Vectors.{below-take}
 use Rattle.residue.proofs.Layouts.{below-fill, length-fill}
-use Rattle.basis.proofs.ValueRows.{zeros-long, load}
+use Rattle.residue.proofs.Replaced.{zeros-long, load}
 use Rattle.basis.proofs.draw.reduce.Statement.{statement}
 use Rattle.basis.proofs.draw.reduce.Tie as tie
 

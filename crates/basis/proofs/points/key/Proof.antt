@@ -5,7 +5,7 @@ use native.Mathlib.Omega.{arith}
 use lib.ListN.{drop}
 use lib.Seq.{getD-drop}
 use Rattle.residue.specs.Lists.{keyOf}
-use Rattle.residue.proofs.Keys.{digit-more, key-none, key-more, half-small, key-halves}
+use Rattle.residue.proofs.bytes.Keys.{digit-more, key-none, key-more, half-small, key-halves}
 use Rattle.basis.proofs.points.key.Statement.{statement}
 use Rattle.basis.proofs.points.key.Tie as tie
 
