@@ -2,7 +2,6 @@
 pub mod LevelLists
 pub mod PointTables
 pub mod Terms
-pub mod TermRows
 pub mod Wiring
 pub mod ValueRows
 pub mod elimination

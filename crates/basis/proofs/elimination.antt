@@ -5,10 +5,6 @@ pub mod Span
 pub mod Drawing
 pub mod Positions
 pub mod ReducedRows
-pub mod Turns
-pub mod Products
-pub mod Occurring
-pub mod Exponents
 pub mod Candidates
 pub mod Matrix
 pub mod FoundRows

@@ -2,4 +2,3 @@
 pub mod Drawing
 pub mod Interpolants
 pub mod Insertions
-pub mod Candidates

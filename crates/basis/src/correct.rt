@@ -4,26 +4,11 @@ use residue::arithmetic;
 use residue::bytes;
 use residue::vector;
 ghost use mathlib.Core.Path.{_≡_};
-ghost use mathlib.Core.List.{map};
 ghost use Prim.Native.Nat.{_*_, _%_, _<_, _≤_};
 ghost use lib.ListN.{length};
 ghost use Rattle.residue.specs.Vector.{Below, addScaled};
-ghost use Rattle.residue.specs.Layout.{groups, inPlaces, over};
-ghost use Rattle.monomial.specs.Monomial.{valueAt};
+ghost use Rattle.residue.specs.Layout.{inPlaces, over};
 ghost use Rattle.basis.specs.Insertions.{rowValueAt, valueOfRow, firstFrom, factorOf, correctedBy, correctedRow, correctedRows};
-
-// The values of k monomials at a point.
-pub fn values_at(p: u16, k: usize, monomials: &[u8], point: &[u8], values: &mut [u16])
-    requires { ⌜ (2 ≤ p) × (p ≤ 61) ⌝ }
-    requires { ⌜ (8 * k ≤ length (now monomials)) × (k ≤ length (now values)) ⌝ }
-    requires { ⌜ (length (now point) ≡ 8) × Below p (now point) ⌝ }
-    ensures { λ _. ⌜ now (values .exit) ≡ over (map (λ a. valueAt (now (point .entry)) a % p) (groups 8 k (now (monomials .entry)))) (now (values .entry)) ⌝ }
-{
-    for i in 0..k {
-        let from = 8 * i;
-        values[i] = value(p, point, &monomials[from..from + 8]);
-    }
-}
 
 // The value of a row at a point where the standard monomials have these values.
 pub fn row_value(p: u16, point: &[u8], values: &[u16], lead: &[u8], coefficients: &[u16]) -> u16

@@ -4,7 +4,7 @@ ghost use Prim.Native.Nat.{_<_, _≤_};
 ghost use lib.ListN.{length};
 ghost use Rattle.monomial.specs.Monomial.{degree};
 ghost use Rattle.monomial.specs.Order.{orderOf};
-ghost use Rattle.monomial.specs.Rank.{rankOf, variableRank};
+ghost use Rattle.monomial.specs.Rank.{rankOf, variableRank, stepsOf};
 
 // The ranks of x1 to x8, order after order.
 const VARIABLES: [u64; 24] = [
@@ -40,6 +40,16 @@ pub fn variable_rank(order: u8, k: usize) -> u64
     ensures { λ r. ⌜ r ≡ variableRank (orderOf order) k ⌝ }
 {
     VARIABLES[8 * order as usize + k]
+}
+
+// The ranks of the variables.
+pub fn put_steps(order: u8, steps: &mut [u64])
+    requires { ⌜ (order ≤ 2) × (length (now steps) ≡ 8) ⌝ }
+    ensures { λ _. ⌜ now (steps .exit) ≡ stepsOf (orderOf order) ⌝ }
+{
+    for k in 0..8 {
+        steps[k] = variable_rank(order, k);
+    }
 }
 
 // The sum of the exponents' shares: a product's rank is the sum of its factors' ranks.

@@ -1,8 +1,8 @@
 -- Laws of layouts: filling up, places of one width, and writing over the front of a lent list.
 use mathlib.Core.Path.{_≡_, refl, ap, sym, _∙_, ap₂}
 use mathlib.Core.List.{List, [], _∷_, _++_, map, append-assoc, append-nil}
-use Prim.Native.Nat.{ℕ, zero, suc, _<_, _≤_, _+_, _*_, _-_}
-use native.Mathlib.Nat.{not-suc-le-zero, le-of-suc-le-suc, zero-add}
+use Prim.Native.Nat.{ℕ, zero, suc, _<_, _≤_, _+_, _*_, _-_, _%_}
+use native.Mathlib.Nat.{not-suc-le-zero, le-of-suc-le-suc, zero-add, mod-lt}
 use native.Mathlib.Omega.{arith}
 use native.Mathlib.Decide.{decLt}
 use lib.ListN.{length, getD, take, replicate, length-append, drop, length-drop, drop-of-length-le, length-replicate, set, List·getD-eq-default}
@@ -11,6 +11,7 @@ use lib.Dec.{T}
 use Rattle.residue.specs.Layout.{fill, inPlaces, groups, over, begins}
 use Rattle.residue.specs.Vector.{Below}
 use Rattle.residue.proofs.bytes.Equality.{same-self}
+use Rattle.residue.proofs.Vectors.{below-append, below-drop, below-zeros}
 
 -- it has k numbers
 pub length-fill : (k : ℕ) (l : List ℕ) → length (fill k l) ≡ k
@@ -164,3 +165,13 @@ below-fill p k l z b i h = rw (fill-at k l i (omega (arith, length-fill k l))) (
     go : Dec (i < length l) → getD l i 0 < p
     go (yes u) = b i u
     go (no u) = let e : length l ≤ i = omega (arith, u) in rw (List·getD-eq-default l 0 e) z
+
+-- values, reduced, with zeros behind
+pub values-below : {A : Type 0} (p : ℕ) (f : A → ℕ) (l : List A) (k : ℕ) → 0 < p → Below p (over (map (λ a. f a % p) l) (replicate k 0))
+unfolding over
+values-below {A} p f l k z = below-append p (map (λ a. f a % p) l) _ (go l) (below-drop p (length (map (λ a. f a % p) l)) (replicate k 0) (below-zeros p k z))
+  where
+    go : (l : List A) → Below p (map (λ a. f a % p) l)
+    go [] i h = absurd (omega arith)
+    go (a ∷ l) zero h = mod-lt (f a) z
+    go (a ∷ l) (suc i) h = go l i (le-of-suc-le-suc h)

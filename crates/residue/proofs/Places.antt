@@ -10,7 +10,7 @@ use lib.ListN.{length, take, drop, getD, length-drop, List·getD-map, replicate,
 use lib.Seq.{drop-drop, length-take-le, take-at, drop-at}
 use Rattle.residue.specs.Layout.{groups, fill, inPlaces, over}
 use Rattle.residue.specs.Lists.{Among}
-use Rattle.residue.proofs.Layouts.{places-back, table-split, fill-zeros, length-places, fill-exact, length-fill}
+use Rattle.residue.proofs.Layouts.{places-back, table-split, fill-zeros, length-places, fill-exact, length-fill, length-over, fill-twice}
 
 -- Reading.
 module _ {A : Type 0} (w : ℕ) where
@@ -122,3 +122,48 @@ pub places-filled : (w : ℕ) (S : List (List ℕ)) (r : List ℕ) → inPlaces 
 unfolding inPlaces
 places-filled w [] r = ap (λ (z : List ℕ). z ++ []) (fill-exact w (fill w r) (length-fill w r))
 places-filled w (x ∷ S) r = ap (λ (z : List ℕ). fill w x ++ z) (places-filled w S r)
+
+-- Rows of 64 numbers written one after the other over a table.
+module _ (done : List (List ℕ)) (old t : List ℕ) (e : t ≡ over (inPlaces 64 done) old) where
+  pub rows-keep : 64 * length done ≤ length old → length t ≡ length old
+  rows-keep h = ap length e ∙ length-over (inPlaces 64 done) old (omega (arith, length-places 64 done))
+
+  -- what stands behind them is still the table's own
+  behind : (at : ℕ) → at ≡ 64 * length done → drop at t ≡ drop at old
+  unfolding over
+  behind at a = ap (drop at) e ∙ drop-at (inPlaces 64 done) (drop (length (inPlaces 64 done)) old) at (length-places 64 done ∙ sym a) ∙ ap (λ (n : ℕ). drop n old) (length-places 64 done ∙ sym a)
+
+  pub row-own : (at : ℕ) → at ≡ 64 * length done → take 64 (drop at t) ≡ take 64 (drop at old)
+  row-own at a = ap (take 64) (behind at a)
+
+pub rows-more : (done : List (List ℕ)) (row old t ys : List ℕ) (at k : ℕ) → t ≡ over (inPlaces 64 done) old → at ≡ 64 * length done → at + 64 ≤ length old → k ≡ 64 → ys ≡ row → length row ≡ 64
+    → take at t ++ (ys ++ drop k (drop at t)) ≡ over (inPlaces 64 (done ++ (row ∷ []))) old
+unfolding over inPlaces
+rows-more done row old t ys at k e a h ek ey l =
+    let P : List ℕ = inPlaces 64 done in
+    let lP : length P ≡ at = length-places 64 done ∙ sym a in
+    let whole : fill 64 row ≡ row = fill-exact 64 row l in
+    let all : inPlaces 64 (done ++ (row ∷ [])) ≡ P ++ row = places-append 64 done (row ∷ []) ∙ ap (λ (z : List ℕ). P ++ z) (append-nil (fill 64 row) ∙ whole) in
+    let size : length (P ++ row) ≡ at + k = length-append P row ∙ omega arith in
+    ap₂ (λ (u v : List ℕ). u ++ v) (ap (take at) e ∙ take-at P (drop (length P) old) at lP)
+    (ap₂ (λ (u v : List ℕ). u ++ v) ey (ap (drop k) (behind done old t e at a) ∙ drop-drop k at old ∙ ap (λ (n : ℕ). drop n old) (sym size)))
+    ∙ sym (append-assoc P row (drop (length (P ++ row)) old)) ∙ ap (λ (z : List ℕ). z ++ drop (length z) old) (sym all)
+
+-- rows filled up before
+pub rows-filled : {A : Type 0} (w : ℕ) (f : A → List ℕ) (l : List A) → inPlaces w (map (λ a. fill w (f a)) l) ≡ inPlaces w (map f l)
+unfolding inPlaces
+rows-filled w f [] = refl
+rows-filled w f (a ∷ l) = ap₂ (λ (x y : List ℕ). x ++ y) (fill-twice w w (f a) (omega arith)) (rows-filled w f l)
+
+-- as many rows written over those of a table
+pub over-table : (w N : ℕ) (X Y : List (List ℕ)) → length X ≡ length Y → w * length X ≤ N → over (inPlaces w X) (fill N (inPlaces w Y)) ≡ fill N (inPlaces w X)
+unfolding over
+over-table w N X Y e h =
+    let k : ℕ = N - w * length X in
+    let same : w * length X ≡ w * length Y = ap (λ (n : ℕ). w * n) e in
+    let x : N ≡ w * length X + k = omega arith in
+    let y : N ≡ w * length Y + k = omega arith in
+    let Z : List ℕ = replicate k 0 in
+    let old : fill N (inPlaces w Y) ≡ inPlaces w Y ++ Z = ap (λ (n : ℕ). fill n (inPlaces w Y)) y ∙ table-split w Y k in
+    ap (λ (z : List ℕ). inPlaces w X ++ z) (ap (drop (length (inPlaces w X))) old ∙ drop-at (inPlaces w Y) Z (length (inPlaces w X)) (length-places w Y ∙ sym same ∙ sym (length-places w X)))
+    ∙ sym (ap (λ (n : ℕ). fill n (inPlaces w X)) x ∙ table-split w X k)

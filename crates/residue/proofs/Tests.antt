@@ -48,3 +48,15 @@ cond-not (not-so h) k u v = refl
 pub by-test : {X : Type 0} (b : Bool) → (b ≡ true → X) → (X → b ≡ true) → Decides X b
 by-test true f g = so (f refl)
 by-test false f g = not-so (λ h. true≢false (sym (g h)))
+
+pub told-true : {X : Type 0} {b : Bool} → Decides X b → X → b ≡ true
+told-true (so h) x = refl
+told-true (not-so h) x = absurd (h x)
+
+pub true-told : {X : Type 0} {b : Bool} → Decides X b → b ≡ true → X
+true-told (so h) e = h
+true-told (not-so h) e = absurd (true≢false (sym e))
+
+pub told-false : {X : Type 0} {b : Bool} → Decides X b → ¬ X → b ≡ false
+told-false (so h) x = absurd (x h)
+told-false (not-so h) x = refl

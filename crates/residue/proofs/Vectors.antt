@@ -2,11 +2,12 @@
 use mathlib.Core.Path.{_≡_, refl, ap, _∙_, subst, ap₂}
 use mathlib.Core.Logic.{inl, inr}
 use mathlib.Core.List.{List, [], _∷_, _++_, map, zipWith}
-use Prim.Native.Nat.{ℕ, zero, suc, _+_, _*_, _%_, _^_, _<_}
+use Prim.Native.Nat.{ℕ, zero, suc, _+_, _*_, _%_, _^_, _<_, _≤_}
 use native.Mathlib.Nat.{mod-lt, not-suc-le-zero, le-of-suc-le-suc}
 use native.Mathlib.Numerals.{add-one}
 use native.Mathlib.Omega.{arith}
-use lib.ListN.{length, getD, set, take, drop, replicate, length-map, length-take, length-drop, length-replicate, getD-replicate}
+use native.Mathlib.Decide.{decLt}
+use lib.ListN.{length, getD, set, take, drop, replicate, length-map, length-take, length-drop, length-replicate, getD-replicate, List·getD-eq-default}
 use lib.Seq.{getD-take, getD-drop}
 use Rattle.residue.specs.Vector.{Below, addScaled, scaled, pointwise, powered, dotOf}
 use Rattle.residue.specs.Lists.{Among}
@@ -119,3 +120,11 @@ below-zeros p k z i h = rw (getD-replicate {A = ℕ} k i 0 0 (subst (λ (n : ℕ
 pub map-same : {A B : Type 0} (f g : A → B) (l : List A) → ((a : A) → Among a l → f a ≡ g a) → map f l ≡ map g l
 map-same f g [] h = refl
 map-same {B = B} f g (a ∷ l) h = ap₂ (λ (x : B) (z : List B). x ∷ z) (h a (inl refl)) (map-same f g l (λ b mem. h b (inr mem)))
+
+-- a bound on all numbers is one on those of a part
+pub part-small : (b k at : ℕ) (l : List ℕ) → 0 < b → ((i : ℕ) → getD l i 0 < b) → (v : ℕ) → getD (take k (drop at l)) v 0 < b
+part-small b k at l z h v = go (decLt v k)
+  where
+    go : Dec (v < k) → getD (take k (drop at l)) v 0 < b
+    go (yes u) = rw (getD-take k (drop at l) v 0 u, getD-drop at l v 0) (h (at + v))
+    go (no u) = let e : length (take k (drop at l)) ≤ v = omega (arith, length-take k (drop at l)) in rw (List·getD-eq-default (take k (drop at l)) 0 e) z

@@ -32,3 +32,7 @@ begins new old = sameList new (take (length new) old)
 -- numbers at the front of place k of a table whose places have the given width
 unfoldable pub withPlace : ℕ → ℕ → List ℕ → List ℕ → List ℕ
 withPlace width k new table = take (width * k) table ++ (over new (take width (drop (width * k) table)) ++ drop width (drop (width * k) table))
+
+-- row i of a table
+abbrev pub rowAt : ℕ → ℕ → List ℕ → List ℕ
+rowAt w i t = take w (drop (w * i) t)

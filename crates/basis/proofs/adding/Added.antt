@@ -12,7 +12,7 @@ use lib.Seq.{length-take-le}
 use Rattle.residue.specs.Lists.{Among}
 use Rattle.residue.specs.Vector.{Below}
 use Rattle.residue.specs.Elimination.{eliminated}
-use Rattle.residue.specs.Layout.{groups, fill, inPlaces, over}
+use Rattle.residue.specs.Layout.{groups, fill, inPlaces, over, rowAt}
 use Rattle.residue.proofs.Vectors.{below-take, map-same}
 use Rattle.residue.proofs.Tests.{true-of}
 use Rattle.residue.proofs.Layouts.{fill-exact, below-fill, length-fill}
@@ -20,6 +20,7 @@ use Rattle.residue.proofs.Places.{places-append, over-zeros, place-more}
 use Rattle.monomial.specs.Monomial.{valueAt}
 use Rattle.monomial.specs.Order.{orderOf}
 use Rattle.monomial.proofs.Padding.{value-pad}
+use Rattle.monomial.proofs.candidate.Exponents.{fill-pad}
 use Rattle.specification.specs.declared.settings.Settings.{Settings}
 use Rattle.specification.specs.Levels.{isAmong}
 use Rattle.specification.specs.Space.{Space}
@@ -35,9 +36,8 @@ use Rattle.specification.proofs.ideal.Basis.{row-is}
 use Rattle.specification.proofs.ideal.Counts.{leads-length, standard-length}
 use Rattle.specification.proofs.ideal.Permutation.{basis-snoc}
 use Rattle.basis.specs.Drawing.{settingsOf, PointsGiven, DrawnUp}
-use Rattle.basis.specs.Insertions.{rowAt, valueOfRow, firstFrom, Grown, grown, standardGrown, grownBy, NewPoint, Tabled}
+use Rattle.basis.specs.Insertions.{valueOfRow, firstFrom, Grown, grown, standardGrown, grownBy, NewPoint, Tabled}
 use Rattle.basis.proofs.PointTables.{length-points, points-in}
-use Rattle.basis.proofs.elimination.Exponents.{fill-pad}
 use Rattle.basis.proofs.elimination.Grounds.{ground, places-below}
 use Rattle.basis.proofs.adding.Corrections.{valuesAt}
 use Rattle.basis.proofs.adding.LostRow.{lost, lost-one}

@@ -14,17 +14,19 @@ use Rattle.residue.proofs.Congruence.{rfl, of, _then_, _plus_, _times_, scale, 
 use Rattle.residue.proofs.Layouts.{fill-twice}
 use Rattle.monomial.specs.Monomial.{valueAt}
 use Rattle.monomial.specs.Order.{Order, cmp}
+use Rattle.monomial.specs.Insert.{insertedAt, placeOf}
 use Rattle.monomial.proofs.Padding.{value-pad}
+use Rattle.monomial.proofs.insert.Tables.{place-bound}
+use Rattle.monomial.proofs.candidate.Exponents.{fill-pad}
 use Rattle.specification.specs.Space.{Space}
 use Rattle.specification.specs.Polynomial.{terms}
 use Rattle.specification.specs.Extension.{minus}
 use Rattle.specification.specs.Instance.{Monomial, Point, spaceOf}
 use Rattle.specification.proofs.ideal.Laws.{Laws}
 use Rattle.specification.proofs.ideal.Columns.{minus-length}
-use Rattle.basis.specs.Insertions.{insertedAt, placeOf, rowValueAt, factorOf, correctedBy, correctedRow}
+use Rattle.basis.specs.Insertions.{rowValueAt, factorOf, correctedBy, correctedRow}
 use Rattle.basis.proofs.elimination.Adding.{rowValue, ratio, kept}
-use Rattle.basis.proofs.elimination.Exponents.{fill-pad}
-use Rattle.basis.proofs.adding.Insertion.{place-bound, slot-at}
+use Rattle.basis.proofs.adding.Insertion.{slot-at}
 
 -- put in before it is filled up or after
 pub fill-inserted : (k i f : ℕ) (l : List ℕ) → i ≤ length l → fill k (insertedAt i f (fill k l)) ≡ fill k (insertedAt i f l)

@@ -9,7 +9,7 @@ use native.Mathlib.Omega.{arith}
 use lib.ListN.{length, getD, take, length-map}
 use Rattle.residue.specs.Congruence.{Mod}
 use Rattle.residue.specs.Lists.{Among}
-use Rattle.residue.specs.Layout.{fill, inPlaces}
+use Rattle.residue.specs.Layout.{fill, inPlaces, rowAt}
 use Rattle.residue.proofs.Vectors.{map-at}
 use Rattle.residue.proofs.Layouts.{take-fill}
 use Rattle.residue.proofs.Places.{place-at}
@@ -22,7 +22,7 @@ use Rattle.specification.specs.Instance.{Monomial, Point, spaceOf}
 use Rattle.specification.proofs.ideal.Laws.{Laws}
 use Rattle.specification.proofs.ideal.Counts.{standard-length}
 use Rattle.specification.proofs.ideal.Basis.{rows-at, row-is}
-use Rattle.basis.specs.Insertions.{rowAt, rowValueAt, valueOfRow, firstFrom}
+use Rattle.basis.specs.Insertions.{rowValueAt, valueOfRow, firstFrom}
 use Rattle.basis.proofs.elimination.Adding.{rowValue, valueOf, zero-set}
 use Rattle.basis.proofs.adding.Searches.{first-found}
 use Rattle.basis.proofs.adding.Corrections.{valuesAt, row-value-is}

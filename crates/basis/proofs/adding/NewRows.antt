@@ -17,7 +17,9 @@ use Rattle.residue.proofs.Layouts.{fill-front}
 use Rattle.residue.proofs.Places.{table-groups, over-zeros}
 use Rattle.monomial.specs.Monomial.{valueAt}
 use Rattle.monomial.specs.Order.{Order}
+use Rattle.monomial.specs.Terms.{termValues}
 use Rattle.monomial.proofs.Padding.{value-pad}
+use Rattle.monomial.proofs.candidate.Exponents.{fill-pad}
 use Rattle.specification.specs.Space.{Space}
 use Rattle.specification.specs.Polynomial.{Distinct}
 use Rattle.specification.specs.BasisOf.{basisOf, rowOf, interpolantOf}
@@ -27,8 +29,6 @@ use Rattle.specification.proofs.ideal.Laws.{Laws}
 use Rattle.specification.proofs.ideal.Lists.{index-of}
 use Rattle.specification.proofs.ideal.Basis.{value-at, interpolant-fits, interpolant-agree}
 use Rattle.basis.specs.Insertions.{reducedRow}
-use Rattle.basis.specs.Interpolants.{termValues}
-use Rattle.basis.proofs.elimination.Exponents.{fill-pad}
 use Rattle.basis.proofs.elimination.Pivots.{interpolant-minus}
 
 -- the values of one term with coefficient 1 are those of its monomial

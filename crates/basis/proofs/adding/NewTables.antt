@@ -11,15 +11,18 @@ use Rattle.residue.specs.Lists.{Among}
 use Rattle.residue.specs.Inverse.{inverseOf}
 use Rattle.residue.specs.Vector.{Below}
 use Rattle.residue.specs.Elimination.{eliminated}
-use Rattle.residue.specs.Layout.{groups, fill, inPlaces, over}
+use Rattle.residue.specs.Layout.{groups, fill, inPlaces, over, rowAt}
 use Rattle.residue.proofs.Vectors.{map-at}
-use Rattle.residue.proofs.Places.{table-groups, place-at}
+use Rattle.residue.proofs.Places.{table-groups, place-at, rows-filled, over-table}
 use Rattle.residue.proofs.Tests.{Decides, so, not-so}
 use Rattle.monomial.specs.Monomial.{timesVariable, divides}
 use Rattle.monomial.specs.Order.{orderOf, cmp}
 use Rattle.monomial.specs.Increasing.{inserted}
+use Rattle.monomial.specs.Insert.{removedAt, placeOf, dividedBy, takenOut, withRowAt}
 use Rattle.monomial.proofs.Algebra.Division.{divides-refl}
 use Rattle.monomial.proofs.Padding.{cmp-pad, divides-pad}
+use Rattle.monomial.proofs.insert.Tables.{map-inserted, map-removed, inserted-long, removed-long, place-map, place-bound, table-in, table-out}
+use Rattle.monomial.proofs.candidate.Exponents.{fill-pad, fill-timesVariable}
 use Rattle.specification.specs.Space.{Space}
 use Rattle.specification.specs.Polynomial.{Distinct}
 use Rattle.specification.specs.Extension.{without, divided, extended}
@@ -30,11 +33,10 @@ use Rattle.specification.proofs.ideal.Lists.{getD-among}
 use Rattle.specification.proofs.ideal.Increasing.{divided-told}
 use Rattle.specification.proofs.ideal.Leads.{Divided, extended-of, extended-length-le}
 use Rattle.specification.proofs.ideal.Basis.{staircase, row-is}
-use Rattle.basis.specs.Insertions.{rowAt, removedAt, placeOf, dividedBy, rowValueAt, takenOut, correctedRow, correctedRows, Grown, grown, putWithRow, productPut, productsPut, othersOf, rowsLeft, othersCorrected, standardGrown, grownBy, withRowAt, reducedRow}
+use Rattle.basis.specs.Insertions.{rowValueAt, correctedRow, correctedRows, Grown, grown, putWithRow, productPut, productsPut, othersOf, rowsLeft, othersCorrected, standardGrown, grownBy, reducedRow}
 use Rattle.basis.proofs.elimination.Adding.{kept, grow-at, row-grown}
-use Rattle.basis.proofs.elimination.Exponents.{fill-pad, fill-timesVariable}
 use Rattle.basis.proofs.adding.Growth.{product-passed, product-put, grown-by}
-use Rattle.basis.proofs.adding.Insertion.{map-inserted, map-removed, inserted-long, removed-long, place-map, place-bound, inserted-at, without-at, divided-map, table-in, table-out, rows-filled, over-table}
+use Rattle.basis.proofs.adding.Insertion.{inserted-at, without-at, divided-map}
 use Rattle.basis.proofs.adding.Corrections.{valuesAt, inverseAt, row-value-filled, corrected-is}
 use Rattle.basis.proofs.adding.LostRow.{leadsTable, rowsTable, lead-at, row-at, standard-count, lost, lost-one, lost-first, lost-nonzero}
 use Rattle.basis.proofs.adding.NewRows.{reduced-is}

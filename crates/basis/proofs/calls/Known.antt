@@ -18,6 +18,7 @@ use Rattle.residue.proofs.bytes.Equality.{same-is}
 use Rattle.residue.proofs.Places.{length-groups, groups-long}
 use Rattle.residue.proofs.Layouts.{below-fill, length-fill}
 use Rattle.monomial.specs.Monomial.{valueAt}
+use Rattle.monomial.specs.Terms.{termValues}
 use Rattle.specification.specs.declared.settings.Settings.{Settings}
 use Rattle.specification.specs.Refusal.{firstOf}
 use Rattle.specification.specs.Settings.{settingsCases}
@@ -27,7 +28,7 @@ use Rattle.specification.specs.Tables.{Tables, spaceUnder, pointsUnder, tablesO
 use Rattle.specification.specs.Solving.{interpolantIn, withinVariables, polynomialUnder, remainderIn}
 use Rattle.specification.proofs.agreement.Points.{IsPoint, Points, length-residues}
 use Rattle.specification.proofs.agreement.Refusals.{Accepted, Large, large-of}
-use Rattle.basis.specs.Interpolants.{solution, termValues, names}
+use Rattle.basis.specs.Interpolants.{solution, names}
 use Rattle.basis.specs.Drawing.{Solves}
 use Rattle.basis.proofs.PointTables.{length-points, points-in}
 use Rattle.basis.proofs.elimination.Grounds.{places-below}

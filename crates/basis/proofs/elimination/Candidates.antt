@@ -18,25 +18,26 @@ use Rattle.monomial.specs.Monomial.{degree}
 use Rattle.monomial.specs.Order.{Order}
 use Rattle.monomial.specs.Rank.{rankOf, variableRank}
 use Rattle.monomial.specs.Increasing.{Increasing}
+use Rattle.monomial.specs.declared.candidate.LeastRank.{LeastRank}
+use Rattle.monomial.specs.declared.candidate.LeastRank.the-variants as LeastRank
+use Rattle.monomial.specs.declared.candidate.Parents.{Parents}
+use Rattle.monomial.specs.declared.candidate.Candidate.{Candidate}
+use Rattle.monomial.specs.declared.candidate.Candidate.the-variants as Candidate
+use Rattle.monomial.specs.Candidate.{leastOf, passed, parentsOf, occurringIn, isWhole, Next, ended, atLeast, nextFrom, nextOf}
+use Rattle.monomial.proofs.Algebra.Products.{degree-timesVariable}
+use Rattle.monomial.proofs.candidate.Products.{remaining, remaining-most, Product, least-of, least-nothing, passed-length, passed-is, passed-not, Last, passed-fewer, least-last}
+use Rattle.monomial.proofs.candidate.Occurring.{Occurs, count-whole, whole-count}
+use Rattle.monomial.proofs.candidate.Exponents.{rank-small, rank-times, rank-less, rank-same, product-occurs, occurs-product}
 use Rattle.specification.specs.Space.{Space, Less}
 use Rattle.specification.specs.Polynomial.{Distinct}
 use Rattle.specification.specs.BasisOf.{standardOf, leadsOf}
 use Rattle.specification.specs.Instance.{Monomial, Point, spaceOf}
-use Rattle.specification.proofs.Instance.{monomial-path, laws, degree-timesVariable, standard-total}
+use Rattle.specification.proofs.Instance.{monomial-path, laws, standard-total}
 use Rattle.specification.proofs.ideal.Laws.{Laws}
 use Rattle.specification.proofs.ideal.Lists.{getD-among}
-use Rattle.basis.specs.declared.candidate.LeastRank.{LeastRank}
-use Rattle.basis.specs.declared.candidate.LeastRank.the-variants as LeastRank
-use Rattle.basis.specs.declared.candidate.Parents.{Parents}
-use Rattle.basis.specs.declared.candidate.Candidate.{Candidate}
-use Rattle.basis.specs.declared.candidate.Candidate.the-variants as Candidate
-use Rattle.basis.specs.Candidates.{leastOf, passed, parentsOf, occurringIn, isWhole, Next, ended, atLeast, nextFrom, nextOf}
 use Rattle.basis.proofs.elimination.Drawing as drawing
 use Rattle.basis.proofs.elimination.Drawing.{Drawn, Bordered, drawn-standard, drawn-leads, bordered, standard-room}
 use Rattle.basis.proofs.elimination.Positions.{productAt, Positions, Lowest, Advances, none-left, next-at, bordered-at, at-bordered, advanced}
-use Rattle.basis.proofs.elimination.Products.{remaining, remaining-most, Product, least-of, least-nothing, passed-length, passed-is, passed-not, Last, passed-fewer, least-last}
-use Rattle.basis.proofs.elimination.Occurring.{Occurs, count-whole, whole-count}
-use Rattle.basis.proofs.elimination.Exponents.{rank-small, rank-times, rank-less, rank-same, product-occurs, occurs-product}
 
 module _ (q m : ℕ) (order : Order) where
   abbrev D : Space

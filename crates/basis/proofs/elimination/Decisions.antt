@@ -25,6 +25,7 @@ use Rattle.residue.proofs.Replaced.{table-more, place-length, place-below, plac
 use Rattle.residue.proofs.elimination.PivotRows.{PivotRows, Working, ZeroAt, vanishes, eliminated-works, eliminated-zero}
 use Rattle.residue.proofs.elimination.NextPivot.{next-pivot}
 use Rattle.monomial.specs.Order.{Order}
+use Rattle.monomial.proofs.candidate.Exponents.{rank-small}
 use Rattle.specification.specs.Space.{Space}
 use Rattle.specification.specs.Basis.{Row}
 use Rattle.specification.specs.BasisOf.{standardOf, leadsOf}
@@ -34,7 +35,6 @@ use Rattle.specification.proofs.ideal.Laws.{Laws}
 use Rattle.basis.proofs.elimination.Drawing.{Drawn, is-lead, is-standard, standard-room, leads-room}
 use Rattle.basis.proofs.elimination.Positions.{grown}
 use Rattle.basis.proofs.elimination.ReducedRows.{loaded}
-use Rattle.basis.proofs.elimination.Exponents.{rank-small}
 use Rattle.basis.proofs.elimination.Candidates.{ranked-more}
 use Rattle.basis.proofs.elimination.Matrix.{valuesOf, same-values, more-values, new-values, is-row, not-combined, row-spanned}
 use Rattle.basis.proofs.elimination.FoundRows.{longer, places-longer, rows-count, rows-more, rows-longer}

@@ -17,17 +17,20 @@ use Rattle.residue.proofs.Replaced.{zeros-long, part-long}
 use Rattle.residue.proofs.elimination.NextPivot.{no-rows}
 use Rattle.monomial.specs.Monomial.{timesVariable}
 use Rattle.monomial.specs.Order.{Order, lex, grlex, grevlex}
-use Rattle.monomial.specs.Rank.{key, rankOf}
+use Rattle.monomial.specs.Rank.{key, rankOf, stepsOf}
+use Rattle.monomial.specs.Columns.{columnOf}
+use Rattle.monomial.proofs.rank.Steps.{steps-at}
+use Rattle.monomial.proofs.columns.Entries.{column-long, column-at}
+use Rattle.monomial.proofs.candidate.Exponents.{fill-timesVariable}
 use Rattle.specification.specs.Space.{Space}
 use Rattle.specification.specs.Instance.{Monomial, Point, spaceOf}
 use Rattle.specification.proofs.Instance.{laws, standard-exponent}
 use Rattle.specification.proofs.ideal.Laws.{Laws}
 use Rattle.specification.proofs.ideal.Lists.{getD-among}
-use Rattle.basis.specs.Drawing.{stepsOf, columnOf, productValues}
-use Rattle.basis.proofs.ValueRows.{steps-at, column-long, column-at, product-long, product-below, product-at}
+use Rattle.basis.specs.Drawing.{productValues}
+use Rattle.basis.proofs.ValueRows.{product-long, product-below, product-at}
 use Rattle.basis.proofs.elimination.Drawing.{bordered-start, front-start, start-standard, start-lead, front-next, take-standard, take-lead}
 use Rattle.basis.proofs.elimination.Positions.{productAt, positions-start}
-use Rattle.basis.proofs.elimination.Exponents.{fill-timesVariable}
 use Rattle.basis.proofs.elimination.Candidates.{Found}
 use Rattle.basis.proofs.elimination.Held.{Ground, Held, InHand, pointAt}
 

@@ -12,14 +12,16 @@ use Rattle.residue.specs.Rows.{firstNonzero, pivotRow, withRow}
 use Rattle.residue.proofs.Layouts.{length-fill}
 use Rattle.monomial.specs.Monomial.{timesVariable}
 use Rattle.monomial.specs.Order.{Order, orderOf}
+use Rattle.monomial.specs.declared.candidate.Candidate.{Candidate}
+use Rattle.monomial.specs.declared.candidate.Candidate.the-variants as Candidate
+use Rattle.monomial.specs.Rank.{stepsOf}
+use Rattle.monomial.specs.Columns.{columnOf}
+use Rattle.monomial.specs.Candidate.{ended, nextOf}
 use Rattle.specification.specs.declared.settings.Settings.{Settings}
 use Rattle.specification.specs.BasisOf.{standardOf}
 use Rattle.specification.specs.Instance.{Monomial, Point}
 use Rattle.specification.specs.Tables.{spaceUnder, pointsUnder, pointsIn}
-use Rattle.basis.specs.declared.candidate.Candidate.{Candidate}
-use Rattle.basis.specs.declared.candidate.Candidate.the-variants as Candidate
-use Rattle.basis.specs.Candidates.{ended, nextOf}
-use Rattle.basis.specs.Drawing.{stepsOf, columnOf, productValues, settingsOf, PointsGiven, DrawnUp}
+use Rattle.basis.specs.Drawing.{productValues, settingsOf, PointsGiven, DrawnUp}
 use Rattle.basis.proofs.elimination.Positions.{productAt}
 use Rattle.basis.proofs.elimination.Candidates.{Outcome, Found, next-candidate}
 use Rattle.basis.proofs.elimination.FoundRows.{longer}

@@ -5,9 +5,9 @@ use native.Mathlib.Omega.{arith}
 use Rattle.residue.specs.Vector.{Below}
 use Rattle.residue.specs.Layout.{groups}
 use Rattle.residue.proofs.Moduli.{modulus-range}
+use Rattle.residue.proofs.Layouts.{values-below}
 use Rattle.monomial.specs.Monomial.{valueAt}
 use Rattle.basis.proofs.elimination.Grounds.{points-long, points-below}
-use Rattle.basis.proofs.adding.Writes.{values-below}
 use Rattle.basis.proofs.adding.Added.{Sound, sound, inside, added}
 use Rattle.basis.proofs.add.add_to.Statement.{statement}
 use Rattle.basis.proofs.add.add_to.Tie as tie

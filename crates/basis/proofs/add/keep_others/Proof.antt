@@ -6,7 +6,8 @@ use native.Mathlib.Omega.{arith}
 use Rattle.residue.specs.Vector.{Below}
 use Rattle.residue.specs.Layout.{inPlaces, over}
 use Rattle.residue.proofs.Replaced.{zeros-long}
-use Rattle.basis.specs.Insertions.{takenOut, correctedRows, othersOf, rowsLeft, othersCorrected}
+use Rattle.monomial.specs.Insert.{takenOut}
+use Rattle.basis.specs.Insertions.{correctedRows, othersOf, rowsLeft, othersCorrected}
 use Rattle.basis.proofs.adding.Writes.{left-below}
 use Rattle.basis.proofs.add.keep_others.Statement.{statement}
 use Rattle.basis.proofs.add.keep_others.Tie as tie

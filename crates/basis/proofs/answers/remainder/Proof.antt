@@ -8,11 +8,12 @@ use Rattle.residue.specs.Vector.{Below}
 use Rattle.residue.specs.Layout.{fill, inPlaces, over}
 use Rattle.residue.proofs.Moduli.{modulus-range}
 use Rattle.residue.proofs.Layouts.{length-fill}
+use Rattle.monomial.specs.Terms.{termValues}
 use Rattle.specification.specs.Refusal.{firstOf}
 use Rattle.specification.specs.Levels.{residues}
 use Rattle.specification.specs.Tables.{Tables, fourTables, pointsIn}
 use Rattle.specification.specs.Solving.{remainderCases, remainderOutcome}
-use Rattle.basis.specs.Interpolants.{solution, termValues}
+use Rattle.basis.specs.Interpolants.{solution}
 use Rattle.basis.specs.Drawing.{Solves}
 use Rattle.basis.proofs.calls.Refusing.{fill-refused, fill-accepted}
 use Rattle.basis.proofs.calls.Outcomes.{remainder-none}

@@ -6,11 +6,12 @@ use native.Mathlib.Omega.{arith}
 use lib.ListN.{length, take, drop, replicate, length-take, length-drop}
 use lib.Seq.{length-take-le}
 use Rattle.residue.specs.Vector.{Below}
-use Rattle.residue.specs.Layout.{inPlaces, over}
+use Rattle.residue.specs.Layout.{inPlaces, over, rowAt}
 use Rattle.residue.proofs.Vectors.{below-take, below-drop}
 use Rattle.residue.proofs.Layouts.{over-all}
-use Rattle.basis.specs.Insertions.{rowAt, correctedRow, correctedRows}
-use Rattle.basis.proofs.adding.Writes.{length-row, rows-none, rows-length, rows-more, rows-keep, row-own, corrected-more}
+use Rattle.residue.proofs.Places.{rows-more, rows-keep, row-own}
+use Rattle.basis.specs.Insertions.{correctedRow, correctedRows}
+use Rattle.basis.proofs.adding.Writes.{length-row, rows-none, rows-length, corrected-more}
 use Rattle.basis.proofs.correct.correct_rows.Statement.{statement}
 use Rattle.basis.proofs.correct.correct_rows.Tie as tie
 

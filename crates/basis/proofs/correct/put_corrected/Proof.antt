@@ -8,7 +8,8 @@ use lib.Seq.{length-take-le}
 use Rattle.residue.specs.Vector.{Below, addScaled}
 use Rattle.residue.specs.Layout.{fill}
 use Rattle.residue.proofs.Vectors.{addScaled-length, addScaled-below, below-take, below-drop}
-use Rattle.basis.specs.Insertions.{insertedAt, correctedBy}
+use Rattle.monomial.specs.Insert.{insertedAt}
+use Rattle.basis.specs.Insertions.{correctedBy}
 use Rattle.basis.proofs.adding.Writes.{put-corrected, length-corrected}
 use Rattle.basis.proofs.correct.put_corrected.Statement.{statement}
 use Rattle.basis.proofs.correct.put_corrected.Tie as tie

@@ -10,8 +10,10 @@ use Rattle.residue.proofs.Moduli.{modulus-range}
 use Rattle.residue.proofs.Layouts.{length-fill}
 use Rattle.residue.proofs.rows.Zeros.{first-most}
 use Rattle.monomial.specs.Order.{orderOf}
-use Rattle.basis.specs.Drawing.{columnOf, productValues, settingsOf, PointsGiven}
-use Rattle.basis.proofs.ValueRows.{steps-long, steps-below, column-below, column-in}
+use Rattle.monomial.specs.Columns.{columnOf}
+use Rattle.monomial.proofs.rank.Steps.{steps-long, steps-below}
+use Rattle.monomial.proofs.columns.Entries.{column-below, column-in}
+use Rattle.basis.specs.Drawing.{productValues, settingsOf, PointsGiven}
 use Rattle.basis.proofs.elimination.Grounds.{points-long, points-below}
 use Rattle.basis.proofs.elimination.Loop.{Head, Kept, Sized, head-sized, exponents-long, worked-long, worked-below, room-lead, keeps-lead, room-standard, keeps-standard, kept-as, kept-sized}
 use Rattle.basis.proofs.draw.draw.Tie as tie

@@ -1,0 +1,2 @@
+-- Laws of the ranks of variables.
+pub mod Steps
