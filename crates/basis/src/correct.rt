@@ -44,6 +44,7 @@ pub fn first_row(
     ensures { λ found. ⌜ found ≡ firstFrom (valueOfRow p n (now (point .entry)) (now (values .entry)) (now (leads .entry)) (now (coefficients .entry))) 0 r ⌝ }
 {
     let modulus = p as u32;
+    let m = arithmetic::reciprocal(p);
     let mut i = 0;
     let found = 'rows: loop {
         if i == r {
@@ -60,7 +61,8 @@ pub fn first_row(
                 }
                 break 'terms;
             }
-            sum += coefficients[first + j] as u32 * values[j] as u32;
+            let c = coefficients[first + j] as u16;
+            sum += arithmetic::reduced_product(p, m, c, values[j]) as u32;
             j += 1;
         }
         i += 1;

@@ -4,4 +4,3 @@ pub mod Orders
 pub mod Padding
 pub mod Ranks
 pub mod Loops
-mod Truncation

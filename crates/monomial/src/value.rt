@@ -1,7 +1,7 @@
 // Values of monomials at a point, modulo p.
 use residue::arithmetic::power;
 use residue::arithmetic::reciprocal;
-use residue::arithmetic::reduce;
+use residue::arithmetic::reduced_product;
 ghost use mathlib.Core.Path.{_≡_};
 ghost use mathlib.Core.List.{map};
 ghost use Prim.Native.Nat.{_*_, _%_, _≤_};
@@ -20,7 +20,7 @@ pub fn value(p: u16, point: &[u8], a: &[u8]) -> u16
     let m = reciprocal(p);
     let mut product = 1;
     for i in 0..8 {
-        product = reduce(p, m, product * power(p, m, point[i] as u16, a[i]));
+        product = reduced_product(p, m, product, power(p, m, point[i] as u16, a[i]));
     }
     product
 }
