@@ -7,7 +7,7 @@ use lib.ListN.{length, getD, take, drop, List·getD-append}
 use lib.Seq.{getD-take, length-take-le}
 use Rattle.residue.specs.Vector.{Below, pointwise}
 use Rattle.residue.specs.Layout.{over}
-use Rattle.residue.proofs.Vectors.{pointwise-length, pointwise-at, pointwise-below, below-drop, below-append}
+use Rattle.residue.proofs.vector.Vectors.{pointwise-length, pointwise-at, pointwise-below, below-drop, below-append}
 use Rattle.residue.proofs.Layouts.{length-over}
 use Rattle.basis.specs.Drawing.{productValues}
 

@@ -10,7 +10,7 @@ use Rattle.residue.specs.Lists.{Among}
 use Rattle.residue.specs.Modulus.{isModulus}
 use Rattle.residue.specs.Vector.{Below}
 use Rattle.residue.specs.Layout.{groups, fill, inPlaces}
-use Rattle.residue.proofs.Moduli.{modulus-range}
+use Rattle.residue.proofs.level.Moduli.{modulus-range}
 use Rattle.residue.proofs.Layouts.{take-fill}
 use Rattle.residue.proofs.Places.{table-groups}
 use Rattle.monomial.specs.Order.{orderOf}

@@ -17,8 +17,8 @@ use Rattle.residue.specs.Level.{residueOf}
 use Rattle.residue.specs.Modulus.{isModulus}
 use Rattle.residue.specs.Vector.{Below}
 use Rattle.residue.specs.Layout.{fill, inPlaces, over}
-use Rattle.residue.proofs.Moduli.{modulus-range}
-use Rattle.residue.proofs.Vectors.{map-at}
+use Rattle.residue.proofs.level.Moduli.{modulus-range}
+use Rattle.residue.proofs.vector.Vectors.{map-at}
 use Rattle.residue.proofs.Layouts.{length-fill, take-fill, over-all}
 use Rattle.residue.proofs.Tests.{true-of, of-true, and-left, and-right, and-both}
 use Rattle.specification.specs.declared.settings.Settings.{Settings}

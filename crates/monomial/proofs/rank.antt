@@ -1,2 +1,3 @@
--- Laws of the ranks of variables.
+-- Laws of ranks.
+pub mod Ranks
 pub mod Steps

@@ -34,15 +34,15 @@ module _ (found : ℕ) (ranks steps : List ℕ) where
   isOf rank at k = isOpen found at k && eqb (rankAt ranks steps at k) rank
 
   -- the next products of the rank passed, for the first k variables
-  unfoldable pub passed : ℕ → List ℕ → ℕ → List ℕ
-  passed rank at zero = at
-  passed rank at (suc k) = cond (isOf rank (passed rank at k) k) (set (passed rank at k) k (getD (passed rank at k) k 0 + 1)) (passed rank at k)
+  unfoldable pub productsPassed : ℕ → List ℕ → ℕ → List ℕ
+  productsPassed rank at zero = at
+  productsPassed rank at (suc k) = cond (isOf rank (productsPassed rank at k) k) (set (productsPassed rank at k) k (getD (productsPassed rank at k) k 0 + 1)) (productsPassed rank at k)
 
   -- how many these are, and the last of them: its variable and its standard monomial
   unfoldable pub parentsOf : ℕ → List ℕ → ℕ → Parents
   parentsOf rank at zero = record { count = 0; variable = 0; standard = 0 }
   parentsOf rank at (suc k) =
-      cond (isOf rank (passed rank at k) k) (record { count = parentsOf rank at k .count + 1; variable = k; standard = getD (passed rank at k) k 0 })
+      cond (isOf rank (productsPassed rank at k) k) (record { count = parentsOf rank at k .count + 1; variable = k; standard = getD (productsPassed rank at k) k 0 })
       (parentsOf rank at k)
 
 -- how many of the first i variables occur in x_(k+1) times a
@@ -51,12 +51,12 @@ occurringIn a k zero = 0
 occurringIn a k (suc i) = cond (eqb i k || not (eqb (getD a i 0) 0)) (occurringIn a k i + 1) (occurringIn a k i)
 
 -- The answer, and the products passed.
-pub record Next : Type 0 where
+pub record Searched : Type 0 where
   pub answer : Candidate
   pub positions : List ℕ
 
-abbrev pub ended : Candidate → List ℕ → Next
-ended c at = record { answer = c; positions = at }
+abbrev pub searchEnds : Candidate → List ℕ → Searched
+searchEnds c at = record { answer = c; positions = at }
 
 -- it is a product for each of the variables that occur in it
 abbrev pub isWhole : List ℕ → Parents → Bool
@@ -64,18 +64,18 @@ isWhole standard p = eqb (p .count) (occurringIn (take 8 (drop (8 * p .standard)
 
 module _ (m found : ℕ) (standard ranks steps : List ℕ) where
   -- what is done at the least rank, and `again` from the products then passed
-  unfoldable pub atLeast : LeastRank → List ℕ → (List ℕ → Next) → Next
-  atLeast LeastRank.Nothing at again = ended Candidate.Nothing at
+  unfoldable pub atLeast : LeastRank → List ℕ → (List ℕ → Searched) → Searched
+  atLeast LeastRank.Nothing at again = searchEnds Candidate.Nothing at
   atLeast (LeastRank.Of rank) at again =
       let p = parentsOf found ranks steps rank at m in
-      let a = passed found ranks steps rank at m in
-      cond (isWhole standard p) (ended (Candidate.Of (p .variable) (p .standard) rank) a) (again a)
+      let a = productsPassed found ranks steps rank at m in
+      cond (isWhole standard p) (searchEnds (Candidate.Of (p .variable) (p .standard) rank) a) (again a)
 
   -- with a bound on the number of turns
-  unfoldable pub nextFrom : ℕ → List ℕ → Next
-  nextFrom zero at = ended Candidate.Nothing at
+  unfoldable pub nextFrom : ℕ → List ℕ → Searched
+  nextFrom zero at = searchEnds Candidate.Nothing at
   nextFrom (suc turns) at = atLeast (leastOf found ranks steps at m) at (λ a. nextFrom turns a)
 
   -- each turn passes one product at least, and there are m * found
-  unfoldable pub nextOf : List ℕ → Next
+  unfoldable pub nextOf : List ℕ → Searched
   nextOf at = nextFrom (suc (m * found)) at

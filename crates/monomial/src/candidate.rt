@@ -4,7 +4,7 @@ ghost use mathlib.Core.Path.{_≡_};
 ghost use Prim.Native.Nat.{_^_, _≤_};
 ghost use lib.ListN.{length};
 ghost use Rattle.residue.specs.Vector.{Below};
-ghost use Rattle.monomial.specs.Candidate.{leastOf, passed, parentsOf, occurringIn, ended, nextOf};
+ghost use Rattle.monomial.specs.Candidate.{leastOf, productsPassed, parentsOf, occurringIn, searchEnds, nextOf};
 
 pub enum LeastRank {
     Of(u64),
@@ -49,7 +49,7 @@ fn pass(m: usize, found: usize, ranks: &[u64], steps: &[u64], at: &mut [u8], ran
     requires { ⌜ Below (2 ^ 56) (now ranks) ⌝ }
     requires { ⌜ Below (2 ^ 56) (now steps) ⌝ }
     ensures { λ r. ⌜ r ≡ parentsOf found (now (ranks .entry)) (now (steps .entry)) rank (now (at .entry)) m ⌝ }
-    ensures { λ r. ⌜ now (at .exit) ≡ passed found (now (ranks .entry)) (now (steps .entry)) rank (now (at .entry)) m ⌝ }
+    ensures { λ r. ⌜ now (at .exit) ≡ productsPassed found (now (ranks .entry)) (now (steps .entry)) rank (now (at .entry)) m ⌝ }
 {
     let mut count = 0;
     let mut variable = 0;
@@ -109,7 +109,7 @@ pub fn next(
     requires { ⌜ (length (now standard) ≡ 512) × (length (now ranks) ≡ 64) × (length (now steps) ≡ 8) × (length (now at) ≡ 8) ⌝ }
     requires { ⌜ Below (2 ^ 56) (now ranks) ⌝ }
     requires { ⌜ Below (2 ^ 56) (now steps) ⌝ }
-    ensures { λ r. ⌜ ended r (now (at .exit)) ≡ nextOf m found (now (standard .entry)) (now (ranks .entry)) (now (steps .entry)) (now (at .entry)) ⌝ }
+    ensures { λ r. ⌜ searchEnds r (now (at .exit)) ≡ nextOf m found (now (standard .entry)) (now (ranks .entry)) (now (steps .entry)) (now (at .entry)) ⌝ }
 {
     loop {
         let LeastRank::Of(rank) = least(m, found, ranks, steps, at) else {

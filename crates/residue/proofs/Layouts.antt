@@ -11,7 +11,7 @@ use lib.Dec.{T}
 use Rattle.residue.specs.Layout.{fill, inPlaces, groups, over, begins}
 use Rattle.residue.specs.Vector.{Below}
 use Rattle.residue.proofs.bytes.Equality.{same-self}
-use Rattle.residue.proofs.Vectors.{below-append, below-drop, below-zeros}
+use Rattle.residue.proofs.vector.Vectors.{below-append, below-drop, below-zeros}
 
 -- it has k numbers
 pub length-fill : (k : ℕ) (l : List ℕ) → length (fill k l) ≡ k
@@ -167,9 +167,9 @@ below-fill p k l z b i h = rw (fill-at k l i (omega (arith, length-fill k l))) (
     go (no u) = let e : length l ≤ i = omega (arith, u) in rw (List·getD-eq-default l 0 e) z
 
 -- values, reduced, with zeros behind
-pub values-below : {A : Type 0} (p : ℕ) (f : A → ℕ) (l : List A) (k : ℕ) → 0 < p → Below p (over (map (λ a. f a % p) l) (replicate k 0))
+pub remainders-below : {A : Type 0} (p : ℕ) (f : A → ℕ) (l : List A) (k : ℕ) → 0 < p → Below p (over (map (λ a. f a % p) l) (replicate k 0))
 unfolding over
-values-below {A} p f l k z = below-append p (map (λ a. f a % p) l) _ (go l) (below-drop p (length (map (λ a. f a % p) l)) (replicate k 0) (below-zeros p k z))
+remainders-below {A} p f l k z = below-append p (map (λ a. f a % p) l) _ (go l) (below-drop p (length (map (λ a. f a % p) l)) (replicate k 0) (below-zeros p k z))
   where
     go : (l : List A) → Below p (map (λ a. f a % p) l)
     go [] i h = absurd (omega arith)

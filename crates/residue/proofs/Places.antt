@@ -125,21 +125,21 @@ places-filled w (x ∷ S) r = ap (λ (z : List ℕ). fill w x ++ z) (places-fill
 
 -- Rows of 64 numbers written one after the other over a table.
 module _ (done : List (List ℕ)) (old t : List ℕ) (e : t ≡ over (inPlaces 64 done) old) where
-  pub rows-keep : 64 * length done ≤ length old → length t ≡ length old
-  rows-keep h = ap length e ∙ length-over (inPlaces 64 done) old (omega (arith, length-places 64 done))
+  pub over-keep : 64 * length done ≤ length old → length t ≡ length old
+  over-keep h = ap length e ∙ length-over (inPlaces 64 done) old (omega (arith, length-places 64 done))
 
   -- what stands behind them is still the table's own
   behind : (at : ℕ) → at ≡ 64 * length done → drop at t ≡ drop at old
   unfolding over
   behind at a = ap (drop at) e ∙ drop-at (inPlaces 64 done) (drop (length (inPlaces 64 done)) old) at (length-places 64 done ∙ sym a) ∙ ap (λ (n : ℕ). drop n old) (length-places 64 done ∙ sym a)
 
-  pub row-own : (at : ℕ) → at ≡ 64 * length done → take 64 (drop at t) ≡ take 64 (drop at old)
-  row-own at a = ap (take 64) (behind at a)
+  pub over-own : (at : ℕ) → at ≡ 64 * length done → take 64 (drop at t) ≡ take 64 (drop at old)
+  over-own at a = ap (take 64) (behind at a)
 
-pub rows-more : (done : List (List ℕ)) (row old t ys : List ℕ) (at k : ℕ) → t ≡ over (inPlaces 64 done) old → at ≡ 64 * length done → at + 64 ≤ length old → k ≡ 64 → ys ≡ row → length row ≡ 64
+pub over-more : (done : List (List ℕ)) (row old t ys : List ℕ) (at k : ℕ) → t ≡ over (inPlaces 64 done) old → at ≡ 64 * length done → at + 64 ≤ length old → k ≡ 64 → ys ≡ row → length row ≡ 64
     → take at t ++ (ys ++ drop k (drop at t)) ≡ over (inPlaces 64 (done ++ (row ∷ []))) old
 unfolding over inPlaces
-rows-more done row old t ys at k e a h ek ey l =
+over-more done row old t ys at k e a h ek ey l =
     let P : List ℕ = inPlaces 64 done in
     let lP : length P ≡ at = length-places 64 done ∙ sym a in
     let whole : fill 64 row ≡ row = fill-exact 64 row l in

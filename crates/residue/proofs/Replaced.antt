@@ -7,7 +7,7 @@ use lib.ListN.{length, getD, take, drop, length-append, length-drop, List·getD-
 use lib.Seq.{getD-take, getD-append-add, length-take-le}
 use Rattle.residue.specs.Vector.{Below}
 use Rattle.residue.specs.Layout.{over, withPlace, fill, inPlaces}
-use Rattle.residue.proofs.Vectors.{below-take, below-drop, below-append}
+use Rattle.residue.proofs.vector.Vectors.{below-take, below-drop, below-append}
 use Rattle.residue.proofs.Layouts.{over-all}
 use Rattle.residue.proofs.Places.{place-more, over-zeros}
 

@@ -32,9 +32,9 @@ pub data Decides (X : Type 0) : Bool → Type 0 where
   so : X → Decides X true
   not-so : ¬ X → Decides X false
 
-pub decided : {X : Type 0} {b : Bool} → Decides X b → Dec X
-decided (so h) = yes h
-decided (not-so h) = no h
+pub dec-of : {X : Type 0} {b : Bool} → Decides X b → Dec X
+dec-of (so h) = yes h
+dec-of (not-so h) = no h
 
 pub cond-so : {X A : Type 0} {b : Bool} → Decides X b → X → (u v : A) → cond b u v ≡ u
 cond-so (so h) k u v = refl

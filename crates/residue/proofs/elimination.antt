@@ -1,4 +1,6 @@
--- What elimination says of the rows that meet: combinations, pivot rows, and one pivot row more.
+-- Laws of elimination: one row met, four at once, and what a row that met all pivot rows says.
+pub mod Eliminated
+pub mod FourRows
 pub mod Combinations
 pub mod PivotRows
 pub mod NextPivot

@@ -15,7 +15,7 @@ use Rattle.residue.specs.Inverse.{inverseBelow, inverseOf}
 use Rattle.residue.specs.Level.{residueOf}
 use Rattle.residue.specs.declared.level.Level.the-variants.{Residue}
 use Rattle.residue.specs.Layout.{fill, begins}
-use Rattle.residue.proofs.Moduli.{below, below-at}
+use Rattle.residue.proofs.level.Moduli.{below, below-at}
 use Rattle.residue.proofs.Tests.{and-left, and-right}
 use Rattle.residue.proofs.bytes.Equality.{same-is}
 use Rattle.residue.proofs.Layouts.{fill-zeros, over-all, begins-over, length-fill}

@@ -15,7 +15,7 @@ use Rattle.residue.specs.Congruence.{Mod}
 use Rattle.residue.specs.Lists.{Among, sameList}
 use Rattle.residue.specs.Modulus.{isModulus}
 use Rattle.residue.proofs.Congruence.{small}
-use Rattle.residue.proofs.Inverses.{inverse-mod, one-not-zero}
+use Rattle.residue.proofs.inverse.Inverses.{inverse-mod, one-not-zero}
 use Rattle.residue.proofs.bytes.Equality.{same-is, same-self}
 use Rattle.residue.proofs.Layouts.{fill-exact}
 use Rattle.monomial.specs.Monomial.{degree, timesVariable}

@@ -13,7 +13,7 @@ use Rattle.residue.specs.Lists.{Among}
 use Rattle.residue.specs.Vector.{Below}
 use Rattle.residue.specs.Elimination.{eliminated}
 use Rattle.residue.specs.Layout.{groups, fill, inPlaces, over, rowAt}
-use Rattle.residue.proofs.Vectors.{below-take, map-same}
+use Rattle.residue.proofs.vector.Vectors.{below-take, map-same}
 use Rattle.residue.proofs.Tests.{true-of}
 use Rattle.residue.proofs.Layouts.{fill-exact, below-fill, length-fill}
 use Rattle.residue.proofs.Places.{places-append, over-zeros, place-more}

@@ -12,7 +12,7 @@ use Rattle.residue.specs.Vector.{Below, dotOf}
 use Rattle.residue.specs.Elimination.{eliminated}
 use Rattle.residue.specs.Layout.{groups, fill, inPlaces, over}
 use Rattle.residue.proofs.Congruence.{of, _then_, reduce, negative, ring}
-use Rattle.residue.proofs.Vectors.{map-at, map-same}
+use Rattle.residue.proofs.vector.Vectors.{map-at, map-same}
 use Rattle.residue.proofs.Layouts.{fill-front}
 use Rattle.residue.proofs.Places.{table-groups, over-zeros}
 use Rattle.monomial.specs.Monomial.{valueAt}

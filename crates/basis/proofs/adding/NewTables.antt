@@ -12,7 +12,7 @@ use Rattle.residue.specs.Inverse.{inverseOf}
 use Rattle.residue.specs.Vector.{Below}
 use Rattle.residue.specs.Elimination.{eliminated}
 use Rattle.residue.specs.Layout.{groups, fill, inPlaces, over, rowAt}
-use Rattle.residue.proofs.Vectors.{map-at}
+use Rattle.residue.proofs.vector.Vectors.{map-at}
 use Rattle.residue.proofs.Places.{table-groups, place-at, rows-filled, over-table}
 use Rattle.residue.proofs.Tests.{Decides, so, not-so}
 use Rattle.monomial.specs.Monomial.{timesVariable, divides}

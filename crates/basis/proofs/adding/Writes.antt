@@ -9,7 +9,7 @@ use lib.ListN.{length, getD, set, take, drop, replicate, length-append, length-d
 use lib.Seq.{length-take-le, take-all, drop-cons, take-at, drop-at, set-at}
 use Rattle.residue.specs.Vector.{Below}
 use Rattle.residue.specs.Layout.{fill, inPlaces, over, rowAt}
-use Rattle.residue.proofs.Vectors.{below-append, below-take, below-drop, below-zeros}
+use Rattle.residue.proofs.vector.Vectors.{below-append, below-take, below-drop, below-zeros}
 use Rattle.residue.proofs.Layouts.{fill-append, over-all, fill-cut, length-fill}
 use Rattle.monomial.specs.Insert.{insertedAt, takenOut}
 use Rattle.basis.specs.Insertions.{rowValueAt, correctedBy, correctedRow, correctedRows, rowsLeft}

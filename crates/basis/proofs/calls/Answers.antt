@@ -14,8 +14,8 @@ use Rattle.residue.specs.Congruence.{Mod}
 use Rattle.residue.specs.Vector.{Below, dotOf}
 use Rattle.residue.specs.Layout.{fill, inPlaces, over, groups}
 use Rattle.residue.proofs.Congruence.{of, reduce, _then_}
-use Rattle.residue.proofs.Vectors.{map-at}
-use Rattle.residue.proofs.Moduli.{modulus-range}
+use Rattle.residue.proofs.vector.Vectors.{map-at}
+use Rattle.residue.proofs.level.Moduli.{modulus-range}
 use Rattle.residue.proofs.Layouts.{fill-tail}
 use Rattle.residue.proofs.Places.{table-groups}
 use Rattle.monomial.specs.Order.{orderOf}

@@ -11,7 +11,7 @@ use lib.Seq.{length-take-le}
 use lib.Dec.{T}
 use Rattle.residue.specs.Lists.{Among}
 use Rattle.residue.specs.Layout.{groups, fill, inPlaces}
-use Rattle.residue.proofs.Moduli.{modulus-range}
+use Rattle.residue.proofs.level.Moduli.{modulus-range}
 use Rattle.residue.proofs.Layouts.{fill-exact, over-all, length-fill}
 use Rattle.residue.proofs.Places.{length-groups, table-groups}
 use Rattle.specification.specs.declared.settings.Settings.{Settings}

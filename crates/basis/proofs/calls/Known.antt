@@ -11,8 +11,8 @@ use lib.Dec.{eqb, ltb}
 use borrow.Author.Tests.{ltb-false, eqb-true, not-false}
 use Rattle.residue.specs.Vector.{Below, dotOf}
 use Rattle.residue.specs.Layout.{groups, fill, inPlaces, begins}
-use Rattle.residue.proofs.Moduli.{modulus-range}
-use Rattle.residue.proofs.Vectors.{map-at}
+use Rattle.residue.proofs.level.Moduli.{modulus-range}
+use Rattle.residue.proofs.vector.Vectors.{map-at}
 use Rattle.residue.proofs.Tests.{of-true, neither, and-left, and-right}
 use Rattle.residue.proofs.bytes.Equality.{same-is}
 use Rattle.residue.proofs.Places.{length-groups, groups-long}

@@ -15,9 +15,9 @@ use Rattle.residue.specs.Elimination.{eliminated}
 use Rattle.residue.specs.Layout.{fill, inPlaces, withPlace}
 use Rattle.residue.specs.Rows.{firstNonzero, pivotRow, withRow}
 use Rattle.residue.proofs.Congruence.{of, _then_}
-use Rattle.residue.proofs.Inverses.{inverse-mod}
-use Rattle.residue.proofs.Moduli.{modulus-range}
-use Rattle.residue.proofs.Vectors.{below-take, below-set}
+use Rattle.residue.proofs.inverse.Inverses.{inverse-mod}
+use Rattle.residue.proofs.level.Moduli.{modulus-range}
+use Rattle.residue.proofs.vector.Vectors.{below-take, below-set}
 use Rattle.residue.proofs.Places.{places-filled}
 use Rattle.residue.proofs.Layouts.{length-fill}
 use Rattle.residue.proofs.rows.Zeros.{zero-before, not-zero-there}

@@ -16,8 +16,8 @@ use Rattle.residue.specs.Vector.{Below}
 use Rattle.residue.specs.Elimination.{eliminated}
 use Rattle.residue.specs.Layout.{groups, fill, inPlaces}
 use Rattle.residue.proofs.Congruence.{of, flip, reduce, _then_}
-use Rattle.residue.proofs.Moduli.{modulus-range}
-use Rattle.residue.proofs.Vectors.{map-at, below-append}
+use Rattle.residue.proofs.level.Moduli.{modulus-range}
+use Rattle.residue.proofs.vector.Vectors.{map-at, below-append}
 use Rattle.residue.proofs.Layouts.{fill-at, below-fill, length-fill}
 use Rattle.residue.proofs.Places.{groups-at}
 use Rattle.residue.proofs.elimination.Combinations.{combination}

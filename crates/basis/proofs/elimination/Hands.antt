@@ -9,8 +9,8 @@ use lib.Seq.{getD-take, getD-drop}
 use Rattle.residue.specs.Congruence.{Mod}
 use Rattle.residue.specs.Layout.{fill}
 use Rattle.residue.proofs.Congruence.{of, reduce, _then_, _times_}
-use Rattle.residue.proofs.Moduli.{modulus-range}
-use Rattle.residue.proofs.Vectors.{below-take, below-drop, below-zeros}
+use Rattle.residue.proofs.level.Moduli.{modulus-range}
+use Rattle.residue.proofs.vector.Vectors.{below-take, below-drop, below-zeros}
 use Rattle.residue.proofs.Layouts.{fill-at, fill-zeros}
 use Rattle.residue.proofs.Places.{place-at, no-places}
 use Rattle.residue.proofs.Replaced.{zeros-long, part-long}

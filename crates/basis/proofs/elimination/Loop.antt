@@ -16,7 +16,7 @@ use Rattle.monomial.specs.declared.candidate.Candidate.{Candidate}
 use Rattle.monomial.specs.declared.candidate.Candidate.the-variants as Candidate
 use Rattle.monomial.specs.Rank.{stepsOf}
 use Rattle.monomial.specs.Columns.{columnOf}
-use Rattle.monomial.specs.Candidate.{ended, nextOf}
+use Rattle.monomial.specs.Candidate.{searchEnds, nextOf}
 use Rattle.specification.specs.declared.settings.Settings.{Settings}
 use Rattle.specification.specs.BasisOf.{standardOf}
 use Rattle.specification.specs.Instance.{Monomial, Point}
@@ -210,13 +210,13 @@ module _ {p m order n : ℕ} {points : List ℕ} where
               G .most,
             )
 
-        outcome : (a : Candidate) (at′ : List ℕ) → ended a at′ ≡ nextOf m found standard ranks steps at → Outcome (p - 1) m o S (h .std) (h .lds) a at′
+        outcome : (a : Candidate) (at′ : List ℕ) → searchEnds a at′ ≡ nextOf m found standard ranks steps at → Outcome (p - 1) m o S (h .std) (h .lds) a at′
         outcome a at′ e =
             next-candidate (p - 1) m o (G .prime) (G .few) S (G .distinct) (omega (arith, G .count, G .most)) (h .std) (h .lds) (h .decided .last) (h .decided .drawn) ranks steps (h .held .ranked) at
             (h .decided .long) (h .decided .positions) a at′ (e ∙ ap₂ (λ (k : ℕ) (t : List ℕ). nextOf m k t ranks steps at) (h .found-is) (h .held .standard-table))
 
         -- nothing is left
-        pub ends : {a : Candidate} {at′ : List ℕ} → a ≡ Candidate.Nothing → ended a at′ ≡ nextOf m found standard ranks steps at
+        pub ends : {a : Candidate} {at′ : List ℕ} → a ≡ Candidate.Nothing → searchEnds a at′ ≡ nextOf m found standard ranks steps at
             → DrawnUp s (pointsIn s n points) r standard leads coefficients rows pivots
         ends {a} {at′} z e =
             let t : Outcome (p - 1) m o S (h .std) (h .lds) Candidate.Nothing at′ = subst (λ (c : Candidate). Outcome (p - 1) m o S (h .std) (h .lds) c at′) z (outcome a at′ e) in
@@ -226,7 +226,7 @@ module _ {p m order n : ℕ} {points : List ℕ} where
             (h .r-is ∙ ap length (t .1))
 
         -- the next monomial
-        module _ {a : Candidate} {at′ : List ℕ} {k t l : ℕ} (z : a ≡ Candidate.Of k t l) (e : ended a at′ ≡ nextOf m found standard ranks steps at) where
+        module _ {a : Candidate} {at′ : List ℕ} {k t l : ℕ} (z : a ≡ Candidate.Of k t l) (e : searchEnds a at′ ≡ nextOf m found standard ranks steps at) where
           F : Found (p - 1) m o S (h .std) (h .lds) k t l at′
           F = subst (λ (c : Candidate). Outcome (p - 1) m o S (h .std) (h .lds) c at′) z (outcome a at′ e)
 

@@ -10,7 +10,7 @@ use Rattle.residue.specs.Congruence.{Mod}
 use Rattle.residue.specs.Lists.{Among, sumOver}
 use Rattle.residue.proofs.Congruence.{of, flip, _then_, _plus_, scale, lin}
 use Rattle.residue.proofs.Sums.{sum-zero}
-use Rattle.residue.proofs.Vectors.{below-take, below-drop}
+use Rattle.residue.proofs.vector.Vectors.{below-take, below-drop}
 use Rattle.residue.proofs.Replaced.{part-long}
 use Rattle.residue.proofs.elimination.Combinations.{sumTo, sumTo-front, sumTo-cong, combination}
 use Rattle.residue.proofs.elimination.PivotRows.{PivotRows, Working, ZeroAt}

@@ -12,7 +12,7 @@ use Rattle.residue.specs.Vector.{Below}
 use Rattle.residue.specs.Elimination.{eliminated}
 use Rattle.residue.specs.Layout.{fill}
 use Rattle.residue.proofs.Congruence.{of, flip, reduce, negative, _then_, _plus_, lin, small}
-use Rattle.residue.proofs.Vectors.{map-at}
+use Rattle.residue.proofs.vector.Vectors.{map-at}
 use Rattle.residue.proofs.Layouts.{fill-at, length-fill}
 use Rattle.residue.proofs.elimination.Combinations.{combination, combination-add, combination-zero}
 use Rattle.residue.proofs.elimination.PivotRows.{PivotRows, Working, ZeroAt, vanishes, eliminated-works, eliminated-zero}

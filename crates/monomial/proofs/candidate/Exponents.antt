@@ -17,8 +17,8 @@ use Rattle.monomial.proofs.Algebra.Products.{length-timesVariable, leng
 use Rattle.monomial.proofs.Orders.Answers.{Says, less, same, more, says, said, lt≢eq, gt≢lt}
 use Rattle.monomial.proofs.Orders.Lawful.{lawful}
 use Rattle.monomial.proofs.Padding.{degree-one, pad, length-pad, degree-pad, timesVariable-pad}
-use Rattle.monomial.proofs.Ranks.{rank-pad-cmp, rank-fits, rank-timesVariable}
-use Rattle.monomial.proofs.candidate.Occurring.{Occurs}
+use Rattle.monomial.proofs.rank.Ranks.{rank-pad-cmp, rank-fits, rank-timesVariable}
+use Rattle.monomial.proofs.candidate.Counts.{Occurs}
 
 pub fill-pad : (a : List ℕ) → length a ≤ 8 → fill 8 a ≡ pad a
 fill-pad a l =

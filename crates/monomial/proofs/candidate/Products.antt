@@ -15,7 +15,7 @@ use Rattle.monomial.specs.declared.candidate.LeastRank.the-variants as L
 use Rattle.monomial.specs.declared.candidate.Parents.{Parents}
 use Rattle.monomial.specs.declared.candidate.Candidate.{Candidate}
 use Rattle.monomial.specs.declared.candidate.Candidate.the-variants as Candidate
-use Rattle.monomial.specs.Candidate.{rankAt, lowest, leastOf, isOf, passed, parentsOf, occurringIn, Next, ended, isWhole, atLeast, nextFrom, nextOf}
+use Rattle.monomial.specs.Candidate.{rankAt, lowest, leastOf, isOf, productsPassed, parentsOf, occurringIn, Searched, searchEnds, isWhole, atLeast, nextFrom, nextOf}
 use Rattle.monomial.proofs.candidate.Turns.{parents}
 
 -- how many products with the first k variables are not passed
@@ -129,10 +129,10 @@ module _ (found : ℕ) (ranks steps : List ℕ) where
   -- the products of rank r
   module _ (r : ℕ) (at : List ℕ) where
     abbrev moved : ℕ → List ℕ
-    moved i = passed found ranks steps r at i
+    moved i = productsPassed found ranks steps r at i
 
     pub passed-length : (i : ℕ) → length (moved i) ≡ length at
-    unfolding passed
+    unfolding productsPassed
     passed-length zero = refl
     passed-length (suc i) = go (isOf found ranks steps r (moved i) i) (passed-length i)
       where
@@ -142,7 +142,7 @@ module _ (found : ℕ) (ranks steps : List ℕ) where
 
     -- a variable that comes later has its position still
     pub passed-later : (i k : ℕ) → i ≤ k → getD (moved i) k 0 ≡ getD at k 0
-    unfolding passed
+    unfolding productsPassed
     passed-later zero k h = refl
     passed-later (suc i) k h = go (isOf found ranks steps r (moved i) i) (passed-later i k (omega arith))
       where
@@ -154,7 +154,7 @@ module _ (found : ℕ) (ranks steps : List ℕ) where
     here i = rw (passed-later i i (omega arith)) (product-told r at i)
 
     pub passed-is : (m k : ℕ) → k < m → k < length at → Product r at k → getD (moved m) k 0 ≡ getD at k 0 + 1
-    unfolding passed
+    unfolding productsPassed
     passed-is zero k l n h = absurd (omega arith)
     passed-is (suc i) k l n h = go (here i) (eqb k i) refl (λ z. passed-is i k z n h)
       where
@@ -168,7 +168,7 @@ module _ (found : ℕ) (ranks steps : List ℕ) where
         go (not-so p) false e f = f (let d : ¬ (k ≡ i) = eqb-false k i e in omega arith)
 
     pub passed-not : (m k : ℕ) → ¬ Product r at k → getD (moved m) k 0 ≡ getD at k 0
-    unfolding passed
+    unfolding productsPassed
     passed-not zero k h = refl
     passed-not (suc i) k h = go (here i) (passed-not i k h)
       where
@@ -205,11 +205,11 @@ module _ (found : ℕ) (ranks steps : List ℕ) where
 
 -- passing the products of the least rank leaves fewer
 module _ (found : ℕ) (ranks steps : List ℕ) (m : ℕ) (at : List ℕ) (r : ℕ) (e : leastOf found ranks steps at m ≡ LeastRank.Of r) where
-  pub passed-fewer : (next : List ℕ) → next ≡ passed found ranks steps r at m → m ≤ length at → remaining found next m < remaining found at m
+  pub passed-fewer : (next : List ℕ) → next ≡ productsPassed found ranks steps r at m → m ≤ length at → remaining found next m < remaining found at m
   passed-fewer next f l =
       let u = least-of found ranks steps at m r e in
       rw f
-      (remaining-less found at (passed found ranks steps r at m) (λ k. passed-grows found ranks steps r at m k l) m (u .variable) (u .within) (u .product .0)
+      (remaining-less found at (productsPassed found ranks steps r at m) (λ k. passed-grows found ranks steps r at m k l) m (u .variable) (u .within) (u .product .0)
       (omega (arith, passed-is found ranks steps r at m (u .variable) (u .within) (omega (arith, u .within)) (u .product))))
 
   pub least-last : (p : Parents) → p ≡ parentsOf found ranks steps r at m → Last found ranks steps r at m p
@@ -217,10 +217,10 @@ module _ (found : ℕ) (ranks steps : List ℕ) (m : ℕ) (at : List ℕ) (r : �
 
 -- The search: there are turns enough for the products that are left.
 module _ (m found : ℕ) (standard ranks steps : List ℕ) where
-  abbrev from : ℕ → List ℕ → Next
+  abbrev from : ℕ → List ℕ → Searched
   from n at = nextFrom m found standard ranks steps n at
 
-  pub record Searching (at : List ℕ) (end : Next) : Type 0 where
+  pub record Searching (at : List ℕ) (end : Searched) : Type 0 where
     pub turns : ℕ
     pub enough : remaining found at m ≤ turns
     pub reached : from (suc turns) at ≡ end
@@ -229,16 +229,16 @@ module _ (m found : ℕ) (standard ranks steps : List ℕ) where
   unfolding nextOf
   search-start at = record { turns = m * found; enough = remaining-most found at m; reached = refl }
 
-  module _ (at : List ℕ) (end : Next) (w : Searching at end) where
-    pub search-none : leastOf found ranks steps at m ≡ LeastRank.Nothing → ended Candidate.Nothing at ≡ end
+  module _ (at : List ℕ) (end : Searched) (w : Searching at end) where
+    pub search-none : leastOf found ranks steps at m ≡ LeastRank.Nothing → searchEnds Candidate.Nothing at ≡ end
     unfolding nextFrom atLeast
     search-none e = rw e at (w .reached)
 
     module _ (r : ℕ) (e : leastOf found ranks steps at m ≡ LeastRank.Of r) where
       -- what the turn has found, and how many variables occur
-      module _ (p : Parents) (g : p ≡ parentsOf found ranks steps r at m) (next : List ℕ) (f : next ≡ passed found ranks steps r at m) (n : ℕ)
+      module _ (p : Parents) (g : p ≡ parentsOf found ranks steps r at m) (next : List ℕ) (f : next ≡ productsPassed found ranks steps r at m) (n : ℕ)
           (o : n ≡ occurringIn (take 8 (drop (8 * p .standard) standard)) (p .variable) 8) where
-        pub search-found : p .count ≡ n → ended (Candidate.Of (p .variable) (p .standard) r) next ≡ end
+        pub search-found : p .count ≡ n → searchEnds (Candidate.Of (p .variable) (p .standard) r) next ≡ end
         unfolding nextFrom atLeast
         search-found h =
             let z : isWhole standard p ≡ true = eq-eqb _ _ (h ∙ o) in

@@ -9,7 +9,7 @@ use borrow.Author.Tests.{lt-ltb, le-ltb, eq-eqb, ne-eqb}
 use lib.ListN.{length, getD, set, length-set}
 use Rattle.monomial.specs.declared.candidate.LeastRank.the-variants as LeastRank
 use Rattle.monomial.specs.declared.candidate.Parents.{Parents}
-use Rattle.monomial.specs.Candidate.{rankAt, lowest, leastOf, passed, parentsOf, occurringIn}
+use Rattle.monomial.specs.Candidate.{rankAt, lowest, leastOf, productsPassed, parentsOf, occurringIn}
 
 abbrev pub parents : ℕ → ℕ → ℕ → Parents
 parents c k t = record { count = c; variable = k; standard = t }
@@ -44,17 +44,17 @@ module _ (found : ℕ) (ranks steps : List ℕ) where
   pub record Passing (r : ℕ) (at₀ : List ℕ) (k : ℕ) (at : List ℕ) (c v t : ℕ) : Type 0 where
     pub long : length at ≡ length at₀
     pub few : c ≤ k
-    pub moved : at ≡ passed found ranks steps r at₀ k
+    pub moved : at ≡ productsPassed found ranks steps r at₀ k
     pub last : parents c v t ≡ parentsOf found ranks steps r at₀ k
 
   pub pass-start : (r : ℕ) (at : List ℕ) → Passing r at 0 at 0 0 0
-  unfolding passed parentsOf
+  unfolding productsPassed parentsOf
   pass-start r at = record { long = refl; few = omega arith; moved = refl; last = refl }
 
   -- a turn that leads to at′, c′, v′ and t′
   module _ {r : ℕ} {at₀ : List ℕ} {k : ℕ} {at : List ℕ} {c v t : ℕ} (w : Passing r at₀ k at c v t) {at′ : List ℕ} {c′ v′ t′ : ℕ} where
     pub pass-shut : found ≤ getD at k 0 → at′ ≡ at → c′ ≡ c → v′ ≡ v → t′ ≡ t → Passing r at₀ (k + 1) at′ c′ v′ t′
-    unfolding passed parentsOf
+    unfolding productsPassed parentsOf
     pass-shut h e f g i =
         rw (e, f, g, i)
         (record {
@@ -65,7 +65,7 @@ module _ (found : ℕ) (ranks steps : List ℕ) where
         })
 
     pub pass-other : getD at k 0 < found → ¬ (rank at k ≡ r) → at′ ≡ at → c′ ≡ c → v′ ≡ v → t′ ≡ t → Passing r at₀ (k + 1) at′ c′ v′ t′
-    unfolding passed parentsOf
+    unfolding productsPassed parentsOf
     pass-other h n e f g i =
         rw (e, f, g, i)
         (record {
@@ -76,7 +76,7 @@ module _ (found : ℕ) (ranks steps : List ℕ) where
         })
 
     pub pass-one : getD at k 0 < found → rank at k ≡ r → at′ ≡ set at k (getD at k 0 + 1) → c′ ≡ c + 1 → v′ ≡ k → t′ ≡ getD at k 0 → Passing r at₀ (k + 1) at′ c′ v′ t′
-    unfolding passed parentsOf
+    unfolding productsPassed parentsOf
     pass-one h n e f g i =
         rw (e, f, g, i)
         (record {

@@ -10,7 +10,7 @@ use lib.ListN.{length, getD, drop, length-map, take, replicate, length-append, L
 use lib.Seq.{getD-take, getD-drop, getD-append-add, take-take}
 use Rattle.residue.specs.Vector.{Below}
 use Rattle.residue.specs.Layout.{groups, fill, inPlaces, over}
-use Rattle.residue.proofs.Vectors.{map-at}
+use Rattle.residue.proofs.vector.Vectors.{map-at}
 use Rattle.residue.proofs.Places.{length-groups, groups-at, place-at, no-places, place-more}
 use Rattle.residue.proofs.Layouts.{take-fill}
 use Rattle.monomial.specs.Columns.{columnOf, columnsOf}

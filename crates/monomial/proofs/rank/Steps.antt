@@ -6,8 +6,8 @@ use native.Mathlib.Omega.{arith}
 use lib.ListN.{length, length-map, getD}
 use lib.Dec.{eqb, eqb→eq}
 use Rattle.residue.specs.Vector.{Below}
-use Rattle.residue.proofs.Vectors.{map-at}
-use Rattle.residue.proofs.Moduli.{below-at}
+use Rattle.residue.proofs.vector.Vectors.{map-at}
+use Rattle.residue.proofs.level.Moduli.{below-at}
 use Rattle.monomial.specs.Order.{Order}
 use Rattle.monomial.specs.Rank.{variableRank, stepsOf}
 use Rattle.monomial.proofs.candidate.Exponents.{variable-small}

@@ -10,7 +10,7 @@ use Rattle.residue.specs.Congruence.{Mod}
 use Rattle.residue.specs.Vector.{Below, addScaled, powered, dotOf}
 use Rattle.residue.specs.Layout.{groups, over}
 use Rattle.residue.proofs.Congruence.{rfl, of, flip, reduce, _then_, _plus_, _times_}
-use Rattle.residue.proofs.Vectors.{map-at, powered-length, powered-at, powered-below, map-same}
+use Rattle.residue.proofs.vector.Vectors.{map-at, powered-length, powered-at, powered-below, map-same}
 use Rattle.residue.proofs.Layouts.{take-over}
 use Rattle.residue.proofs.Places.{length-groups, groups-at}
 use Rattle.monomial.specs.Monomial.{valueAt}
@@ -48,11 +48,11 @@ module _ (p n : ℕ) (a points : List ℕ) where
   abbrev pub monomialRow : List ℕ
   monomialRow = map (λ P. valueAt P a % p) (groups 8 n points)
 
-  pub row-long : length monomialRow ≡ n
-  row-long = length-map (groups 8 n points) _ ∙ length-groups 8 n points
+  pub monomialRow-long : length monomialRow ≡ n
+  monomialRow-long = length-map (groups 8 n points) _ ∙ length-groups 8 n points
 
-  pub row-below : 0 < p → Below p monomialRow
-  row-below z i h = rw (map-at (λ P. valueAt P a % p) (groups 8 n points) [] 0 i (omega (arith, row-long, length-groups 8 n points))) (mod-lt _ z)
+  pub monomialRow-below : 0 < p → Below p monomialRow
+  monomialRow-below z i h = rw (map-at (λ P. valueAt P a % p) (groups 8 n points) [] 0 i (omega (arith, monomialRow-long, length-groups 8 n points))) (mod-lt _ z)
 
 -- The loop over the variables.
 module _ (p n : ℕ) (a points : List ℕ) where
@@ -60,10 +60,10 @@ module _ (p n : ℕ) (a points : List ℕ) where
   point i = getD (groups 8 n points) i []
 
   -- n residues; at each point what is there, times the value of the variables from k on, is the monomial's value
-  abbrev pub Left : List ℕ → ℕ → Type 0
-  Left v k = (length v ≡ n) × Below p v × ((i : ℕ) → i < n → Mod p (getD v i 0 * valueAt (drop k (point i)) (drop k a)) (valueAt (point i) a))
+  abbrev pub VariablesLeft : List ℕ → ℕ → Type 0
+  VariablesLeft v k = (length v ≡ n) × Below p v × ((i : ℕ) → i < n → Mod p (getD v i 0 * valueAt (drop k (point i)) (drop k a)) (valueAt (point i) a))
 
-  pub ones-left : (v : List ℕ) → 1 < p → v ≡ replicate n 1 → Left v 0
+  pub ones-left : (v : List ℕ) → 1 < p → v ≡ replicate n 1 → VariablesLeft v 0
   ones-left v h e = (
     ap length e ∙ length-replicate {A = ℕ} n 1,
     λ i l. rw (one i (subst (λ (k : ℕ). i < k) (ap length e ∙ length-replicate {A = ℕ} n 1) l)) h,
@@ -73,7 +73,7 @@ module _ (p n : ℕ) (a points : List ℕ) where
       one : (i : ℕ) → i < n → getD v i 0 ≡ 1
       one i l = ap (λ (r : List ℕ). getD r i 0) e ∙ getD-replicate {A = ℕ} n i 1 0 l
 
-  pub variable-more : (v v′ : List ℕ) (k : ℕ) → 0 < p → k < 8 → length a ≡ 8 → 8 * n ≤ length points → v′ ≡ powered p (getD a k 0) v (columnOf k n points) → Left v k → Left v′ (k + 1)
+  pub variable-more : (v v′ : List ℕ) (k : ℕ) → 0 < p → k < 8 → length a ≡ 8 → 8 * n ≤ length points → v′ ≡ powered p (getD a k 0) v (columnOf k n points) → VariablesLeft v k → VariablesLeft v′ (k + 1)
   unfolding columnOf
   variable-more v v′ k z h eight room e (long, below, left) = (
     ap length e ∙ powered-length p (getD a k 0) v (columnOf k n points) same ∙ long,
@@ -96,9 +96,9 @@ module _ (p n : ℕ) (a points : List ℕ) where
           ap (λ (r : List ℕ). getD r i 0) e ∙ powered-at p (getD a k 0) v (columnOf k n points) same i (omega arith)
           ∙ ap (λ (x : ℕ). (getD v i 0 * x ^ getD a k 0) % p) (coordinate i l) ∙ (rfl {x = getD v i 0} times flip (reduce p (getD (point i) k 0 ^ getD a k 0))) .same
 
-  pub all-left : (v : List ℕ) (k : ℕ) → 8 ≤ k → 8 * n ≤ length points → Left v k → v ≡ monomialRow p n a points
+  pub all-left : (v : List ℕ) (k : ℕ) → 8 ≤ k → 8 * n ≤ length points → VariablesLeft v k → v ≡ monomialRow p n a points
   all-left v k h room (long, below, left) =
-      ext-getD 0 v _ (long ∙ sym (row-long p n a points))
+      ext-getD 0 v _ (long ∙ sym (monomialRow-long p n a points))
       (λ i l. let j : i < n = omega arith in
       value-end p (point i) a k (getD v i 0) (left i j) (omega (arith, ap length (groups-at 8 n i points [] j) ∙ length-take-le 8 (drop (8 * i) points) (omega (arith, length-drop (8 * i) points)))) (below i l)
       ∙ sym (map-at _ (groups 8 n points) [] 0 i (omega (arith, length-groups 8 n points))))

@@ -8,7 +8,7 @@ use lib.ListN.{length, getD, take, drop, length-map}
 use Rattle.residue.specs.Layout.{groups}
 use Rattle.residue.specs.Vector.{dotOf}
 use Rattle.residue.specs.Congruence.{Mod}
-use Rattle.residue.proofs.Vectors.{map-at, dot-more}
+use Rattle.residue.proofs.vector.Vectors.{map-at, dot-more}
 use Rattle.residue.proofs.Places.{length-groups, groups-at}
 use Rattle.residue.proofs.Congruence.{reduce, scale, _then_, _plus_}
 use Rattle.monomial.specs.Monomial.{valueAt}

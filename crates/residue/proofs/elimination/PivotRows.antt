@@ -12,7 +12,7 @@ use Rattle.residue.specs.Congruence.{Mod}
 use Rattle.residue.specs.Vector.{Below}
 use Rattle.residue.specs.Elimination.{cancelled, eliminated}
 use Rattle.residue.proofs.Congruence.{rfl, of, flip, _then_, _plus_, scale, lin, small}
-use Rattle.residue.proofs.Eliminated.{row-long, cancelled-at, cancelled-length, cancelled-below}
+use Rattle.residue.proofs.elimination.Eliminated.{row-long, cancelled-at, cancelled-length, cancelled-below}
 use Rattle.residue.proofs.elimination.Combinations.{combination, combination-cong, combination-add}
 
 -- entry i of pivot row t

@@ -10,7 +10,7 @@ use Rattle.residue.specs.Congruence.{Mod}
 use Rattle.residue.specs.Vector.{Below, scaled}
 use Rattle.residue.specs.Rows.{pivotRow, withRow}
 use Rattle.residue.proofs.Congruence.{of, reduce, _then_}
-use Rattle.residue.proofs.Vectors.{scaled-length, scaled-at, scaled-below, below-drop, below-append, below-set}
+use Rattle.residue.proofs.vector.Vectors.{scaled-length, scaled-at, scaled-below, below-drop, below-append, below-set}
 use Rattle.residue.proofs.Replaced.{replaced-length, replaced-below, replaced-before, replaced-here}
 
 -- what lies behind a new front is the row's own

@@ -15,10 +15,10 @@ use Rattle.residue.specs.Lists.{allZero}
 
 -- The search: its loop has passed q numbers, all of them 0.
 module _ (n : ℕ) (w : List ℕ) where
-  abbrev pub Passed : ℕ → Type 0
-  Passed q = firstNonzero n w ≡ q + firstNonzero (n - q) (drop q w)
+  abbrev pub ZerosPassed : ℕ → Type 0
+  ZerosPassed q = firstNonzero n w ≡ q + firstNonzero (n - q) (drop q w)
 
-  pub passed-none : Passed 0
+  pub passed-none : ZerosPassed 0
   passed-none = let e : n - 0 ≡ n = omega arith in rw e (omega arith)
 
   here : (q : ℕ) → q < n → firstNonzero (n - q) (drop q w) ≡ cond (eqb (getD w q 0) 0) (suc (firstNonzero (n - (q + 1)) (drop (q + 1) w))) 0
@@ -28,17 +28,17 @@ module _ (n : ℕ) (w : List ℕ) where
       let z : q + 0 ≡ q = omega arith in
       rw (e, getD-drop q w 0 0, drop-drop 1 q w, z)
 
-  pub passed-more : (q : ℕ) → q < n → Passed q → getD w q 0 ≡ 0 → Passed (q + 1)
+  pub passed-more : (q : ℕ) → q < n → ZerosPassed q → getD w q 0 ≡ 0 → ZerosPassed (q + 1)
   passed-more q h e z =
       let k : firstNonzero (n - q) (drop q w) ≡ suc (firstNonzero (n - (q + 1)) (drop (q + 1) w)) = here q h ∙ simp (eq-eqb (getD w q 0) 0 z) in
       omega arith
 
-  pub passed-hit : (q : ℕ) → q < n → Passed q → (getD w q 0 ≡ 0 → ⊥) → q ≡ firstNonzero n w
+  pub passed-hit : (q : ℕ) → q < n → ZerosPassed q → (getD w q 0 ≡ 0 → ⊥) → q ≡ firstNonzero n w
   passed-hit q h e z =
       let k : firstNonzero (n - q) (drop q w) ≡ 0 = here q h ∙ simp (ne-eqb (getD w q 0) 0 z) in
       omega arith
 
-  pub passed-end : (q : ℕ) → n ≤ q → q ≤ n → Passed q → n ≡ firstNonzero n w
+  pub passed-end : (q : ℕ) → n ≤ q → q ≤ n → ZerosPassed q → n ≡ firstNonzero n w
   unfolding firstNonzero
   passed-end q h k e =
       let z : n - q ≡ 0 = omega arith in

@@ -13,7 +13,7 @@ use borrow.Author.Tests.{eq-eqb, le-ltb}
 use Rattle.residue.specs.Lists.{Among}
 use Rattle.residue.specs.Modulus.{isModulus}
 use Rattle.residue.specs.Layout.{groups, fill, over}
-use Rattle.residue.proofs.Moduli.{modulus-range}
+use Rattle.residue.proofs.level.Moduli.{modulus-range}
 use Rattle.residue.proofs.Tests.{true-of}
 use Rattle.residue.proofs.Layouts.{take-over, length-fill}
 use Rattle.residue.proofs.Places.{length-groups}

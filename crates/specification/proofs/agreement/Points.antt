@@ -14,7 +14,7 @@ use Rattle.residue.specs.Level.{residueOf}
 use Rattle.residue.specs.declared.level.Level.{Level}
 use Rattle.residue.specs.declared.level.Level.the-variants.{Residue, Outside}
 use Rattle.residue.specs.Layout.{groups, fill, inPlaces, over}
-use Rattle.residue.proofs.Levels.{residue-below}
+use Rattle.residue.proofs.level.Levels.{residue-below}
 use Rattle.residue.proofs.Tests.{and-left, and-right, and-both}
 use Rattle.residue.proofs.Layouts.{fill-exact, fill-twice, places-back, table-split}
 use Rattle.specification.specs.declared.settings.Settings.{Settings}

@@ -11,7 +11,7 @@ use lib.Dec.{T, eqb, leb}
 use borrow.Author.Tests.{eqb-true, ne-eqb, leb-false}
 use Rattle.residue.specs.Lists.{Among}
 use Rattle.residue.specs.Layout.{fill, over}
-use Rattle.residue.proofs.Moduli.{modulus-range}
+use Rattle.residue.proofs.level.Moduli.{modulus-range}
 use Rattle.residue.proofs.Tests.{of-true}
 use Rattle.residue.proofs.Layouts.{over-over, length-fill}
 use Rattle.specification.specs.declared.settings.Settings.{Settings}

@@ -7,7 +7,7 @@ use Prim.Native.Nat.{ℕ, suc, _*_, _%_, _<_, Ordering, Ordering·lt, Ordering·
 use native.Mathlib.Nat.{zero-mod}
 use lib.Dec.{T, isEq, eqb, eqb→eq}
 use Rattle.residue.specs.Congruence.{Mod}
-use Rattle.residue.proofs.Tests.{Decides, decided, cond-so, cond-not, by-test}
+use Rattle.residue.proofs.Tests.{Decides, dec-of, cond-so, cond-not, by-test}
 use Rattle.monomial.proofs.Orders.Lawful
 use Rattle.monomial.proofs.Orders.Lawful.{Lawful, turn, differ}
 use Rattle.specification.specs.Space.{Space, Less, Divides, same}
@@ -70,7 +70,7 @@ module _ (D : Space) (L : Laws D) where
       go Ordering·gt e h = absurd (true≢false (sym h))
 
   pub same? : (a b : Mono) → Dec (a ≡ b)
-  same? a b = decided (same-told a b)
+  same? a b = dec-of (same-told a b)
 
   pub divides-told : (a b : Mono) → Decides (Divides D a b) (divides a b)
   divides-told a b = by-test (divides a b) (λ e. e) (λ e. e)

@@ -6,7 +6,7 @@ use native.Mathlib.Omega.{arith}
 use lib.ListN.{length, take, drop, replicate, length-drop}
 use lib.Seq.{length-take-le}
 use Rattle.residue.specs.Layout.{over}
-use Rattle.residue.proofs.Moduli.{modulus-range}
+use Rattle.residue.proofs.level.Moduli.{modulus-range}
 use Rattle.residue.proofs.Layouts.{over-all, length-fill}
 use Rattle.specification.specs.Tables.{tablesOf, pointsIn}
 use Rattle.basis.proofs.adding.Added.{states-more, states-long}

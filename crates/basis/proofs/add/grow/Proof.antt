@@ -8,8 +8,8 @@ use lib.Seq.{length-take-le}
 use Rattle.residue.specs.Vector.{Below}
 use Rattle.residue.specs.Inverse.{inverseOf}
 use Rattle.residue.specs.Layout.{groups, over, rowAt}
-use Rattle.residue.proofs.Vectors.{below-take, below-drop, part-small}
-use Rattle.residue.proofs.Inverses.{inverse-below}
+use Rattle.residue.proofs.vector.Vectors.{below-take, below-drop, part-small}
+use Rattle.residue.proofs.inverse.Inverses.{inverse-below}
 use Rattle.residue.proofs.Layouts.{over-all}
 use Rattle.residue.proofs.Replaced.{zeros-long}
 use Rattle.monomial.specs.Order.{orderOf, cmp}

@@ -8,7 +8,7 @@ use native.Mathlib.Omega.{arith}
 use lib.ListN.{length}
 use lib.Dec.{eqb, leb}
 use Rattle.residue.specs.Layout.{fill, inPlaces, over}
-use Rattle.residue.proofs.Moduli.{modulus-range}
+use Rattle.residue.proofs.level.Moduli.{modulus-range}
 use Rattle.residue.proofs.Places.{over-zeros}
 use Rattle.residue.proofs.Layouts.{length-fill}
 use Rattle.specification.specs.Levels.{inRange, isAmong}

@@ -6,7 +6,7 @@ use native.Mathlib.Omega.{arith}
 use lib.ListN.{length}
 use Rattle.residue.specs.Vector.{Below}
 use Rattle.residue.specs.Layout.{fill, inPlaces, over}
-use Rattle.residue.proofs.Moduli.{modulus-range}
+use Rattle.residue.proofs.level.Moduli.{modulus-range}
 use Rattle.residue.proofs.Layouts.{length-fill}
 use Rattle.monomial.specs.Terms.{termValues}
 use Rattle.specification.specs.Refusal.{firstOf}

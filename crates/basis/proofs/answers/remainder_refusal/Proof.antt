@@ -6,7 +6,7 @@ use Prim.Native.Nat.{ℕ}
 use native.Mathlib.Omega.{arith}
 use lib.ListN.{length}
 use Rattle.residue.specs.Layout.{groups}
-use Rattle.residue.proofs.Moduli.{modulus-range}
+use Rattle.residue.proofs.level.Moduli.{modulus-range}
 use Rattle.specification.specs.Levels.{inRange}
 use Rattle.specification.specs.Tables.{Tables, fourTables, tooShort}
 use Rattle.specification.specs.Solving.{withinVariables}

@@ -8,7 +8,7 @@ use lib.ListN.{length, getD, take, drop, length-drop}
 use lib.Seq.{length-take-le, getD-take, getD-drop}
 use Rattle.residue.specs.Vector.{dotOf}
 use Rattle.residue.specs.Layout.{rowAt}
-use Rattle.residue.proofs.Vectors.{dot-more}
+use Rattle.residue.proofs.vector.Vectors.{dot-more}
 use Rattle.monomial.specs.Monomial.{valueAt}
 use Rattle.basis.specs.Insertions.{rowValueAt, valueOfRow, firstFrom}
 use Rattle.basis.proofs.adding.Searches.{first-end, first-skip, first-hit}

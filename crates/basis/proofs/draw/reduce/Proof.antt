@@ -8,7 +8,7 @@ use lib.Seq.{length-take-le}
 use Rattle.residue.specs.Vector.{Below}
 use Rattle.residue.specs.Elimination.{eliminated}
 use Rattle.residue.specs.Layout.{fill}
-use Rattle.residue.proofs.Vectors.{below-take}
+use Rattle.residue.proofs.vector.Vectors.{below-take}
 use Rattle.residue.proofs.Layouts.{below-fill, length-fill}
 use Rattle.residue.proofs.Replaced.{zeros-long, load}
 use Rattle.basis.proofs.draw.reduce.Statement.{statement}

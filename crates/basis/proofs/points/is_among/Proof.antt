@@ -9,7 +9,7 @@ use borrow.Author.Tests.{eq-eqb, ne-eqb}
 use Rattle.residue.specs.Vector.{Below}
 use Rattle.residue.specs.Layout.{groups}
 use Rattle.residue.specs.Lists.{sameList, keyOf}
-use Rattle.residue.proofs.Vectors.{below-take, below-drop}
+use Rattle.residue.proofs.vector.Vectors.{below-take, below-drop}
 use Rattle.residue.proofs.bytes.Keys.{key-same}
 use Rattle.residue.proofs.Replaced.{part-long}
 use Rattle.specification.specs.Levels.{isAmong}

@@ -8,9 +8,9 @@ use lib.Seq.{length-take-le}
 use Rattle.residue.specs.Vector.{Below}
 use Rattle.residue.specs.Elimination.{eliminated}
 use Rattle.residue.specs.Layout.{groups, over}
-use Rattle.residue.proofs.Vectors.{below-take, below-drop}
-use Rattle.residue.proofs.Eliminated.{eliminated-below}
-use Rattle.residue.proofs.Layouts.{values-below}
+use Rattle.residue.proofs.vector.Vectors.{below-take, below-drop}
+use Rattle.residue.proofs.elimination.Eliminated.{eliminated-below}
+use Rattle.residue.proofs.Layouts.{remainders-below}
 use Rattle.monomial.specs.Monomial.{valueAt}
 use Rattle.monomial.proofs.insert.Writes.{row-in}
 use Rattle.basis.specs.Insertions.{correctedRow, reducedRow}
@@ -38,7 +38,7 @@ module _ (d : tie.After-put-term-values) where
   loaded = d .put-term-values .ensures ∙ ap (λ (l : List ℕ). over l (replicate 128 0)) (one-term (s .args .p) (s .args .n) (s .args .a .now) (s .args .points .now) (s .pre .1 .1 .0 .3))
 
   below : Below (s .args .p) work
-  below = subst (Below (s .args .p)) (sym loaded) (values-below (s .args .p) (λ point. valueAt point (s .args .a .now)) (groups 8 (s .args .n) (s .args .points .now)) 128 (omega (arith, s .pre .0)))
+  below = subst (Below (s .args .p)) (sym loaded) (remainders-below (s .args .p) (λ point. valueAt point (s .args .a .now)) (groups 8 (s .args .n) (s .args .points .now)) 128 (omega (arith, s .pre .0)))
 
 slice-aggregate-put-term-values : tie.Need-slice-aggregate-put-term-values
 slice-aggregate-put-term-values c = refl

@@ -7,7 +7,7 @@ use Prim.Native.Nat.{ℕ}
 use native.Mathlib.Omega.{arith}
 use lib.ListN.{length}
 use Rattle.residue.specs.Layout.{groups, fill, inPlaces}
-use Rattle.residue.proofs.Moduli.{modulus-range}
+use Rattle.residue.proofs.level.Moduli.{modulus-range}
 use Rattle.residue.proofs.Tests.{of-true}
 use Rattle.residue.proofs.Layouts.{length-fill}
 use Rattle.specification.specs.Levels.{noRepeat}

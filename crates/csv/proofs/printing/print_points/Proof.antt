@@ -7,7 +7,7 @@ use lib.ListN.{length, take}
 use lib.Seq.{length-take-le}
 use borrow.Author.Needs.{needs}
 use Rattle.residue.specs.Layout.{groups}
-use Rattle.residue.proofs.Moduli.{modulus-range}
+use Rattle.residue.proofs.level.Moduli.{modulus-range}
 use Rattle.residue.proofs.Layouts.{length-fill}
 use Rattle.basis.proofs.Wiring.{names-length}
 use Rattle.basis.proofs.calls.Given.{drawn-long}

@@ -3,8 +3,8 @@ use mathlib.Core.Path.{_≡_, refl, _∙_}
 use Prim.Native.Nat.{_+_, _*_, _-_, _≤_}
 use native.Mathlib.Omega.{arith}
 use lib.ListN.{length, getD}
-use Rattle.residue.proofs.Filled.{filled, filled-none, kept-length, filled-more}
-use Rattle.residue.proofs.bytes.Copies.{front}
+use Rattle.residue.proofs.vector.Filled.{filled, filled-none, kept-length, filled-more}
+use Rattle.residue.proofs.bytes.Copies.{written-front}
 use Rattle.monomial.specs.Columns.{columnOf}
 use Rattle.monomial.proofs.columns.Entries.{column-long, column-at}
 use Rattle.monomial.proofs.columns.put_column.Statement.{statement}
@@ -61,7 +61,7 @@ returns c =
     let a = l .before .args in
     let e = column-long (a .k) (a .n) (a .points .now) in
     l .loop .inv .1
-    ∙ front (λ j. getD (a .points .now) (8 * j + a .k) 0) (columnOf (a .k) (a .n) (a .points .now)) (a .column .now) (l .loop .i) (omega arith) (omega arith)
+    ∙ written-front (λ j. getD (a .points .now) (8 * j + a .k) 0) (columnOf (a .k) (a .n) (a .points .now)) (a .column .now) (l .loop .i) (omega arith) (omega arith)
     (λ i h. column-at (a .k) (a .n) (a .points .now) i (omega arith) (omega arith))
 
 pub put-column-spec : {M : Type 1} → statement M

@@ -4,7 +4,7 @@ use Prim.Native.Nat.{_-_, _≤_}
 use native.Mathlib.Omega.{arith}
 use borrow.Author.Needs.{needs}
 use lib.ListN.{length}
-use Rattle.residue.proofs.Filled.{filled, filled-none, kept-length, filled-more, filled-all}
+use Rattle.residue.proofs.vector.Filled.{filled, filled-none, kept-length, filled-more, filled-all}
 use Rattle.monomial.specs.Order.{orderOf}
 use Rattle.monomial.specs.Rank.{variableRank, stepsOf}
 use Rattle.monomial.proofs.rank.Steps.{steps-long, steps-at}

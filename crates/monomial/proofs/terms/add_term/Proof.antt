@@ -6,7 +6,7 @@ use native.Mathlib.Omega.{arith}
 use lib.ListN.{length, take, drop, replicate, length-replicate}
 use borrow.Author.Needs.{needs}
 use Rattle.residue.specs.Vector.{Below, addScaled}
-use Rattle.monomial.proofs.terms.TermRows.{front-ones, front-made, front-room, monomialRow, row-long, row-below}
+use Rattle.monomial.proofs.terms.TermRows.{front-ones, front-made, front-room, monomialRow, monomialRow-long, monomialRow-below}
 use Rattle.monomial.proofs.terms.add_term.Statement.{statement}
 use Rattle.monomial.proofs.terms.add_term.Tie as tie
 
@@ -15,7 +15,7 @@ module _ (s : tie.Start) where
   row = monomialRow (s .args .p) (s .args .n) (s .args .a .now) (s .args .points .now)
 
   long : length row ≡ s .args .n
-  long = row-long (s .args .p) (s .args .n) (s .args .a .now) (s .args .points .now)
+  long = monomialRow-long (s .args .p) (s .args .n) (s .args .a .now) (s .args .points .now)
 
   ones : take {A = ℕ} (s .args .n) (replicate 64 1) ≡ replicate (s .args .n) 1
   ones = front-ones (s .args .n) 64 (omega arith)
@@ -50,7 +50,7 @@ add-scaled-requires : tie.Need-add-scaled-requires
 add-scaled-requires c κs =
     let m = c .before .before .before in
     let s = start m in
-    (s .pre .0 .0, (s .pre .1 .1 .0 ∙ sym (ap length (front m _) ∙ long s), (s .pre .1 .1 .1, (s .pre .0 .1 .1, subst (Below (s .args .p)) (sym (front m _)) (row-below (s .args .p) (s .args .n) (s .args .a .now) (s .args .points .now) (omega arith))))))
+    (s .pre .0 .0, (s .pre .1 .1 .0 ∙ sym (ap length (front m _) ∙ long s), (s .pre .1 .1 .1, (s .pre .0 .1 .1, subst (Below (s .args .p)) (sym (front m _)) (monomialRow-below (s .args .p) (s .args .n) (s .args .a .now) (s .args .points .now) (omega arith))))))
 
 same-length : tie.Need-same-length
 same-length c = search needs

@@ -3,12 +3,12 @@ use mathlib.Core.Path.{sym, ap, _∙_}
 use Prim.Native.Nat.{ℕ, _-_, _≤_}
 use native.Mathlib.Omega.{arith}
 use lib.ListN.{length, length-replicate}
-use Rattle.monomial.proofs.terms.TermRows.{Left, ones-left, variable-more, all-left}
+use Rattle.monomial.proofs.terms.TermRows.{VariablesLeft, ones-left, variable-more, all-left}
 use Rattle.monomial.proofs.terms.multiply_monomial.Statement.{statement}
 use Rattle.monomial.proofs.terms.multiply_monomial.Tie as tie
 
 abbrev Inv-loop : tie.InvT-loop
-Inv-loop p n a points values₀ k₀ values k = (k ≤ 8) × Left p n a points values k
+Inv-loop p n a points values₀ k₀ values k = (k ≤ 8) × VariablesLeft p n a points values k
 
 abbrev μ-loop : tie.MeasureT-loop
 μ-loop p n a points values₀ k₀ values k = 8 - k

@@ -6,7 +6,7 @@ use native.Mathlib.Omega.{arith}
 use lib.ListN.{length, getD, take, drop, length-drop}
 use lib.Seq.{length-take-le}
 use Rattle.residue.specs.Layout.{groups}
-use Rattle.residue.proofs.Filled.{filled, filled-none, kept-length, filled-more}
+use Rattle.residue.proofs.vector.Filled.{filled, filled-none, kept-length, filled-more}
 use Rattle.residue.proofs.Places.{length-groups, groups-at}
 use Rattle.residue.proofs.bytes.Copies.{mapped}
 use Rattle.monomial.specs.Monomial.{valueAt}

@@ -6,8 +6,8 @@ use native.Mathlib.Nat.{mod-lt}
 use native.Mathlib.Omega.{arith}
 use Rattle.residue.specs.Congruence.{Mod}
 use Rattle.residue.proofs.Congruence.{of}
-use Rattle.residue.proofs.Reduction.{kept}
-use Rattle.residue.proofs.Powers.{even, odd, whole}
+use Rattle.residue.proofs.arithmetic.Reduction.{kept}
+use Rattle.residue.proofs.arithmetic.Powers.{even, odd, whole}
 use Rattle.residue.proofs.arithmetic.power.Statement.{statement}
 use Rattle.residue.proofs.arithmetic.power.Tie as tie
 

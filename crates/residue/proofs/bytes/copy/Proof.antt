@@ -3,7 +3,7 @@ use mathlib.Core.Path.{_≡_, refl, _∙_}
 use Prim.Native.Nat.{_-_, _≤_}
 use native.Mathlib.Omega.{arith}
 use lib.ListN.{length, getD}
-use Rattle.residue.proofs.Filled.{filled, filled-none, kept-length, filled-more}
+use Rattle.residue.proofs.vector.Filled.{filled, filled-none, kept-length, filled-more}
 use Rattle.residue.proofs.bytes.Copies.{copied}
 use Rattle.residue.proofs.bytes.copy.Statement.{statement}
 use Rattle.residue.proofs.bytes.copy.Tie as tie

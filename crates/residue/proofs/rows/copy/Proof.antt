@@ -3,7 +3,7 @@ use mathlib.Core.Path.{_≡_, refl, _∙_}
 use Prim.Native.Nat.{ℕ, _-_, _≤_}
 use native.Mathlib.Omega.{arith}
 use lib.ListN.{length, getD}
-use Rattle.residue.proofs.Filled.{filled, filled-none, kept-length, filled-more, filled-all}
+use Rattle.residue.proofs.vector.Filled.{filled, filled-none, kept-length, filled-more, filled-all}
 use Rattle.residue.proofs.rows.copy.Statement.{statement}
 use Rattle.residue.proofs.rows.copy.Tie as tie
 

@@ -3,12 +3,12 @@ use mathlib.Core.Path.{sym, _∙_}
 use Prim.Native.Nat.{_-_, _≤_}
 use native.Mathlib.Omega.{arith}
 use lib.Seq.{length-take-le}
-use Rattle.residue.proofs.rows.Zeros.{Passed, passed-none, passed-more, passed-hit, passed-end, zero-first}
+use Rattle.residue.proofs.rows.Zeros.{ZerosPassed, passed-none, passed-more, passed-hit, passed-end, zero-first}
 use Rattle.residue.proofs.rows.first_nonzero.Statement.{statement}
 use Rattle.residue.proofs.rows.first_nonzero.Tie as tie
 
 abbrev Inv-loop : tie.InvT-loop
-Inv-loop work n q₀ q = (q ≤ n) × Passed n work q
+Inv-loop work n q₀ q = (q ≤ n) × ZerosPassed n work q
 
 abbrev μ-loop : tie.MeasureT-loop
 μ-loop work n q₀ q = n - q

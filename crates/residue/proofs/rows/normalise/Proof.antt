@@ -13,8 +13,8 @@ use Rattle.residue.specs.Modulus.{isModulus}
 use Rattle.residue.specs.Inverse.{inverseOf}
 use Rattle.residue.specs.Vector.{Below, scaled}
 use Rattle.residue.specs.Rows.{pivotRow}
-use Rattle.residue.proofs.Inverses.{inverse-below, no-modulus, no-residue}
-use Rattle.residue.proofs.Vectors.{scaled-length, scaled-at, below-take, below-set}
+use Rattle.residue.proofs.inverse.Inverses.{inverse-below, no-modulus, no-residue}
+use Rattle.residue.proofs.vector.Vectors.{scaled-length, scaled-at, below-take, below-set}
 use Rattle.residue.proofs.rows.normalise.Statement.{statement}
 use Rattle.residue.proofs.rows.normalise.Tie as tie
 

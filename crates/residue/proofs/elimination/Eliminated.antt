@@ -14,7 +14,7 @@ use Rattle.residue.specs.Congruence.{Mod}
 use Rattle.residue.specs.Vector.{Below, addScaled}
 use Rattle.residue.specs.Elimination.{cancelled, eliminated, gained, reduced}
 use Rattle.residue.proofs.Congruence.{rfl, of, flip, reduce, negative, scale, multiple, _then_, _plus_, _times_}
-use Rattle.residue.proofs.Vectors.{zip-length, zip-at, map-at, addScaled-length, addScaled-at, addScaled-below}
+use Rattle.residue.proofs.vector.Vectors.{zip-length, zip-at, map-at, addScaled-length, addScaled-at, addScaled-below}
 
 -- A cancellation.
 module _ (p : ℕ) (row : List ℕ) (at : ℕ) (w : List ℕ) where

@@ -11,7 +11,7 @@ use borrow.Author.Tests.{eqb-true, eqb-false}
 use lib.Dec.{eqb, ltb}
 use lib.ListN.{getD}
 use Rattle.residue.proofs.Tests.{Decides, so, not-so, told-true, true-told, told-false}
-use Rattle.monomial.specs.Candidate.{isOf, passed, parentsOf, occurringIn}
+use Rattle.monomial.specs.Candidate.{isOf, productsPassed, parentsOf, occurringIn}
 use Rattle.monomial.proofs.candidate.Turns.{parents}
 use Rattle.monomial.proofs.candidate.Products.{Product, product-told, passed-later}
 
@@ -89,11 +89,11 @@ module _ (found : ℕ) (ranks steps : List ℕ) (r : ℕ) (at : List ℕ) where
   parents-count zero = refl
   parents-count (suc i) = go _ _ same (parents-count i)
     where
-      same : isOf found ranks steps r (passed found ranks steps r at i) i ≡ test i
+      same : isOf found ranks steps r (productsPassed found ranks steps r at i) i ≡ test i
       same = ap (λ (z : ℕ). ltb z found && eqb (getD ranks z 0 + getD steps i 0) r) (passed-later found ranks steps r at i i (omega arith))
 
       go : (b c : Bool) → b ≡ c → parentsOf found ranks steps r at i .count ≡ count test i →
-          cond b (parents (parentsOf found ranks steps r at i .count + 1) i (getD (passed found ranks steps r at i) i 0)) (parentsOf found ranks steps r at i) .count
+          cond b (parents (parentsOf found ranks steps r at i .count + 1) i (getD (productsPassed found ranks steps r at i) i 0)) (parentsOf found ranks steps r at i) .count
           ≡ cond c (count test i + 1) (count test i)
       go true true e ih = ap (λ (z : ℕ). z + 1) ih
       go true false e ih = absurd (true≢false e)

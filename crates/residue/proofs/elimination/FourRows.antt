@@ -10,9 +10,9 @@ use Rattle.residue.specs.Congruence.{Mod}
 use Rattle.residue.specs.Vector.{Below}
 use Rattle.residue.specs.Elimination.{cancelled, eliminated, gained, gainedFour, met, reduced, ZeroFrom, ZeroBehind}
 use Rattle.residue.proofs.Congruence.{rfl, of, flip, _then_}
-use Rattle.residue.proofs.Filled.{filled, filled-front}
-use Rattle.residue.proofs.Vectors.{below-take, below-drop}
-use Rattle.residue.proofs.Eliminated.{gained-length, gained-at, gained-below, cancel-gained, met-at}
+use Rattle.residue.proofs.vector.Filled.{filled, filled-front}
+use Rattle.residue.proofs.vector.Vectors.{below-take, below-drop}
+use Rattle.residue.proofs.elimination.Eliminated.{gained-length, gained-at, gained-below, cancel-gained, met-at}
 
 -- the rows of a block
 module _ (block : List ℕ) (full : length block ≡ 512) where
