@@ -22,7 +22,10 @@ abbrev pub numeral : List ℕ → ℕ
 numeral [] = 0
 numeral (d ∷ ds) = d * 128 ^ length ds + numeral ds
 
--- 56 bits for 8 exponents
+-- every rank is below this: 56 bits for 8 exponents
+abbrev pub rankBound : ℕ
+rankBound = 2 ^ 56
+
 unfoldable pub rankOf : Order → List ℕ → ℕ
 rankOf order a = numeral (key order a)
 

@@ -1,10 +1,11 @@
 // Which monomial comes next in drawing up. For each variable the products with the standard monomials found increase; `at` has, for each variable, how
 // many of them are passed. `ranks` has the ranks of the standard monomials, `steps` those of the variables.
 ghost use mathlib.Core.Path.{_≡_};
-ghost use Prim.Native.Nat.{_^_, _≤_};
+ghost use Prim.Native.Nat.{_≤_};
 ghost use lib.ListN.{length};
 ghost use Rattle.residue.specs.Vector.{Below};
 ghost use Rattle.monomial.specs.Candidate.{leastOf, productsPassed, parentsOf, occurringIn, searchEnds, nextOf};
+ghost use Rattle.monomial.specs.Rank.{rankBound};
 
 pub enum LeastRank {
     Of(u64),
@@ -15,8 +16,8 @@ pub enum LeastRank {
 fn least(m: usize, found: usize, ranks: &[u64], steps: &[u64], at: &[u8]) -> LeastRank
     requires { ⌜ (m ≤ 8) × (found ≤ 64) ⌝ }
     requires { ⌜ (length (now ranks) ≡ 64) × (length (now steps) ≡ 8) × (length (now at) ≡ 8) ⌝ }
-    requires { ⌜ Below (2 ^ 56) (now ranks) ⌝ }
-    requires { ⌜ Below (2 ^ 56) (now steps) ⌝ }
+    requires { ⌜ Below rankBound (now ranks) ⌝ }
+    requires { ⌜ Below rankBound (now steps) ⌝ }
     ensures { λ r. ⌜ r ≡ leastOf found (now (ranks .entry)) (now (steps .entry)) (now (at .entry)) m ⌝ }
 {
     let mut best = 9223372036854775808u64;
@@ -46,8 +47,8 @@ pub struct Parents {
 fn pass(m: usize, found: usize, ranks: &[u64], steps: &[u64], at: &mut [u8], rank: u64) -> Parents
     requires { ⌜ (m ≤ 8) × (found ≤ 64) ⌝ }
     requires { ⌜ (length (now ranks) ≡ 64) × (length (now steps) ≡ 8) × (length (now at) ≡ 8) ⌝ }
-    requires { ⌜ Below (2 ^ 56) (now ranks) ⌝ }
-    requires { ⌜ Below (2 ^ 56) (now steps) ⌝ }
+    requires { ⌜ Below rankBound (now ranks) ⌝ }
+    requires { ⌜ Below rankBound (now steps) ⌝ }
     ensures { λ r. ⌜ r ≡ parentsOf found (now (ranks .entry)) (now (steps .entry)) rank (now (at .entry)) m ⌝ }
     ensures { λ r. ⌜ now (at .exit) ≡ productsPassed found (now (ranks .entry)) (now (steps .entry)) rank (now (at .entry)) m ⌝ }
 {
@@ -107,8 +108,8 @@ pub fn next(
 ) -> Candidate
     requires { ⌜ (m ≤ 8) × (found ≤ 64) ⌝ }
     requires { ⌜ (length (now standard) ≡ 512) × (length (now ranks) ≡ 64) × (length (now steps) ≡ 8) × (length (now at) ≡ 8) ⌝ }
-    requires { ⌜ Below (2 ^ 56) (now ranks) ⌝ }
-    requires { ⌜ Below (2 ^ 56) (now steps) ⌝ }
+    requires { ⌜ Below rankBound (now ranks) ⌝ }
+    requires { ⌜ Below rankBound (now steps) ⌝ }
     ensures { λ r. ⌜ searchEnds r (now (at .exit)) ≡ nextOf m found (now (standard .entry)) (now (ranks .entry)) (now (steps .entry)) (now (at .entry)) ⌝ }
 {
     loop {

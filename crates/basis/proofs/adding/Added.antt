@@ -19,8 +19,7 @@ use Rattle.residue.proofs.Layouts.{fill-exact, below-fill, length-fill}
 use Rattle.residue.proofs.Places.{places-append, over-zeros, place-more}
 use Rattle.monomial.specs.Monomial.{valueAt}
 use Rattle.monomial.specs.Order.{orderOf}
-use Rattle.monomial.proofs.Padding.{value-pad}
-use Rattle.monomial.proofs.candidate.Exponents.{fill-pad}
+use Rattle.monomial.proofs.Padding.{value-fill}
 use Rattle.specification.specs.declared.settings.Settings.{Settings}
 use Rattle.specification.specs.Levels.{isAmong}
 use Rattle.specification.specs.Space.{Space}
@@ -233,7 +232,7 @@ module _ {p m o n r : ℕ} {points standard leads coefficients rows pivots point
       let f : Monomial m → List ℕ = λ b. fill 8 (b .0) in
       let back : groups 8 n standard ≡ map f (standardOf D S) = ap₂ (λ (k : ℕ) (t : List ℕ). groups 8 k t) (sym standard-count) standard-is ∙ read q m o (given .few) L 512 (standardOf D S) (omega (arith, standard-count)) in
       let value : (b : Monomial m) → valueAt (fill 8 (P .0)) (fill 8 (b .0)) % suc q ≡ valueAt (P .0) (b .0) % suc q =
-      λ b. ap (λ (z : ℕ). z % suc q) (ap₂ valueAt (fill-pad (P .0) (rw (P .1 .0) (given .few))) (fill-pad (b .0) (rw (b .1) (given .few))) ∙ value-pad (P .0) (b .0) (P .1 .0 ∙ sym (b .1))) in
+      λ b. ap (λ (z : ℕ). z % suc q) (value-fill (P .0) (b .0) (P .1 .0 ∙ sym (b .1)) (rw (P .1 .0) (given .few))) in
       let n64 = length-map (standardOf D S) (λ (b : Monomial m). valueAt (P .0) (b .0) % suc q) in
       ap (λ (z : List ℕ). over z (replicate 64 0))
       (ap (map (λ a. valueAt point a % p)) back ∙ map-map (λ a. valueAt point a % p) f (standardOf D S)

@@ -15,9 +15,8 @@ use Rattle.residue.proofs.Layouts.{fill-twice}
 use Rattle.monomial.specs.Monomial.{valueAt}
 use Rattle.monomial.specs.Order.{Order, cmp}
 use Rattle.monomial.specs.Insert.{insertedAt, placeOf}
-use Rattle.monomial.proofs.Padding.{value-pad}
+use Rattle.monomial.proofs.Padding.{value-fill}
 use Rattle.monomial.proofs.insert.Tables.{place-bound}
-use Rattle.monomial.proofs.candidate.Exponents.{fill-pad}
 use Rattle.specification.specs.Space.{Space}
 use Rattle.specification.specs.Polynomial.{terms}
 use Rattle.specification.specs.Extension.{minus}
@@ -78,7 +77,7 @@ module _ (q m : ℕ) (order : Order) (few : m ≤ 8) where
     unfolding rowValueAt
     row-value-is a cs =
         let vs : List ℕ = map (λ b. valueAt (P .0) (b .0) % suc q) l in
-        let value : valueAt (fill 8 (P .0)) (fill 8 (a .0)) ≡ valueAt (P .0) (a .0) = ap₂ valueAt (fill-pad (P .0) (rw (P .1 .0) few)) (fill-pad (a .0) (rw (a .1) few)) ∙ value-pad (P .0) (a .0) (P .1 .0 ∙ sym (a .1)) in
+        let value : valueAt (fill 8 (P .0)) (fill 8 (a .0)) ≡ valueAt (P .0) (a .0) = value-fill (P .0) (a .0) (P .1 .0 ∙ sym (a .1)) (rw (P .1 .0) few) in
         let both : Mod (suc q) (valueAt (P .0) (a .0) + dotOf cs vs) (rowValue D l a cs P) = of (omega arith) plus values-sum l P cs in
         ap (λ (u : ℕ). (u + dotOf cs vs) % suc q) value ∙ both .same
 

@@ -20,9 +20,8 @@ use Rattle.monomial.specs.Order.{orderOf, cmp}
 use Rattle.monomial.specs.Increasing.{inserted}
 use Rattle.monomial.specs.Insert.{removedAt, placeOf, dividedBy, takenOut, withRowAt}
 use Rattle.monomial.proofs.Algebra.Division.{divides-refl}
-use Rattle.monomial.proofs.Padding.{cmp-pad, divides-pad}
+use Rattle.monomial.proofs.Padding.{cmp-fill, divides-fill, fill-timesVariable}
 use Rattle.monomial.proofs.insert.Tables.{map-inserted, map-removed, inserted-long, removed-long, place-map, place-bound, table-in, table-out}
-use Rattle.monomial.proofs.candidate.Exponents.{fill-pad, fill-timesVariable}
 use Rattle.specification.specs.Space.{Space}
 use Rattle.specification.specs.Polynomial.{Distinct}
 use Rattle.specification.specs.Extension.{without, divided, extended}
@@ -53,10 +52,10 @@ module _ (q m o : ℕ) (few : m ≤ 8) (L : Laws (spaceOf q m (orderOf o))) wher
   table N l = fill N (inPlaces 8 (map (λ (a : Monomial m). a .0) l))
 
   cmp-bytes : (a b : Monomial m) → cmp (orderOf o) (bytes a) (bytes b) ≡ D .cmp a b
-  cmp-bytes a b = ap₂ (cmp (orderOf o)) (fill-pad (a .0) (rw (a .1) few)) (fill-pad (b .0) (rw (b .1) few)) ∙ cmp-pad (a .0) (b .0) (a .1 ∙ sym (b .1)) (orderOf o)
+  cmp-bytes a b = cmp-fill (a .0) (b .0) (a .1 ∙ sym (b .1)) (rw (a .1) few) (orderOf o)
 
   divides-bytes : (a b : Monomial m) → divides (bytes a) (bytes b) ≡ D .divides a b
-  divides-bytes a b = ap₂ divides (fill-pad (a .0) (rw (a .1) few)) (fill-pad (b .0) (rw (b .1) few)) ∙ divides-pad (a .0) (b .0) (a .1 ∙ sym (b .1))
+  divides-bytes a b = divides-fill (a .0) (b .0) (a .1 ∙ sym (b .1)) (rw (a .1) few)
 
   pub read : (N : ℕ) (l : List (Monomial m)) → 8 * length l ≤ N → groups 8 (length l) (table N l) ≡ map bytes l
   read N l h =

@@ -1,7 +1,7 @@
 -- A turn of drawing up decides what the monomial in hand is, by the working row that elimination leaves of its values, and keeps it.
 use mathlib.Core.Path.{_≡_, refl, sym, ap, _∙_}
 use mathlib.Core.List.{List, [], _∷_, _++_, map, map-append}
-use Prim.Native.Nat.{ℕ, suc, _+_, _*_, _^_, _<_, _≤_}
+use Prim.Native.Nat.{ℕ, suc, _+_, _*_, _<_, _≤_}
 use native.Mathlib.Nat.{mod-eq-of-lt, mul-le-mul-left}
 use native.Mathlib.Decide.{ℕ-discrete}
 use native.Mathlib.Omega.{arith}
@@ -25,6 +25,7 @@ use Rattle.residue.proofs.Replaced.{table-more, place-length, place-below, plac
 use Rattle.residue.proofs.elimination.PivotRows.{PivotRows, Working, ZeroAt, vanishes, eliminated-works, eliminated-zero}
 use Rattle.residue.proofs.elimination.NextPivot.{next-pivot}
 use Rattle.monomial.specs.Order.{Order}
+use Rattle.monomial.specs.Rank.{rankBound}
 use Rattle.monomial.proofs.candidate.Exponents.{rank-small}
 use Rattle.specification.specs.Space.{Space}
 use Rattle.specification.specs.Basis.{Row}
@@ -221,7 +222,7 @@ module _ {q m n : ℕ} {order : Order} {S : List (Point (suc q) m)} {p : ℕ} (G
         values-at = values-new;
         ranks-long = length-set ranks found rank ∙ H .ranks-long;
         ranks-below =
-            below-set (2 ^ 56) found rank ranks
+            below-set rankBound found rank ranks
             (rw (B .rank-is) (rank-small (b .0) (rw (b .1) (G .few)) order (omega (arith, standard-total q m order (G .prime) S (G .distinct) b new, G .count, G .most))))
             (H .ranks-below);
         ranked = ranked-more q m order std ranks steps (H .ranked) b rank (B .rank-is) (omega (arith, H .ranks-long, standard-more, G .most));

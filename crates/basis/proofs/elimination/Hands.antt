@@ -21,7 +21,7 @@ use Rattle.monomial.specs.Rank.{key, rankOf, stepsOf}
 use Rattle.monomial.specs.Columns.{columnOf}
 use Rattle.monomial.proofs.rank.Steps.{steps-at}
 use Rattle.monomial.proofs.columns.Entries.{column-long, column-at}
-use Rattle.monomial.proofs.candidate.Exponents.{fill-timesVariable}
+use Rattle.monomial.proofs.Padding.{fill-timesVariable}
 use Rattle.specification.specs.Space.{Space}
 use Rattle.specification.specs.Instance.{Monomial, Point, spaceOf}
 use Rattle.specification.proofs.Instance.{laws, standard-exponent}

@@ -1,7 +1,7 @@
 -- The loop of drawing up, over the lists that the code holds: its head, each turn, and its end.
 use mathlib.Core.Path.{_≡_, refl, sym, ap, ap₂, subst, _∙_}
 use mathlib.Core.List.{List, [], _∷_, _++_}
-use Prim.Native.Nat.{ℕ, suc, _+_, _-_, _*_, _^_, _<_, _≤_}
+use Prim.Native.Nat.{ℕ, suc, _+_, _-_, _*_, _<_, _≤_}
 use native.Mathlib.Omega.{arith}
 use lib.ListN.{length, getD, set, take, drop, replicate, length-append}
 use Rattle.residue.specs.Inverse.{inverseOf}
@@ -14,7 +14,7 @@ use Rattle.monomial.specs.Monomial.{timesVariable}
 use Rattle.monomial.specs.Order.{Order, orderOf}
 use Rattle.monomial.specs.declared.candidate.Candidate.{Candidate}
 use Rattle.monomial.specs.declared.candidate.Candidate.the-variants as Candidate
-use Rattle.monomial.specs.Rank.{stepsOf}
+use Rattle.monomial.specs.Rank.{stepsOf, rankBound}
 use Rattle.monomial.specs.Columns.{columnOf}
 use Rattle.monomial.specs.Candidate.{searchEnds, nextOf}
 use Rattle.specification.specs.declared.settings.Settings.{Settings}
@@ -42,7 +42,7 @@ pub record Sized (p n found : ℕ) (standard leads coefficients rows pivots valu
   pub ranks-long : length ranks ≡ 64
   pub rows-below : Below p rows
   pub values-below : Below p values
-  pub ranks-below : Below (2 ^ 56) ranks
+  pub ranks-below : Below rankBound ranks
   pub pivots-inside : (t : ℕ) → t < found → getD pivots t 0 < n
   pub rows-zero : ZeroBehind n found rows
 

@@ -1,32 +1,27 @@
 -- The 8 bytes of a monomial in the tables, its rank, and the variables that occur in it.
 use mathlib.Core.Path.{_≡_, refl, sym, ap, _∙_}
 use mathlib.Core.Logic.{inl, inr}
-use mathlib.Core.List.{List, [], append-nil}
-use Prim.Native.Nat.{ℕ, _+_, _-_, _^_, _<_, _≤_, compare, Ordering, Ordering·lt}
+use mathlib.Core.List.{List}
+use Prim.Native.Nat.{ℕ, _+_, _-_, _<_, _≤_, compare, Ordering, Ordering·lt}
 use native.Mathlib.Nat.{add-comm}
 use native.Mathlib.Omega.{arith}
 use native.Mathlib.Decide.{decLt, ℕ-discrete}
 use lib.ListN.{length, getD, set, length-set, List·getD-eq-default}
 use lib.Seq.{getD-set-same, getD-set-other, set-set, set-getD}
 use Rattle.residue.specs.Layout.{fill}
-use Rattle.residue.proofs.Layouts.{length-fill, fill-at, fill-append, fill-zeros}
+use Rattle.residue.proofs.Layouts.{length-fill, fill-at}
 use Rattle.monomial.specs.Monomial.{degree, one, timesVariable}
 use Rattle.monomial.specs.Order.{Order, cmp}
-use Rattle.monomial.specs.Rank.{rankOf, variableRank}
+use Rattle.monomial.specs.Rank.{rankOf, variableRank, rankBound}
 use Rattle.monomial.proofs.Algebra.Products.{length-timesVariable, length-variable, degree-timesVariable}
 use Rattle.monomial.proofs.Orders.Answers.{Says, less, same, more, says, said, lt≢eq, gt≢lt}
 use Rattle.monomial.proofs.Orders.Lawful.{lawful}
-use Rattle.monomial.proofs.Padding.{degree-one, pad, length-pad, degree-pad, timesVariable-pad}
-use Rattle.monomial.proofs.rank.Ranks.{rank-pad-cmp, rank-fits, rank-timesVariable}
+use Rattle.monomial.proofs.Padding.{degree-one, degree-fill, fill-timesVariable}
+use Rattle.monomial.proofs.rank.Ranks.{rank-fill-cmp, rank-fits, rank-timesVariable}
 use Rattle.monomial.proofs.candidate.Counts.{Occurs}
 
-pub fill-pad : (a : List ℕ) → length a ≤ 8 → fill 8 a ≡ pad a
-fill-pad a l =
-    let e : length a + (8 - length a) ≡ 8 = omega arith in
-    rw (e, append-nil, fill-zeros) at (fill-append a [] (8 - length a))
-
 -- the rank of a variable is small
-pub variable-small : (order : Order) (k : ℕ) → k < 8 → variableRank order k < 2 ^ 56
+pub variable-small : (order : Order) (k : ℕ) → k < 8 → variableRank order k < rankBound
 unfolding variableRank
 variable-small order k h =
     rank-fits order (timesVariable k (one 8)) (length-variable k 8)
@@ -39,21 +34,16 @@ divided b i h n =
     sym (set-set b i (getD b i 0 - 1) _ ∙ ap (set b i) e ∙ set-getD b i 0)
 
 module _ (a : List ℕ) (l : length a ≤ 8) where
-  -- x_(k+1) times a monomial, in its bytes
-  pub fill-timesVariable : (k : ℕ) → k < length a → fill 8 (timesVariable k a) ≡ timesVariable k (fill 8 a)
-  fill-timesVariable k h =
-      fill-pad (timesVariable k a) (rw (length-timesVariable k a) l) ∙ sym (timesVariable-pad a k h) ∙ ap (λ (z : List ℕ). timesVariable k z) (sym (fill-pad a l))
-
   module _ (order : Order) where
-    pub rank-small : degree a < 128 → rankOf order (fill 8 a) < 2 ^ 56
-    rank-small h = rw (fill-pad a l) (rank-fits order (pad a) (length-pad a l) (rw (degree-pad a) h))
+    pub rank-small : degree a < 128 → rankOf order (fill 8 a) < rankBound
+    rank-small h = rank-fits order (fill 8 a) (length-fill 8 a) (rw (degree-fill a l) h)
 
     pub rank-times : (k : ℕ) → k < length a → rankOf order (fill 8 (timesVariable k a)) ≡ rankOf order (fill 8 a) + variableRank order k
-    rank-times k h = rw (fill-timesVariable k h) (rank-timesVariable order k (fill 8 a) (length-fill 8 a) ∙ add-comm _ _)
+    rank-times k h = rw (fill-timesVariable a l k h) (rank-timesVariable order k (fill 8 a) (length-fill 8 a) ∙ add-comm _ _)
 
     module _ (b : List ℕ) (e : length a ≡ length b) (h : degree a < 128) (k : degree b < 128) where
       compares : compare (rankOf order (fill 8 a)) (rankOf order (fill 8 b)) ≡ cmp order a b
-      compares = rw (fill-pad a l, fill-pad b (omega arith)) (rank-pad-cmp order a b e l h k)
+      compares = rank-fill-cmp order a b e l h k
 
       pub rank-less : cmp order a b ≡ Ordering·lt → rankOf order (fill 8 a) < rankOf order (fill 8 b)
       rank-less u = go (says (rankOf order (fill 8 a)) (rankOf order (fill 8 b))) (compares ∙ u)

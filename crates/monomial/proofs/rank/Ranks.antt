@@ -5,13 +5,15 @@ use Prim.Native.Nat.{ℕ, _+_, _*_, _^_, _<_, _≤_, compare, Ordering}
 use native.Mathlib.Nat.{pow-succ', mul-le-mul-right}
 use native.Mathlib.Omega.{arith}
 use lib.ListN.{length}
+use Rattle.residue.specs.Layout.{fill}
+use Rattle.residue.proofs.Layouts.{length-fill}
 use Rattle.monomial.specs.Monomial.{degree, one, product, timesVariable}
 use Rattle.monomial.specs.Order.{Order, lex, grlex, grevlex, andThen, byFirst, cmp}
-use Rattle.monomial.specs.Rank.{sumsDown, key, numeral, rankOf, variableRank}
+use Rattle.monomial.specs.Rank.{sumsDown, key, numeral, rankOf, variableRank, rankBound}
 use Rattle.monomial.proofs.Algebra.Products.{Aligned, nil, cons, aligned, aligned-length, grow-aligned, variable-product, length-variable}
 use Rattle.monomial.proofs.Orders.Answers.{Says, less, same, more, says, said, compare-self, compare-shift}
 use Rattle.monomial.proofs.Orders.Keys.{key-aligned, key-cmp, key-product}
-use Rattle.monomial.proofs.Padding.{pad, degree-pad, cmp-pad, length-pad}
+use Rattle.monomial.proofs.Padding.{degree-fill, cmp-fill}
 
 -- each of a list is a digit
 abbrev Digits : List ℕ → Type 0
@@ -84,13 +86,13 @@ module _ (order : Order) where
         let e : Aligned a b = aligned a b l in
         numeral-cmp (key-aligned order e) (key-digits order a h) (key-digits order b k) ∙ sym (key-cmp order e)
 
-  -- and that of the padded ones'
-  pub rank-pad-cmp : (a b : List ℕ) → length a ≡ length b → length a ≤ 8 → degree a < 128 → degree b < 128 →
-      compare (rankOf order (pad a)) (rankOf order (pad b)) ≡ cmp order a b
-  rank-pad-cmp a b l s h k =
-      rank-cmp (pad a) (pad b) (length-pad a s ∙ sym (length-pad b (omega arith))) (rw (degree-pad a) h) (rw (degree-pad b) k) ∙ cmp-pad a b l order
+  -- and that of the bytes that hold them
+  pub rank-fill-cmp : (a b : List ℕ) → length a ≡ length b → length a ≤ 8 → degree a < 128 → degree b < 128 →
+      compare (rankOf order (fill 8 a)) (rankOf order (fill 8 b)) ≡ cmp order a b
+  rank-fill-cmp a b l s h k =
+      rank-cmp (fill 8 a) (fill 8 b) (length-fill 8 a ∙ sym (length-fill 8 b)) (rw (degree-fill a s) h) (rw (degree-fill b (omega arith)) k) ∙ cmp-fill a b l s order
 
-  pub rank-fits : (a : List ℕ) → length a ≡ 8 → degree a < 128 → rankOf order a < 2 ^ 56
+  pub rank-fits : (a : List ℕ) → length a ≡ 8 → degree a < 128 → rankOf order a < rankBound
   unfolding rankOf
   rank-fits a l h =
       let e : length (key order a) ≡ 8 = aligned-length (key-aligned order (aligned a (one 8) l)) ∙ key-one order in

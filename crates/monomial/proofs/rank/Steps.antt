@@ -1,7 +1,7 @@
 -- The ranks of the variables.
 use mathlib.Core.Path.{_≡_, ap, _∙_}
 use mathlib.Core.List.{List, [], _∷_}
-use Prim.Native.Nat.{ℕ, _<_, _^_}
+use Prim.Native.Nat.{ℕ, _<_}
 use native.Mathlib.Omega.{arith}
 use lib.ListN.{length, length-map, getD}
 use lib.Dec.{eqb, eqb→eq}
@@ -9,7 +9,7 @@ use Rattle.residue.specs.Vector.{Below}
 use Rattle.residue.proofs.vector.Vectors.{map-at}
 use Rattle.residue.proofs.level.Moduli.{below-at}
 use Rattle.monomial.specs.Order.{Order}
-use Rattle.monomial.specs.Rank.{variableRank, stepsOf}
+use Rattle.monomial.specs.Rank.{variableRank, stepsOf, rankBound}
 use Rattle.monomial.proofs.candidate.Exponents.{variable-small}
 
 -- the ranks of the variables
@@ -24,5 +24,5 @@ pub steps-at : (order : Order) (k : ℕ) → k < 8 → getD (stepsOf order) k 0 
 unfolding stepsOf
 steps-at order k h = map-at (variableRank order) indices 0 0 k h ∙ ap (variableRank order) (eqb→eq _ _ (below-at (λ i. eqb (getD indices i 0) i) 8 tt k h))
 
-pub steps-below : (order : Order) → Below (2 ^ 56) (stepsOf order)
+pub steps-below : (order : Order) → Below rankBound (stepsOf order)
 steps-below order i h = let l = steps-long order in rw (steps-at order i (omega arith)) (variable-small order i (omega arith))

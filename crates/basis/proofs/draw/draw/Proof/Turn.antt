@@ -2,7 +2,7 @@
 use mathlib.Core.Path.{_≡_, sym, ap, subst, _∙_}
 use mathlib.Core.Logic.{⊎-elim}
 use mathlib.Core.List.{List}
-use Prim.Native.Nat.{ℕ, _+_, _*_, _-_, _^_, _<_, _≤_}
+use Prim.Native.Nat.{ℕ, _+_, _*_, _-_, _<_, _≤_}
 use native.Mathlib.Omega.{arith}
 use lib.ListN.{length, take, drop}
 use Rattle.residue.specs.Vector.{Below}
@@ -11,6 +11,7 @@ use Rattle.residue.proofs.Layouts.{length-fill}
 use Rattle.residue.proofs.rows.Zeros.{first-most}
 use Rattle.monomial.specs.Order.{orderOf}
 use Rattle.monomial.specs.Columns.{columnOf}
+use Rattle.monomial.specs.Rank.{rankBound}
 use Rattle.monomial.proofs.rank.Steps.{steps-long, steps-below}
 use Rattle.monomial.proofs.columns.Entries.{column-below, column-in}
 use Rattle.basis.specs.Drawing.{productValues, settingsOf, PointsGiven}
@@ -108,8 +109,8 @@ module _ (j : tie.Joined1 Inv-loop μ-loop) where
   pub steps-8 : length steps ≡ 8
   steps-8 = ap length (ranked .put-steps .ensures) ∙ steps-long (orderOf (start above .args .order))
 
-  pub steps-small : Below (2 ^ 56) steps
-  steps-small = subst (Below (2 ^ 56)) (sym (ranked .put-steps .ensures)) (steps-below (orderOf (start above .args .order)))
+  pub steps-small : Below rankBound steps
+  steps-small = subst (Below rankBound) (sym (ranked .put-steps .ensures)) (steps-below (orderOf (start above .args .order)))
 
   pub columns-512 : length columns ≡ 512
   columns-512 = ap length (gathered .put-columns .ensures) ∙ length-fill 512 _
