@@ -1,4 +1,4 @@
--- Terms of a polynomial along their places: which exponents are 0, values, and which variables occur in a combination.
+-- Terms of a polynomial along their places: which exponents are 0, values in the space, and which variables occur in a combination.
 use mathlib.Core.Path.{_≡_, refl, sym, _∙_, ap₂}
 use mathlib.Core.Bool.{Bool, true, false, not, _&&_, _||_}
 use mathlib.Core.List.{List, [], _∷_, map}
@@ -22,7 +22,7 @@ use Rattle.specification.specs.Polynomial.{eval}
 use Rattle.specification.specs.Instance.{Point, monomialOf, spaceOf}
 use Rattle.specification.specs.Solving.{withinVariables, occurs, polynomialOf}
 
--- Has no term a variable above m? The same, term by term.
+-- Has no term a variable above m? Term by term.
 module _ (m k i : ℕ) (t : List ℕ) (h : i < k) where
   pub within-on : allZero (drop m (take 8 (drop (8 * i) t))) ≡ true
       → withinVariables m (groups 8 (k - (i + 1)) (drop (8 * (i + 1)) t)) ≡ withinVariables m (groups 8 (k - i) (drop (8 * i) t))

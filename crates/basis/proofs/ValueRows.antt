@@ -1,4 +1,4 @@
--- Laws of what drawing up writes: places of tables, the ranks of the variables, the values of a monomial at the points.
+-- The values of a variable times a monomial, as drawing up makes them.
 use mathlib.Core.Path.{_≡_, sym, ap, ap₂, _∙_}
 use mathlib.Core.List.{List, _++_}
 use Prim.Native.Nat.{ℕ, _*_, _%_, _<_, _≤_}

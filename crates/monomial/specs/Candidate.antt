@@ -36,13 +36,16 @@ module _ (found : ℕ) (ranks steps : List ℕ) where
   -- the next products of the rank passed, for the first k variables
   unfoldable pub productsPassed : ℕ → List ℕ → ℕ → List ℕ
   productsPassed rank at zero = at
-  productsPassed rank at (suc k) = cond (isOf rank (productsPassed rank at k) k) (set (productsPassed rank at k) k (getD (productsPassed rank at k) k 0 + 1)) (productsPassed rank at k)
+  productsPassed rank at (suc k) =
+      cond (isOf rank (productsPassed rank at k) k) (set (productsPassed rank at k) k (getD (productsPassed rank at k) k 0 + 1))
+      (productsPassed rank at k)
 
   -- how many these are, and the last of them: its variable and its standard monomial
   unfoldable pub parentsOf : ℕ → List ℕ → ℕ → Parents
   parentsOf rank at zero = record { count = 0; variable = 0; standard = 0 }
   parentsOf rank at (suc k) =
-      cond (isOf rank (productsPassed rank at k) k) (record { count = parentsOf rank at k .count + 1; variable = k; standard = getD (productsPassed rank at k) k 0 })
+      cond (isOf rank (productsPassed rank at k) k)
+      (record { count = parentsOf rank at k .count + 1; variable = k; standard = getD (productsPassed rank at k) k 0 })
       (parentsOf rank at k)
 
 -- how many of the first i variables occur in x_(k+1) times a

@@ -13,7 +13,7 @@ use Rattle.residue.specs.Vector.{Below}
 use Rattle.residue.proofs.bytes.Equality.{same-self}
 use Rattle.residue.proofs.vector.Vectors.{below-append, below-drop, below-zeros}
 
--- it has k numbers
+-- a list cut or filled up has k numbers
 pub length-fill : (k : ℕ) (l : List ℕ) → length (fill k l) ≡ k
 unfolding fill
 length-fill zero l = refl
@@ -158,7 +158,7 @@ fill-take (suc m) zero l h e = absurd (omega arith)
 fill-take (suc m) (suc k) [] h e = absurd (omega arith)
 fill-take (suc m) (suc k) (x ∷ l) h e = ap (λ (z : List ℕ). x ∷ z) (fill-take m k l (le-of-suc-le-suc h) (le-of-suc-le-suc e))
 
--- values loaded into an empty working row
+-- residues filled up are residues
 pub below-fill : (p k : ℕ) (l : List ℕ) → 0 < p → Below p l → Below p (fill k l)
 below-fill p k l z b i h = rw (fill-at k l i (omega (arith, length-fill k l))) (go (decLt i (length l)))
   where

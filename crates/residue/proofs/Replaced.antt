@@ -83,6 +83,7 @@ module _ (w k : ℕ) (new table : List ℕ) (fits : w * k + w ≤ length table) 
 pub zeros-long : (l : List ℕ) (k : ℕ) → l ≡ replicate k 0 → length l ≡ k
 zeros-long l k e = ap length e ∙ length-replicate k 0
 
+-- values loaded into an empty working row
 pub load : (own work : List ℕ) (n : ℕ) {part : List ℕ} → work ≡ replicate 128 0 → n ≤ length own → n ≤ 128 → part ≡ take n own → part ++ drop n work ≡ fill 128 (take n own)
 unfolding over
 load own work n {part} e h l f =

@@ -1,4 +1,4 @@
--- Searches along the rows of a table: what is left of a search is the whole of it.
+-- The search for the first row that is not 0: what is left of it is the whole of it.
 use mathlib.Core.Path.{_≡_, _∙_, ap}
 use mathlib.Core.Bool.{cond}
 use mathlib.Core.Logic.{_≢_}

@@ -18,6 +18,7 @@ use Rattle.residue.proofs.vector.Vectors.{map-at}
 use Rattle.residue.proofs.level.Moduli.{modulus-range}
 use Rattle.residue.proofs.Layouts.{fill-tail}
 use Rattle.residue.proofs.Places.{table-groups}
+use Rattle.monomial.specs.Monomial.{valueAt as valueOf}
 use Rattle.monomial.specs.Order.{orderOf}
 use Rattle.specification.specs.declared.settings.Settings.{Settings}
 use Rattle.specification.specs.BasisOf.{standardOf, valueAt, interpolantOf, remainderOf}

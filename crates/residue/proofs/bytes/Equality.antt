@@ -50,7 +50,7 @@ module _ (a b : List ℕ) (i : ℕ) (h : i < length a) (k : i < length b) where
   pub same-off : (getD a i 0 ≡ getD b i 0 → ⊥) → sameList (take (i + 1) a) (take (i + 1) b) ≡ false
   same-off e = rw add-one (same-more a b i h k ∙ rw (ne-eqb (getD a i 0) (getD b i 0) e) (and-false (sameList (take i a) (take i b))))
 
--- Rows of one length are equal, repeat or stand in a list exactly where they do so filled up.
+-- Rows of one length are equal exactly where they are so filled up.
 pub same-filled : (k : ℕ) (a b : List ℕ) → length a ≡ length b → length a ≤ k → sameList (fill k a) (fill k b) ≡ sameList a b
 unfolding fill sameList
 same-filled k [] [] e h = true-of (sameList (fill k []) (fill k [])) (same-self (fill k []))
