@@ -1,11 +1,7 @@
 -- The lemmas of the crate basis.
-pub mod Copies
-pub mod Keys
 pub mod LevelLists
 pub mod PointTables
 pub mod Terms
-pub mod TermRows
 pub mod Wiring
-pub mod WorkingRows
 pub mod ValueRows
 pub mod elimination

@@ -1,6 +1,4 @@
 -- The definitions of the crate basis.
-pub mod Working
 pub mod Drawing
 pub mod Interpolants
 pub mod Insertions
-pub mod Candidates

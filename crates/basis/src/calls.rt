@@ -1,16 +1,16 @@
 // The public calls that draw up and check tables. Every refusal is decided before a lent byte is written.
-use crate::bytes;
 use crate::draw::draw;
 use crate::points;
 use crate::recognise::recognise;
 use crate::refusal;
 use crate::settings::refused;
+use residue::bytes;
 use specification::settings::Answer;
 use specification::settings::Settings;
 ghost use mathlib.Core.Path.{_≡_};
 ghost use Prim.Native.Nat.{_≤_};
 ghost use lib.ListN.{length};
-ghost use Rattle.specification.specs.Layout.{over};
+ghost use Rattle.residue.specs.Layout.{over};
 ghost use Rattle.specification.specs.Tables.{fourTables, rowCount, tablesOf, pointsIn};
 ghost use Rattle.specification.specs.Adding.{ended, drawOutcome};
 ghost use Rattle.specification.specs.Solving.{checkRefusal};

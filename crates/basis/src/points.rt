@@ -8,8 +8,9 @@ ghost use mathlib.Core.List.{map};
 ghost use Prim.Native.Nat.{_*_, _%_, _≤_};
 ghost use lib.ListN.{length, replicate};
 ghost use Rattle.residue.specs.Level.{residueOf};
-ghost use Rattle.specification.specs.Levels.{residueOr0, inRange, residues, groups, keyOf, isAmong, noRepeat};
-ghost use Rattle.specification.specs.Layout.{fill, inPlaces, over};
+ghost use Rattle.residue.specs.Layout.{groups, fill, inPlaces, over};
+ghost use Rattle.residue.specs.Lists.{keyOf};
+ghost use Rattle.specification.specs.Levels.{residueOr0, inRange, residues, isAmong, noRepeat};
 ghost use Rattle.specification.specs.Tables.{pointsIn};
 
 // Whether each level has a residue.

@@ -7,9 +7,9 @@ ghost use mathlib.Core.Path.{_≡_};
 ghost use mathlib.Core.Bool.{true};
 ghost use Prim.Native.Nat.{_≤_};
 ghost use lib.ListN.{length, replicate};
+ghost use Rattle.residue.specs.Layout.{fill, inPlaces};
 ghost use Rattle.specification.specs.Refusal.{firstOf};
 ghost use Rattle.specification.specs.Settings.{settingsCases};
-ghost use Rattle.specification.specs.Layout.{fill, inPlaces};
 ghost use Rattle.specification.specs.Tables.{fourTables, pointsIn, recognised};
 ghost use Rattle.basis.specs.Drawing.{Solves};
 

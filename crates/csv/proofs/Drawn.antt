@@ -9,19 +9,18 @@ use lib.ListN.{length, getD, take, length-map}
 use Rattle.residue.specs.Lists.{Among}
 use Rattle.residue.specs.Modulus.{isModulus}
 use Rattle.residue.specs.Vector.{Below}
-use Rattle.residue.proofs.Moduli.{modulus-range}
+use Rattle.residue.specs.Layout.{groups, fill, inPlaces}
+use Rattle.residue.proofs.level.Moduli.{modulus-range}
+use Rattle.residue.proofs.Layouts.{take-fill}
+use Rattle.residue.proofs.Places.{table-groups}
 use Rattle.monomial.specs.Order.{orderOf}
 use Rattle.specification.specs.declared.settings.Settings.{Settings}
-use Rattle.specification.specs.Levels.{groups}
-use Rattle.specification.specs.Layout.{fill, inPlaces}
 use Rattle.specification.specs.Polynomial.{Distinct}
 use Rattle.specification.specs.BasisOf.{basisOf, standardOf, leadsOf, rowOf, rowsOf, interpolantOf}
 use Rattle.specification.specs.Instance.{Monomial, Point, pointOf}
 use Rattle.specification.specs.Tables.{spaceUnder, pointsUnder, rowCount, tablesOf}
 use Rattle.specification.specs.Solving.{Names}
-use Rattle.specification.proofs.Layouts.{take-fill}
 use Rattle.specification.proofs.Instance.{standard-exponent, lead-exponent}
-use Rattle.specification.proofs.Places.{table-groups}
 use Rattle.specification.proofs.ideal.Lists.{getD-among, among-map}
 use Rattle.specification.proofs.ideal.Basis.{interpolant-fits}
 use Rattle.specification.proofs.ideal.Counts.{standard-length}

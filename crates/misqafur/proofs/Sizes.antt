@@ -8,13 +8,13 @@ use native.Mathlib.Omega.{arith}
 use lib.ListN.{length}
 use lib.Dec.{eqb, leb, ltb}
 use borrow.Author.Tests.{ltb-false, eqb-true, not-false}
+use Rattle.residue.proofs.Tests.{neither}
 use Rattle.specification.specs.declared.settings.Settings.{Settings}
 use Rattle.specification.specs.Refusal.{firstOf}
 use Rattle.specification.specs.Settings.{settingsCases}
 use Rattle.specification.specs.Tables.{Tables, tooShort}
 use Rattle.specification.specs.Adding.{Outcome, refused, addOutcome, drawOutcome}
 use Rattle.specification.specs.Solving.{valuesCases, remainderCases}
-use Rattle.specification.proofs.Equality.{neither}
 use Rattle.basis.proofs.adding.Addition.{add-size}
 use Rattle.basis.proofs.calls.Refusing.{sizes, passed, when-refused}
 use Rattle.basis.proofs.calls.Outcomes.{draw-size, values-size, wiring-refused, remainder-size}

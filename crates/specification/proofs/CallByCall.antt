@@ -10,7 +10,7 @@ use lib.ListN.{length, length-map}
 use lib.Dec.{T, ltb}
 use borrow.Author.Tests.{eqb-true, ltb-false, leb-false, not-false}
 use Rattle.residue.specs.Lists.{Among}
-use Rattle.residue.proofs.Moduli.{modulus-range}
+use Rattle.residue.proofs.level.Moduli.{modulus-range}
 use Rattle.specification.specs.declared.settings.Settings.{Settings}
 use Rattle.specification.specs.Refusal.{firstOf}
 use Rattle.specification.specs.Levels.{inRange, residues, noRepeat}
@@ -23,7 +23,8 @@ use Rattle.specification.specs.Adding.{holding, byRefusal, pointsOffered
 use Rattle.specification.specs.Solving.{checkRefusal, filling, valuesCases, interpolantIn, interpolateOutcome, polynomialUnder, remainderCases, remainderIn, remainderOutcome}
 use Rattle.specification.specs.Agreement.{Remains}
 use Rattle.specification.specs.CallByCall.{HoldsBasis, Interpolates}
-use Rattle.specification.proofs.Equality.{of-true, neither, is-among}
+use Rattle.residue.proofs.Tests.{of-true, neither}
+use Rattle.specification.proofs.Repeats.{is-among}
 use Rattle.specification.proofs.ideal.Lists.{among-map}
 use Rattle.specification.proofs.ideal.Basis.{basis-is, interpolant-fits, interpolant-values, remainder-fits}
 use Rattle.specification.proofs.ideal.Division.{basis-reduced}

@@ -7,7 +7,7 @@ use native.Mathlib.Decide.{ℕ-discrete}
 use native.Mathlib.Omega.{arith}
 use lib.Dec.{T, eqb}
 use borrow.Author.Tests.{eq-eqb, ne-eqb}
-use Rattle.specification.proofs.Equality.{and-left, and-right}
+use Rattle.residue.proofs.Tests.{and-left, and-right}
 use Rattle.specification.specs.Refusal.{Case, firstOf}
 
 -- no case has the number 0

@@ -10,17 +10,21 @@ use lib.IntN.{ℤ, pos, negsuc}
 use lib.ListN.{length, replicate, length-replicate, length-append}
 use lib.Dec.{T}
 use borrow.Author.Tests.{le-leb, le-ltb, eq-eqb}
-use Rattle.residue.specs.Lists.{Among}
+use Rattle.residue.specs.Lists.{Among, sameList}
 use Rattle.residue.specs.Modulus.{primes, isOneOf, isModulus}
 use Rattle.residue.specs.Inverse.{inverseBelow, inverseOf}
 use Rattle.residue.specs.Level.{residueOf}
 use Rattle.residue.specs.declared.level.Level.the-variants.{Residue}
+use Rattle.residue.specs.Layout.{fill, begins}
+use Rattle.residue.proofs.level.Moduli.{below, below-at}
+use Rattle.residue.proofs.Tests.{and-left, and-right}
+use Rattle.residue.proofs.bytes.Equality.{same-is}
+use Rattle.residue.proofs.Layouts.{fill-zeros, over-all, begins-over, length-fill}
 use Rattle.monomial.specs.Order.{orderOf, cmp}
 use Rattle.specification.specs.declared.settings.Settings.{Settings}
 use Rattle.specification.specs.Refusal.{firstOf}
 use Rattle.specification.specs.Settings.{settingsCases}
-use Rattle.specification.specs.Levels.{isResidue, residueOr0, inRange, residues, sameList, isAmong}
-use Rattle.specification.specs.Layout.{fill, begins}
+use Rattle.specification.specs.Levels.{isResidue, residueOr0, inRange, residues, isAmong}
 use Rattle.specification.specs.Extension.{slot, minus, without, divided, extended, gap, first, newton, grow}
 use Rattle.specification.specs.BasisOf.{basisOf, valueAt, standardOf, leadsOf, rowsOf}
 use Rattle.specification.specs.Instance.{monomialOf, pointOf}
@@ -28,9 +32,7 @@ use Rattle.specification.specs.Tables.{spaceUnder, pointsUnder}
 use Rattle.specification.specs.Solving.{Names, occurs, polynomialOf}
 use Rattle.specification.specs.Reference.{addition, referenceAnswer, referenceAfter, numbers, fed, dueAt, due, Refuses}
 use Rattle.specification.specs.Examples.{Example, Holds, Tabled, under, anyOrder, fresh, A, examples}
-use Rattle.residue.proofs.Moduli.{below, below-at}
-use Rattle.specification.proofs.Equality.{true-of, and-left, and-right, same-is}
-use Rattle.specification.proofs.Layouts.{length-fill, fill-zeros, over-all, begins-over}
+use Rattle.residue.proofs.Tests.{true-of}
 use Rattle.specification.proofs.agreement.Claim.{agreement}
 
 -- lists of lists are equal where the test says so

@@ -4,7 +4,7 @@ use mathlib.Core.List.{List, [], _∷_}
 use mathlib.Core.Logic.{inl, inr, _≢_}
 use mathlib.Core.Bool.{true}
 use mathlib.Core.HLevel.{Σ-prop-path, ×-prop, Unit-prop}
-use Prim.Native.Nat.{ℕ, zero, suc, _%_, _≤_, _<_}
+use Prim.Native.Nat.{ℕ, suc, _%_, _≤_, _<_}
 use native.Mathlib.Nat.{ℕ-set, suc-inj, mod-eq-of-lt}
 use native.Mathlib.Omega.{arith}
 use native.Mathlib.Decide.{ℕ-discrete}
@@ -12,10 +12,12 @@ use lib.ListN.{length, getD}
 use lib.Ieee.Bits.{is-true}
 use lib.Dec.{T, T-prop, ltb, ltb→lt}
 use Rattle.residue.specs.Congruence.{Mod}
-use Rattle.residue.specs.Lists.{Among}
+use Rattle.residue.specs.Lists.{Among, sameList}
 use Rattle.residue.specs.Modulus.{isModulus}
 use Rattle.residue.proofs.Congruence.{small}
-use Rattle.residue.proofs.Inverses.{inverse-mod, one-not-zero}
+use Rattle.residue.proofs.inverse.Inverses.{inverse-mod, one-not-zero}
+use Rattle.residue.proofs.bytes.Equality.{same-is, same-self}
+use Rattle.residue.proofs.Layouts.{fill-exact}
 use Rattle.monomial.specs.Monomial.{degree, timesVariable}
 use Rattle.monomial.specs.Order.{Order, cmp}
 use Rattle.monomial.proofs.Algebra.Division.{Step, divides-trans, divides-one, one-divides, divides-timesVariable, step, gap}
@@ -24,13 +26,11 @@ use Rattle.monomial.proofs.Orders.Lawful.{lawful, told-by}
 use Rattle.monomial.proofs.Orders.Descent.{wf}
 use Rattle.monomial.proofs.Orders.Growth.{cmp-timesVariable, divisor-smaller, timesVariable-greater}
 use Rattle.monomial.proofs.Padding.{degree-one}
+use Rattle.monomial.proofs.Algebra.Products.{degree-timesVariable, exponent-degree}
 use Rattle.specification.specs.Space.{Divides}
 use Rattle.specification.specs.Polynomial.{Distinct}
-use Rattle.specification.specs.Levels.{sameList}
 use Rattle.specification.specs.BasisOf.{standardOf, leadsOf}
 use Rattle.specification.specs.Instance.{Monomial, Residues, Point, reduced, pointOf, spaceOf}
-use Rattle.specification.proofs.Equality.{same-is, same-self}
-use Rattle.specification.proofs.Layouts.{fill-exact}
 use Rattle.specification.proofs.ideal.Laws.{Laws}
 use Rattle.specification.proofs.ideal.Counts.{lead-degree, standard-degree}
 
@@ -86,17 +86,6 @@ module _ (q m : ℕ) (order : Order) where
     where
       away : (P Q : Point (suc q) m) → (k : ℕ) × (k < length (P .0)) × ¬ Mod (suc q) (getD (P .0) k 0) (getD (Q .0) k 0) → (k : ℕ) × (k < m) × ¬ Mod (suc q) (getD (P .0) k 0) (getD (Q .0) k 0)
       away P Q t = (t .0, rw (P .1 .0) at (t .1), t .2)
-
--- exponents and degrees
-pub degree-timesVariable : (k : ℕ) (a : List ℕ) → k < length a → degree (timesVariable k a) ≡ suc (degree a)
-degree-timesVariable k [] h = absurd (omega arith)
-degree-timesVariable zero (y ∷ a) h = omega arith
-degree-timesVariable (suc k) (y ∷ a) h = omega (arith, degree-timesVariable k a (omega arith))
-
-exponent-degree : (a : List ℕ) (i : ℕ) → getD a i 0 ≤ degree a
-exponent-degree [] i = omega arith
-exponent-degree (y ∷ a) zero = omega arith
-exponent-degree (y ∷ a) (suc i) = omega (arith, exponent-degree a i)
 
 -- Every exponent of a table fits a byte: n is at most 64.
 module _ (q m : ℕ) (order : Order) (p : isModulus (suc q) ≡ true) (S : List (Point (suc q) m)) (d : Distinct (spaceOf q m order) S) where

@@ -1,8 +1,6 @@
 -- The theory over the definitions: the basis exists, is unique and is what is computed; agreement; the worked examples.
 pub mod Cases
-pub mod Equality
-pub mod Layouts
-pub mod Places
+pub mod Repeats
 pub mod ideal
 pub mod agreement
 pub mod Instance

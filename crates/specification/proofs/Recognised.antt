@@ -14,19 +14,20 @@ use lib.Seq.{length-take-le}
 use lib.Dec.{T, eqb}
 use borrow.Author.Tests.{eqb-true}
 use Rattle.residue.specs.Lists.{Among}
-use Rattle.residue.proofs.Moduli.{modulus-range}
+use Rattle.residue.proofs.level.Moduli.{modulus-range}
 use Rattle.specification.specs.declared.settings.Settings.{Settings}
 use Rattle.specification.specs.Refusal.{Case, firstOf}
 use Rattle.specification.specs.Settings.{settingsCases}
-use Rattle.specification.specs.Levels.{inRange, residues, groups, noRepeat}
-use Rattle.specification.specs.Layout.{begins}
+use Rattle.specification.specs.Levels.{inRange, residues, noRepeat}
+use Rattle.residue.specs.Layout.{groups}
+use Rattle.residue.specs.Layout.{begins}
 use Rattle.specification.specs.Instance.{Point, reduced, pointOf}
 use Rattle.specification.specs.Tables.{Tables, pointsUnder, rowCount, tablesOf, pointsIn, recognised}
 use Rattle.specification.specs.Adding.{pointsOffered}
 use Rattle.specification.proofs.Cases.{numbered, None, none-holds, first-stop}
 use Rattle.specification.proofs.Instance.{point-of}
-use Rattle.specification.proofs.Layouts.{fill-exact}
-use Rattle.specification.proofs.Places.{length-groups}
+use Rattle.residue.proofs.Layouts.{fill-exact}
+use Rattle.residue.proofs.Places.{length-groups}
 use Rattle.specification.proofs.ideal.Lists.{among-map}
 use Rattle.specification.proofs.agreement.Points.{IsPoint, Points, residues-same, length-residues}
 use Rattle.specification.proofs.agreement.Refusals.{Accepted, settings-pass}

@@ -8,9 +8,9 @@ use lib.IntN.{ℤ}
 use lib.ListN.{length, take}
 use lib.Dec.{T}
 use Rattle.residue.specs.Lists.{Among}
+use Rattle.residue.specs.Layout.{fill, over, begins}
 use Rattle.specification.specs.declared.settings.Settings.{Settings}
 use Rattle.specification.specs.Levels.{inRange, noRepeat}
-use Rattle.specification.specs.Layout.{fill, over, begins}
 use Rattle.specification.specs.Polynomial.{eval}
 use Rattle.specification.specs.Basis.{IsBasis, Fits}
 use Rattle.specification.specs.BasisOf.{standardOf, leadsOf, rowsOf}

@@ -7,7 +7,7 @@ use lib.ListN.{length, getD}
 use Rattle.residue.specs.Congruence.{Mod}
 use Rattle.specification.specs.declared.settings.Settings.{Settings}
 use Rattle.specification.specs.Levels.{residues}
-use Rattle.specification.specs.Layout.{fill, over}
+use Rattle.residue.specs.Layout.{fill, over}
 use Rattle.specification.specs.Polynomial.{eval, Distinct, terms}
 use Rattle.specification.specs.Basis.{IsBasis, Fits}
 use Rattle.specification.specs.Ideal.{rowPolynomials, ReducedGroebner}

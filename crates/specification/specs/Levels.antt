@@ -2,13 +2,12 @@
 -- has one.
 use mathlib.Core.Bool.{Bool, true, false, not, _&&_, _||_}
 use mathlib.Core.List.{List, [], _∷_, map}
-use Prim.Native.Nat.{ℕ, zero, suc, _+_, _*_}
+use Prim.Native.Nat.{ℕ}
 use lib.IntN.{ℤ}
-use lib.ListN.{getD, take, drop}
-use lib.Dec.{eqb}
 use Rattle.residue.specs.Level.{residueOf}
 use Rattle.residue.specs.declared.level.Level.{Level}
 use Rattle.residue.specs.declared.level.Level.the-variants.{Residue, Outside}
+use Rattle.residue.specs.Lists.{sameList}
 
 unfoldable pub isResidue : Level → Bool
 isResidue (Residue x) = true
@@ -25,23 +24,6 @@ inRange p (z ∷ zs) = isResidue (residueOf p z) && inRange p zs
 
 unfoldable pub residues : ℕ → List ℤ → List ℕ
 residues p zs = map (λ z. residueOr0 (residueOf p z)) zs
-
--- k groups of m
-unfoldable pub groups : {A : Type 0} → ℕ → ℕ → List A → List (List A)
-groups m zero l = []
-groups m (suc k) l = take m l ∷ groups m k (drop m l)
-
--- two lists of numbers are equal
-unfoldable pub sameList : List ℕ → List ℕ → Bool
-sameList [] [] = true
-sameList [] (b ∷ l) = false
-sameList (a ∷ k) [] = false
-sameList (a ∷ k) (b ∷ l) = eqb a b && sameList k l
-
--- the number whose digits to the base 256 the first k entries are
-unfoldable pub keyOf : ℕ → List ℕ → ℕ
-keyOf zero l = 0
-keyOf (suc k) l = 256 * keyOf k l + getD l k 0
 
 -- a point stands in a list of points: points are equal when their residues are
 unfoldable pub isAmong : List ℕ → List (List ℕ) → Bool

@@ -2,7 +2,6 @@
 pub mod Refusal
 pub mod Settings
 pub mod Levels
-pub mod Layout
 pub mod Space
 pub mod Polynomial
 pub mod Basis

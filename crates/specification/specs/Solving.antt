@@ -7,13 +7,13 @@ use Prim.Native.Nat.{ℕ, suc, _*_, _<_}
 use lib.IntN.{ℤ}
 use lib.ListN.{length, getD, drop}
 use lib.Dec.{T, eqb, ltb}
-use Rattle.residue.specs.Lists.{Among}
+use Rattle.residue.specs.Lists.{Among, allZero}
+use Rattle.residue.specs.Layout.{groups, fill, over}
 use Rattle.specification.specs.declared.settings.Settings.{Settings}
 use Rattle.specification.specs.declared.settings.Wired.{Wired}
 use Rattle.specification.specs.Refusal.{Case, firstOf}
 use Rattle.specification.specs.Settings.{settingsCases}
-use Rattle.specification.specs.Levels.{inRange, residues, groups}
-use Rattle.specification.specs.Layout.{fill, over}
+use Rattle.specification.specs.Levels.{inRange, residues}
 use Rattle.specification.specs.BasisOf.{standardOf, interpolantOf, remainderOf}
 use Rattle.specification.specs.Instance.{Monomial, monomialOf}
 use Rattle.specification.specs.Tables.{Tables, spaceUnder, pointsUnder, tooShort, pointsIn, recognised}
@@ -74,9 +74,6 @@ pub record WiringEnds (s : Settings) (n r : ℕ) (t : Tables) (values : List ℤ
       × (a .count ≡ length names) × (end ≡ over (fill 8 names) buffer)
 
 -- The remainder of a polynomial, term after term a coefficient and 8 exponents: 64 bytes.
-unfoldable pub allZero : List ℕ → Bool
-allZero [] = true
-allZero (a ∷ l) = eqb a 0 && allZero l
 
 -- no exponent of a variable above m but 0
 unfoldable pub withinVariables : ℕ → List (List ℕ) → Bool

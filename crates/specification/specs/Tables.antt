@@ -4,10 +4,10 @@ use mathlib.Core.List.{List, map}
 use Prim.Native.Nat.{ℕ, suc, _-_}
 use lib.ListN.{length}
 use lib.Dec.{ltb, eqb}
+use Rattle.residue.specs.Layout.{groups, fill, inPlaces, over, begins}
 use Rattle.monomial.specs.Order.{orderOf}
 use Rattle.specification.specs.declared.settings.Settings.{Settings}
-use Rattle.specification.specs.Levels.{groups, noRepeat}
-use Rattle.specification.specs.Layout.{fill, inPlaces, over, begins}
+use Rattle.specification.specs.Levels.{noRepeat}
 use Rattle.specification.specs.Space.{Space}
 use Rattle.specification.specs.BasisOf.{standardOf, leadsOf, rowsOf}
 use Rattle.specification.specs.Instance.{Point, spaceOf, pointOf}

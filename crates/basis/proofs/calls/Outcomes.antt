@@ -8,13 +8,13 @@ use lib.IntN.{ℤ}
 use lib.ListN.{length}
 use lib.Dec.{eqb, ltb}
 use borrow.Author.Tests.{not-false}
+use Rattle.residue.specs.Layout.{groups, fill, over}
 use Rattle.specification.specs.declared.settings.Settings.{Settings}
 use Rattle.specification.specs.Refusal.{Case, firstOf}
 use Rattle.specification.specs.Settings.{settingsCases}
-use Rattle.specification.specs.Levels.{inRange, groups, noRepeat}
+use Rattle.specification.specs.Levels.{inRange, noRepeat}
 use Rattle.specification.specs.BasisOf.{standardOf}
 use Rattle.specification.specs.Tables.{Tables, spaceUnder, pointsUnder, pointsIn, rowCount, tablesOf, written, tooShort, recognised}
-use Rattle.specification.specs.Layout.{fill, over}
 use Rattle.specification.specs.Adding.{ended, refused, holding, pointsOffered, drawCases, drawRefusal, drawOutcome}
 use Rattle.specification.specs.Solving.{checkRefusal, valuesCases, interpolantIn, Names, WiringEnds, withinVariables, remainderCases}
 use Rattle.basis.proofs.calls.Refusing.{sizes, by-size, by-rest, none-behind, when-refused, when-accepted}

@@ -6,6 +6,7 @@ use Prim.Native.Nat.{ℕ}
 use native.Mathlib.Decide.{ℕ-discrete}
 use lib.Dec.{T, eqb}
 use borrow.Author.Tests.{eq-eqb, ne-eqb, eqb-true}
+use Rattle.residue.specs.Layout.{over, begins}
 use Rattle.specification.specs.declared.settings.Settings.{Settings}
 use Rattle.specification.specs.declared.settings.Answer.{Answer}
 use Rattle.specification.specs.Refusal.{Case, firstOf}
@@ -14,7 +15,6 @@ use Rattle.specification.specs.Levels.{noRepeat}
 use Rattle.specification.specs.Tables.{Tables, fourTables, rowCount, tablesOf, pointsIn, recognised}
 use Rattle.specification.specs.Adding.{Outcome, refused, byRefusal}
 use Rattle.specification.specs.Solving.{Filled, filling}
-use Rattle.specification.specs.Layout.{over, begins}
 use Rattle.specification.proofs.Cases.{numbered, None, none-holds, first-stop, first-on}
 use Rattle.specification.proofs.agreement.Refusals.{Accepted, accepted, settings-pass}
 

@@ -10,13 +10,14 @@ use Rattle.residue.specs.Congruence.{Mod}
 use Rattle.residue.specs.Lists.{Among}
 use Rattle.residue.proofs.Congruence.{rfl, of, flip, _then_, _plus_, _times_, scale, lin, reduce}
 use Rattle.residue.proofs.Sums.{each}
+use Rattle.residue.proofs.Tests.{cond-so, cond-not}
 use Rattle.monomial.specs.Increasing.{inserted}
 use Rattle.specification.specs.Space.{Space}
 use Rattle.specification.specs.Polynomial.{eval, Distinct, terms}
 use Rattle.specification.specs.Basis.{Row}
 use Rattle.specification.specs.Extension.{slot, minus, extended, first, grow}
 use Rattle.specification.specs.BasisOf.{basisOf, standardOf, leadsOf, rowOf, rowsOf}
-use Rattle.specification.proofs.ideal.Laws.{Laws, cond-so, cond-not, zero-told}
+use Rattle.specification.proofs.ideal.Laws.{Laws, zero-told}
 use Rattle.specification.proofs.ideal.Lists.{getD-among, index-of}
 use Rattle.specification.proofs.ideal.Newton.{at, error}
 use Rattle.specification.proofs.ideal.Staircase.{Holds}

@@ -3,9 +3,9 @@ use mathlib.Core.Path.{_≡_, refl, ap, ap₂}
 use mathlib.Core.List.{List, [], _∷_, _++_, map}
 use Prim.Native.Nat.{ℕ, zero, suc}
 use lib.ListN.{length}
+use Rattle.residue.specs.Layout.{fill, inPlaces}
 use Rattle.specification.specs.Space.{Space}
 use Rattle.specification.specs.Polynomial.{Distinct}
-use Rattle.specification.specs.Layout.{fill, inPlaces}
 use Rattle.specification.specs.Basis.{Row, Rows}
 use Rattle.specification.specs.BasisOf.{standardOf, rowOf}
 use Rattle.specification.proofs.ideal.Laws.{Laws}

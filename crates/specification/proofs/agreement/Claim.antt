@@ -6,18 +6,18 @@ use native.Mathlib.Omega.{arith}
 use lib.IntN.{ℤ}
 use lib.ListN.{length, take, drop, replicate, length-take, take-append-drop}
 use lib.Dec.{T}
+use Rattle.residue.specs.Layout.{fill, inPlaces, over, begins}
+use Rattle.residue.proofs.bytes.Equality.{same-is}
+use Rattle.residue.proofs.Layouts.{fill-zeros, length-fill}
 use Rattle.specification.specs.declared.settings.Settings.{Settings}
 use Rattle.specification.specs.Refusal.{firstOf}
 use Rattle.specification.specs.Settings.{settingsCases}
-use Rattle.specification.specs.Layout.{fill, inPlaces, over, begins}
 use Rattle.specification.specs.Polynomial.{Distinct}
 use Rattle.specification.specs.BasisOf.{basisOf, remainderOf}
 use Rattle.specification.specs.Tables.{Tables, spaceUnder, pointsUnder, rowCount, tablesOf, written}
 use Rattle.specification.specs.Solving.{filling, polynomialUnder, remainderIn, remainderCases, remainderOutcome}
 use Rattle.specification.specs.Reference.{Event, Held, numbers, heldAtEnd, referenceAtEnd, due, Refuses}
 use Rattle.specification.specs.Agreement.{Fresh, freshly, Remains, Agrees}
-use Rattle.specification.proofs.Equality.{same-is}
-use Rattle.specification.proofs.Layouts.{length-fill, fill-zeros}
 use Rattle.specification.proofs.ideal.Laws.{Laws}
 use Rattle.specification.proofs.ideal.Basis.{basis-is, remainder-fits}
 use Rattle.specification.proofs.agreement.Points.{no-points}

@@ -12,13 +12,16 @@ use lib.Dec.{T, eqb, ltb}
 use borrow.Author.Tests.{eq-eqb, le-ltb}
 use Rattle.residue.specs.Lists.{Among}
 use Rattle.residue.specs.Modulus.{isModulus}
-use Rattle.residue.proofs.Moduli.{modulus-range}
+use Rattle.residue.specs.Layout.{groups, fill, over}
+use Rattle.residue.proofs.level.Moduli.{modulus-range}
+use Rattle.residue.proofs.Tests.{true-of}
+use Rattle.residue.proofs.Layouts.{take-over, length-fill}
+use Rattle.residue.proofs.Places.{length-groups}
 use Rattle.monomial.specs.Order.{orderOf}
 use Rattle.specification.specs.declared.settings.Settings.{Settings}
 use Rattle.specification.specs.Refusal.{firstOf}
 use Rattle.specification.specs.Settings.{settingsCases}
-use Rattle.specification.specs.Levels.{inRange, residues, groups, noRepeat}
-use Rattle.specification.specs.Layout.{fill, over}
+use Rattle.specification.specs.Levels.{inRange, residues, noRepeat}
 use Rattle.specification.specs.Polynomial.{Polynomial, Distinct}
 use Rattle.specification.specs.BasisOf.{standardOf, leadsOf, rowsOf, remainderOf}
 use Rattle.specification.specs.Instance.{Point, pointOf}
@@ -28,9 +31,6 @@ use Rattle.specification.specs.Solving.{Filled, filling, withinVariables
 use Rattle.specification.specs.Reference.{Held}
 use Rattle.specification.specs.Agreement.{Rearranges, SameAs}
 use Rattle.specification.proofs.Instance.{laws}
-use Rattle.specification.proofs.Equality.{true-of}
-use Rattle.specification.proofs.Layouts.{length-fill, take-over}
-use Rattle.specification.proofs.Places.{length-groups}
 use Rattle.specification.proofs.ideal.Laws.{Laws}
 use Rattle.specification.proofs.ideal.Lists.{among-map}
 use Rattle.specification.proofs.ideal.Counts.{standard-length, leads-length}

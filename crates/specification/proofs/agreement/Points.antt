@@ -13,14 +13,15 @@ use Rattle.residue.specs.Lists.{Among}
 use Rattle.residue.specs.Level.{residueOf}
 use Rattle.residue.specs.declared.level.Level.{Level}
 use Rattle.residue.specs.declared.level.Level.the-variants.{Residue, Outside}
-use Rattle.residue.proofs.Levels.{residue-below}
+use Rattle.residue.specs.Layout.{groups, fill, inPlaces, over}
+use Rattle.residue.proofs.level.Levels.{residue-below}
+use Rattle.residue.proofs.Tests.{and-left, and-right, and-both}
+use Rattle.residue.proofs.Layouts.{fill-exact, fill-twice, places-back, table-split}
 use Rattle.specification.specs.declared.settings.Settings.{Settings}
-use Rattle.specification.specs.Levels.{isResidue, residueOr0, inRange, residues, groups, isAmong, noRepeat}
-use Rattle.specification.specs.Layout.{fill, inPlaces, over}
+use Rattle.specification.specs.Levels.{isResidue, residueOr0, inRange, residues, isAmong, noRepeat}
 use Rattle.specification.specs.Instance.{reduced, pointOf}
 use Rattle.specification.specs.Tables.{pointsUnder, pointsIn}
-use Rattle.specification.proofs.Equality.{and-left, and-right, and-both, among-is, is-among}
-use Rattle.specification.proofs.Layouts.{fill-exact, fill-twice, places-back, table-split}
+use Rattle.specification.proofs.Repeats.{among-is, is-among}
 use Rattle.specification.proofs.ideal.Lists.{snoc-of}
 
 -- m residues modulo p, as a point under the settings is

@@ -8,15 +8,15 @@ use lib.ListN.{length}
 use lib.Dec.{eqb, leb, ltb, leb→le, eqb-refl}
 use borrow.Author.Tests.{le-ltb, ltb-false, not-false}
 use Rattle.residue.specs.Modulus.{isModulus}
+use Rattle.residue.specs.Layout.{fill, over, begins}
+use Rattle.residue.proofs.Tests.{true-of, of-true, neither, and-left, and-right}
+use Rattle.residue.proofs.Layouts.{length-over, begins-over, length-fill}
 use Rattle.specification.specs.declared.settings.Settings.{Settings}
 use Rattle.specification.specs.Refusal.{Case, firstOf}
 use Rattle.specification.specs.Settings.{settingsCases}
 use Rattle.specification.specs.Levels.{noRepeat}
-use Rattle.specification.specs.Layout.{fill, over, begins}
 use Rattle.specification.specs.Tables.{Tables, rowCount, tablesOf, written, tooShort, pointsIn, recognised}
 use Rattle.specification.proofs.Cases.{none-holds, first-on}
-use Rattle.specification.proofs.Equality.{true-of, of-true, neither, and-left, and-right}
-use Rattle.specification.proofs.Layouts.{length-fill, length-over, begins-over}
 use Rattle.specification.proofs.agreement.Points.{Points, points-back}
 
 -- What settings that no call refuses say.

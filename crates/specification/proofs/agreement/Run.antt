@@ -10,18 +10,19 @@ use lib.ListN.{length}
 use lib.Dec.{T, eqb, leb}
 use borrow.Author.Tests.{eqb-true, ne-eqb, leb-false}
 use Rattle.residue.specs.Lists.{Among}
-use Rattle.residue.proofs.Moduli.{modulus-range}
+use Rattle.residue.specs.Layout.{fill, over}
+use Rattle.residue.proofs.level.Moduli.{modulus-range}
+use Rattle.residue.proofs.Tests.{of-true}
+use Rattle.residue.proofs.Layouts.{over-over, length-fill}
 use Rattle.specification.specs.declared.settings.Settings.{Settings}
 use Rattle.specification.specs.Refusal.{firstOf}
 use Rattle.specification.specs.Settings.{settingsCases}
 use Rattle.specification.specs.Levels.{inRange, residues, isAmong}
-use Rattle.specification.specs.Layout.{fill, over}
 use Rattle.specification.specs.Tables.{Tables, rowCount, tablesOf, written, tooShort, pointsIn, recognised}
 use Rattle.specification.specs.Adding.{Outcome, refused, holding, byRefusal, addCases, addRefusal, addOutcome}
 use Rattle.specification.specs.Reference
 use Rattle.specification.specs.Reference.{referenceAnswer, referenceAfter, Lent, own, other, Event, addition, interposed, Held, lentTables, tablesAfter, outcomeAt, heldAfter, numbers, heldAtEnd, fed, referenceAtEnd, dueAt, due, Refuses}
-use Rattle.specification.proofs.Equality.{of-true, is-among}
-use Rattle.specification.proofs.Layouts.{length-fill, over-over}
+use Rattle.specification.proofs.Repeats.{is-among}
 use Rattle.specification.proofs.agreement.Points.{Points, levels-point, points-more}
 use Rattle.specification.proofs.agreement.Refusals.{Accepted, accepted, settings-pass, Large, not-short, written-large, written-points, written-recognised}
 

@@ -9,11 +9,12 @@ use Rattle.residue.specs.Congruence.{Mod}
 use Rattle.residue.specs.Lists.{Among}
 use Rattle.residue.proofs.Congruence.{rfl, of, flip, _then_, _plus_, _times_, scale}
 use Rattle.residue.proofs.Sums.{sum-cong, sum-scale}
+use Rattle.residue.proofs.Tests.{cond-so, cond-not}
 use Rattle.specification.specs.Space.{Space}
 use Rattle.specification.specs.Polynomial.{Polynomial, hit, eval, Greatest, Standard, Distinct, terms}
 use Rattle.specification.specs.Basis.{Row, Fits, Rows, IsBasis}
 use Rattle.specification.specs.BasisOf.{basisOf, standardOf, leadsOf, rowOf, rowsOf, valueAt, interpolantOf, remainderOf}
-use Rattle.specification.proofs.ideal.Laws.{Laws, cond-so, cond-not, point-told}
+use Rattle.specification.proofs.ideal.Laws.{Laws, point-told}
 use Rattle.specification.proofs.ideal.Lists.{getD-among}
 use Rattle.specification.proofs.ideal.Polynomials.{pair, Over, terms-over, collect}
 use Rattle.specification.proofs.ideal.Newton.{at, error, interp-unique}

@@ -7,12 +7,13 @@ use native.Mathlib.Omega.{arith}
 use lib.ListN.{length}
 use Rattle.residue.specs.Congruence.{Mod}
 use Rattle.residue.specs.Lists.{Among}
+use Rattle.residue.proofs.Congruence.{_then_, _plus_, scale, zero-left, zero-right, lin}
+use Rattle.residue.proofs.Tests.{dec-of}
 use Rattle.monomial.specs.Increasing.{inserted}
 use Rattle.monomial.proofs.Orders.Increasing.{inserted-only, inserted-increasing, inserted-adds}
-use Rattle.residue.proofs.Congruence.{_then_, _plus_, scale, zero-left, zero-right, lin}
 use Rattle.specification.specs.Space.{Space, Less, Divides}
 use Rattle.specification.specs.Extension.{without, extended}
-use Rattle.specification.proofs.ideal.Laws.{Laws, decided, Compares, lt, eq, gt, compared, same?, less-ne, trans}
+use Rattle.specification.proofs.ideal.Laws.{Laws, Compares, lt, eq, gt, compared, same?, less-ne, trans}
 use Rattle.specification.proofs.ideal.Newton.{at, error, Corrects, cancel, next-base}
 use Rattle.specification.proofs.ideal.Staircase.{Staircase, Holds, normal-form, member?}
 use Rattle.specification.proofs.ideal.ZeroSet.{zeros}
@@ -117,7 +118,7 @@ module _ (D : Space) where
 
           go : (b : Mono) → Among b leads → Divides D b a → Dec (α ≡ b) → (b : Mono) × Among b (extended D leads α m) × Divides D b a
           go b mem d (yes e) = let s = step {a = α} {b = a} (rw e d) (λ u. out (inserted-adds cmp order α l a (inl (sym u)))) in
-              new (s .0) (s .2) (s .5) (decided (divided-told D L (without D α leads) (x (s .0) α)))
+              new (s .0) (s .2) (s .5) (dec-of (divided-told D L (without D α leads) (x (s .0) α)))
           go b mem d (no e) = (b, extended-old D L leads α m b (without-in D L α leads b mem e), d)
 
       -- a new point costs one row and brings up to m

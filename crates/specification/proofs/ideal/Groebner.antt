@@ -14,7 +14,8 @@ use Rattle.specification.specs.Space.{Space, Less, Divides}
 use Rattle.specification.specs.Polynomial.{Polynomial, eval, Vanishes, Leading, Standard, Distinct, terms}
 use Rattle.specification.specs.Basis.{IsBasis, Fits}
 use Rattle.specification.specs.BasisOf.{remainderOf}
-use Rattle.specification.proofs.ideal.Laws.{Laws, decided}
+use Rattle.specification.proofs.ideal.Laws.{Laws}
+use Rattle.residue.proofs.Tests.{dec-of}
 use Rattle.specification.proofs.ideal.Increasing.{divided-told}
 use Rattle.specification.proofs.ideal.Multiples.{divides-self, leading-multiple}
 use Rattle.specification.proofs.ideal.Unique.{fits-unique}
@@ -44,7 +45,7 @@ module _ (D : Space) (L : Laws D) (S : List (D .Pt)) (standard leads : List (D .
 
   -- Every leading monomial is a multiple of a lead.
   pub lead-divides : (a : Mono) → Leading D S a → (c : Mono) × Among c leads × Divides D c a
-  lead-divides a l = go (decided (divided-told D L leads a))
+  lead-divides a l = go (dec-of (divided-told D L leads a))
     where
       go : Dec (Divided a) → Divided a
       go (yes h) = h

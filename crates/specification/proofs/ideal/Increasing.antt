@@ -7,12 +7,13 @@ use Prim.Native.Nat.{ℕ, suc, _+_, _≤_, _<_, Ordering}
 use native.Mathlib.Omega.{arith}
 use lib.ListN.{length}
 use Rattle.residue.specs.Lists.{Among, sumOver}
+use Rattle.residue.proofs.Sums.{each}
+use Rattle.residue.proofs.Tests.{Decides, so, not-so}
 use Rattle.monomial.specs.Increasing.{Increasing, placed, inserted}
 use Rattle.monomial.proofs.Orders.Increasing.{below-member, member-below}
-use Rattle.residue.proofs.Sums.{each}
 use Rattle.specification.specs.Space.{Space, Less, Divides}
 use Rattle.specification.specs.Extension.{without, divided}
-use Rattle.specification.proofs.ideal.Laws.{less-ne, Laws, Decides, so, not-so, Compares, lt, eq, gt, compared, same-told, divides-told, trans}
+use Rattle.specification.proofs.ideal.Laws.{less-ne, Laws, Compares, lt, eq, gt, compared, same-told, divides-told, trans}
 
 module _ (D : Space) (L : Laws D) where
   open Space D using (Mono, cmp)

@@ -1,12 +1,13 @@
 -- What the theory asks of a space, and the answers of its tests with their meaning.
 use mathlib.Core.Path.{_≡_, refl, sym, _∙_, subst}
 use mathlib.Core.Logic.{_⊎_, _≢_}
-use mathlib.Core.Bool.{Bool, true, false, cond, true≢false}
+use mathlib.Core.Bool.{true, true≢false}
 use mathlib.Core.WellFounded.{Acc}
 use Prim.Native.Nat.{ℕ, suc, _*_, _%_, _<_, Ordering, Ordering·lt, Ordering·eq, Ordering·gt}
 use native.Mathlib.Nat.{zero-mod}
 use lib.Dec.{T, isEq, eqb, eqb→eq}
 use Rattle.residue.specs.Congruence.{Mod}
+use Rattle.residue.proofs.Tests.{Decides, dec-of, cond-so, cond-not, by-test}
 use Rattle.monomial.proofs.Orders.Lawful
 use Rattle.monomial.proofs.Orders.Lawful.{Lawful, turn, differ}
 use Rattle.specification.specs.Space.{Space, Less, Divides, same}
@@ -38,32 +39,10 @@ pub record Laws (D : Space) : Type 0 where
   pub point-eq : {P Q : D .Pt} → D .samePoint P Q ≡ true → P ≡ Q
   pub differ : (P Q : D .Pt) → P ≢ Q → (k : ℕ) × (k < D .m) × ¬ Mod (suc (D .q)) (D .coord k P) (D .coord k Q)
 
--- A test's answer with its meaning: matching on it also settles the test in the goal.
-pub data Decides (X : Type 0) : Bool → Type 0 where
-  so : X → Decides X true
-  not-so : ¬ X → Decides X false
-
 pub data Compares (D : Space) (a b : D .Mono) : Ordering → Type 0 where
   lt : Less D a b → Compares D a b Ordering·lt
   eq : a ≡ b → Compares D a b Ordering·eq
   gt : Less D b a → Compares D a b Ordering·gt
-
-pub decided : {X : Type 0} {b : Bool} → Decides X b → Dec X
-decided (so h) = yes h
-decided (not-so h) = no h
-
-pub cond-so : {X A : Type 0} {b : Bool} → Decides X b → X → (u v : A) → cond b u v ≡ u
-cond-so (so h) k u v = refl
-cond-so (not-so h) k u v = absurd (h k)
-
-pub cond-not : {X A : Type 0} {b : Bool} → Decides X b → ¬ X → (u v : A) → cond b u v ≡ v
-cond-not (so h) k u v = absurd (k h)
-cond-not (not-so h) k u v = refl
-
--- a test that is true exactly where X holds
-by-test : {X : Type 0} (b : Bool) → (b ≡ true → X) → (X → b ≡ true) → Decides X b
-by-test true f g = so (f refl)
-by-test false f g = not-so (λ h. true≢false (sym (g h)))
 
 -- congruence to 0
 pub zero-told : (q x : ℕ) → Decides (Mod (suc q) x 0) (eqb (x % suc q) 0)
@@ -91,7 +70,7 @@ module _ (D : Space) (L : Laws D) where
       go Ordering·gt e h = absurd (true≢false (sym h))
 
   pub same? : (a b : Mono) → Dec (a ≡ b)
-  same? a b = decided (same-told a b)
+  same? a b = dec-of (same-told a b)
 
   pub divides-told : (a b : Mono) → Decides (Divides D a b) (divides a b)
   divides-told a b = by-test (divides a b) (λ e. e) (λ e. e)

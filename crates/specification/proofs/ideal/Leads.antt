@@ -8,11 +8,12 @@ use native.Mathlib.Omega.{arith}
 use native.Mathlib.Decide.{ℕ-discrete}
 use lib.ListN.{length}
 use Rattle.residue.specs.Lists.{Among}
+use Rattle.residue.proofs.Tests.{Decides, so, not-so}
 use Rattle.monomial.specs.Increasing.{Increasing, inserted}
 use Rattle.monomial.proofs.Orders.Increasing.{inserted-only, inserted-increasing, inserted-adds}
 use Rattle.specification.specs.Space.{Space, Divides}
 use Rattle.specification.specs.Extension.{without, extended}
-use Rattle.specification.proofs.ideal.Laws.{Laws, Decides, so, not-so}
+use Rattle.specification.proofs.ideal.Laws.{Laws}
 use Rattle.specification.proofs.ideal.Increasing.{inserted-length-le, without-increasing, divided-told}
 
 module _ (D : Space) (leads : List (D .Mono)) (α : D .Mono) where

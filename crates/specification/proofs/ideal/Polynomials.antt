@@ -7,13 +7,14 @@ use Prim.Native.Nat.{ℕ, suc, _+_, _*_}
 use native.Mathlib.Omega.{arith}
 use Rattle.residue.specs.Congruence.{Mod}
 use Rattle.residue.specs.Lists.{Among, sumOver}
-use Rattle.monomial.specs.Increasing.{Increasing}
-use Rattle.monomial.proofs.Orders.Increasing.{below-member}
 use Rattle.residue.proofs.Congruence.{rfl, of, flip, _then_, _plus_, scale, zero-left, lin}
 use Rattle.residue.proofs.Sums.{each, sum-cong, sum-zero, sum-lin, sum-scale, sum-add}
+use Rattle.residue.proofs.Tests.{Decides, so, not-so, dec-of}
+use Rattle.monomial.specs.Increasing.{Increasing}
+use Rattle.monomial.proofs.Orders.Increasing.{below-member}
 use Rattle.specification.specs.Space.{Space, Less, same}
 use Rattle.specification.specs.Polynomial.{Polynomial, hit, coefficient, Standard, terms}
-use Rattle.specification.proofs.ideal.Laws.{Laws, Decides, so, not-so, decided, zero-told, same-told, same?, irrefl, less-ne, hit-same, hit-other, hit-sym, trans}
+use Rattle.specification.proofs.ideal.Laws.{Laws, zero-told, same-told, same?, irrefl, less-ne, hit-same, hit-other, hit-sym, trans}
 
 module _ (D : Space) where
   open Space D using (Mono)
@@ -115,7 +116,7 @@ module _ (D : Space) (L : Laws D) where
 
   pub top : (c : Mono → ℕ) (l : List Mono) → Increasing cmp l → AllZero c l ⊎ Top c l
   top c [] i = inl (λ a m. absurd m)
-  top c (a ∷ l) i = go (top c l (i .1)) (decided (zero-told q (c a)))
+  top c (a ∷ l) i = go (top c l (i .1)) (dec-of (zero-told q (c a)))
     where
       go : AllZero c l ⊎ Top c l → Dec (c a ≈ 0) → AllZero c (a ∷ l) ⊎ Top c (a ∷ l)
       go (inr t) d = inr (t .0, inr (t .1), t .2, each l (λ h. absurd (irrefl D L (trans D L h (below-member cmp a l (i .0) (t .0) (t .1))))) (t .3))

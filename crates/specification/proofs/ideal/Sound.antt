@@ -9,15 +9,16 @@ use native.Mathlib.Nat.{mod-lt}
 use lib.ListN.{length}
 use Rattle.residue.specs.Congruence.{Mod}
 use Rattle.residue.specs.Lists.{Among}
-use Rattle.monomial.specs.Increasing.{Increasing}
-use Rattle.monomial.proofs.Orders.Increasing.{below-member}
 use Rattle.residue.proofs.Congruence.{rfl, of, flip, _then_, _plus_, _times_, scale, lin, reduce}
 use Rattle.residue.proofs.Sums.{each, sum-zero}
+use Rattle.residue.proofs.Tests.{Decides, so, not-so}
+use Rattle.monomial.specs.Increasing.{Increasing}
+use Rattle.monomial.proofs.Orders.Increasing.{below-member}
 use Rattle.specification.specs.Space.{Space}
 use Rattle.specification.specs.Polynomial.{hit, eval, coefficient, Distinct, terms}
 use Rattle.specification.specs.Extension.{Basis, minus, gap, first, newton, grow}
 use Rattle.specification.specs.BasisOf.{basisOf}
-use Rattle.specification.proofs.ideal.Laws.{Laws, Decides, so, not-so, zero-told, irrefl, hit-same, hit-other, trans}
+use Rattle.specification.proofs.ideal.Laws.{Laws, zero-told, irrefl, hit-same, hit-other, trans}
 use Rattle.specification.proofs.ideal.Polynomials.{terms-over, collect}
 use Rattle.specification.proofs.ideal.Newton.{at, error, Corrects}
 use Rattle.specification.proofs.ideal.Staircase.{Staircase}

@@ -9,14 +9,15 @@ use native.Mathlib.Nat.{suc-inj}
 use lib.ListN.{length}
 use Rattle.residue.specs.Congruence.{Mod}
 use Rattle.residue.specs.Lists.{Among}
-use Rattle.monomial.specs.Increasing.{Increasing}
-use Rattle.monomial.proofs.Orders.Increasing.{unique, below-member}
 use Rattle.residue.proofs.Congruence.{of, _then_, _plus_, scale, lin, small}
 use Rattle.residue.proofs.Sums.{sum-cong, sum-lin}
+use Rattle.residue.proofs.Tests.{cond-so, cond-not}
+use Rattle.monomial.specs.Increasing.{Increasing}
+use Rattle.monomial.proofs.Orders.Increasing.{unique, below-member}
 use Rattle.specification.specs.Space.{Space, same}
 use Rattle.specification.specs.Polynomial.{eval, Leading, Standard, Minimal, terms}
 use Rattle.specification.specs.Basis.{Row, Fits, Rows, IsBasis}
-use Rattle.specification.proofs.ideal.Laws.{Laws, cond-so, cond-not, same-told, less-ne}
+use Rattle.specification.proofs.ideal.Laws.{Laws, same-told, less-ne}
 use Rattle.specification.proofs.ideal.Polynomials.{comb, pair-terms, independent}
 
 module _ (D : Space) (L : Laws D) where

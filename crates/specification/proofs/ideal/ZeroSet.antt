@@ -8,9 +8,10 @@ use Rattle.residue.specs.Congruence.{Mod}
 use Rattle.residue.specs.Lists.{Among}
 use Rattle.residue.proofs.Congruence.{of, flip, _then_, scale, zero-left, zero-right, lin, ring}
 use Rattle.residue.proofs.Sums.{each, sum-cong, sum-zero}
+use Rattle.residue.proofs.Tests.{dec-of}
 use Rattle.specification.specs.Space.{Space}
 use Rattle.specification.specs.Polynomial.{Polynomial, eval, Vanishes}
-use Rattle.specification.proofs.ideal.Laws.{Laws, decided, point-told}
+use Rattle.specification.proofs.ideal.Laws.{Laws, point-told}
 use Rattle.specification.proofs.ideal.Newton.{cancel}
 use Rattle.specification.proofs.ideal.Staircase.{Staircase, Holds, expand, transfer, normal-form}
 
@@ -59,7 +60,7 @@ module _ (D : Space) (L : Laws D) where
     where
       point? : (P : Pt) (R : List Pt) → Dec (Among P R)
       point? P [] = no (λ mem. mem)
-      point? P (R ∷ S) = pick (decided (point-told D L P R)) (point? P S)
+      point? P (R ∷ S) = pick (dec-of (point-told D L P R)) (point? P S)
         where
           pick : Dec (P ≡ R) → Dec (Among P S) → Dec (Among P (R ∷ S))
           pick (yes e) d = yes (inl e)

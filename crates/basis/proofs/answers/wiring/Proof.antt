@@ -6,13 +6,12 @@ use Prim.Native.Nat.{ℕ}
 use native.Mathlib.Omega.{arith}
 use lib.ListN.{length, take}
 use lib.Seq.{length-take-le}
+use Rattle.residue.specs.Layout.{groups, fill, over}
+use Rattle.residue.proofs.Layouts.{length-fill}
 use Rattle.specification.specs.Refusal.{firstOf}
-use Rattle.specification.specs.Levels.{groups}
-use Rattle.specification.specs.Layout.{fill, over}
 use Rattle.specification.specs.Tables.{Tables, fourTables}
 use Rattle.specification.specs.Solving.{valuesCases, interpolantIn}
 use Rattle.basis.specs.Interpolants.{names}
-use Rattle.specification.proofs.Layouts.{length-fill}
 use Rattle.basis.proofs.Wiring.{names-are}
 use Rattle.basis.proofs.calls.Outcomes.{values-none, wiring-refused, wiring-accepted}
 use Rattle.basis.proofs.calls.Known.{Sized, values-sized, values-names}
