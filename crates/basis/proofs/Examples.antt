@@ -2,10 +2,9 @@
 -- agreement, so that the examples of additions compute no tables.
 use mathlib.Core.Path.{_≡_, refl, sym, _∙_, subst}
 use mathlib.Core.List.{List, [], _∷_, map}
-use mathlib.Core.Logic.{inl, inr, _↔_}
+use mathlib.Core.Logic.{inl, inr}
 use mathlib.Core.Bool.{Bool, true, false, _&&_}
-use Prim.Native.Nat.{ℕ, zero, suc, _-_, _%_, _<_}
-use native.Mathlib.Omega.{arith}
+use Prim.Native.Nat.{ℕ, _-_, _%_, _<_}
 use lib.IntN.{ℤ, pos, negsuc}
 use lib.ListN.{replicate, length-replicate}
 use lib.Dec.{T}
@@ -24,7 +23,7 @@ use Rattle.basis.specs.Extension.{slot, minus, without, divided, extende
 use Rattle.basis.specs.BasisOf.{basisOf, valueAt, standardOf, leadsOf, rowsOf}
 use Rattle.basis.specs.Instance.{monomialOf, pointOf}
 use Rattle.basis.specs.Tables.{spaceUnder, pointsUnder}
-use Rattle.basis.specs.Solving.{Names, occurs, polynomialOf}
+use Rattle.basis.specs.Solving.{occurs, wiringOf, wiringUnder, polynomialOf}
 use Rattle.basis.specs.Reference.{addition, referenceAnswer, referenceAfter, numbers, fed, dueAt, due, Refuses}
 use Rattle.basis.specs.Examples.{Example, Holds, Tabled, under, fresh, examples}
 use Rattle.residue.proofs.Moduli.{below, below-at}
@@ -88,8 +87,8 @@ All [] = Unit {0}
 All (e ∷ l) = Holds e × All l
 
 all : All examples
-unfolding tested sameLists examples Holds primes isOneOf isModulus inverseBelow inverseOf residueOf orderOf cmp firstOf settingsCases isResidue residueOr0 inRange residues fill sameList isAmong slot minus without divided extended gap first newton grow basisOf valueAt monomialOf pointOf occurs polynomialOf referenceAnswer referenceAfter fed dueAt due Refuses
-all = (record { standard-are = refl; leads-are = refl; rows-are = refl }, (record { standard-are = refl; leads-are = refl; rows-are = refl }, (record { standard-are = refl; leads-are = refl; rows-are = refl }, ((λ s. (record { standard-are = refl; leads-are = refl; rows-are = refl }, (λ values. refl), λ f. refl)), (single, (record { standard-are = refl; leads-are = refl; rows-are = refl }, ((refl, named), (refl, (lowest, (added (under 5 1 0) ((pos 4 ∷ []) ∷ (negsuc 0 ∷ []) ∷ []) refl tt, (added (under 5 1 0) ((negsuc 3 ∷ []) ∷ (negsuc 4 ∷ []) ∷ []) refl tt, tt)))))))))))
+unfolding tested sameLists examples Holds primes isOneOf isModulus inverseBelow inverseOf residueOf orderOf cmp firstOf settingsCases isResidue residueOr0 inRange residues fill sameList isAmong slot minus without divided extended gap first newton grow basisOf valueAt monomialOf pointOf occurs wiringOf wiringUnder polynomialOf referenceAnswer referenceAfter fed dueAt due Refuses
+all = (record { standard-are = refl; leads-are = refl; rows-are = refl }, (record { standard-are = refl; leads-are = refl; rows-are = refl }, (record { standard-are = refl; leads-are = refl; rows-are = refl }, ((λ s. (record { standard-are = refl; leads-are = refl; rows-are = refl }, (λ values. refl), λ f. refl)), (single, (record { standard-are = refl; leads-are = refl; rows-are = refl }, ((refl, refl), (refl, (lowest, (added (under 5 1 0) ((pos 4 ∷ []) ∷ (negsuc 0 ∷ []) ∷ []) refl tt, (added (under 5 1 0) ((negsuc 3 ∷ []) ∷ (negsuc 4 ∷ []) ∷ []) refl tt, tt)))))))))))
   where
     -- each order, and each point (a, b) modulo 5
     one : ℕ → ℕ → ℕ → Bool
@@ -99,14 +98,6 @@ all = (record { standard-are = refl; leads-are = refl; rows-are = refl }, (recor
         → Tabled (under 5 2 order) ((a ∷ b ∷ []) ∷ []) ((0 ∷ 0 ∷ []) ∷ []) ((0 ∷ 1 ∷ []) ∷ (1 ∷ 0 ∷ []) ∷ []) (((5 - b) % 5 ∷ []) ∷ ((5 - a) % 5 ∷ []) ∷ [])
     single order a b ho ha hb = of-test (under 5 2 order) ((a ∷ b ∷ []) ∷ []) ((0 ∷ 0 ∷ []) ∷ []) ((0 ∷ 1 ∷ []) ∷ (1 ∷ 0 ∷ []) ∷ []) (((5 - b) % 5 ∷ []) ∷ ((5 - a) % 5 ∷ []) ∷ [])
         (below-at (one order a) 5 (below-at (λ c. below (one order c) 5) 5 (below-at (λ o. below (λ c. below (one o c) 5) 5) 3 tt order ho) a ha) b hb)
-
-    second : (k : ℕ) → Among (suc k) (2 ∷ []) ↔ ((k < 2) × T (occurs k (1 ∷ 2 ∷ 0 ∷ []) ((0 ∷ 0 ∷ []) ∷ (0 ∷ 1 ∷ []) ∷ (1 ∷ 0 ∷ []) ∷ [])))
-    second zero = ((λ q. elim q [ inl e ↦ absurd (omega arith) | inr z ↦ absurd z ]), λ t. absurd (t .1))
-    second (suc zero) = ((λ q. (omega arith, tt)), λ t. inl refl)
-    second (suc (suc k)) = ((λ q. elim q [ inl e ↦ absurd (omega arith) | inr z ↦ absurd z ]), λ t. absurd (omega (arith, t .0)))
-
-    named : Names 2 (1 ∷ 2 ∷ 0 ∷ []) ((0 ∷ 0 ∷ []) ∷ (0 ∷ 1 ∷ []) ∷ (1 ∷ 0 ∷ []) ∷ []) (2 ∷ [])
-    named = record { once = ((λ q. q), tt); members = second; positive = λ q. elim q [ inl e ↦ absurd (omega arith) | inr z ↦ z ] }
 
     lowest : (e : ℕ × ℤ × ℕ) → Among e ((5, negsuc 0, 4) ∷ (3, negsuc 0, 2) ∷ (2, negsuc 0, 1) ∷ []) → residueOf (e .0) (e .1) ≡ Residue (e .2)
     lowest e (inl q) = rw q

@@ -1,9 +1,9 @@
--- The wiring list: the names of the variables that occur, put one after the other.
-use mathlib.Core.Path.{_≡_, refl, sym, ap, subst}
+-- The wiring list: the numbers of the variables that occur, put one after the other.
+use mathlib.Core.Path.{_≡_, refl, sym, _∙_, ap, subst}
 use mathlib.Core.Bool.{Bool, true, false, cond}
 use mathlib.Core.List.{List, [], _∷_, _++_, map, append-nil}
-use mathlib.Core.Logic.{inl, inr}
-use Prim.Native.Nat.{ℕ, zero, suc, _+_, _<_, _≤_}
+use mathlib.Core.Logic.{_⊎_, inl, inr}
+use Prim.Native.Nat.{ℕ, zero, suc, _+_, _<_, _≤_, compare}
 use native.Mathlib.Nat.{le-of-suc-le-suc}
 use native.Mathlib.Decide.{ℕ-discrete}
 use native.Mathlib.Numerals.{add-one}
@@ -11,11 +11,12 @@ use native.Mathlib.Omega.{arith}
 use lib.ListN.{length, set, length-append}
 use lib.Dec.{T}
 use Rattle.residue.specs.Lists.{Among}
+use Rattle.monomial.proofs.Orders.Answers.{less, said}
 use Rattle.basis.specs.Layout.{fill}
-use Rattle.basis.specs.Solving.{Once, occurs, Names}
-use Rattle.basis.specs.Interpolants.{names}
+use Rattle.basis.specs.Solving.{occurs, wiringOf, Names}
+use Rattle.basis.proofs.Equality.{of-true}
 use Rattle.basis.proofs.Layouts.{fill-at}
-use Rattle.basis.proofs.ideal.Lists.{snoc-of, snoc-in}
+use Rattle.basis.proofs.ideal.Lists.{snoc-of, snoc-in, snoc-increasing}
 
 -- one number more at the end of a list that is filled up
 pub fill-put : (w : ℕ) (l : List ℕ) (v : ℕ) → length l < w → set (fill w l) (length l) v ≡ fill w (l ++ (v ∷ []))
@@ -24,74 +25,51 @@ fill-put zero l v h = absurd (omega arith)
 fill-put (suc w) [] v h = refl
 fill-put (suc w) (x ∷ l) v h = ap (λ (z : List ℕ). x ∷ z) (fill-put w l v (le-of-suc-le-suc h))
 
--- a number more that is not there yet
-once-more : (l : List ℕ) (v : ℕ) → Once l → ¬ Among v l → Once (l ++ (v ∷ []))
-once-more [] v o n = (λ q. q, tt)
-once-more (a ∷ l) v o n =
-    ((λ q. elim (snoc-of l v a q) [ inl z ↦ o .0 z | inr e ↦ n (inl (sym e)) ]), once-more l v (o .1) (λ q. n (inr q)))
-
 module _ (cs : List ℕ) (l : List (List ℕ)) where
-  pub names-on : (k : ℕ) → occurs k cs l ≡ true → names (k + 1) cs l ≡ names k cs l ++ ((k + 1) ∷ [])
-  unfolding names
+  pub names-on : (k : ℕ) → occurs k cs l ≡ true → wiringOf (k + 1) cs l ≡ wiringOf k cs l ++ ((k + 1) ∷ [])
+  unfolding wiringOf
   names-on k e = rw add-one (simp e)
 
-  pub names-off : (k : ℕ) → occurs k cs l ≡ false → names (k + 1) cs l ≡ names k cs l
-  unfolding names
+  pub names-off : (k : ℕ) → occurs k cs l ≡ false → wiringOf (k + 1) cs l ≡ wiringOf k cs l
+  unfolding wiringOf
   names-off k e = rw add-one (simp (e, append-nil))
 
-  -- the names of one variable more: what holds in both cases
-  either : (k : ℕ) (P : List ℕ → Type 0) → (T (occurs k cs l) → P (names k cs l ++ (suc k ∷ []))) → (¬ T (occurs k cs l) → P (names k cs l)) → P (names (suc k) cs l)
-  unfolding names
-  either k P f g = go (occurs k cs l) f g
-    where
-      go : (b : Bool) → (T b → P (names k cs l ++ (suc k ∷ []))) → (¬ T b → P (names k cs l)) → P (names k cs l ++ cond b (suc k ∷ []) [])
-      go true y n = y tt
-      go false y n = subst P (sym (append-nil (names k cs l))) (n (λ t. t))
-
-  pub names-length : (k : ℕ) → length (names k cs l) ≤ k
-  unfolding names
+  pub names-length : (k : ℕ) → length (wiringOf k cs l) ≤ k
+  unfolding wiringOf
   names-length zero = omega arith
-  names-length (suc k) =
-      let h = names-length k in
-      either k (λ z. length z ≤ suc k) (λ t. rw (length-append (names k cs l) (suc k ∷ [])) (omega arith)) (λ t. omega arith)
-
-  -- the members
-  abbrev Told : ℕ → ℕ → Type 0
-  Told k j = (i : ℕ) × (j ≡ suc i) × (i < k) × T (occurs i cs l)
-
-  later : (k j : ℕ) → Told k j → Told (suc k) j
-  later k j w = (w .0, w .1, omega (arith, w .2), w .3)
-
-  told : (k j : ℕ) → Among j (names k cs l) → Told k j
-  unfolding names
-  told zero j q = absurd q
-  told (suc k) j q =
-      either k (λ z. Among j z → Told (suc k) j)
-      (λ t y. elim (snoc-of (names k cs l) (suc k) j y) [ inl z ↦ later k j (told k j z) | inr e ↦ (k, e, omega arith, t) ])
-      (λ n z. later k j (told k j z)) q
-
-  listed : (k i : ℕ) → i < k → T (occurs i cs l) → Among (suc i) (names k cs l)
-  listed zero i h t = absurd (omega arith)
-  listed (suc k) i h t = go (ℕ-discrete i k) (λ f. listed k i f t)
+  names-length (suc k) = go (occurs k cs l) (names-length k)
     where
-      go : Dec (i ≡ k) → (i < k → Among (suc i) (names k cs l)) → Among (suc i) (names (suc k) cs l)
-      go (yes e) f =
-          either k (Among (suc i)) (λ u. snoc-in (names k cs l) (suc k) (suc i) (inr (ap suc e))) (λ n. absurd (n (subst (λ (j : ℕ). T (occurs j cs l)) e t)))
-      go (no e) f =
-          let before = f (omega (arith, e)) in
-          either k (Among (suc i)) (λ u. snoc-in (names k cs l) (suc k) (suc i) (inl before)) (λ n. before)
+      go : (b : Bool) → length (wiringOf k cs l) ≤ k → length (wiringOf k cs l ++ cond b (suc k ∷ []) []) ≤ suc k
+      go true h = rw (length-append (wiringOf k cs l) (suc k ∷ [])) (omega arith)
+      go false h = rw (append-nil (wiringOf k cs l)) (omega arith)
 
-  single : (k : ℕ) → Once (names k cs l)
-  unfolding names
-  single zero = tt
-  single (suc k) = either k Once (λ t. once-more (names k cs l) (suc k) (single k) (λ q. let w = told k (suc k) q in omega (arith, w .1, w .2))) (λ n. single k)
-
-  pub names-are : (k : ℕ) → Names k cs l (names k cs l)
-  names-are k = record {
-    once = single k;
-    members = λ i. ((λ q. let w = told k (suc i) q in let e : w .0 ≡ i = omega (arith, w .1) in (omega (arith, w .2), subst (λ (j : ℕ). T (occurs j cs l)) e (w .3))), (λ h. listed k i (h .0) (h .1)));
-    positive = λ q. let w = told k 0 q in omega (arith, w .1);
+  -- one variable more
+  more : (k : ℕ) (names : List ℕ) → Names k cs l names → (b : Bool) → occurs k cs l ≡ b → Names (suc k) cs l (names ++ cond b (suc k ∷ []) [])
+  more k names h true e = record {
+    increasing = snoc-increasing compare names (suc k) (h .increasing) (λ j q. let w = h .members j .0 q in said (less (omega (arith, w .1, w .2))));
+    members = λ j. ((λ q. elim (snoc-of names (suc k) j q) [ inl z ↦ let w = h .members j .0 z in (w .0, w .1, omega (arith, w .2), w .3) | inr f ↦ (k, f, omega arith, of-true e) ]), λ w. snoc-in names (suc k) j (at j w (ℕ-discrete (w .0) k)));
   }
+    where
+      at : (j : ℕ) (w : (i : ℕ) × (j ≡ suc i) × (i < suc k) × T (occurs i cs l)) → Dec (w .0 ≡ k) → Among j names ⊎ (j ≡ suc k)
+      at j w (yes f) = inr (w .1 ∙ ap suc f)
+      at j w (no f) = inl (h .members j .1 (w .0, w .1, omega (arith, w .2), w .3))
+  more k names h false e = subst (Names (suc k) cs l) (sym (append-nil names)) (record {
+    increasing = h .increasing;
+    members = λ j. ((λ q. let w = h .members j .0 q in (w .0, w .1, omega (arith, w .2), w .3)), λ w. h .members j .1 (w .0, w .1, before (w .0) (w .2) (w .3), w .3));
+  })
+    where
+      before : (i : ℕ) → i < suc k → T (occurs i cs l) → i < k
+      before i u t = go (ℕ-discrete i k)
+        where
+          go : Dec (i ≡ k) → i < k
+          go (yes f) = absurd (subst T e (subst (λ (z : ℕ). T (occurs z cs l)) f t))
+          go (no f) = omega arith
+
+  -- The computed list is the one that is said.
+  pub names-are : (k : ℕ) → Names k cs l (wiringOf k cs l)
+  unfolding wiringOf
+  names-are zero = record { increasing = tt; members = λ j. ((λ q. absurd q), λ w. absurd (omega (arith, w .2))) }
+  names-are (suc k) = more k (wiringOf k cs l) (names-are k) (occurs k cs l) refl
 
 -- the rows filled up, and a row's exponents in its place
 pub occurs-filled : (k w : ℕ) (cs : List ℕ) (l : List (List ℕ)) → k < w → occurs k cs (map (fill w) l) ≡ occurs k cs l
@@ -100,7 +78,7 @@ occurs-filled k w [] l h = refl
 occurs-filled k w (c ∷ cs) [] h = refl
 occurs-filled k w (c ∷ cs) (a ∷ l) h = rw (fill-at w a k h, occurs-filled k w cs l h)
 
-pub names-filled : (m w : ℕ) (cs : List ℕ) (l : List (List ℕ)) → m ≤ w → names m cs (map (fill w) l) ≡ names m cs l
-unfolding names
+pub names-filled : (m w : ℕ) (cs : List ℕ) (l : List (List ℕ)) → m ≤ w → wiringOf m cs (map (fill w) l) ≡ wiringOf m cs l
+unfolding wiringOf
 names-filled zero w cs l h = refl
 names-filled (suc m) w cs l h = rw (names-filled m w cs l (omega arith), occurs-filled m w cs l h)

@@ -11,7 +11,7 @@ use Rattle.basis.specs.declared.settings.Settings.{Settings}
 use Rattle.basis.specs.Polynomial.{Polynomial}
 use Rattle.basis.specs.BasisOf.{standardOf, leadsOf, rowsOf, interpolantOf, remainderOf}
 use Rattle.basis.specs.Tables.{spaceUnder, pointsUnder}
-use Rattle.basis.specs.Solving.{Names, polynomialOf}
+use Rattle.basis.specs.Solving.{wiringUnder, polynomialOf}
 use Rattle.basis.specs.Reference.{addition, Held, numbers}
 use Rattle.basis.specs.Agreement.{freshly}
 
@@ -49,8 +49,7 @@ Holds no-points = (s : Settings) → Tabled s [] [] (replicate (s .variables) 0 
 Holds one-point = (order a b : ℕ) → order < 3 → a < 5 → b < 5
     → Tabled (under 5 2 order) ((a ∷ b ∷ []) ∷ []) ((0 ∷ 0 ∷ []) ∷ []) ((0 ∷ 1 ∷ []) ∷ (1 ∷ 0 ∷ []) ∷ []) (((5 - b) % 5 ∷ []) ∷ ((5 - a) % 5 ∷ []) ∷ [])
 Holds (interpolant s S values coefficients names) =
-    (interpolantOf (spaceUnder s) (pointsUnder s S) values ≡ coefficients)
-    × Names (s .variables) coefficients (map (λ a. a .0) (standardOf (spaceUnder s) (pointsUnder s S))) names
+    (interpolantOf (spaceUnder s) (pointsUnder s S) values ≡ coefficients) × (wiringUnder s S values ≡ names)
 Holds (remainder s S coefficients exponents left) = remainderOf (spaceUnder s) (pointsUnder s S) (polynomialOf (s .variables) coefficients exponents) ≡ left
 Holds (levels l) = (e : ℕ × ℤ × ℕ) → Among e l → residueOf (e .0) (e .1) ≡ Residue (e .2)
 Holds (additions s offered due) = numbers s fresh (map addition offered) ≡ due

@@ -12,8 +12,8 @@ ghost use Rattle.residue.specs.Vector.{Below};
 ghost use Rattle.residue.specs.Elimination.{eliminated};
 ghost use Rattle.basis.specs.Levels.{residues, groups};
 ghost use Rattle.basis.specs.Layout.{fill, over};
-ghost use Rattle.basis.specs.Solving.{occurs};
-ghost use Rattle.basis.specs.Interpolants.{solution, termValues, names};
+ghost use Rattle.basis.specs.Solving.{occurs, wiringOf};
+ghost use Rattle.basis.specs.Interpolants.{solution, termValues};
 
 // Minus residues, as bytes.
 fn put_negatives(p: u16, from: &[u16], to: &mut [u8])
@@ -114,8 +114,8 @@ fn occurs(k: usize, n: usize, coefficients: &[u8], standard: &[u8]) -> bool
 pub fn put_names(m: usize, n: usize, coefficients: &[u8], standard: &[u8], out: &mut [u8]) -> u8
     requires { ⌜ (m ≤ 8) × (n ≤ length (now coefficients)) × (8 * n ≤ length (now standard)) ⌝ }
     requires { ⌜ now out ≡ replicate 8 0 ⌝ }
-    ensures { λ c. ⌜ c ≡ length (names m (take n (now (coefficients .entry))) (groups 8 n (now (standard .entry)))) ⌝ }
-    ensures { λ _. ⌜ now (out .exit) ≡ fill 8 (names m (take n (now (coefficients .entry))) (groups 8 n (now (standard .entry)))) ⌝ }
+    ensures { λ c. ⌜ c ≡ length (wiringOf m (take n (now (coefficients .entry))) (groups 8 n (now (standard .entry)))) ⌝ }
+    ensures { λ _. ⌜ now (out .exit) ≡ fill 8 (wiringOf m (take n (now (coefficients .entry))) (groups 8 n (now (standard .entry)))) ⌝ }
 {
     let mut count: u8 = 0;
     for k in 0..m {

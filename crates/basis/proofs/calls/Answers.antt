@@ -24,8 +24,8 @@ use Rattle.basis.specs.Tables.{spaceUnder, pointsUnder, tablesOf}
 use Rattle.basis.specs.Polynomial.{Polynomial, eval}
 use Rattle.basis.specs.Instance.{Point, reduced, pointOf}
 use Rattle.basis.specs.Levels.{inRange, residues, groups}
-use Rattle.basis.specs.Solving.{withinVariables, polynomialOf}
-use Rattle.basis.specs.Interpolants.{solution, names}
+use Rattle.basis.specs.Solving.{wiringOf, wiringUnder, withinVariables, polynomialOf}
+use Rattle.basis.specs.Interpolants.{solution}
 use Rattle.basis.specs.Drawing.{Solves}
 use Rattle.basis.proofs.Layouts.{fill-append, fill-zeros}
 use Rattle.basis.proofs.Places.{table-groups}
@@ -145,16 +145,15 @@ module _ (s : Settings) (ok : Accepted s) (S : List (List ℕ)) (h : Points s S)
         ∙ ap (λ (v : ℕ). v % s .modulus) (terms-value (s .modulus - 1) (s .variables) (orderOf (s .order)) (pointUnder s P) 8 cs es (ok .few) eight within)
 
   -- The wiring list, from the interpolant in 64 bytes and the table of the standard monomials.
-  pub names-in : (vs : List ℕ) → names (s .variables) (take (length S) (fill 64 (interpolant vs))) (groups 8 (length S) (tablesOf s S .standard))
-      ≡ names (s .variables) (interpolant vs) (map (λ a. a .0) (standardOf (spaceUnder s) (pointsUnder s S)))
-  unfolding tablesOf
+  pub names-in : (vs : List ℕ) → wiringOf (s .variables) (take (length S) (fill 64 (interpolant vs))) (groups 8 (length S) (tablesOf s S .standard)) ≡ wiringUnder s S vs
+  unfolding tablesOf wiringUnder
   names-in vs =
       let M : List (List ℕ) = map (λ a. a .0) (standardOf (spaceUnder s) (pointsUnder s S)) in
       let n : length M ≡ length S =
       length-map (standardOf (spaceUnder s) (pointsUnder s S)) _ ∙ standard-length (spaceUnder s) (laws-under s ok) (pointsUnder s S) (distinct-points s ok S h) ∙ length-map S _ in
       let k = length-interpolant vs in
       let few = h .few in
-      ap₂ (names (s .variables))
+      ap₂ (wiringOf (s .variables))
       (ap (take (length S)) (fill-tail 64 (interpolant vs) (omega arith)) ∙ take-at (interpolant vs) _ (length S) k)
       (ap (λ (j : ℕ). groups 8 j (fill 512 (inPlaces 8 M))) (sym n) ∙ table-groups 8 512 M (omega arith))
       ∙ names-filled (s .variables) 8 (interpolant vs) M (ok .few)

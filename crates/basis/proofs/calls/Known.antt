@@ -21,10 +21,10 @@ use Rattle.basis.specs.Refusal.{firstOf}
 use Rattle.basis.specs.Settings.{settingsCases}
 use Rattle.basis.specs.Levels.{inRange, residues, groups}
 use Rattle.basis.specs.Layout.{fill, inPlaces, begins}
-use Rattle.basis.specs.BasisOf.{standardOf, interpolantOf}
+use Rattle.basis.specs.BasisOf.{interpolantOf}
 use Rattle.basis.specs.Tables.{Tables, spaceUnder, pointsUnder, tablesOf, tooShort, pointsIn, recognised}
-use Rattle.basis.specs.Solving.{interpolantIn, withinVariables, polynomialUnder, remainderIn}
-use Rattle.basis.specs.Interpolants.{solution, termValues, names}
+use Rattle.basis.specs.Solving.{interpolantIn, wiringOf, wiringUnder, withinVariables, polynomialUnder, remainderIn}
+use Rattle.basis.specs.Interpolants.{solution, termValues}
 use Rattle.basis.specs.Drawing.{Solves}
 use Rattle.basis.proofs.Equality.{of-true, neither, and-left, and-right, same-is}
 use Rattle.basis.proofs.Layouts.{length-fill}
@@ -147,11 +147,11 @@ module _ (size : ℕ) (s : Settings) (n r : ℕ) (t : Tables) (values : List ℤ
         solved s ready n r t (values-sized .few) known rows pivots e (residues (s .modulus) values) (length-residues (s .modulus) values ∙ values-count) values-below
 
     -- the wiring list, from the interpolant in 64 bytes and the lent standard table
-    pub values-names : names (s .variables) (take n (fill 64 (interpolantIn s n t values))) (groups 8 n (take 512 (t .standard)))
-        ≡ names (s .variables) (interpolantIn s n t values) (map (λ a. a .0) (standardOf (spaceUnder s) (pointsUnder s (pointsIn s n (t .states)))))
+    pub values-names : wiringOf (s .variables) (take n (fill 64 (interpolantIn s n t values))) (groups 8 n (take 512 (t .standard)))
+        ≡ wiringUnder s (pointsIn s n (t .states)) (residues (s .modulus) values)
     unfolding interpolantIn
     values-names =
-        ap₂ (λ (k : ℕ) (l : List ℕ). names (s .variables) (take k (fill 64 (interpolantIn s n t values))) (groups 8 k l))
+        ap₂ (λ (k : ℕ) (l : List ℕ). wiringOf (s .variables) (take k (fill 64 (interpolantIn s n t values))) (groups 8 k l))
         (sym (count s ready n r t (values-sized .few) known)) (standard-there s ready n r t (values-sized .few) known)
         ∙ names-in s ready (pointsIn s n (t .states)) (points s ready n r t (values-sized .few) known) (residues (s .modulus) values)
 

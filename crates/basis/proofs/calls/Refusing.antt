@@ -4,6 +4,7 @@ use mathlib.Core.Bool.{Bool, true, false, _&&_, and-assoc, true≢false}
 use mathlib.Core.List.{List, [], _∷_, _++_, append-assoc}
 use Prim.Native.Nat.{ℕ}
 use native.Mathlib.Decide.{ℕ-discrete}
+use lib.ListN.{length}
 use lib.Dec.{T, eqb}
 use borrow.Author.Tests.{eq-eqb, ne-eqb, eqb-true}
 use Rattle.basis.specs.declared.settings.Settings.{Settings}
@@ -13,8 +14,8 @@ use Rattle.basis.specs.Settings.{settingsCases}
 use Rattle.basis.specs.Levels.{noRepeat}
 use Rattle.basis.specs.Tables.{Tables, fourTables, rowCount, tablesOf, pointsIn, recognised}
 use Rattle.basis.specs.Adding.{Outcome, refused, byRefusal}
-use Rattle.basis.specs.Solving.{Filled, filling}
-use Rattle.basis.specs.Layout.{over, begins}
+use Rattle.basis.specs.Solving.{Filled, filling, Listed, listing}
+use Rattle.basis.specs.Layout.{fill, over, begins}
 use Rattle.basis.proofs.Cases.{numbered, None, none-holds, first-stop, first-on}
 use Rattle.basis.proofs.agreement.Refusals.{Accepted, accepted, settings-pass}
 
@@ -86,6 +87,17 @@ module _ (new buffer : List ℕ) (k : ℕ) where
   pub fill-accepted : (end : List ℕ) → 0 ≡ k → end ≡ over new buffer → _≡_ {A = Filled} (record { refusal = 0; buffer = end }) (filling k new buffer)
   unfolding filling
   fill-accepted end e f = rw (← e, f) refl
+
+-- and of the one that lists
+module _ (names buffer : List ℕ) (k : ℕ) where
+  pub list-refused : (j : ℕ) → j ≡ k → (j ≡ 0 → ⊥) → _≡_ {A = Listed} (record { answer = record { refusal = j; count = 0 }; buffer = buffer }) (listing k names buffer)
+  unfolding listing
+  list-refused j e n = rw (← e) (simp (ne-eqb j 0 n))
+
+  pub list-accepted : (c : ℕ) (end : List ℕ) → 0 ≡ k → c ≡ length names → end ≡ over (fill 8 names) buffer
+      → _≡_ {A = Listed} (record { answer = record { refusal = 0; count = c }; buffer = end }) (listing k names buffer)
+  unfolding listing
+  list-accepted c end e f g = rw (← e, f, g) refl
 
 -- Refusal 10, test by test: the points, the row count, the four tables.
 module _ (s : Settings) (n r : ℕ) (t : Tables) where

@@ -8,7 +8,7 @@ use mathlib.Core.Logic.{⊎-elim}
 use lib.ListN.{set, length-append}
 use Rattle.basis.specs.Levels.{groups}
 use Rattle.basis.specs.Layout.{fill}
-use Rattle.basis.specs.Interpolants.{names}
+use Rattle.basis.specs.Solving.{wiringOf}
 use Rattle.basis.proofs.Layouts.{length-fill, fill-zeros}
 use Rattle.basis.proofs.Wiring.{fill-put, names-on, names-off, names-length}
 use Rattle.basis.proofs.solve.put_names.Statement.{statement}
@@ -16,7 +16,7 @@ use Rattle.basis.proofs.solve.put_names.Tie as tie
 
 -- the names of the first k variables
 abbrev put : ℕ → List ℕ → List ℕ → ℕ → List ℕ
-put n coefficients standard k = names k (take n coefficients) (groups 8 n standard)
+put n coefficients standard k = wiringOf k (take n coefficients) (groups 8 n standard)
 
 abbrev Inv-loop : tie.InvT-loop
 Inv-loop m n coefficients standard out₀ count₀ k₀ out count k = (k ≤ m) × ((count ≡ length (put n coefficients standard k)) × (out ≡ fill 8 (put n coefficients standard k)))
@@ -39,7 +39,7 @@ module _ (l : tie.At-loop Inv-loop μ-loop) where
   long = ap length (l .loop .inv .1 .1) ∙ length-fill 8 so-far
 
 loop-holds : tie.Need-loop-holds Inv-loop μ-loop
-unfolding names
+unfolding wiringOf
 loop-holds c = (omega arith, (refl, c .before .before .before .pre .1 ∙ sym (fill-zeros 8)))
 
 occurs-requires : tie.Need-occurs-requires Inv-loop μ-loop
