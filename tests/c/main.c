@@ -11,6 +11,7 @@ static const struct {
     const char *name;
     struct score (*run)(const struct options *);
 } parts[] = {{"calls", stored_calls},  {"texts", stored_texts},   {"examples", examples},    {"lists", lists},
+             {"changes", stored_changes},
              {"random", random_calls}, {"short", short_buffers}, {"long", long_buffers}, {"stack", stack_depth}};
 
 static struct score run_part(const char *name, const struct options *options)
