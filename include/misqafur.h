@@ -38,7 +38,7 @@
  *    5  the order is not 0, 1 or 2
  *    6  a lent table or answer buffer is shorter than its size
  *    7  a length is wrong
- *    8  more than 64 points, or more than 256 terms
+ *    8  more than 64 points, an n above 64, or more than 256 terms
  *    9  a level, value or coefficient is outside -(p-1) to p-1, or a variable above m has an
  *       exponent that is not 0
  *   10  n, r and the tables are not the basis of their points under these settings
