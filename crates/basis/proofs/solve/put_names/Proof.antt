@@ -7,7 +7,6 @@ use lib.ListN.{length, take, set, length-append}
 use mathlib.Core.Logic.{⊎-elim}
 use Rattle.residue.specs.Layout.{groups, fill}
 use Rattle.residue.proofs.Layouts.{fill-zeros, fill-put, length-fill}
-use Rattle.basis.specs.Interpolants.{names}
 use Rattle.specification.proofs.Wiring.{names-on, names-off, names-length}
 use Rattle.specification.specs.Solving.{wiringOf}
 use Rattle.basis.proofs.solve.put_names.Statement.{statement}
