@@ -10,13 +10,14 @@ use lib.Dec.{T}
 use Rattle.residue.specs.Lists.{Among}
 use Rattle.residue.specs.Layout.{fill, over, begins}
 use Rattle.specification.specs.declared.settings.Settings.{Settings}
+use Rattle.specification.specs.Refusal.{firstOf}
 use Rattle.specification.specs.Levels.{inRange, noRepeat, residues}
 use Rattle.specification.specs.Polynomial.{eval}
 use Rattle.specification.specs.Basis.{IsBasis, Fits}
 use Rattle.specification.specs.BasisOf.{standardOf, leadsOf, rowsOf, valueAt}
 use Rattle.specification.specs.Tables.{Tables, spaceUnder, pointsUnder, rowCount, tablesOf, written, tooShort, pointsIn}
 use Rattle.specification.specs.Adding.{Outcome, pointsOffered, drawOutcome}
-use Rattle.specification.specs.Solving.{polynomialUnder, remainderOutcome, Names, Listed, wiringOutcome}
+use Rattle.specification.specs.Solving.{valuesCases, polynomialUnder, remainderCases, remainderOutcome, Names, Listed, wiringOutcome}
 use Rattle.specification.specs.Reference.{Event, Held, numbers, due}
 use Rattle.residue.specs.Level.{residueOf}
 
@@ -85,14 +86,19 @@ pub record Agrees (s : Settings) (start : Tables) (es : List Event) (L : List (L
   pub count : h .n ≡ length L
   pub rows : h .r ≡ rowCount s L
   pub tables : h .tables ≡ written (tablesOf s L) start
-  -- these are the basis by definition, and nothing of it is cut off in the tables
+  -- these are the basis by definition, as many standard monomials as points; nothing of it is cut off in the tables
   pub basis : IsBasis (spaceUnder s) (pointsUnder s L) (standardOf (spaceUnder s) (pointsUnder s L)) (leadsOf (spaceUnder s) (pointsUnder s L)) (rowsOf (spaceUnder s) (pointsUnder s L))
+  pub as-many : length (standardOf (spaceUnder s) (pointsUnder s L)) ≡ length L
   pub few-points : length L ≤ 64
   pub few-rows : rowCount s L ≤ 449
   -- every drawing up of its points into tables none of which is shorter than its size
   pub drawn : (t : Tables) (levels : List ℤ) → tooShort t ≡ false → Rearranges s L levels → SameAs s h (drawOutcome s t levels)
-  -- remainders and wiring lists
+  -- remainders and wiring lists: the number is that of the list of refusals; where it is 0, the buffer holds what is due
+  pub remainder-numbers : (terms : List ℤ) (exponents buffer : List ℕ)
+      → remainderOutcome s (h .n) (h .r) (h .tables) terms exponents buffer .refusal ≡ firstOf (remainderCases s (h .n) (h .r) (h .tables) terms exponents buffer)
   pub remainders : (terms : List ℤ) (exponents buffer : List ℕ) → remainderOutcome s (h .n) (h .r) (h .tables) terms exponents buffer .refusal ≡ 0
       → Remains s L terms exponents buffer (remainderOutcome s (h .n) (h .r) (h .tables) terms exponents buffer .buffer)
+  pub wiring-numbers : (values : List ℤ) (buffer : List ℕ)
+      → wiringOutcome s (h .n) (h .r) (h .tables) values buffer .answer .refusal ≡ firstOf (valuesCases 8 s (h .n) (h .r) (h .tables) values buffer)
   pub wirings : (values : List ℤ) (buffer : List ℕ) → wiringOutcome s (h .n) (h .r) (h .tables) values buffer .answer .refusal ≡ 0
       → Wires s L values buffer (wiringOutcome s (h .n) (h .r) (h .tables) values buffer)

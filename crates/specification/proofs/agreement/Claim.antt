@@ -11,16 +11,17 @@ use Rattle.residue.proofs.Layouts.{fill-zeros, length-fill}
 use Rattle.specification.specs.declared.settings.Settings.{Settings}
 use Rattle.specification.specs.Refusal.{firstOf}
 use Rattle.specification.specs.Settings.{settingsCases}
+use Rattle.specification.specs.Polynomial.{Distinct}
 use Rattle.specification.specs.BasisOf.{basisOf}
 use Rattle.specification.specs.Tables.{Tables, spaceUnder, pointsUnder, rowCount, tablesOf, written, pointsIn}
-use Rattle.specification.specs.Solving.{remainderOutcome, wiringOutcome}
+use Rattle.specification.specs.Solving.{filling, remainderOutcome, listing, wiringOutcome}
 use Rattle.specification.specs.Reference.{Event, Held, numbers, heldAtEnd, referenceAtEnd, due, Refuses}
 use Rattle.specification.specs.Agreement.{Fresh, freshly, Remains, Agrees, Wires}
 use Rattle.specification.proofs.ideal.Basis.{basis-is}
 use Rattle.specification.proofs.agreement.Points.{no-points}
 use Rattle.specification.proofs.agreement.Refusals.{Accepted, accepted, Large, over-begins}
 use Rattle.specification.proofs.agreement.Run.{same-tables, At, held-points, run}
-use Rattle.specification.proofs.agreement.Drawings.{laws-under, distinct-points, few-rows, drawn-same}
+use Rattle.specification.proofs.agreement.Drawings.{laws-under, distinct-points, standard-count, few-rows, drawn-same}
 use Rattle.specification.proofs.CallByCall.{remainder-leaves, wiring-leaves}
 
 -- zeros filled up are zeros
@@ -59,17 +60,21 @@ module _ (s : Settings) (fine : firstOf (settingsCases s) ≡ 0) (start : Tables
 -- For all settings that adding does not refuse, all fresh tables, and every list of additions with refused calls between them.
 pub agreement : (s : Settings) → firstOf (settingsCases s) ≡ 0 → (start : Tables) → Fresh start → (es : List Event) → Refuses s (freshly start) es
     → Agrees s start es (referenceAtEnd s [] es) (heldAtEnd s (freshly start) es)
+unfolding remainderOutcome filling wiringOutcome listing
 agreement s fine start fresh es refuses = record {
   answers = end .0;
   count = at .count;
   rows = at .rows;
   tables = at .tables;
-  basis = basis-is (spaceUnder s) (laws-under s good) (pointsUnder s L) (distinct-points s good L (at .points));
+  basis = basis-is (spaceUnder s) (laws-under s good) (pointsUnder s L) distinct;
+  as-many = standard-count s good L distinct;
   few-points = at .points .few;
   few-rows = few-rows s good L (at .points);
   drawn = λ t levels short a. drawn-same s good fine L (at .points) levels a start big h (at .count) (at .rows) (at .tables) t short;
+  remainder-numbers = λ terms exponents buffer. refl;
   remainders = λ terms exponents buffer e. subst (λ (S : List (List ℕ)). Remains s S terms exponents buffer (remainderOutcome s (h .n) (h .r) (h .tables) terms exponents buffer .buffer)) points
       (remainder-leaves s (h .n) (h .r) (h .tables) terms exponents buffer e .1);
+  wiring-numbers = λ values buffer. refl;
   wirings = λ values buffer e. subst (λ (S : List (List ℕ)). Wires s S values buffer (wiringOutcome s (h .n) (h .r) (h .tables) values buffer)) points
       (wiring-leaves s (h .n) (h .r) (h .tables) values buffer e .1);
 }
@@ -91,6 +96,9 @@ agreement s fine start fresh es refuses = record {
 
     at : At s fine start big h L
     at = end .1
+
+    distinct : Distinct (spaceUnder s) (pointsUnder s L)
+    distinct = distinct-points s good L (at .points)
 
     points : pointsIn s (h .n) (h .tables .states) ≡ L
     points = held-points s fine start big h L at

@@ -79,6 +79,10 @@ module _ (s : Settings) (ok : Accepted s) where
   value-told (Q ∷ K) d (x ∷ v) P y (inr q) =
       cond-not (point-told (spaceUnder s) laws-under (pt P) (pt Q)) (λ e. d .0 (pt P) (among-under K P (point-of K v P y q)) (sym e)) _ _ ∙ value-told K (d .1) v P y q
 
+  -- as many standard monomials as points
+  pub standard-count : (K : List (List ℕ)) → Distinct (spaceUnder s) (pointsUnder s K) → length (standardOf (spaceUnder s) (pointsUnder s K)) ≡ length K
+  standard-count K d = standard-length (spaceUnder s) laws-under (pointsUnder s K) d ∙ length-map K pt
+
   -- at most 1 + n(m-1) rows, so at most 449
   pub few-rows : (K : List (List ℕ)) → Points s K → rowCount s K ≤ 449
   unfolding rowCount
@@ -102,10 +106,7 @@ module _ (s : Settings) (ok : Accepted s) where
     same-rows = ap length (same-basis .1)
 
     pub same-length : length K ≡ length L
-    same-length = sym (count K dK) ∙ ap length (same-basis .0) ∙ count L dL
-      where
-        count : (A : List (List ℕ)) → Distinct (spaceUnder s) (pointsUnder s A) → length (standardOf (spaceUnder s) (pointsUnder s A)) ≡ length A
-        count A d = standard-length (spaceUnder s) laws-under (pointsUnder s A) d ∙ length-map A pt
+    same-length = sym (standard-count K dK) ∙ ap length (same-basis .0) ∙ standard-count L dL
 
     pub same-remainder : (f : Polynomial (spaceUnder s)) → remainderOf (spaceUnder s) (pointsUnder s K) f ≡ remainderOf (spaceUnder s) (pointsUnder s L) f
     same-remainder = remainder-permuted (spaceUnder s) laws-under (pointsUnder s K) (pointsUnder s L) dK dL (carried K L to) (carried L K from)
