@@ -4,12 +4,12 @@ use mathlib.Core.Bool.{not, cond}
 use mathlib.Core.List.{List, [], _∷_, _++_}
 use Prim.Native.Nat.{ℕ}
 use lib.IntN.{ℤ}
-use lib.ListN.{length}
+use lib.ListN.{length, take, drop}
 use lib.Dec.{eqb, leb}
 use Rattle.specification.specs.declared.settings.Settings.{Settings}
 use Rattle.specification.specs.Refusal.{firstOf}
 use Rattle.specification.specs.Levels.{inRange, residues, isAmong}
-use Rattle.specification.specs.Tables.{Tables}
+use Rattle.specification.specs.Tables.{Tables, fourTables}
 use Rattle.specification.specs.Adding.{Outcome, addOutcome, addRefusal}
 
 -- An operation, with what it is handed beside settings, counts and tables: 'An addition calls adding ..; its levels may be anything, and of any number.'
@@ -39,19 +39,46 @@ pointsAfter (adding levels) s L = L ++ (residues (s .modulus) levels ∷ [])
 unfoldable pub referenceAfter : Operation → Settings → List (List ℕ) → List (List ℕ)
 referenceAfter o s L = cond (eqb (referenceAnswer o s L) 0) (pointsAfter o s L) L
 
--- A table lent to an interposed call: one of those that the additions work on, or any other.
+-- One of the four tables that the list works on; these tables with other bytes in one.
+pub data Table : Type 0 where
+  states : Table
+  standard : Table
+  leads : Table
+  coefficients : Table
+
+unfoldable pub tableIn : Table → Tables → List ℕ
+tableIn states t = t .states
+tableIn standard t = t .standard
+tableIn leads t = t .leads
+tableIn coefficients t = t .coefficients
+
+unfoldable pub withTable : Table → List ℕ → Tables → Tables
+withTable states u t = fourTables u (t .standard) (t .leads) (t .coefficients)
+withTable standard u t = fourTables (t .states) u (t .leads) (t .coefficients)
+withTable leads u t = fourTables (t .states) (t .standard) u (t .coefficients)
+withTable coefficients u t = fourTables (t .states) (t .standard) (t .leads) u
+
+-- What an interposed call is lent in the place of a table ('other .. tables'): `count` bytes of one of the list's tables, from the place `from` on, or any others.
 pub data Lent : Type 0 where
-  whole : Lent
-  other : List ℕ → Lent
+  part : (k : Table) (from count : ℕ) → Lent
+  other : (bytes : List ℕ) → Lent
 
-unfoldable pub lent : Lent → List ℕ → List ℕ
-lent whole t = t
-lent (other u) t = u
+unfoldable pub lent : Lent → Tables → List ℕ
+lent (part k from count) t = take count (drop from (tableIn k t))
+lent (other bytes) t = bytes
 
--- the additions' table after the call, which left `end` in the lent one
-unfoldable pub after : Lent → List ℕ → List ℕ → List ℕ
-after whole t end = end
-after (other u) t end = t
+-- the list's tables after a call that left `end` in what it was lent: a part stands in its place again
+unfoldable pub after : Lent → List ℕ → Tables → Tables
+after (part k from count) end t = withTable k (take from (tableIn k t) ++ (end ++ drop count (drop from (tableIn k t)))) t
+after (other bytes) end t = t
+
+-- The tables that an interposed call is lent, and the list's tables after it. Parts that share no byte may be put back in any order; those of a call that is
+-- refused may even share bytes.
+unfoldable pub lentTables : Lent → Lent → Lent → Lent → Tables → Tables
+lentTables a b c d t = fourTables (lent a t) (lent b t) (lent c t) (lent d t)
+
+unfoldable pub tablesAfter : Lent → Lent → Lent → Lent → Tables → Tables → Tables
+tablesAfter a b c d end t = after a (end .states) (after b (end .standard) (after c (end .leads) (after d (end .coefficients) t)))
 
 -- A call in the list: one of its own operations, or an interposed one, which is handed any settings, counts and tables.
 pub data Event : Type 0 where
@@ -67,18 +94,6 @@ pub record Held : Type 0 where
   pub r : ℕ
   pub tables : Tables
 
--- the tables that an interposed call is lent, and the additions' tables after it
-unfoldable pub lentTables : Lent → Lent → Lent → Lent → Tables → Tables
-lentTables a b c d t = record { states = lent a (t .states); standard = lent b (t .standard); leads = lent c (t .leads); coefficients = lent d (t .coefficients) }
-
-unfoldable pub tablesAfter : Lent → Lent → Lent → Lent → Tables → Tables → Tables
-tablesAfter a b c d t end = record {
-  states = after a (t .states) (end .states);
-  standard = after b (t .standard) (end .standard);
-  leads = after c (t .leads) (end .leads);
-  coefficients = after d (t .coefficients) (end .coefficients);
-}
-
 -- the outcome of one call of the list
 unfoldable pub outcomeAt : Settings → Held → Event → Outcome
 outcomeAt s h (own o) = outcomeOf o s (h .n) (h .r) (h .tables)
@@ -92,7 +107,7 @@ keeping h o =
 unfoldable pub heldAfter : Settings → Held → Event → Held
 heldAfter s h (own o) = keeping h (outcomeAt s h (own o))
 heldAfter s h (interposed u n r a b c d o) =
-    record { n = h .n; r = h .r; tables = tablesAfter a b c d (h .tables) (outcomeAt s h (interposed u n r a b c d o) .tables) }
+    record { n = h .n; r = h .r; tables = tablesAfter a b c d (outcomeAt s h (interposed u n r a b c d o) .tables) (h .tables) }
 
 -- the numbers that the calls of a list return, one after the other
 unfoldable pub numbers : Settings → Held → List Event → List ℕ

@@ -2,9 +2,9 @@
 -- operation.
 use mathlib.Core.Path.{_≡_, refl, sym, _∙_, ap, ap₂, subst}
 use mathlib.Core.Bool.{Bool, true, false, cond}
-use mathlib.Core.List.{List, [], _∷_}
+use mathlib.Core.List.{List, [], _∷_, _++_}
 use Prim.Native.Nat.{ℕ}
-use lib.ListN.{length}
+use lib.ListN.{length, take, drop, take-append-drop}
 use lib.Dec.{eqb}
 use borrow.Author.Tests.{eqb-true, ne-eqb}
 use Rattle.residue.specs.Layout.{fill, over}
@@ -15,7 +15,7 @@ use Rattle.specification.specs.Settings.{settingsCases}
 use Rattle.specification.specs.Tables.{Tables, rowCount, tablesOf, written, tooShort, pointsIn, recognised}
 use Rattle.specification.specs.Adding.{Outcome, refused, holding, byRefusal}
 use Rattle.specification.specs.Reference
-use Rattle.specification.specs.Reference.{Operation, outcomeOf, refusalOf, referenceAnswer, pointsAfter, referenceAfter, Lent, whole, other, Event, own, interposed, Held, lentTables, tablesAfter, outcomeAt, keeping, heldAfter, numbers, heldAtEnd, fed, referenceAtEnd, dueAt, due, RefusesAt, Refuses}
+use Rattle.specification.specs.Reference.{Operation, outcomeOf, refusalOf, referenceAnswer, pointsAfter, referenceAfter, Table, states, standard, leads, coefficients, tableIn, withTable, Lent, part, other, Event, own, interposed, Held, lentTables, tablesAfter, outcomeAt, keeping, heldAfter, numbers, heldAtEnd, fed, referenceAtEnd, dueAt, due, RefusesAt, Refuses}
 use Rattle.specification.proofs.agreement.Points.{Points}
 use Rattle.specification.proofs.agreement.Refusals.{Accepted, accepted, Large, not-short, written-large, written-points, written-recognised}
 use Rattle.specification.proofs.agreement.Operations.{lawful}
@@ -43,15 +43,24 @@ written-twice s L L′ t = same-tables (twice 512 _ _ (t .states)) (twice 512 _ 
     twice : (k : ℕ) (l l′ u : List ℕ) → over (fill k l′) (over (fill k l) u) ≡ over (fill k l′) u
     twice k l l′ u = over-over (fill k l′) (fill k l) u (length-fill k l′ ∙ sym (length-fill k l))
 
--- an interposed call that leaves what it was lent leaves the additions' tables
-unlent : (a : Lent) (t : List ℕ) → Reference.after a t (Reference.lent a t) ≡ t
-unfolding Reference.after Reference.lent
-unlent whole t = refl
-unlent (other u) t = refl
+-- a call that leaves what it was lent leaves the list's tables
+put-back : (k : Table) (t : Tables) → withTable k (tableIn k t) t ≡ t
+unfolding withTable tableIn
+put-back states t = refl
+put-back standard t = refl
+put-back leads t = refl
+put-back coefficients t = refl
 
-untouched : (a b c d : Lent) (t : Tables) → tablesAfter a b c d t (lentTables a b c d t) ≡ t
+unlent : (a : Lent) (t : Tables) → Reference.after a (Reference.lent a t) t ≡ t
+unfolding Reference.after Reference.lent
+unlent (part k from count) t =
+    ap (λ (u : List ℕ). withTable k u t) (ap (λ (u : List ℕ). take from (tableIn k t) ++ u) (take-append-drop count (drop from (tableIn k t))) ∙ take-append-drop from (tableIn k t))
+    ∙ put-back k t
+unlent (other bytes) t = refl
+
+untouched : (a b c d : Lent) (t : Tables) → tablesAfter a b c d (lentTables a b c d t) t ≡ t
 unfolding tablesAfter lentTables
-untouched a b c d t = same-tables (unlent a (t .states)) (unlent b (t .standard)) (unlent c (t .leads)) (unlent d (t .coefficients))
+untouched a b c d t = rw (unlent d t, unlent c t, unlent b t, unlent a t)
 
 module _ (s : Settings) (fine : firstOf (settingsCases s) ≡ 0) (start : Tables) (large : Large start) where
   ok : Accepted s
@@ -113,7 +122,7 @@ module _ (s : Settings) (fine : firstOf (settingsCases s) ≡ 0) (start : Tables
             points = a .points;
             count = a .count;
             rows = a .rows;
-            tables = ap (λ (w : Outcome). tablesAfter b c d e (h .tables) (w .tables)) is ∙ untouched b c d e (h .tables) ∙ a .tables;
+            tables = ap (λ (w : Outcome). tablesAfter b c d e (w .tables) (h .tables)) is ∙ untouched b c d e (h .tables) ∙ a .tables;
           },
         )
 
