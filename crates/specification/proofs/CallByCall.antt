@@ -17,9 +17,9 @@ use Rattle.specification.specs.Refusal.{firstOf}
 use Rattle.specification.specs.Levels.{inRange, residues, noRepeat}
 use Rattle.specification.specs.Polynomial.{Distinct}
 use Rattle.specification.specs.Basis.{IsBasis}
-use Rattle.specification.specs.BasisOf.{standardOf, leadsOf, rowsOf, remainderOf, interpolantOf, valueAt}
+use Rattle.specification.specs.BasisOf.{remainderOf, interpolantOf, valueAt}
 use Rattle.specification.specs.Instance.{pointOf}
-use Rattle.specification.specs.Tables.{Tables, spaceUnder, pointsUnder, rowCount, tablesOf, written, pointsIn, recognised}
+use Rattle.specification.specs.Tables.{Tables, spaceUnder, pointsUnder, standardUnder, leadsUnder, rowsUnder, rowCount, tablesOf, written, pointsIn, recognised}
 use Rattle.specification.specs.Adding.{holding, byRefusal, pointsOffered, addCases, addRefusal, addOutcome, drawCases, drawRefusal, drawOutcome}
 use Rattle.specification.specs.Solving.{checkRefusal, filling, valuesCases, interpolantIn, interpolateOutcome, polynomialUnder, remainderCases, remainderIn, remainderOutcome, wiringUnder, Listed, listing, wiringOutcome}
 use Rattle.specification.specs.Agreement.{Remains, Wires}
@@ -55,7 +55,7 @@ module _ (s : Settings) (ok : Accepted s) (S : List (List ℕ)) (h : Points s S)
     few-rows = few-rows s ok S h;
   }
     where
-      is : let D = spaceUnder s in let K = pointsUnder s S in IsBasis D K (standardOf D K) (leadsOf D K) (rowsOf D K)
+      is : IsBasis (spaceUnder s) (pointsUnder s S) (standardUnder s S) (leadsUnder s S) (rowsUnder s S)
       is = basis-is (spaceUnder s) (laws-under s ok) (pointsUnder s S) (distinct-points s ok S h)
 
   -- a call that writes tables
@@ -191,7 +191,7 @@ wiring-leaves s n r t values buffer e =
         fits = interpolant-fits (spaceUnder s) (laws-under s ok) (pointsUnder s S) (b .distinct) (valueAt (spaceUnder s) (pointsUnder s S) (residues (s .modulus) values));
         names = names;
         named = names-are _ _ (s .variables);
-        few = omega (arith, names-length (interpolantOf (spaceUnder s) (pointsUnder s S) (residues (s .modulus) values)) (map (λ a. a .0) (standardOf (spaceUnder s) (pointsUnder s S))) (s .variables), ok .few);
+        few = omega (arith, names-length (interpolantOf (spaceUnder s) (pointsUnder s S) (residues (s .modulus) values)) (map (λ a. a .0) (standardUnder s S)) (s .variables), ok .few);
         count = sym (ap (λ (o : Listed). o .answer .count) is);
         held = sym (ap (λ (o : Listed). o .buffer) is);
       },

@@ -26,9 +26,9 @@ use Rattle.specification.specs.Refusal.{firstOf}
 use Rattle.specification.specs.Settings.{settingsCases}
 use Rattle.specification.specs.Levels.{isResidue, residueOr0, inRange, residues, isAmong}
 use Rattle.specification.specs.Extension.{slot, minus, without, divided, extended, gap, first, newton, grow}
-use Rattle.specification.specs.BasisOf.{basisOf, valueAt, standardOf, leadsOf, rowsOf}
+use Rattle.specification.specs.BasisOf.{basisOf, valueAt}
 use Rattle.specification.specs.Instance.{monomialOf, pointOf}
-use Rattle.specification.specs.Tables.{spaceUnder, pointsUnder}
+use Rattle.specification.specs.Tables.{standardUnder, leadsUnder, rowsUnder}
 use Rattle.specification.specs.Solving.{occurs, wiringOf, wiringUnder, polynomialOf}
 use Rattle.specification.specs.Reference.{referenceAnswer, pointsAfter, referenceAfter, addition, Held, heldAfter, numbers, fed, dueAt, due, RefusesAt, Refuses}
 use Rattle.specification.specs.Examples.{Example, Holds, Tabled, under, anyOrder, fresh, A, examples}
@@ -55,13 +55,13 @@ are-same (a ∷ k) (b ∷ l) h =
 module _ (s : Settings) (S standard leads rows : List (List ℕ)) where
   -- the three tables of the points, and one test of them all
   abbrev on-standard : Bool
-  on-standard = sameLists (map (λ a. a .0) (standardOf (spaceUnder s) (pointsUnder s S))) standard
+  on-standard = sameLists (map (λ a. a .0) (standardUnder s S)) standard
 
   abbrev on-leads : Bool
-  on-leads = sameLists (map (λ a. a .0) (leadsOf (spaceUnder s) (pointsUnder s S))) leads
+  on-leads = sameLists (map (λ a. a .0) (leadsUnder s S)) leads
 
   abbrev on-rows : Bool
-  on-rows = sameLists (rowsOf (spaceUnder s) (pointsUnder s S)) rows
+  on-rows = sameLists (rowsUnder s S) rows
 
   tested : Bool
   tested = on-standard && (on-leads && on-rows)

@@ -14,8 +14,8 @@ use Rattle.specification.specs.Refusal.{firstOf}
 use Rattle.specification.specs.Levels.{inRange, noRepeat, residues}
 use Rattle.specification.specs.Polynomial.{eval}
 use Rattle.specification.specs.Basis.{IsBasis, Fits}
-use Rattle.specification.specs.BasisOf.{standardOf, leadsOf, rowsOf, valueAt}
-use Rattle.specification.specs.Tables.{Tables, spaceUnder, pointsUnder, rowCount, tablesOf, written, tooShort, pointsIn}
+use Rattle.specification.specs.BasisOf.{valueAt}
+use Rattle.specification.specs.Tables.{Tables, spaceUnder, pointsUnder, standardUnder, leadsUnder, rowsUnder, rowCount, tablesOf, written, tooShort, pointsIn}
 use Rattle.specification.specs.Adding.{Outcome, pointsOffered, drawOutcome}
 use Rattle.specification.specs.Solving.{valuesCases, polynomialUnder, remainderCases, remainderOutcome, Names, Listed, wiringOutcome}
 use Rattle.specification.specs.Reference.{Event, Held, numbers, due}
@@ -56,7 +56,8 @@ pub record SameAs (s : Settings) (h : Held) (o : Outcome) : Type 0 where
   pub leads : take 3592 (o .tables .leads) ≡ take 3592 (h .tables .leads)
   pub coefficients : take 28736 (o .tables .coefficients) ≡ take 28736 (h .tables .coefficients)
   pub remainder : (terms : List ℤ) (exponents buffer : List ℕ)
-      → remainderOutcome s (o .answer .n) (o .answer .r) (o .tables) terms exponents buffer ≡ remainderOutcome s (h .n) (h .r) (h .tables) terms exponents buffer
+      → remainderOutcome s (o .answer .n) (o .answer .r) (o .tables) terms exponents buffer
+      ≡ remainderOutcome s (h .n) (h .r) (h .tables) terms exponents buffer
   pub wiring : (v w : List ℤ) (buffer : List ℕ) → SameValues s (pointsIn s (o .answer .n) (o .tables .states)) (pointsIn s (h .n) (h .tables .states)) v w
       → wiringOutcome s (o .answer .n) (o .answer .r) (o .tables) v buffer ≡ wiringOutcome s (h .n) (h .r) (h .tables) w buffer
 
@@ -64,16 +65,16 @@ pub record SameAs (s : Settings) (h : Held) (o : Outcome) : Type 0 where
 pub record Remains (s : Settings) (L : List (List ℕ)) (terms : List ℤ) (exponents buffer end : List ℕ) : Type 0 where
   pub coefficients : List ℕ
   pub held : end ≡ over (fill 64 coefficients) buffer
-  pub fits : Fits (spaceUnder s) (pointsUnder s L) (standardOf (spaceUnder s) (pointsUnder s L)) (eval (spaceUnder s) (polynomialUnder s terms exponents)) coefficients
+  pub fits : Fits (spaceUnder s) (pointsUnder s L) (standardUnder s L) (eval (spaceUnder s) (polynomialUnder s terms exponents)) coefficients
 
 -- The buffer of a wiring call whose number is 0 holds the numbers of the variables that occur, increasing, in the one combination of standard monomials with
 -- these values at the points.
 pub record Wires (s : Settings) (L : List (List ℕ)) (values : List ℤ) (buffer : List ℕ) (end : Listed) : Type 0 where
   pub coefficients : List ℕ
-  pub fits : Fits (spaceUnder s) (pointsUnder s L) (standardOf (spaceUnder s) (pointsUnder s L))
+  pub fits : Fits (spaceUnder s) (pointsUnder s L) (standardUnder s L)
       (valueAt (spaceUnder s) (pointsUnder s L) (residues (s .modulus) values)) coefficients
   pub names : List ℕ
-  pub named : Names (s .variables) coefficients (map (λ a. a .0) (standardOf (spaceUnder s) (pointsUnder s L))) names
+  pub named : Names (s .variables) coefficients (map (λ a. a .0) (standardUnder s L)) names
   pub few : length names ≤ 8
   pub count : end .answer .count ≡ length names
   pub held : end .buffer ≡ over (fill 8 names) buffer
@@ -87,15 +88,16 @@ pub record Agrees (s : Settings) (start : Tables) (es : List Event) (L : List (L
   pub rows : h .r ≡ rowCount s L
   pub tables : h .tables ≡ written (tablesOf s L) start
   -- these are the basis by definition, as many standard monomials as points; nothing of it is cut off in the tables
-  pub basis : IsBasis (spaceUnder s) (pointsUnder s L) (standardOf (spaceUnder s) (pointsUnder s L)) (leadsOf (spaceUnder s) (pointsUnder s L)) (rowsOf (spaceUnder s) (pointsUnder s L))
-  pub as-many : length (standardOf (spaceUnder s) (pointsUnder s L)) ≡ length L
+  pub basis : IsBasis (spaceUnder s) (pointsUnder s L) (standardUnder s L) (leadsUnder s L) (rowsUnder s L)
+  pub as-many : length (standardUnder s L) ≡ length L
   pub few-points : length L ≤ 64
   pub few-rows : rowCount s L ≤ 449
   -- every drawing up of its points into tables none of which is shorter than its size
   pub drawn : (t : Tables) (levels : List ℤ) → tooShort t ≡ false → Rearranges s L levels → SameAs s h (drawOutcome s t levels)
   -- remainders and wiring lists: the number is that of the list of refusals; where it is 0, the buffer holds what is due
   pub remainder-numbers : (terms : List ℤ) (exponents buffer : List ℕ)
-      → remainderOutcome s (h .n) (h .r) (h .tables) terms exponents buffer .refusal ≡ firstOf (remainderCases s (h .n) (h .r) (h .tables) terms exponents buffer)
+      → remainderOutcome s (h .n) (h .r) (h .tables) terms exponents buffer .refusal
+      ≡ firstOf (remainderCases s (h .n) (h .r) (h .tables) terms exponents buffer)
   pub remainders : (terms : List ℤ) (exponents buffer : List ℕ) → remainderOutcome s (h .n) (h .r) (h .tables) terms exponents buffer .refusal ≡ 0
       → Remains s L terms exponents buffer (remainderOutcome s (h .n) (h .r) (h .tables) terms exponents buffer .buffer)
   pub wiring-numbers : (values : List ℤ) (buffer : List ℕ)

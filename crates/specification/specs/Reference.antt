@@ -58,7 +58,7 @@ withTable standard u t = fourTables (t .states) u (t .leads) (t .coefficients)
 withTable leads u t = fourTables (t .states) (t .standard) u (t .coefficients)
 withTable coefficients u t = fourTables (t .states) (t .standard) (t .leads) u
 
--- What an interposed call is lent in the place of a table ('other .. tables'): `count` bytes of one of the list's tables, from the place `from` on, or any others.
+-- What an interposed call is lent in the place of a table ('other .. tables'): `count` bytes of one of the list's, from place `from` on, or any others.
 pub data Lent : Type 0 where
   part : (k : Table) (from count : ℕ) → Lent
   other : (bytes : List ℕ) → Lent
