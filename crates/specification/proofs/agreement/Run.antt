@@ -4,6 +4,7 @@ use mathlib.Core.Path.{_≡_, refl, sym, _∙_, ap, ap₂, subst}
 use mathlib.Core.Bool.{Bool, true, false, cond}
 use mathlib.Core.List.{List, [], _∷_, _++_}
 use Prim.Native.Nat.{ℕ}
+use native.Mathlib.Omega.{arith}
 use lib.ListN.{length, take, drop, take-append-drop}
 use lib.Dec.{eqb}
 use borrow.Author.Tests.{eqb-true, ne-eqb}
@@ -86,7 +87,7 @@ module _ (s : Settings) (fine : firstOf (settingsCases s) ≡ 0) (start : Tables
     module _ (o : Operation) where
       -- an operation answers as the reference list does
       number : refusalOf o s (h .n) (h .r) (h .tables) ≡ referenceAnswer o s L
-      number = lawful o .number s fine (h .n) (h .r) (h .tables) not-too-short held-recognised ∙ ap (referenceAnswer o s) held-points
+      number = lawful o .number s fine (h .n) (h .r) (h .tables) (omega (arith, a .count, a .points .few)) not-too-short held-recognised ∙ ap (referenceAnswer o s) held-points
 
       abbrev due-outcome : Outcome
       due-outcome = byRefusal (referenceAnswer o s L) (h .tables) (holding s (pointsAfter o s L) (h .tables))
