@@ -1,4 +1,4 @@
--- Lists of operations on lent tables: docs/SCOPE.md, 'The two desks'. The reference list is that section's book.
+-- Lists of operations on lent tables: docs/SCOPE.md, 'The two desks', whose words stand in quotes here. The reference list is document 01's book.
 use mathlib.Core.Logic.{_≢_}
 use mathlib.Core.Bool.{not, cond}
 use mathlib.Core.List.{List, [], _∷_, _++_}
@@ -12,7 +12,7 @@ use Rattle.specification.specs.Levels.{inRange, residues, isAmong}
 use Rattle.specification.specs.Tables.{Tables, fourTables}
 use Rattle.specification.specs.Adding.{Outcome, addOutcome, addRefusal}
 
--- An operation, with what it is handed beside settings, counts and tables: 'An addition calls adding ..; its levels may be anything, and of any number.'
+-- An operation, with what it is handed beside settings, counts and tables: 'its levels may be anything, and of any number'.
 pub data Operation : Type 0 where
   adding : (levels : List ℤ) → Operation
 
@@ -23,7 +23,7 @@ outcomeOf (adding levels) s n r t = addOutcome s n r t levels
 unfoldable pub refusalOf : Operation → Settings → ℕ → ℕ → Tables → ℕ
 refusalOf (adding levels) s n r t = addRefusal s n r t levels
 
--- what the reference list answers to it
+-- what the reference list answers to it: 'the first number here whose case holds'
 unfoldable pub referenceAnswer : Operation → Settings → List (List ℕ) → ℕ
 referenceAnswer (adding levels) s L = firstOf
     ((not (eqb (length levels) (s .variables)), 7)
@@ -31,15 +31,15 @@ referenceAnswer (adding levels) s L = firstOf
     ∷ (not (inRange (s .modulus) levels), 9)
     ∷ (isAmong (residues (s .modulus) levels) L, 11) ∷ [])
 
--- the points after it, if it is answered 0
+-- the points after it, where the answer is 0: the list 'appends these residues'
 unfoldable pub pointsAfter : Operation → Settings → List (List ℕ) → List (List ℕ)
 pointsAfter (adding levels) s L = L ++ (residues (s .modulus) levels ∷ [])
 
--- the reference list after it: with another answer 'it does not change'
+-- the reference list after it: with any other answer 'it does not change'
 unfoldable pub referenceAfter : Operation → Settings → List (List ℕ) → List (List ℕ)
 referenceAfter o s L = cond (eqb (referenceAnswer o s L) 0) (pointsAfter o s L) L
 
--- One of the four tables that the list works on; these tables with other bytes in one.
+-- One of the four tables that the list works on; the four with other bytes in one.
 pub data Table : Type 0 where
   states : Table
   standard : Table
@@ -58,7 +58,8 @@ withTable standard u t = fourTables (t .states) u (t .leads) (t .coefficients)
 withTable leads u t = fourTables (t .states) (t .standard) u (t .coefficients)
 withTable coefficients u t = fourTables (t .states) (t .standard) (t .leads) u
 
--- What an interposed call is lent in the place of a table ('other .. tables'): `count` bytes of one of the list's, from place `from` on, or any others.
+-- What an interposed call, 'with other settings, counts or tables', is lent in the place of a table: `count` bytes of one of the list's tables, from the place
+-- `from` on, or any other bytes.
 pub data Lent : Type 0 where
   part : (k : Table) (from count : ℕ) → Lent
   other : (bytes : List ℕ) → Lent
@@ -72,19 +73,20 @@ unfoldable pub after : Lent → List ℕ → Tables → Tables
 after (part k from count) end t = withTable k (take from (tableIn k t) ++ (end ++ drop count (drop from (tableIn k t)))) t
 after (other bytes) end t = t
 
--- The tables that an interposed call is lent, and the list's tables after it. Parts that share no byte may be put back in any order; those of a call that is
--- refused may even share bytes.
+-- The tables that an interposed call is lent, and the list's tables after it. Their order is all one, as 'no call .. is lent a byte twice that it may write';
+-- where a call is refused, even if parts overlap (proofs/agreement/Run).
 unfoldable pub lentTables : Lent → Lent → Lent → Lent → Tables → Tables
 lentTables a b c d t = fourTables (lent a t) (lent b t) (lent c t) (lent d t)
 
 unfoldable pub tablesAfter : Lent → Lent → Lent → Lent → Tables → Tables → Tables
 tablesAfter a b c d end t = after a (end .states) (after b (end .standard) (after c (end .leads) (after d (end .coefficients) t)))
 
--- A call in the list: one of its own operations, or an interposed one, which is handed any settings, counts and tables.
+-- A call of 'the list': one of its own operations, or an interposed one, which may be handed any settings, counts and tables.
 pub data Event : Type 0 where
   own : (o : Operation) → Event
   interposed : (s : Settings) (n r : ℕ) (states standard leads coefficients : Lent) (o : Operation) → Event
 
+-- an addition of the list
 abbrev pub addition : List ℤ → Event
 addition levels = own (adding levels)
 
@@ -94,12 +96,12 @@ pub record Held : Type 0 where
   pub r : ℕ
   pub tables : Tables
 
--- the outcome of one call of the list
+-- the outcome of one call
 unfoldable pub outcomeAt : Settings → Held → Event → Outcome
 outcomeAt s h (own o) = outcomeOf o s (h .n) (h .r) (h .tables)
 outcomeAt s h (interposed u n r a b c d o) = outcomeOf o u n r (lentTables a b c d (h .tables))
 
--- what is held after an outcome of the list's own: counts come only with the number 0
+-- what is held after one of the list's own: 'the counts of the last answer that had them, and the tables'; counts come with the number 0 alone
 unfoldable pub keeping : Held → Outcome → Held
 keeping h o =
     cond (eqb (o .answer .refusal) 0) (record { n = o .answer .n; r = o .answer .r; tables = o .tables }) (record { n = h .n; r = h .r; tables = o .tables })
@@ -118,7 +120,7 @@ unfoldable pub heldAtEnd : Settings → Held → List Event → Held
 heldAtEnd s h [] = h
 heldAtEnd s h (e ∷ es) = heldAtEnd s (heldAfter s h e) es
 
--- The reference list is told of the list's own operations alone.
+-- The reference list is told of the list's own operations; of an interposed call it 'is not told'.
 unfoldable pub fed : Settings → List (List ℕ) → Event → List (List ℕ)
 fed s L (own o) = referenceAfter o s L
 fed s L (interposed u n r a b c d o) = L
@@ -127,7 +129,7 @@ unfoldable pub referenceAtEnd : Settings → List (List ℕ) → List Event → 
 referenceAtEnd s L [] = L
 referenceAtEnd s L (e ∷ es) = referenceAtEnd s (fed s L e) es
 
--- the numbers that are due: the reference list's answer to an operation of the list, the number of the list of refusals to an interposed call
+-- the numbers that are due: the reference list's answer to an operation of the list; an interposed call returns 'its number of that section'
 unfoldable pub dueAt : Settings → List (List ℕ) → Held → Event → ℕ
 dueAt s L h (own o) = referenceAnswer o s L
 dueAt s L h (interposed u n r a b c d o) = refusalOf o u n r (lentTables a b c d (h .tables))
@@ -136,7 +138,7 @@ unfoldable pub due : Settings → List (List ℕ) → Held → List Event → Li
 due s L h [] = []
 due s L h (e ∷ es) = dueAt s L h e ∷ due s (fed s L e) (heldAfter s h e) es
 
--- each interposed call is one that the list of refusals refuses
+-- calls 'may be interposed if 'Refused, in this order of checking' refuses them'
 unfoldable pub RefusesAt : Held → Event → Type 0
 RefusesAt h (own o) = Unit {0}
 RefusesAt h (interposed u n r a b c d o) = refusalOf o u n r (lentTables a b c d (h .tables)) ≢ 0
