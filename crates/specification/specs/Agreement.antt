@@ -1,4 +1,4 @@
--- What is claimed of every list of additions: docs/SCOPE.md, 'The two desks', as one statement. proofs/agreement has its proof.
+-- What is claimed of every list of operations: docs/SCOPE.md, 'The two desks', as one statement. proofs/agreement has its proof.
 use mathlib.Core.Path.{_≡_}
 use mathlib.Core.Bool.{false}
 use mathlib.Core.List.{List, [], map, zip}
@@ -45,7 +45,7 @@ pub record SameValues (s : Settings) (K L : List (List ℕ)) (v w : List ℤ) : 
   pub count : length v ≡ length w
   pub equal : (P : List ℕ) (y z : ℤ) → Among (P, y) (zip K v) → Among (P, z) (zip L w) → residueOf (s .modulus) y ≡ residueOf (s .modulus) z
 
--- A drawing up agrees with what the additions hold: the number is 0, and n, r and the three tables are equal in each byte of their sizes. The remainder call,
+-- A drawing up agrees with what the list holds: the number is 0, and n, r and the three tables are equal in each byte of their sizes. The remainder call,
 -- handed the same terms, and the wiring call, handed values that are equal at each point, each desk's in the order of its own points, answer the same with
 -- either tables, and leave equal buffers where they were lent buffers of equal bytes.
 pub record SameAs (s : Settings) (h : Held) (o : Outcome) : Type 0 where
@@ -81,7 +81,7 @@ pub record Wires (s : Settings) (L : List (List ℕ)) (values : List ℤ) (buffe
 
 -- After the list `es` from fresh tables `start`, with L the reference list then and h what is held.
 pub record Agrees (s : Settings) (start : Tables) (es : List Event) (L : List (List ℕ)) (h : Held) : Type 0 where
-  -- each addition has returned the reference list's answer, each interposed call its number of the list of refusals
+  -- each operation of the list has returned the reference list's answer, each interposed call its number of the list of refusals
   pub answers : numbers s (freshly start) es ≡ due s [] (freshly start) es
   -- n is its length; the tables are those of its points, in its order, and zeros in the rest of their sizes; bytes past the sizes are as they were
   pub count : h .n ≡ length L

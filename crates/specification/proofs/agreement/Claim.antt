@@ -1,4 +1,4 @@
--- THE claim over any list of additions (docs/SCOPE.md, 'The two desks').
+-- THE claim over any list of operations (docs/SCOPE.md, 'The two desks').
 use mathlib.Core.Path.{_≡_, refl, sym, _∙_, ap, subst}
 use mathlib.Core.List.{List, [], _∷_, _++_, append-nil}
 use Prim.Native.Nat.{ℕ, zero, suc, _≤_}
@@ -57,7 +57,7 @@ module _ (s : Settings) (fine : firstOf (settingsCases s) ≡ 0) (start : Tables
         (nothing 3592 8 (s .variables) (start .leads) (fresh .leads)) (nothing 28736 64 0 (start .coefficients) (fresh .coefficients)));
   }
 
--- For all settings that adding does not refuse, all fresh tables, and every list of additions with refused calls between them.
+-- For all settings that adding does not refuse, all fresh tables, and every list of operations with refused calls between them.
 pub agreement : (s : Settings) → firstOf (settingsCases s) ≡ 0 → (start : Tables) → Fresh start → (es : List Event) → Refuses s (freshly start) es
     → Agrees s start es (referenceAtEnd s [] es) (heldAtEnd s (freshly start) es)
 unfolding remainderOutcome filling wiringOutcome listing

@@ -109,7 +109,7 @@ module _ (s : Settings) (fine : firstOf (settingsCases s) ≡ 0) (start : Tables
             rows = refl;
             tables = ap (written (tablesOf s (pointsAfter o s L))) (a .tables) ∙ written-twice s L (pointsAfter o s L) start;
           }
-          pick false e = rw e (record { points = a .points; count = a .count; rows = a .rows; tables = a .tables })
+          pick false e = rw e a
 
     -- one call: its number, and what is held after it
     step : (e : Event) → RefusesAt h e → (outcomeAt s h e .answer .refusal ≡ dueAt s L h e) × At (heldAfter s h e) (fed s L e)
@@ -117,15 +117,8 @@ module _ (s : Settings) (fine : firstOf (settingsCases s) ≡ 0) (start : Tables
     step (own o) t = (ap (λ (w : Outcome). w .answer .refusal) (outcome o) ∙ number-of (referenceAnswer o s L) (h .tables) s _, rw (outcome o) (own-held o))
     step (interposed u n r b c d e o) t =
         let k = refusalOf o u n r (lentTables b c d e (h .tables)) in
-        let is : outcomeOf o u n r (lentTables b c d e (h .tables)) ≡ refused k (lentTables b c d e (h .tables)) = lawful o .outcome u n r _ ∙ rw (ne-eqb k 0 t) in (
-          ap (λ (w : Outcome). w .answer .refusal) is,
-          record {
-            points = a .points;
-            count = a .count;
-            rows = a .rows;
-            tables = ap (λ (w : Outcome). tablesAfter b c d e (w .tables) (h .tables)) is ∙ untouched b c d e (h .tables) ∙ a .tables;
-          },
-        )
+        let is : outcomeOf o u n r (lentTables b c d e (h .tables)) ≡ refused k (lentTables b c d e (h .tables)) = lawful o .outcome u n r _ ∙ rw (ne-eqb k 0 t) in
+        (ap (λ (w : Outcome). w .answer .refusal) is, rw (is, untouched b c d e (h .tables)) a)
 
   -- Every list of calls, from tables that hold the basis of a list of points.
   pub run : (es : List Event) (h : Held) (L : List (List ℕ)) → At h L → Refuses s h es → (numbers s h es ≡ due s L h es) × At (heldAtEnd s h es) (referenceAtEnd s L es)
