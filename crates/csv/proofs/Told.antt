@@ -14,11 +14,11 @@ use Rattle.specification.proofs.agreement.Points.{Points}
 use Rattle.specification.proofs.agreement.Refusals.{Accepted}
 use Rattle.specification.proofs.agreement.Drawings.{few-rows}
 use Rattle.specification.specs.Solving.{wiringOf, wiringUnder}
-use Rattle.basis.specs.Interpolants.{solution}
+use Rattle.specification.proofs.Recognised.{read}
+use Rattle.basis.specs.Answers.{solution}
 use Rattle.basis.specs.Drawing.{PointsGiven, DrawnUp}
-use Rattle.basis.proofs.PointTables.{length-points, points-in}
-use Rattle.basis.proofs.calls.Given.{read}
-use Rattle.basis.proofs.calls.Answers.{length-interpolant, solution-is, names-in}
+use Rattle.basis.proofs.drawing.Given.{settings-given, given-count}
+use Rattle.basis.proofs.answers.Interpolants.{length-interpolant, solution-is, names-in}
 use Rattle.csv.specs.Appending.{Room, Put, inTable}
 use Rattle.csv.specs.Printing.{basisLines, linesOf}
 use Rattle.csv.proofs.Drawn.{standard-back, leads-back, rows-back, names-few, lines-length}
@@ -28,13 +28,13 @@ module _ (s : Settings) (n : ℕ) (points values : List ℕ) (g : PointsGiven s 
   S = pointsIn s n points
 
   ok : Accepted s
-  ok = record { modulus = g .modulus; some = g .some; few = g .few; order = g .order }
+  ok = settings-given g
 
   pub given : Points s S
   given = read s ok n points (g .most) (g .once)
 
   pub count-points : length S ≡ n
-  count-points = omega (arith, length-points (s .modulus) (s .variables) n points, ap length (points-in s n points))
+  count-points = given-count g
 
   abbrev cs : List ℕ
   cs = interpolantOf (spaceUnder s) (pointsUnder s S) values

@@ -35,9 +35,9 @@ use Rattle.specification.proofs.ideal.Basis.{row-is}
 use Rattle.specification.proofs.ideal.Counts.{leads-length, standard-length}
 use Rattle.specification.proofs.ideal.Permutation.{basis-snoc}
 use Rattle.basis.specs.Drawing.{settingsOf, PointsGiven, DrawnUp}
-use Rattle.basis.specs.Insertions.{valueOfRow, firstFrom, Grown, grown, standardGrown, grownBy, NewPoint, Tabled}
-use Rattle.basis.proofs.PointTables.{length-points, points-in}
-use Rattle.basis.proofs.elimination.Grounds.{ground, places-below}
+use Rattle.basis.specs.Adding.{valueOfRow, firstFrom, Grown, grown, standardGrown, grownBy, NewPoint, Tabled}
+use Rattle.basis.proofs.drawing.Given.{given-count}
+use Rattle.basis.proofs.drawing.Grounds.{ground, places-below}
 use Rattle.basis.proofs.adding.Corrections.{valuesAt}
 use Rattle.basis.proofs.adding.LostRow.{lost, lost-one}
 use Rattle.basis.proofs.adding.NewTables.{table, read, few-standard, short, most, grown-are, standard-are}
@@ -283,7 +283,7 @@ unfolding tablesOf inPlaces
 states-more s n {points} {point} given room new t ys k et ek ey =
     let K : List (List ℕ) = pointsIn s n points in
     let P : List ℕ = take (s .variables) point in
-    let count : length K ≡ n = ap length (sym (points-in s n points)) ∙ length-points (s .modulus) (s .variables) n points in
+    let count : length K ≡ n = given-count given in
     let long : length point ≡ 8 = ap length (new .filled) ∙ length-fill 8 P in
     let same : fill 8 point ≡ fill 8 P = fill-exact 8 point long ∙ new .filled in
     place-more 8 512 K point t ys (8 * n) k (et ∙ given .table) (ap (λ (j : ℕ). 8 * j) (sym count)) ek (omega arith) (omega arith) ey
