@@ -41,7 +41,7 @@ module _ (s : Settings) (n : ℕ) (points values : List ℕ) (g : PointsGiven s 
 
   module _ (r : ℕ) (standard leads coefficients rows pivots : List ℕ) (u : DrawnUp s S r standard leads coefficients rows pivots) where
     pub few : r ≤ 449
-    few = omega (arith, u .row-count, few-rows s ok S given)
+    few = omega (arith, u .tabled .row-count, few-rows s ok S given)
 
     pub inside : (t : ℕ) → t < n → getD pivots t 0 < n
     inside t k = omega (arith, u .pivot-rows .inside t (omega (arith, count-points)), count-points)
@@ -59,7 +59,7 @@ module _ (s : Settings) (n : ℕ) (points values : List ℕ) (g : PointsGiven s 
           (f : names ≡ fill 8 (wiringOf (s .variables) (take n interpolant) (groups 8 n standard))) where
         same-names : wiringOf (s .variables) (take n interpolant) (groups 8 n standard) ≡ wiringUnder s S values
         same-names =
-            ap₂ (λ (l : List ℕ) (t : List ℕ). wiringOf (s .variables) (take n l) (groups 8 n t)) filled (u .standard-table)
+            ap₂ (λ (l : List ℕ) (t : List ℕ). wiringOf (s .variables) (take n l) (groups 8 n t)) filled (u .tabled .standard-table)
             ∙ ap (λ (j : ℕ). wiringOf (s .variables) (take j (fill 64 cs)) (groups 8 j (tablesOf s S .standard))) (sym count-points)
             ∙ names-in s ok S given values
 
@@ -74,10 +74,10 @@ module _ (s : Settings) (n : ℕ) (points values : List ℕ) (g : PointsGiven s 
         text : lines ≡ linesOf s S values
         unfolding linesOf
         text =
-            let x = ap₂ (λ (j : ℕ) (t : List ℕ). inTable 8 j (s .variables) t) (sym count-points) (u .standard-table) ∙ standard-back s ok S given in
-            let y = ap₂ (λ (j : ℕ) (t : List ℕ). inTable 8 j (s .variables) t) (u .row-count) (u .leads-table) ∙ leads-back s ok S given in
+            let x = ap₂ (λ (j : ℕ) (t : List ℕ). inTable 8 j (s .variables) t) (sym count-points) (u .tabled .standard-table) ∙ standard-back s ok S given in
+            let y = ap₂ (λ (j : ℕ) (t : List ℕ). inTable 8 j (s .variables) t) (u .tabled .row-count) (u .tabled .leads-table) ∙ leads-back s ok S given in
             let z =
-            ap₂ (λ (j k : ℕ). inTable 64 j k coefficients) (u .row-count) (sym count-points) ∙ ap (inTable 64 (rowCount s S) (length S)) (u .coefficients-table) ∙ rows-back s ok S given in
+            ap₂ (λ (j k : ℕ). inTable 64 j k coefficients) (u .tabled .row-count) (sym count-points) ∙ ap (inTable 64 (rowCount s S) (length S)) (u .tabled .coefficients-table) ∙ rows-back s ok S given in
             let v = solved in
             let w = listed in
             cc

@@ -165,10 +165,12 @@ module _ (s : Settings) (n r : ℕ) (t : Tables) (levels : List ℤ) where
       large = o .large;
       given = subst (λ (k : ℕ). PointsGiven s k table) is (subst (PointsGiven s (length old)) (sym et) (given s (o .settings) old of-old));
       drawn = drawn-of (sym back) (record {
-        row-count = parts s (o .settings) n r t few (o .known) .rows;
-        standard-table = standard-there s (o .settings) n r t few (o .known);
-        leads-table = leads-there s (o .settings) n r t few (o .known);
-        coefficients-table = coefficients-there s (o .settings) n r t few (o .known);
+        tabled = record {
+          row-count = parts s (o .settings) n r t few (o .known) .rows;
+          standard-table = standard-there s (o .settings) n r t few (o .known);
+          leads-table = leads-there s (o .settings) n r t few (o .known);
+          coefficients-table = coefficients-there s (o .settings) n r t few (o .known);
+        };
         pivot-rows = solves;
       });
       room = o .room;

@@ -53,7 +53,7 @@ pub drawn-long : (s : Settings) (S : List (List ℕ)) (r : ℕ) (standard leads 
     → (length standard ≡ 512) × ((length leads ≡ 3592) × (length coefficients ≡ 28736))
 unfolding tablesOf
 drawn-long s S r standard leads coefficients rows pivots h =
-    (ap length (h .standard-table) ∙ length-fill 512 _, (ap length (h .leads-table) ∙ length-fill 3592 _, ap length (h .coefficients-table) ∙ length-fill 28736 _))
+    (ap length (h .tabled .standard-table) ∙ length-fill 512 _, (ap length (h .tabled .leads-table) ∙ length-fill 3592 _, ap length (h .tabled .coefficients-table) ∙ length-fill 28736 _))
 
 -- of the same points
 pub drawn-of : {s : Settings} {S K : List (List ℕ)} {r : ℕ} {standard leads coefficients rows pivots : List ℕ} → S ≡ K → DrawnUp s S r standard leads coefficients rows pivots

@@ -170,10 +170,12 @@ module _ {p m order n : ℕ} {points : List ℕ} (given : PointsGiven (settingsO
     pub drawn-up : {r : ℕ} → r ≡ length (leadsOf D S) → DrawnUp s K r standard leads coefficients rows pivots
     unfolding rowCount tablesOf
     drawn-up e = record {
-      row-count = e;
-      standard-table = H .standard-table;
-      leads-table = H .leads-table;
-      coefficients-table = H .coefficients-table ∙ ap (λ (z : List (List ℕ)). fill 28736 (inPlaces 64 z)) (rows-only D S L (ground .distinct) (leadsOf D S) css (H .rows-are));
+      tabled = record {
+        row-count = e;
+        standard-table = H .standard-table;
+        leads-table = H .leads-table;
+        coefficients-table = H .coefficients-table ∙ ap (λ (z : List (List ℕ)). fill 28736 (inPlaces 64 z)) (rows-only D S L (ground .distinct) (leadsOf D S) css (H .rows-are));
+      };
       pivot-rows = record {
         long-rows = P .long-rows;
         long-pivots = P .long-pivots;

@@ -15,8 +15,8 @@ ghost use Rattle.residue.specs.Modulus.{isModulus};
 ghost use Rattle.residue.specs.Vector.{Below};
 ghost use Rattle.residue.specs.Layout.{over, rowAt};
 ghost use Rattle.specification.specs.Tables.{rowCount, tablesOf, pointsIn};
-ghost use Rattle.basis.specs.Adding.{grown, othersOf, othersCorrected, standardGrown, grownBy, NewPoint, Tabled};
-ghost use Rattle.basis.specs.Drawing.{settingsOf, PointsGiven, DrawnUp};
+ghost use Rattle.basis.specs.Adding.{grown, othersOf, othersCorrected, standardGrown, grownBy, NewPoint};
+ghost use Rattle.basis.specs.Drawing.{settingsOf, PointsGiven, Tabled, DrawnUp};
 
 // The leads but that of row j, and their rows corrected.
 fn keep_others(

@@ -143,7 +143,7 @@ returns-2 : tie.Need-returns-2
 returns-2 c =
     let d = c .before .before .before .before .before .before .before .before in
     let y = s (g d) in
-    (not-count (y .args .settings) (y .args .n) (y .args .r) (tables y) (once (g d)) (λ e. c .if2 .taken (drawn d .row-count ∙ sym e)), (is-table (w (g d)), λ e. absurd (true≢false (sym e))))
+    (not-count (y .args .settings) (y .args .n) (y .args .r) (tables y) (once (g d)) (λ e. c .if2 .taken (drawn d .tabled .row-count ∙ sym e)), (is-table (w (g d)), λ e. absurd (true≢false (sym e))))
 
 slice-aggregate-agree : tie.Need-slice-aggregate-agree
 slice-aggregate-agree c = sym (c .before .before .before .before .before .before .before .before .before .before .draw .kept .1 .1 .1 .1 .1 .0)
@@ -174,7 +174,7 @@ unfolding tablesOf
 returns-3 c =
     let d = c .before .before .before .before .before .before .before .before .before .before .before .before .before in
     let y = s (g d) in (
-      c .agree .ensures ∙ by-tables (y .args .settings) (y .args .n) (y .args .r) (tables y) (once (g d)) (sym (c .before .before .before .before .before .if2 .left) ∙ drawn d .row-count) _ _ _ _ (is-table (w (g d))) (drawn d .standard-table) (drawn d .leads-table) (drawn d .coefficients-table),
+      c .agree .ensures ∙ by-tables (y .args .settings) (y .args .n) (y .args .r) (tables y) (once (g d)) (sym (c .before .before .before .before .before .if2 .left) ∙ drawn d .tabled .row-count) _ _ _ _ (is-table (w (g d))) (drawn d .tabled .standard-table) (drawn d .tabled .leads-table) (drawn d .tabled .coefficients-table),
       (is-table (w (g d)), λ e. drawn d .pivot-rows),
     )
 

@@ -140,7 +140,7 @@ returns c =
     let d = c .before .before .before .before .before .before .before .before in
     let k = drawing d in
     let e = d .draw .ensures in
-    (e .row-count, (k .before .before .before .before .before .before .before .before .before .before .before .before .copy .ensures, (answered-anew 512 (s k .args .standard .now) (standard k) (s k .pre .1 .1 .0) (k .before .before .before .before .before .before .before .before .clear .ensures) _ _ (e .standard-table), (answered-anew 3592 (s k .args .leads .now) (leads k) (s k .pre .1 .1 .1 .0) (k .before .before .before .before .clear2 .ensures) _ _ (e .leads-table), answered-anew 28736 (s k .args .coefficients .now) (coefficients k) (s k .pre .1 .1 .1 .1) (k .clear3 .ensures) _ _ (e .coefficients-table)))))
+    (e .tabled .row-count, (k .before .before .before .before .before .before .before .before .before .before .before .before .copy .ensures, (answered-anew 512 (s k .args .standard .now) (standard k) (s k .pre .1 .1 .0) (k .before .before .before .before .before .before .before .before .clear .ensures) _ _ (e .tabled .standard-table), (answered-anew 3592 (s k .args .leads .now) (leads k) (s k .pre .1 .1 .1 .0) (k .before .before .before .before .clear2 .ensures) _ _ (e .tabled .leads-table), answered-anew 28736 (s k .args .coefficients .now) (coefficients k) (s k .pre .1 .1 .1 .1) (k .clear3 .ensures) _ _ (e .tabled .coefficients-table)))))
 
 pub draw-points-spec : {M : Type 1} → statement M
 draw-points-spec =

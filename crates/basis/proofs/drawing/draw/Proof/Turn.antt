@@ -1,4 +1,4 @@
--- A turn of the loop of `draw::draw`, place by place: its head, the working row reduced, the monomial kept.
+-- A turn of the loop of `drawing::draw`, place by place: its head, the working row reduced, the monomial kept.
 use mathlib.Core.Path.{_≡_, sym, ap, subst, _∙_}
 use mathlib.Core.Logic.{⊎-elim}
 use mathlib.Core.List.{List}
