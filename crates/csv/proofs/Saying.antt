@@ -30,7 +30,7 @@ use Rattle.specification.proofs.agreement.Points.{IsPoint, residues-same, lengt
 use Rattle.specification.proofs.agreement.Refusals.{Accepted}
 use Rattle.basis.specs.Drawing.{PointsGiven}
 use Rattle.basis.specs.Drawing as D
-use Rattle.basis.proofs.calls.Given as G
+use Rattle.basis.proofs.drawing.Given as G
 use Rattle.csv.specs.declared.reading.Refusal.{Refusal}
 use Rattle.csv.specs.Forms.{Header}
 use Rattle.csv.specs.Fields.{recordsOf}

@@ -14,11 +14,11 @@ use Rattle.specification.proofs.agreement.Points.{Points}
 use Rattle.specification.proofs.agreement.Refusals.{Accepted}
 use Rattle.specification.proofs.agreement.Drawings.{few-rows}
 use Rattle.specification.specs.Solving.{wiringOf, wiringUnder}
-use Rattle.basis.specs.Interpolants.{solution}
+use Rattle.specification.proofs.Recognised.{read}
+use Rattle.basis.specs.Answers.{solution}
 use Rattle.basis.specs.Drawing.{PointsGiven, DrawnUp}
-use Rattle.basis.proofs.PointTables.{length-points, points-in}
-use Rattle.basis.proofs.calls.Given.{read}
-use Rattle.basis.proofs.calls.Answers.{length-interpolant, solution-is, names-in}
+use Rattle.basis.proofs.drawing.Given.{settings-given, given-count}
+use Rattle.basis.proofs.answers.Interpolants.{length-interpolant, solution-is, names-in}
 use Rattle.csv.specs.Appending.{Room, Put, inTable}
 use Rattle.csv.specs.Printing.{basisLines, linesOf}
 use Rattle.csv.proofs.Drawn.{standard-back, leads-back, rows-back, names-few, lines-length}
@@ -28,20 +28,20 @@ module _ (s : Settings) (n : ℕ) (points values : List ℕ) (g : PointsGiven s 
   S = pointsIn s n points
 
   ok : Accepted s
-  ok = record { modulus = g .modulus; some = g .some; few = g .few; order = g .order }
+  ok = settings-given g
 
   pub given : Points s S
   given = read s ok n points (g .most) (g .once)
 
   pub count-points : length S ≡ n
-  count-points = omega (arith, length-points (s .modulus) (s .variables) n points, ap length (points-in s n points))
+  count-points = given-count g
 
   abbrev cs : List ℕ
   cs = interpolantOf (spaceUnder s) (pointsUnder s S) values
 
   module _ (r : ℕ) (standard leads coefficients rows pivots : List ℕ) (u : DrawnUp s S r standard leads coefficients rows pivots) where
     pub few : r ≤ 449
-    few = omega (arith, u .row-count, few-rows s ok S given)
+    few = omega (arith, u .tabled .row-count, few-rows s ok S given)
 
     pub inside : (t : ℕ) → t < n → getD pivots t 0 < n
     inside t k = omega (arith, u .pivot-rows .inside t (omega (arith, count-points)), count-points)
@@ -59,7 +59,7 @@ module _ (s : Settings) (n : ℕ) (points values : List ℕ) (g : PointsGiven s 
           (f : names ≡ fill 8 (wiringOf (s .variables) (take n interpolant) (groups 8 n standard))) where
         same-names : wiringOf (s .variables) (take n interpolant) (groups 8 n standard) ≡ wiringUnder s S values
         same-names =
-            ap₂ (λ (l : List ℕ) (t : List ℕ). wiringOf (s .variables) (take n l) (groups 8 n t)) filled (u .standard-table)
+            ap₂ (λ (l : List ℕ) (t : List ℕ). wiringOf (s .variables) (take n l) (groups 8 n t)) filled (u .tabled .standard-table)
             ∙ ap (λ (j : ℕ). wiringOf (s .variables) (take j (fill 64 cs)) (groups 8 j (tablesOf s S .standard))) (sym count-points)
             ∙ names-in s ok S given values
 
@@ -74,10 +74,10 @@ module _ (s : Settings) (n : ℕ) (points values : List ℕ) (g : PointsGiven s 
         text : lines ≡ linesOf s S values
         unfolding linesOf
         text =
-            let x = ap₂ (λ (j : ℕ) (t : List ℕ). inTable 8 j (s .variables) t) (sym count-points) (u .standard-table) ∙ standard-back s ok S given in
-            let y = ap₂ (λ (j : ℕ) (t : List ℕ). inTable 8 j (s .variables) t) (u .row-count) (u .leads-table) ∙ leads-back s ok S given in
+            let x = ap₂ (λ (j : ℕ) (t : List ℕ). inTable 8 j (s .variables) t) (sym count-points) (u .tabled .standard-table) ∙ standard-back s ok S given in
+            let y = ap₂ (λ (j : ℕ) (t : List ℕ). inTable 8 j (s .variables) t) (u .tabled .row-count) (u .tabled .leads-table) ∙ leads-back s ok S given in
             let z =
-            ap₂ (λ (j k : ℕ). inTable 64 j k coefficients) (u .row-count) (sym count-points) ∙ ap (inTable 64 (rowCount s S) (length S)) (u .coefficients-table) ∙ rows-back s ok S given in
+            ap₂ (λ (j k : ℕ). inTable 64 j k coefficients) (u .tabled .row-count) (sym count-points) ∙ ap (inTable 64 (rowCount s S) (length S)) (u .tabled .coefficients-table) ∙ rows-back s ok S given in
             let v = solved in
             let w = listed in
             cc
