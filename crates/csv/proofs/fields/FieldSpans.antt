@@ -13,7 +13,7 @@ use borrow.Author.Tests.{eq-eqb, ne-eqb, eqb-true, eqb-false}
 use Rattle.csv.specs.Fields.{quote, broken, front, isPlain, ending, with, quoted, unquoted, fieldOf}
 use Rattle.csv.specs.Spans.{closing, undoubled, endedBy}
 use Rattle.csv.specs.declared.fields.End.{End}
-use Rattle.csv.proofs.Endings.{with-ending}
+use Rattle.csv.proofs.fields.FieldEnds.{with-ending}
 
 pub front-le : (kind : ℕ → Bool) (l : List ℕ) → front kind l ≤ length l
 unfolding front

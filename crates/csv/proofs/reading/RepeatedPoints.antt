@@ -18,8 +18,8 @@ use Rattle.csv.specs.Reading.{entryIn, pointOf, valueOf, pointsOf, value
 use Rattle.csv.specs.Records.{entriesAt, counted}
 use Rattle.csv.specs.Points.{levelsAt, saying}
 use Rattle.csv.specs.declared.records.Entries.the-variants as N
-use Rattle.csv.proofs.Gathering.{all-entries}
-use Rattle.csv.proofs.Repeating.{AllLong, table-repeats}
+use Rattle.csv.proofs.points.EntriesFilled.{all-entries}
+use Rattle.csv.proofs.tables.RepeatedRows.{AllLong, table-repeats}
 
 levels-length : (fields : List (List ℕ)) (zs : List ℤ) → levelsOf fields ≡ some zs → length zs ≡ length fields
 unfolding levelsOf together

@@ -16,7 +16,7 @@ use Rattle.csv.specs.declared.forms.Number.the-variants as N
 use Rattle.csv.specs.declared.forms.Word.{Word}
 use Rattle.csv.specs.declared.forms.Word.the-variants as W
 use Rattle.csv.specs.declared.forms.Last.the-variants as L
-use Rattle.csv.proofs.Sameness.{same-length}
+use Rattle.csv.proofs.forms.SameFrom.{same-length}
 
 -- the order word
 module _ (l : List ℕ) where

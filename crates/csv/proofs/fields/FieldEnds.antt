@@ -9,7 +9,7 @@ use lib.ListN.{length, getD, drop, drop-of-length-le}
 use lib.Seq.{drop-cons}
 use borrow.Author.Tests.{eq-eqb, ne-eqb}
 use Rattle.csv.specs.Fields.{comma, lf, cr, Field, field, broken, afterCr, ending, with}
-use Rattle.csv.proofs.Searches.{cells}
+use Rattle.csv.proofs.fields.Searches.{cells}
 
 module _ (content : List ℕ) where
   first-comma : (b : ℕ) (l : List ℕ) → b ≡ comma → ending content (b ∷ l) ≡ field content true l

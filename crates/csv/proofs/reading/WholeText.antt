@@ -15,9 +15,9 @@ use Rattle.csv.specs.Records.{kept, reads, headerPart, entriesAt, counte
 use Rattle.csv.specs.Points.{levelsAt, saying}
 use Rattle.csv.specs.declared.reading.Refusal.{Refusal}
 use Rattle.csv.specs.declared.records.Entries.the-variants as N
-use Rattle.csv.proofs.Unrolling.{records-unroll}
-use Rattle.csv.proofs.Concluding.{entries-count}
-use Rattle.csv.proofs.Refusing.{when-refused, fault-le}
+use Rattle.csv.proofs.fields.EnoughTurns.{records-unroll}
+use Rattle.csv.proofs.reading.RepeatedPoints.{entries-count}
+use Rattle.csv.proofs.reading.FirstCase.{when-refused, fault-le}
 
 -- the header is the first record
 first-none : (p : Part (List (List ℕ))) → reads headerOf p ≡ faulty → headerIn (behindRecord recordsOf p) ≡ none

@@ -37,8 +37,8 @@ use Rattle.csv.specs.Fields.{recordsOf}
 use Rattle.csv.specs.Reading.{Entries, Outcome, headerIn, formFault, entriesOf, pointOf, valueOf, pointsOf, valuesOf, firstOutside, firstRepeat, settingsCases, entriesCases, readCases, firstCase, accepted, decided, refused, readOutcome}
 use Rattle.csv.specs.Appending.{putAt, Put}
 use Rattle.csv.specs.Printing.{refusalLine, linesOf, linesRead, linesFor, printed, printOutcome}
-use Rattle.csv.proofs.Repeating.{AllLong}
-use Rattle.csv.proofs.Accepting.{passed, in-small, or-small, no-fault, all-long, all-inside, none-again}
+use Rattle.csv.proofs.tables.RepeatedRows.{AllLong}
+use Rattle.csv.proofs.printing.AcceptedPoints.{passed, in-small, or-small, no-fault, all-long, all-inside, none-again}
 
 pub record Says (e : Entries) : Type 0 where
   pub modulus : isModulus (e .header .modulus) ≡ true

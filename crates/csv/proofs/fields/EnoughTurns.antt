@@ -11,7 +11,7 @@ use lib.ListN.{length, take, drop, length-drop}
 use lib.Dec.{eqb}
 use Rattle.csv.specs.Fields.{quote, comma, lf, cr, Field, field, broken, Part, part, faulty, front, isPlain, afterCr, ending, unquoted, quoted, fieldOf, withFirst, behindField, recordFrom, recordOf, behindRecord, recordsFrom, recordsOf}
 use Rattle.csv.specs.Spans.{closing, undoubled}
-use Rattle.csv.proofs.Spanning.{quoted-closed, quoted-open}
+use Rattle.csv.proofs.fields.FieldSpans.{quoted-closed, quoted-open}
 
 -- a field that was read from n bytes leaves fewer, if another follows it or there were any
 pub data Left (n : ℕ) : Field (List ℕ) → Type 0 where

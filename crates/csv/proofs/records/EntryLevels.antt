@@ -12,7 +12,7 @@ use borrow.Author.Tests.{ne-eqb}
 use Rattle.csv.specs.Fields.{Field, field, broken, fieldOf, Part, part, faulty, withFirst, behindField, recordOf}
 use Rattle.csv.specs.Forms.{levelOf, together, levelsOf, entryOf}
 use Rattle.csv.specs.Records.{held, reading, levelField, kept, reads, entryPart}
-use Rattle.csv.proofs.Unrolling.{record-unroll}
+use Rattle.csv.proofs.fields.EnoughTurns.{record-unroll}
 
 -- a field that is a level, or is none
 pub record Reads {A B : Type 0} (f : A → Option B) (x : Field A) (b : B) (more : Bool) (rest : List ℕ) : Type 0 where

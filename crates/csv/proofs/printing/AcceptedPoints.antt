@@ -17,8 +17,8 @@ use Rattle.specification.proofs.Repeats.{among-is, is-among}
 use Rattle.csv.specs.Fields.{front}
 use Rattle.csv.specs.Forms.{isDigit, numberOf, lex-word, grlex-word, grevlex-word, mod-word, orderWord, Header, header, settingsOf, lastField, headerFrom, headerOf}
 use Rattle.csv.specs.Reading.{Case, further, firstFault, isNone, headerIn, entryIn, entriesIn, formFault, isOutside, firstRepeat, firstCase}
-use Rattle.csv.proofs.Repeating.{AllLong}
-use Rattle.csv.proofs.Concluding.{entries-long}
+use Rattle.csv.proofs.tables.RepeatedRows.{AllLong}
+use Rattle.csv.proofs.reading.RepeatedPoints.{entries-long}
 
 -- A case that refuses and does not hold.
 pub passed : (b : Bool) (k at : ℕ) (l : List Case) → firstCase ((b, suc k, at) ∷ l) .refusal ≡ 0 → (b ≡ false) × (firstCase l .refusal ≡ 0)

@@ -11,7 +11,7 @@ use lib.ListN.{length, length-append}
 use Rattle.residue.specs.Lists.{Among}
 use Rattle.residue.specs.Vector.{Below}
 use Rattle.csv.specs.Printing.{decimal, spaced, numbers, line, labelled, lineEnd, colon, points-word, standard-word, rows-word, row-word, interpolant-word, wiring-word, refused-word, refusalLine, firstLine, standardLines, rowLine, rowLines, basisLines}
-use Rattle.csv.proofs.Decimals.{decimal-digit, decimal-more}
+use Rattle.csv.proofs.printing.DecimalDigits.{decimal-digit, decimal-more}
 
 -- a number has at most as many digits as the power of ten that it is below
 one : (n : ℕ) → n < 10 → length (decimal n) ≡ 1

@@ -12,8 +12,8 @@ use Rattle.csv.specs.Spans.{undoubled}
 use Rattle.csv.specs.Said.{lastSaid}
 use Rattle.csv.specs.Records.{kept, reads}
 use Rattle.csv.specs.declared.forms.Last.{Last}
-use Rattle.csv.proofs.Quotes.{last-raw}
-use Rattle.csv.proofs.Unrolling.{Left, going, field-left, record-unroll}
+use Rattle.csv.proofs.forms.NoQuote.{last-raw}
+use Rattle.csv.proofs.fields.EnoughTurns.{Left, going, field-left, record-unroll}
 
 -- the header that begins here, behind so many names
 unfoldable pub headed : ℕ → List ℕ → Part Header

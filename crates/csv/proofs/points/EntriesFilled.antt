@@ -21,8 +21,8 @@ use Rattle.csv.specs.Records.{entryPart, entriesAt, counted}
 use Rattle.csv.specs.Points.{levelsIn, behindEntry, FilledAs, levelsAt, firstPlace}
 use Rattle.csv.specs.declared.points.Filled.{Filled}
 use Rattle.csv.specs.declared.records.Entries.the-variants as N
-use Rattle.csv.proofs.Checking.{entries-more, entries-none}
-use Rattle.csv.proofs.Snocs.{map-snoc}
+use Rattle.csv.proofs.records.EntriesChecked.{entries-more, entries-none}
+use Rattle.csv.proofs.points.OneMore.{map-snoc}
 
 -- where the count was taken, every record is an entry
 pub all-entries : (k n : ℕ) (es : List (Option (List ℤ))) → counted k es ≡ N.Count n → (es ≡ map some (map (λ e. Option·getD e []) es)) × (n ≡ k + length es)

@@ -16,9 +16,9 @@ use Rattle.csv.specs.Reading.{entryIn}
 use Rattle.csv.specs.Records.{held, reading, levelField, kept, reads, entryPart, entriesAt, ends, refuses, checked, counted}
 use Rattle.csv.specs.declared.forms.Signed.{Signed}
 use Rattle.csv.specs.declared.records.Entries.the-variants as N
-use Rattle.csv.proofs.Entering.{entry-broken, entry-more, entry-long, entry-last, entry-short}
-use Rattle.csv.proofs.Quotes.{level-raw}
-use Rattle.csv.proofs.Unrolling.{Behind, shorter, stopped, record-left, records-unroll}
+use Rattle.csv.proofs.records.EntryLevels.{entry-broken, entry-more, entry-long, entry-last, entry-short}
+use Rattle.csv.proofs.forms.NoQuote.{level-raw}
+use Rattle.csv.proofs.fields.EnoughTurns.{Behind, shorter, stopped, record-left, records-unroll}
 
 -- the level in a field, by the bytes between its quotes
 pub level-is : (raw rest l : List ℕ) (more : Bool) (s : Signed) → field (undoubled raw) more rest ≡ fieldOf l → levelSaid s ≡ levelOf raw

@@ -17,8 +17,8 @@ use Rattle.csv.specs.Reading.{pointOf, valueOf}
 use Rattle.csv.specs.Records.{levelField, entryPart}
 use Rattle.csv.specs.Points.{levelIn, behindLevel, PlacedAs, levelsIn, behindEntry, FilledAs}
 use Rattle.csv.specs.declared.points.Placed.{Placed}
-use Rattle.csv.proofs.Entering.{entry-broken, entry-more, entry-long, entry-last, entry-short}
-use Rattle.csv.proofs.Snocs.{residues-snoc, range-snoc, over-snoc}
+use Rattle.csv.proofs.records.EntryLevels.{entry-broken, entry-more, entry-long, entry-last, entry-short}
+use Rattle.csv.proofs.points.OneMore.{residues-snoc, range-snoc, over-snoc}
 
 -- what an entry that is not faulty is
 pub whole : (e : Part (List ℤ)) → (e ≡ faulty → ⊥) → e ≡ part (levelsIn e) (behindEntry e)
