@@ -13,7 +13,7 @@ use mir.Val.{toZ, ofZ}
 use mir.Facts.{toZ-ofZ}
 use Rattle.residue.specs.Level.{residueOf}
 use Rattle.residue.specs.declared.level.Level.the-variants.{Residue, Outside}
-use Rattle.basis.specs.Levels.{isResidue, inRange}
+use Rattle.specification.specs.Levels.{isResidue, inRange}
 
 -- an element of a slice of signed bytes, as a function has it that is handed it
 pub handed : (z : ℤ) → mag z < 2 ^ 7 → toZ w8 (ofZ w8 z) ≡ z

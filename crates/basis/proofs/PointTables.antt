@@ -3,15 +3,15 @@ use mathlib.Core.Path.{_≡_, refl, sym, _∙_, ap}
 use mathlib.Core.List.{List, [], _∷_, _++_, map, map-append}
 use Prim.Native.Nat.{ℕ, zero, suc, _+_, _-_, _*_, _%_, _≤_}
 use native.Mathlib.Omega.{arith}
-use native.Mathlib.Nat.{le-of-suc-le-suc}
 use lib.IntN.{ℤ}
 use lib.ListN.{length, take, drop, length-map}
-use Rattle.basis.specs.declared.settings.Settings.{Settings}
-use Rattle.basis.specs.Levels.{residues, groups}
-use Rattle.basis.specs.Layout.{fill}
-use Rattle.basis.specs.Instance.{reduced, pointOf}
-use Rattle.basis.specs.Tables.{pointsIn}
-use Rattle.basis.proofs.Places.{length-groups, groups-more}
+use Rattle.residue.specs.Layout.{groups}
+use Rattle.residue.proofs.Places.{length-groups, groups-more}
+use Rattle.residue.proofs.Layouts.{fill-take}
+use Rattle.specification.specs.declared.settings.Settings.{Settings}
+use Rattle.specification.specs.Levels.{residues}
+use Rattle.specification.specs.Instance.{reduced, pointOf}
+use Rattle.specification.specs.Tables.{pointsIn}
 
 module _ {A B : Type 0} (f : A → B) where
   pub map-take : (k : ℕ) (l : List A) → map f (take k l) ≡ take k (map f l)
@@ -28,14 +28,6 @@ module _ {A B : Type 0} (f : A → B) where
 pub residues-part : (p k at : ℕ) (zs : List ℤ) → residues p (take k (drop at zs)) ≡ take k (drop at (residues p zs))
 unfolding residues
 residues-part p k at zs = map-take _ k (drop at zs) ∙ ap (take k) (map-drop _ at zs)
-
--- cut shorter
-fill-take : (m k : ℕ) (l : List ℕ) → m ≤ k → k ≤ length l → fill m (take k l) ≡ take m l
-unfolding fill
-fill-take zero k l h e = refl
-fill-take (suc m) zero l h e = absurd (omega arith)
-fill-take (suc m) (suc k) [] h e = absurd (omega arith)
-fill-take (suc m) (suc k) (x ∷ l) h e = ap (λ (z : List ℕ). x ∷ z) (fill-take m k l (le-of-suc-le-suc h) (le-of-suc-le-suc e))
 
 module _ (p m : ℕ) where
   -- a point is what its place holds, cut and reduced

@@ -1,148 +1,15 @@
--- Laws of what drawing up writes: places of tables, the ranks of the variables, the values of a monomial at the points.
-use mathlib.Core.Path.{_≡_, refl, sym, ap, ap₂, _∙_}
-use mathlib.Core.List.{List, [], _∷_, _++_}
-use Prim.Native.Nat.{ℕ, zero, suc, _+_, _*_, _%_, _^_, _<_, _≤_}
-use native.Mathlib.Nat.{not-suc-le-zero}
-use native.Mathlib.Numerals.{add-one}
-use native.Mathlib.Decide.{decLt}
+-- The values of a variable times a monomial, as drawing up makes them.
+use mathlib.Core.Path.{_≡_, sym, ap, ap₂, _∙_}
+use mathlib.Core.List.{List, _++_}
+use Prim.Native.Nat.{ℕ, _*_, _%_, _<_, _≤_}
 use native.Mathlib.Omega.{arith}
-use lib.ListN.{length, getD, take, drop, replicate, length-append, length-map, length-drop, length-replicate, List·getD-append, List·getD-eq-default}
-use lib.Seq.{getD-take, getD-drop, getD-append-add, length-take-le, take-take}
-use lib.Dec.{eqb, eqb→eq}
+use lib.ListN.{length, getD, take, drop, List·getD-append}
+use lib.Seq.{getD-take, length-take-le}
 use Rattle.residue.specs.Vector.{Below, pointwise}
-use Rattle.residue.proofs.Vectors.{map-at, pointwise-length, pointwise-at, pointwise-below, below-drop, below-append}
-use Rattle.residue.proofs.Moduli.{below-at}
-use Rattle.monomial.specs.Order.{Order}
-use Rattle.monomial.specs.Rank.{variableRank}
-use Rattle.basis.specs.Levels.{groups}
-use Rattle.basis.specs.Layout.{fill, inPlaces, over}
-use Rattle.basis.specs.Working.{withPlace}
-use Rattle.basis.specs.Drawing.{stepsOf, columnOf, columnsOf, productValues}
-use Rattle.basis.proofs.Layouts.{length-fill, fill-at, fill-exact, take-fill, length-over, over-all}
-use Rattle.basis.proofs.elimination.Exponents.{variable-small}
-use Rattle.basis.proofs.Places.{length-groups, groups-at, place-at, no-places, over-zeros, place-more}
-use Rattle.basis.proofs.WorkingRows.{replaced-length, replaced-below, replaced-before, replaced-here}
-
--- a part that was lent, and came back written over at its front
-pub put-place : (w k j : ℕ) (new table : List ℕ) {part : List ℕ} → j ≡ w → part ≡ over new (take j (drop (w * k) table))
-    → take (w * k) table ++ (part ++ drop j (drop (w * k) table)) ≡ withPlace w k new table
-unfolding withPlace
-put-place w k j new table {part} e h =
-    ap (λ (l : List ℕ). take (w * k) table ++ (l ++ drop j (drop (w * k) table))) h
-    ∙ ap (λ (i : ℕ). take (w * k) table ++ (over new (take i (drop (w * k) table)) ++ drop i (drop (w * k) table))) e
-
--- the part is as long as the place
-pub part-long : (at j w : ℕ) (table : List ℕ) → j ≡ w → at + w ≤ length table → length (take j (drop at table)) ≡ w
-part-long at j w table e h = length-take-le j (drop at table) (simp length-drop (omega arith)) ∙ e
-
--- a whole place, written and read
-pub put-whole : (w k j : ℕ) (new table : List ℕ) {part : List ℕ} → j ≡ w → w * k + w ≤ length table → length new ≡ w → part ≡ new
-    → take (w * k) table ++ (part ++ drop j (drop (w * k) table)) ≡ withPlace w k new table
-put-whole w k j new table e h l g = put-place w k j new table e (g ∙ sym (over-all new _ (l ∙ sym (part-long (w * k) j w table e h))))
-
-pub read-whole : (at j w : ℕ) (table old : List ℕ) → j ≡ w → at + w ≤ length table → length old ≡ w → over (take j (drop at table)) old ≡ take w (drop at table)
-read-whole at j w table old e h l =
-    over-all (take j (drop at table)) old (part-long at j w table e h ∙ sym l) ∙ ap (λ (i : ℕ). take i (drop at table)) e
-
--- one row more in a table whose places behind are 0
-pub table-more : (w N k : ℕ) (S : List (List ℕ)) (r t : List ℕ) → t ≡ fill N (inPlaces w S) → k ≡ length S → w * k + w ≤ N → length r ≤ w
-    → withPlace w k r t ≡ fill N (inPlaces w (S ++ (r ∷ [])))
-unfolding withPlace
-table-more w N k S r t e c h l = place-more w N S r t (over r (take w (drop (w * k) t))) (w * k) w e (ap (λ (z : ℕ). w * z) c) refl h l refl
-
--- a row that is filled up already
-pub places-filled : (w : ℕ) (S : List (List ℕ)) (r : List ℕ) → inPlaces w (S ++ (fill w r ∷ [])) ≡ inPlaces w (S ++ (r ∷ []))
-unfolding inPlaces
-places-filled w [] r = ap (λ (z : List ℕ). z ++ []) (fill-exact w (fill w r) (length-fill w r))
-places-filled w (x ∷ S) r = ap (λ (z : List ℕ). fill w x ++ z) (places-filled w S r)
-
--- a place that is written whole: the table's length, residues, what lies before, and the place itself
-module _ (w k : ℕ) (new table : List ℕ) (fits : w * k + w ≤ length table) (long : length new ≡ w) where
-  whole : withPlace w k new table ≡ take (w * k) table ++ (new ++ drop w (drop (w * k) table))
-  whole = sym (put-whole w k w new table refl fits long refl)
-
-  pub place-length : length (withPlace w k new table) ≡ length table
-  place-length = rw whole (replaced-length (w * k) w new table fits long)
-
-  pub place-below : (p : ℕ) → Below p new → Below p table → Below p (withPlace w k new table)
-  place-below p b c = rw whole (replaced-below (w * k) w new table fits long p b c)
-
-  pub place-before : (i : ℕ) → i < w * k → getD (withPlace w k new table) i 0 ≡ getD table i 0
-  place-before i h = rw whole (replaced-before (w * k) w new table fits long i h)
-
-  pub place-here : (i : ℕ) → i < w → getD (withPlace w k new table) (w * k + i) 0 ≡ getD new i 0
-  place-here i h = rw whole (replaced-here (w * k) w new table fits long i h)
-
--- the ranks of the variables
-abbrev indices : List ℕ
-indices = 0 ∷ 1 ∷ 2 ∷ 3 ∷ 4 ∷ 5 ∷ 6 ∷ 7 ∷ []
-
-pub steps-long : (order : Order) → length (stepsOf order) ≡ 8
-unfolding stepsOf
-steps-long order = length-map indices (variableRank order)
-
-pub steps-at : (order : Order) (k : ℕ) → k < 8 → getD (stepsOf order) k 0 ≡ variableRank order k
-unfolding stepsOf
-steps-at order k h = map-at (variableRank order) indices 0 0 k h ∙ ap (variableRank order) (eqb→eq _ _ (below-at (λ i. eqb (getD indices i 0) i) 8 tt k h))
-
-pub steps-below : (order : Order) → Below (2 ^ 56) (stepsOf order)
-steps-below order i h = let l = steps-long order in rw (steps-at order i (omega arith)) (variable-small order i (omega arith))
-
--- one coordinate of the points of a table
-module _ (k n : ℕ) (points : List ℕ) where
-  pub column-long : length (columnOf k n points) ≡ n
-  unfolding columnOf
-  column-long = length-map (groups 8 n points) _ ∙ length-groups 8 n points
-
-  pub column-at : (i : ℕ) → i < n → k < 8 → getD (columnOf k n points) i 0 ≡ getD points (8 * i + k) 0
-  unfolding columnOf
-  column-at i h l =
-      map-at (λ P. getD P k 0) (groups 8 n points) [] 0 i (rw (length-groups 8 n points) h)
-      ∙ ap (λ (P : List ℕ). getD P k 0) (groups-at 8 n i points [] h)
-      ∙ getD-take 8 (drop (8 * i) points) k 0 l
-      ∙ getD-drop (8 * i) points k 0
-
-  pub column-below : (p : ℕ) → Below p points → k < 8 → 8 * n ≤ length points → Below p (columnOf k n points)
-  column-below p b l h i z = let e = column-long in rw (column-at i (omega arith) l) (b (8 * i + k) (omega arith))
-
--- all coordinates, 64 numbers apart
-module _ (n : ℕ) (points : List ℕ) where
-  columns-long : (k : ℕ) → length (columnsOf k n points) ≡ k
-  unfolding columnsOf
-  columns-long zero = refl
-  columns-long (suc k) = length-append (columnsOf k n points) (columnOf k n points ∷ []) ∙ omega (arith, columns-long k)
-
-  columns-at : (k j : ℕ) → j < k → getD (columnsOf k n points) j [] ≡ columnOf j n points
-  unfolding columnsOf
-  columns-at zero j h = absurd (not-suc-le-zero h)
-  columns-at (suc k) j h = go (decLt j k) (λ l. columns-at k j l)
-    where
-      go : Dec (j < k) → (j < k → getD (columnsOf k n points) j [] ≡ columnOf j n points) → getD (columnsOf k n points ++ (columnOf k n points ∷ [])) j [] ≡ columnOf j n points
-      go (yes l) f = List·getD-append (columnsOf k n points) (columnOf k n points ∷ []) [] j (rw (columns-long k) l) ∙ f l
-      go (no l) f =
-          let e : j ≡ length (columnsOf k n points) + 0 = omega (arith, columns-long k, l) in
-          let d : k ≡ j = omega (arith, l) in
-          ap (λ (i : ℕ). getD (columnsOf k n points ++ (columnOf k n points ∷ [])) i []) e ∙ getD-append-add (columnsOf k n points) (columnOf k n points ∷ []) 0 [] ∙ ap (λ (i : ℕ). columnOf i n points) d
-
-  pub columns-none : replicate 512 0 ≡ fill 512 (inPlaces 64 (columnsOf 0 n points))
-  unfolding columnsOf
-  columns-none = no-places 64 512
-
-  pub columns-more : (k j : ℕ) (columns : List ℕ) {part : List ℕ} → k < 8 → n ≤ 64 → columns ≡ fill 512 (inPlaces 64 (columnsOf k n points)) → j ≡ 64
-      → part ≡ over (columnOf k n points) (take j (drop (64 * k) columns))
-      → take (64 * k) columns ++ (part ++ drop j (drop (64 * k) columns)) ≡ fill 512 (inPlaces 64 (columnsOf (k + 1) n points))
-  unfolding columnsOf
-  columns-more k j columns h l e i f =
-      rw (add-one k)
-      (place-more 64 512 (columnsOf k n points) (columnOf k n points) columns _ (64 * k) j e (ap (λ (z : ℕ). 64 * z) (sym (columns-long k))) i (omega arith) (omega (arith, column-long k n points)) f)
-
-  pub column-in : (k : ℕ) (columns : List ℕ) → columns ≡ fill 512 (inPlaces 64 (columnsOf 8 n points)) → k < 8 → n ≤ 64 → take n (drop (64 * k) columns) ≡ columnOf k n points
-  column-in k columns e h l =
-      let c = columns-long 8 in
-      ap (λ (t : List ℕ). take n (drop (64 * k) t)) e
-      ∙ sym (take-take n 64 _ l)
-      ∙ ap (take n) (place-at 64 512 (columnsOf 8 n points) k [] (omega arith) (omega arith) ∙ ap (fill 64) (columns-at 8 k h))
-      ∙ take-fill n 64 (columnOf k n points) (column-long k n points) l
+use Rattle.residue.specs.Layout.{over}
+use Rattle.residue.proofs.vector.Vectors.{pointwise-length, pointwise-at, pointwise-below, below-drop, below-append}
+use Rattle.residue.proofs.Layouts.{length-over}
+use Rattle.basis.specs.Drawing.{productValues}
 
 -- the values of a product
 module _ (p n : ℕ) (column values : List ℕ) (c : length column ≡ n) (h : n ≤ length values) where
@@ -174,20 +41,3 @@ module _ (p n : ℕ) (column values : List ℕ) (c : length column ≡ n) (h : n
   pub product-made : {part : List ℕ} → part ≡ pointwise p (take n values) column → part ++ drop n values ≡ productValues p n column values
   unfolding productValues over
   product-made e = ap₂ (λ (a : List ℕ) (i : ℕ). a ++ drop i values) e (sym made-long)
-
-pub zeros-long : (l : List ℕ) (k : ℕ) → l ≡ replicate k 0 → length l ≡ k
-zeros-long l k e = ap length e ∙ length-replicate k 0
-
--- values loaded into an empty working row
-pub below-fill : (p k : ℕ) (l : List ℕ) → 0 < p → Below p l → Below p (fill k l)
-below-fill p k l z b i h = rw (fill-at k l i (omega (arith, length-fill k l))) (go (decLt i (length l)))
-  where
-    go : Dec (i < length l) → getD l i 0 < p
-    go (yes u) = b i u
-    go (no u) = let e : length l ≤ i = omega (arith, u) in rw (List·getD-eq-default l 0 e) z
-
-pub load : (own work : List ℕ) (n : ℕ) {part : List ℕ} → work ≡ replicate 128 0 → n ≤ length own → n ≤ 128 → part ≡ take n own → part ++ drop n work ≡ fill 128 (take n own)
-unfolding over
-load own work n {part} e h l f =
-    let g : length (take n own) ≡ n = length-take-le n own h in
-    ap₂ (λ (a w : List ℕ). a ++ drop n w) f e ∙ ap (λ (i : ℕ). take n own ++ drop i (replicate 128 0)) (sym g) ∙ over-zeros (take n own) 128 (omega arith)

@@ -4,25 +4,17 @@ use mathlib.Core.Bool.{Bool, true, false, cond}
 use mathlib.Core.List.{List, [], _∷_, _++_, map, append-nil}
 use mathlib.Core.Logic.{inl, inr}
 use Prim.Native.Nat.{ℕ, zero, suc, _+_, _<_, _≤_}
-use native.Mathlib.Nat.{le-of-suc-le-suc}
 use native.Mathlib.Decide.{ℕ-discrete}
 use native.Mathlib.Numerals.{add-one}
 use native.Mathlib.Omega.{arith}
-use lib.ListN.{length, set, length-append}
+use lib.ListN.{length, length-append}
 use lib.Dec.{T}
 use Rattle.residue.specs.Lists.{Among}
-use Rattle.basis.specs.Layout.{fill}
-use Rattle.basis.specs.Solving.{Once, occurs, Names}
+use Rattle.residue.specs.Layout.{fill}
+use Rattle.residue.proofs.Layouts.{fill-at}
+use Rattle.specification.specs.Solving.{Once, occurs, Names}
+use Rattle.specification.proofs.ideal.Lists.{snoc-of, snoc-in}
 use Rattle.basis.specs.Interpolants.{names}
-use Rattle.basis.proofs.Layouts.{fill-at}
-use Rattle.basis.proofs.ideal.Lists.{snoc-of, snoc-in}
-
--- one number more at the end of a list that is filled up
-pub fill-put : (w : ℕ) (l : List ℕ) (v : ℕ) → length l < w → set (fill w l) (length l) v ≡ fill w (l ++ (v ∷ []))
-unfolding fill
-fill-put zero l v h = absurd (omega arith)
-fill-put (suc w) [] v h = refl
-fill-put (suc w) (x ∷ l) v h = ap (λ (z : List ℕ). x ∷ z) (fill-put w l v (le-of-suc-le-suc h))
 
 -- a number more that is not there yet
 once-more : (l : List ℕ) (v : ℕ) → Once l → ¬ Among v l → Once (l ++ (v ∷ []))

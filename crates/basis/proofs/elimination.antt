@@ -4,14 +4,7 @@ pub mod Pivots
 pub mod Span
 pub mod Drawing
 pub mod Positions
-pub mod Combinations
-pub mod PivotRows
 pub mod ReducedRows
-pub mod Turns
-pub mod Products
-pub mod NextPivot
-pub mod Occurring
-pub mod Exponents
 pub mod Candidates
 pub mod Matrix
 pub mod FoundRows

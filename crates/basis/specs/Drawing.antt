@@ -2,33 +2,18 @@
 -- alone (csv, Printing).
 use mathlib.Core.Path.{_≡_}
 use mathlib.Core.Bool.{true}
-use mathlib.Core.List.{List, [], _∷_, _++_, map}
-use Prim.Native.Nat.{ℕ, zero, suc, _-_, _%_, _<_, _≤_}
+use mathlib.Core.List.{List, _++_, map}
+use Prim.Native.Nat.{ℕ, _-_, _%_, _<_, _≤_}
 use lib.ListN.{length, getD, take, replicate}
 use lib.Dec.{T}
 use Rattle.residue.specs.Modulus.{isModulus}
 use Rattle.residue.specs.Vector.{Below, pointwise}
 use Rattle.residue.specs.Elimination.{eliminated}
-use Rattle.monomial.specs.Order.{Order}
-use Rattle.monomial.specs.Rank.{variableRank}
-use Rattle.basis.specs.declared.settings.Settings.{Settings}
-use Rattle.basis.specs.Levels.{groups, noRepeat}
-use Rattle.basis.specs.Layout.{fill, inPlaces, over}
-use Rattle.basis.specs.BasisOf.{interpolantOf}
-use Rattle.basis.specs.Tables.{spaceUnder, pointsUnder, rowCount, tablesOf, pointsIn}
-
--- the ranks of x1 to x8
-unfoldable pub stepsOf : Order → List ℕ
-stepsOf order = map (variableRank order) (0 ∷ 1 ∷ 2 ∷ 3 ∷ 4 ∷ 5 ∷ 6 ∷ 7 ∷ [])
-
--- the values of x_(k+1) at the first n points of a table
-unfoldable pub columnOf : ℕ → ℕ → List ℕ → List ℕ
-columnOf k n points = map (λ P. getD P k 0) (groups 8 n points)
-
--- those of x1 to xk
-unfoldable pub columnsOf : ℕ → ℕ → List ℕ → List (List ℕ)
-columnsOf zero n points = []
-columnsOf (suc k) n points = columnsOf k n points ++ (columnOf k n points ∷ [])
+use Rattle.residue.specs.Layout.{fill, inPlaces, over}
+use Rattle.specification.specs.declared.settings.Settings.{Settings}
+use Rattle.specification.specs.Levels.{noRepeat}
+use Rattle.specification.specs.BasisOf.{interpolantOf}
+use Rattle.specification.specs.Tables.{spaceUnder, pointsUnder, rowCount, tablesOf, pointsIn}
 
 -- the values of a variable times a monomial, from the n of the variable and those of the monomial
 unfoldable pub productValues : ℕ → ℕ → List ℕ → List ℕ → List ℕ

@@ -2,20 +2,13 @@
 use mathlib.Core.Bool.{cond}
 use mathlib.Core.List.{List, [], _∷_, _++_, map}
 use Prim.Native.Nat.{ℕ, zero, suc, _-_, _%_}
-use lib.ListN.{length, take, drop}
-use Rattle.residue.specs.Vector.{dotOf}
+use lib.ListN.{take, drop}
 use Rattle.residue.specs.Elimination.{eliminated}
-use Rattle.monomial.specs.Monomial.{valueAt}
-use Rattle.basis.specs.Levels.{groups}
-use Rattle.basis.specs.Solving.{occurs}
+use Rattle.specification.specs.Solving.{occurs}
 
 -- minus the coefficients of a working row, after it met the pivot rows of all n points
 unfoldable pub solution : ℕ → ℕ → List ℕ → List ℕ → List ℕ → List ℕ
 solution p n rows pivots w = map (λ x. (p - x) % p) (take n (drop n (eliminated p rows pivots n w)))
-
--- the values of terms, with the coefficients cs and 8 exponents each, at the first n points of a table
-unfoldable pub termValues : ℕ → List ℕ → List ℕ → ℕ → List ℕ → List ℕ
-termValues p cs exponents n points = map (λ P. dotOf cs (map (valueAt P) (groups 8 (length cs) exponents)) % p) (groups 8 n points)
 
 -- the numbers, from 1, of those of the first k variables that occur, in increasing order
 unfoldable pub names : ℕ → List ℕ → List (List ℕ) → List ℕ

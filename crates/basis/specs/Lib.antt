@@ -1,22 +1,4 @@
 -- The definitions of the crate basis.
-pub mod Refusal
-pub mod Settings
-pub mod Levels
-pub mod Layout
-pub mod Space
-pub mod Polynomial
-pub mod Basis
-pub mod Extension
-pub mod BasisOf
-pub mod Instance
-pub mod Tables
-pub mod Adding
-pub mod Solving
-pub mod Reference
-pub mod Working
 pub mod Drawing
 pub mod Interpolants
 pub mod Insertions
-pub mod Agreement
-pub mod Candidates
-pub mod Examples

@@ -1,11 +1,12 @@
 // Adding a point, by Lemma 2 of Farr and Gao: a row is lost, its lead becomes standard, and its products with the variables become leads.
-use crate::bytes;
 use crate::correct;
-use crate::insert;
 use crate::products::add_products;
-use crate::settings::Settings;
 use crate::tables;
+use monomial::insert;
+use monomial::value::values_at;
+use residue::bytes;
 use residue::inverse::inverse;
+use specification::settings::Settings;
 ghost use mathlib.Core.Path.{_≡_};
 ghost use Prim.Native.Nat.{ℕ, _+_, _<_, _≤_};
 ghost use lib.ListN.{length, getD, take, replicate};
@@ -13,9 +14,9 @@ ghost use mathlib.Core.Bool.{true};
 ghost use mathlib.Core.List.{[], _∷_, _++_};
 ghost use Rattle.residue.specs.Modulus.{isModulus};
 ghost use Rattle.residue.specs.Vector.{Below};
-ghost use Rattle.basis.specs.Insertions.{rowAt, grown, othersOf, othersCorrected, standardGrown, grownBy, NewPoint, Tabled};
-ghost use Rattle.basis.specs.Tables.{rowCount, tablesOf, pointsIn};
-ghost use Rattle.basis.specs.Layout.{over};
+ghost use Rattle.residue.specs.Layout.{over, rowAt};
+ghost use Rattle.specification.specs.Tables.{rowCount, tablesOf, pointsIn};
+ghost use Rattle.basis.specs.Insertions.{grown, othersOf, othersCorrected, standardGrown, grownBy, NewPoint, Tabled};
 ghost use Rattle.basis.specs.Drawing.{settingsOf, PointsGiven, DrawnUp};
 
 // The leads but that of row j, and their rows corrected.
@@ -152,7 +153,7 @@ fn add_to(
     ensures { λ k. ⌜ Tabled (settingsOf p m order) (pointsIn (settingsOf p m order) n (now (points .entry)) ++ (take m (now (point .entry)) ∷ [])) k (now («new_standard» .exit)) (now («new_leads» .exit)) (now («new_coefficients» .exit)) ⌝ }
 {
     let mut values = [0u16; 64];
-    correct::values_at(p, n, standard, point, &mut values);
+    values_at(p, n, standard, point, &mut values);
     let j = correct::first_row(p, n, r, point, &values, leads, coefficients);
     grow(
         p,

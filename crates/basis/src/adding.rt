@@ -3,15 +3,15 @@ use crate::add::add_accepted;
 use crate::points;
 use crate::recognise::recognise;
 use crate::refusal;
-use crate::settings::Answer;
-use crate::settings::Settings;
 use crate::settings::refused;
+use specification::settings::Answer;
+use specification::settings::Settings;
 ghost use mathlib.Core.Path.{_≡_};
 ghost use lib.ListN.{length, replicate};
-ghost use Rattle.basis.specs.Levels.{residues};
-ghost use Rattle.basis.specs.Layout.{fill, inPlaces};
-ghost use Rattle.basis.specs.Tables.{fourTables, pointsIn};
-ghost use Rattle.basis.specs.Adding.{ended, addRefusal, addOutcome};
+ghost use Rattle.residue.specs.Layout.{fill, inPlaces};
+ghost use Rattle.specification.specs.Levels.{residues};
+ghost use Rattle.specification.specs.Tables.{fourTables, pointsIn};
+ghost use Rattle.specification.specs.Adding.{ended, addRefusal, addOutcome};
 ghost use Rattle.basis.specs.Drawing.{Solves};
 
 // The refusal of an addition, or 0; then the points, their pivot rows and the new point are left in working arrays.

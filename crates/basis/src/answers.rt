@@ -1,18 +1,18 @@
 // The public calls that answer from the basis of lent tables: interpolant, remainder, wiring list.
-use crate::bytes;
 use crate::points;
 use crate::polynomial;
 use crate::recognise::recognise;
 use crate::refusal;
-use crate::settings::Settings;
-use crate::settings::Wired;
 use crate::solve;
+use residue::bytes;
+use specification::settings::Settings;
+use specification::settings::Wired;
 ghost use mathlib.Core.Path.{_≡_};
 ghost use lib.ListN.{length, replicate};
-ghost use Rattle.basis.specs.Refusal.{firstOf};
-ghost use Rattle.basis.specs.Layout.{fill, inPlaces};
-ghost use Rattle.basis.specs.Tables.{fourTables, pointsIn};
-ghost use Rattle.basis.specs.Solving.{answering, valuesCases, interpolantIn, interpolateOutcome, remainderCases, remainderOutcome, WiringEnds};
+ghost use Rattle.residue.specs.Layout.{fill, inPlaces};
+ghost use Rattle.specification.specs.Refusal.{firstOf};
+ghost use Rattle.specification.specs.Tables.{fourTables, pointsIn};
+ghost use Rattle.specification.specs.Solving.{answering, valuesCases, interpolantIn, interpolateOutcome, remainderCases, remainderOutcome, WiringEnds};
 ghost use Rattle.basis.specs.Drawing.{Solves};
 
 // The refusal of a call that answers n values in an output of so many bytes, or 0; their interpolant is then left in 64 bytes.

@@ -1,30 +1,14 @@
 // Rows of the basis when a point is added: their values there, the first that is not 0, and the others corrected by it.
-use crate::bytes;
 use monomial::value::value;
 use residue::arithmetic;
+use residue::bytes;
 use residue::vector;
 ghost use mathlib.Core.Path.{_≡_};
-ghost use mathlib.Core.List.{map};
 ghost use Prim.Native.Nat.{_*_, _%_, _<_, _≤_};
 ghost use lib.ListN.{length};
 ghost use Rattle.residue.specs.Vector.{Below, addScaled};
-ghost use Rattle.monomial.specs.Monomial.{valueAt};
-ghost use Rattle.basis.specs.Levels.{groups};
-ghost use Rattle.basis.specs.Layout.{inPlaces, over};
+ghost use Rattle.residue.specs.Layout.{inPlaces, over};
 ghost use Rattle.basis.specs.Insertions.{rowValueAt, valueOfRow, firstFrom, factorOf, correctedBy, correctedRow, correctedRows};
-
-// The values of k monomials at a point.
-pub fn values_at(p: u16, k: usize, monomials: &[u8], point: &[u8], values: &mut [u16])
-    requires { ⌜ (2 ≤ p) × (p ≤ 61) ⌝ }
-    requires { ⌜ (8 * k ≤ length (now monomials)) × (k ≤ length (now values)) ⌝ }
-    requires { ⌜ (length (now point) ≡ 8) × Below p (now point) ⌝ }
-    ensures { λ _. ⌜ now (values .exit) ≡ over (map (λ a. valueAt (now (point .entry)) a % p) (groups 8 k (now (monomials .entry)))) (now (values .entry)) ⌝ }
-{
-    for i in 0..k {
-        let from = 8 * i;
-        values[i] = value(p, point, &monomials[from..from + 8]);
-    }
-}
 
 // The value of a row at a point where the standard monomials have these values.
 pub fn row_value(p: u16, point: &[u8], values: &[u16], lead: &[u8], coefficients: &[u16]) -> u16
@@ -60,6 +44,7 @@ pub fn first_row(
     ensures { λ found. ⌜ found ≡ firstFrom (valueOfRow p n (now (point .entry)) (now (values .entry)) (now (leads .entry)) (now (coefficients .entry))) 0 r ⌝ }
 {
     let modulus = p as u32;
+    let m = arithmetic::reciprocal(p);
     let mut i = 0;
     let found = 'rows: loop {
         if i == r {
@@ -76,7 +61,8 @@ pub fn first_row(
                 }
                 break 'terms;
             }
-            sum += coefficients[first + j] as u32 * values[j] as u32;
+            let c = coefficients[first + j] as u16;
+            sum += arithmetic::reduced_product(p, m, c, values[j]) as u32;
             j += 1;
         }
         i += 1;

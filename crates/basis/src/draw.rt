@@ -1,34 +1,23 @@
 // Drawing up from all points: elimination over value columns (Buchberger and Möller, 1982). Monomials come in increasing order, each a variable times a
 // standard monomial found. One whose values are a combination of those of the standard monomials found is a leading monomial; any other is standard.
-use crate::bytes;
-use crate::candidate::Candidate;
-use crate::candidate::next;
-use crate::columns::put_columns;
-use crate::rows;
-use monomial::rank::variable_rank;
+use monomial::candidate::Candidate;
+use monomial::candidate::next;
+use monomial::columns::put_columns;
+use monomial::rank::put_steps;
+use residue::bytes;
 use residue::elimination::eliminate;
+use residue::rows;
 use residue::vector::multiply;
 ghost use mathlib.Core.Path.{_≡_};
 ghost use Prim.Native.Nat.{ℕ, _+_, _*_, _<_, _≤_};
 ghost use lib.ListN.{length, getD, take, drop, set, replicate};
 ghost use Rattle.residue.specs.Vector.{Below};
 ghost use Rattle.residue.specs.Elimination.{eliminated, ZeroBehind};
+ghost use Rattle.residue.specs.Layout.{fill, withPlace};
+ghost use Rattle.residue.specs.Rows.{firstNonzero};
 ghost use Rattle.monomial.specs.Monomial.{timesVariable};
-ghost use Rattle.monomial.specs.Order.{orderOf};
-ghost use Rattle.basis.specs.Layout.{fill, over};
-ghost use Rattle.basis.specs.Tables.{pointsIn};
-ghost use Rattle.basis.specs.Working.{firstNonzero, withPlace};
-ghost use Rattle.basis.specs.Drawing.{stepsOf, productValues, settingsOf, PointsGiven, DrawnUp};
-
-// The ranks of the variables.
-fn put_steps(order: u8, steps: &mut [u64])
-    requires { ⌜ (order ≤ 2) × (length (now steps) ≡ 8) ⌝ }
-    ensures { λ _. ⌜ now (steps .exit) ≡ stepsOf (orderOf order) ⌝ }
-{
-    for k in 0..8 {
-        steps[k] = variable_rank(order, k);
-    }
-}
+ghost use Rattle.specification.specs.Tables.{pointsIn};
+ghost use Rattle.basis.specs.Drawing.{productValues, settingsOf, PointsGiven, DrawnUp};
 
 // The working row of given values after it met the pivot rows: the first point where it is not 0, or n.
 fn reduce(

@@ -1,16 +1,17 @@
 // Points: the residues of levels, as places of 8 bytes in a table, and whether one repeats.
-use crate::settings::Settings;
 use residue::arithmetic;
 use residue::level;
 use residue::level::Level;
+use specification::settings::Settings;
 ghost use mathlib.Core.Path.{_≡_};
 ghost use mathlib.Core.List.{map};
 ghost use Prim.Native.Nat.{_*_, _%_, _≤_};
 ghost use lib.ListN.{length, replicate};
 ghost use Rattle.residue.specs.Level.{residueOf};
-ghost use Rattle.basis.specs.Levels.{residueOr0, inRange, residues, groups, keyOf, isAmong, noRepeat};
-ghost use Rattle.basis.specs.Layout.{fill, inPlaces, over};
-ghost use Rattle.basis.specs.Tables.{pointsIn};
+ghost use Rattle.residue.specs.Layout.{groups, fill, inPlaces, over};
+ghost use Rattle.residue.specs.Lists.{keyOf};
+ghost use Rattle.specification.specs.Levels.{residueOr0, inRange, residues, isAmong, noRepeat};
+ghost use Rattle.specification.specs.Tables.{pointsIn};
 
 // Whether each level has a residue.
 pub fn in_range(p: u8, levels: &[i8]) -> bool

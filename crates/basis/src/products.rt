@@ -1,14 +1,15 @@
 // The new leads when a point is added, the products of the lost lead with the variables, and their rows.
-use crate::bytes;
 use crate::correct;
-use crate::insert;
-use crate::polynomial::put_values;
+use monomial::insert;
+use monomial::terms::put_term_values;
+use residue::bytes;
 use residue::elimination::eliminate;
 ghost use mathlib.Core.Path.{_≡_};
 ghost use Prim.Native.Nat.{ℕ, _+_, _*_, _<_, _≤_};
 ghost use lib.ListN.{length, getD};
 ghost use Rattle.residue.specs.Vector.{Below};
-ghost use Rattle.basis.specs.Insertions.{withRowAt, correctedRow, reducedRow, grown, productPut, productsPut};
+ghost use Rattle.monomial.specs.Insert.{withRowAt};
+ghost use Rattle.basis.specs.Insertions.{correctedRow, reducedRow, grown, productPut, productsPut};
 
 // The row of a monomial put into the table of coefficients before row i of k: its values at the n points are eliminated, and what they leave is corrected.
 fn put_row(
@@ -36,7 +37,7 @@ fn put_row(
     ensures { λ _. ⌜ now (table .exit) ≡ withRowAt 64 k i (correctedRow p place inverse (now (gone .entry)) (now (point .entry)) (now (values .entry)) (now (a .entry)) (reducedRow p n (now (points .entry)) (now (rows .entry)) (now (pivots .entry)) (now (a .entry)))) (now (table .entry)) ⌝ }
 {
     let mut work = [0u16; 128];
-    put_values(p, &[1u8], a, n, points, &mut work);
+    put_term_values(p, &[1u8], a, n, points, &mut work);
     eliminate(p, 128, n, rows, pivots, &mut work);
     let from = 64 * i;
     insert::move_on(64, from, 64 * k, table);

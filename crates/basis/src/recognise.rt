@@ -1,16 +1,16 @@
 // Whether lent tables are the basis of their points.
 use crate::draw::draw;
 use crate::points;
-use crate::settings::Settings;
 use crate::tables;
+use specification::settings::Settings;
 ghost use mathlib.Core.Path.{_≡_};
 ghost use mathlib.Core.Bool.{true};
 ghost use Prim.Native.Nat.{_≤_};
 ghost use lib.ListN.{length, replicate};
-ghost use Rattle.basis.specs.Refusal.{firstOf};
-ghost use Rattle.basis.specs.Settings.{settingsCases};
-ghost use Rattle.basis.specs.Layout.{fill, inPlaces};
-ghost use Rattle.basis.specs.Tables.{fourTables, pointsIn, recognised};
+ghost use Rattle.residue.specs.Layout.{fill, inPlaces};
+ghost use Rattle.specification.specs.Refusal.{firstOf};
+ghost use Rattle.specification.specs.Settings.{settingsCases};
+ghost use Rattle.specification.specs.Tables.{fourTables, pointsIn, recognised};
 ghost use Rattle.basis.specs.Drawing.{Solves};
 
 // The points are left as a table, and where the tables are recognised the pivot rows of the points.

@@ -1,13 +1,13 @@
 // The refusals that look at the settings and at lengths and counts alone, 3 to 8.
-use crate::settings::Settings;
 use crate::settings::settings_refusal;
+use specification::settings::Settings;
 ghost use mathlib.Core.Path.{_≡_};
 ghost use mathlib.Core.Bool.{not, false, _||_};
 ghost use mathlib.Core.List.{[], _∷_, _++_};
 ghost use Prim.Native.Nat.{_*_, _/_, _%_};
 ghost use lib.Dec.{eqb, leb, ltb};
-ghost use Rattle.basis.specs.Refusal.{firstOf};
-ghost use Rattle.basis.specs.Settings.{settingsCases};
+ghost use Rattle.specification.specs.Refusal.{firstOf};
+ghost use Rattle.specification.specs.Settings.{settingsCases};
 
 // Whether one of four tables of these lengths is shorter than its size.
 fn too_short(states: usize, standard: usize, leads: usize, coefficients: usize) -> bool

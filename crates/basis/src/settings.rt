@@ -1,22 +1,10 @@
-// What every call is handed and answers.
+// The answer of a refused call, and the refusals that look at the settings alone.
 use residue::level;
+use specification::settings::Answer;
+use specification::settings::Settings;
 ghost use mathlib.Core.Path.{_≡_};
-ghost use Rattle.basis.specs.Refusal.{firstOf};
-ghost use Rattle.basis.specs.Settings.{settingsCases};
-
-// The modulus p, the number m of variables, and the number of the monomial order, of any content.
-pub struct Settings {
-    pub modulus: u64,
-    pub variables: u64,
-    pub order: u64,
-}
-
-// The refusal, or 0 with the number of points and the number of basis elements. A refusal comes alone: the counts are then 0.
-pub struct Answer {
-    pub refusal: u8,
-    pub n: u8,
-    pub r: u16,
-}
+ghost use Rattle.specification.specs.Refusal.{firstOf};
+ghost use Rattle.specification.specs.Settings.{settingsCases};
 
 // The answer of a refused call.
 pub fn refused(refusal: u8) -> Answer
@@ -27,12 +15,6 @@ pub fn refused(refusal: u8) -> Answer
         n: 0,
         r: 0,
     }
-}
-
-// The refusal, or 0 with how many variables the wiring list names.
-pub struct Wired {
-    pub refusal: u8,
-    pub count: u8,
 }
 
 // The refusals that look at the settings alone.

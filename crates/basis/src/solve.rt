@@ -1,8 +1,8 @@
 // What elimination of the values at all points gives: the interpolant, and the variables that occur in it.
-use crate::bytes;
 use crate::points;
-use crate::polynomial::put_values;
+use monomial::terms::put_term_values;
 use residue::arithmetic;
+use residue::bytes;
 use residue::elimination::eliminate;
 ghost use mathlib.Core.Path.{_≡_};
 ghost use mathlib.Core.List.{map};
@@ -10,10 +10,11 @@ ghost use Prim.Native.Nat.{ℕ, _+_, _-_, _*_, _%_, _<_, _≤_};
 ghost use lib.ListN.{length, getD, take, replicate};
 ghost use Rattle.residue.specs.Vector.{Below};
 ghost use Rattle.residue.specs.Elimination.{eliminated};
-ghost use Rattle.basis.specs.Levels.{residues, groups};
-ghost use Rattle.basis.specs.Layout.{fill, over};
-ghost use Rattle.basis.specs.Solving.{occurs};
-ghost use Rattle.basis.specs.Interpolants.{solution, termValues, names};
+ghost use Rattle.residue.specs.Layout.{groups, fill, over};
+ghost use Rattle.monomial.specs.Terms.{termValues};
+ghost use Rattle.specification.specs.Levels.{residues};
+ghost use Rattle.specification.specs.Solving.{occurs};
+ghost use Rattle.basis.specs.Interpolants.{solution, names};
 
 // Minus residues, as bytes.
 fn put_negatives(p: u16, from: &[u16], to: &mut [u8])
@@ -91,7 +92,7 @@ pub fn solve_terms(
     points::put_residues(p as u8, coefficients, &mut found);
     let count = coefficients.len();
     let mut work = [0u16; 128];
-    put_values(p, &found[..count], exponents, n, points, &mut work);
+    put_term_values(p, &found[..count], exponents, n, points, &mut work);
     solve(p, n, rows, pivots, &mut work, out);
 }
 

@@ -1,10 +1,10 @@
 // The four tables together: compared with lent ones, and written to them.
-use crate::bytes;
+use residue::bytes;
 ghost use mathlib.Core.Path.{_≡_};
 ghost use mathlib.Core.Bool.{_&&_};
 ghost use Prim.Native.Nat.{_≤_};
 ghost use lib.ListN.{length};
-ghost use Rattle.basis.specs.Layout.{over, begins};
+ghost use Rattle.residue.specs.Layout.{over, begins};
 
 // Whether the lent tables begin with these.
 pub fn agree(

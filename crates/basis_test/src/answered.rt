@@ -5,7 +5,7 @@ use crate::stored::Head;
 use basis::adding;
 use basis::answers;
 use basis::calls;
-use basis::settings::Answer;
+use specification::settings::Answer;
 
 fn is_due(got: Answer, head: Head) -> bool {
     if got.refusal != 0 {

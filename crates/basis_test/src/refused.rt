@@ -2,7 +2,7 @@
 use crate::buffers;
 use crate::stored::Head;
 use basis::calls;
-use basis::settings::Answer;
+use specification::settings::Answer;
 
 // A refusal has no counts.
 pub fn is_due(got: Answer, refusal: u8) -> bool {

@@ -3,7 +3,7 @@ use crate::answered;
 use crate::buffers;
 use crate::counts;
 use crate::refused;
-use basis::settings::Settings;
+use specification::settings::Settings;
 
 // The head of a case: settings, the refusal due, counts, and how many bytes of it follow.
 pub struct Head {

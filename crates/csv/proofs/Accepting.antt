@@ -10,9 +10,10 @@ use lib.IntN.{ℤ}
 use lib.ListN.{take, drop}
 use lib.Dec.{T, eqb·suc-zero}
 use borrow.Author.Tests.{not-false}
-use Rattle.residue.specs.Lists.{Among}
-use Rattle.basis.specs.Levels.{inRange, sameList, isAmong, noRepeat}
-use Rattle.basis.proofs.Equality.{true-of, of-true, and-both, among-is, is-among}
+use Rattle.residue.specs.Lists.{Among, sameList}
+use Rattle.residue.proofs.Tests.{true-of, of-true, and-both}
+use Rattle.specification.specs.Levels.{inRange, isAmong, noRepeat}
+use Rattle.specification.proofs.Repeats.{among-is, is-among}
 use Rattle.csv.specs.Fields.{front}
 use Rattle.csv.specs.Forms.{isDigit, numberOf, lex-word, grlex-word, grevlex-word, mod-word, orderWord, Header, header, settingsOf, lastField, headerFrom, headerOf}
 use Rattle.csv.specs.Reading.{Case, further, firstFault, isNone, headerIn, entryIn, entriesIn, formFault, isOutside, firstRepeat, firstCase}

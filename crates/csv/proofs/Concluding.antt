@@ -10,8 +10,8 @@ use lib.ListN.{length, take, length-map}
 use lib.Seq.{length-take-le}
 use lib.Dec.{eqb}
 use borrow.Author.Tests.{eqb-true}
-use Rattle.basis.specs.Levels.{groups}
-use Rattle.basis.specs.Layout.{fill, inPlaces, over}
+use Rattle.residue.specs.Layout.{groups, fill, inPlaces, over}
+use Rattle.specification.proofs.agreement.Points.{length-residues}
 use Rattle.csv.specs.Fields.{recordsOf}
 use Rattle.csv.specs.Forms.{levelOf, together, levelsOf, entryOf}
 use Rattle.csv.specs.Reading.{entryIn, pointOf, valueOf, pointsOf, valuesOf, firstRepeat, ended, accepted}
@@ -20,7 +20,6 @@ use Rattle.csv.specs.Points.{levelsAt, saying}
 use Rattle.csv.specs.declared.records.Entries.the-variants as N
 use Rattle.csv.proofs.Gathering.{all-entries}
 use Rattle.csv.proofs.Repeating.{AllLong, table-repeats}
-use Rattle.csv.proofs.Snocs.{length-residues}
 
 levels-length : (fields : List (List ℕ)) (zs : List ℤ) → levelsOf fields ≡ some zs → length zs ≡ length fields
 unfolding levelsOf together

@@ -9,25 +9,24 @@ use lib.ListN.{length, getD, take, length-map}
 use Rattle.residue.specs.Lists.{Among}
 use Rattle.residue.specs.Modulus.{isModulus}
 use Rattle.residue.specs.Vector.{Below}
-use Rattle.residue.proofs.Moduli.{modulus-range}
+use Rattle.residue.specs.Layout.{groups, fill, inPlaces}
+use Rattle.residue.proofs.level.Moduli.{modulus-range}
+use Rattle.residue.proofs.Layouts.{take-fill}
+use Rattle.residue.proofs.Places.{table-groups}
 use Rattle.monomial.specs.Order.{orderOf}
-use Rattle.basis.specs.declared.settings.Settings.{Settings}
-use Rattle.basis.specs.Levels.{groups}
-use Rattle.basis.specs.Layout.{fill, inPlaces}
-use Rattle.basis.specs.Polynomial.{Distinct}
-use Rattle.basis.specs.BasisOf.{basisOf, standardOf, leadsOf, rowOf, rowsOf, interpolantOf}
-use Rattle.basis.specs.Instance.{Monomial, Point, pointOf}
-use Rattle.basis.specs.Tables.{spaceUnder, pointsUnder, rowCount, tablesOf}
-use Rattle.basis.specs.Solving.{Names}
-use Rattle.basis.proofs.Layouts.{take-fill}
-use Rattle.basis.proofs.Instance.{standard-exponent, lead-exponent}
-use Rattle.basis.proofs.Places.{table-groups}
-use Rattle.basis.proofs.ideal.Lists.{getD-among, among-map}
-use Rattle.basis.proofs.ideal.Basis.{interpolant-fits}
-use Rattle.basis.proofs.ideal.Counts.{standard-length}
-use Rattle.basis.proofs.agreement.Points.{Points}
-use Rattle.basis.proofs.agreement.Refusals.{Accepted}
-use Rattle.basis.proofs.agreement.Drawings.{laws-under, distinct-points, few-rows}
+use Rattle.specification.specs.declared.settings.Settings.{Settings}
+use Rattle.specification.specs.Polynomial.{Distinct}
+use Rattle.specification.specs.BasisOf.{basisOf, standardOf, leadsOf, rowOf, rowsOf, interpolantOf}
+use Rattle.specification.specs.Instance.{Monomial, Point, pointOf}
+use Rattle.specification.specs.Tables.{spaceUnder, pointsUnder, rowCount, tablesOf}
+use Rattle.specification.specs.Solving.{Names}
+use Rattle.specification.proofs.Instance.{standard-exponent, lead-exponent}
+use Rattle.specification.proofs.ideal.Lists.{getD-among, among-map}
+use Rattle.specification.proofs.ideal.Basis.{interpolant-fits}
+use Rattle.specification.proofs.ideal.Counts.{standard-length}
+use Rattle.specification.proofs.agreement.Points.{Points}
+use Rattle.specification.proofs.agreement.Refusals.{Accepted}
+use Rattle.specification.proofs.agreement.Drawings.{laws-under, distinct-points, few-rows}
 use Rattle.csv.specs.Printing.{linesOf}
 use Rattle.csv.specs.Appending.{inTable}
 use Rattle.csv.proofs.Lengths.{Short, EachShort, printed-length}

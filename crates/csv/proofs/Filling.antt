@@ -9,15 +9,16 @@ use lib.IntN.{ℤ, pos}
 use lib.ListN.{length, getD, set, take, drop, length-set, length-drop, take-append-drop}
 use lib.Seq.{take-suc, drop-cons, drop-drop, getD-at, length-take-le}
 use Rattle.residue.specs.Level.{residueOf}
-use Rattle.basis.specs.Levels.{isResidue, residueOr0, inRange, residues}
-use Rattle.basis.specs.Layout.{over}
+use Rattle.residue.specs.Layout.{over}
+use Rattle.specification.specs.Levels.{isResidue, residueOr0, inRange, residues}
+use Rattle.specification.proofs.agreement.Points.{length-residues}
 use Rattle.csv.specs.Fields.{Field, field, broken, Part, part, faulty, withFirst}
 use Rattle.csv.specs.Reading.{pointOf, valueOf}
 use Rattle.csv.specs.Records.{levelField, entryPart}
 use Rattle.csv.specs.Points.{levelIn, behindLevel, PlacedAs, levelsIn, behindEntry, FilledAs}
 use Rattle.csv.specs.declared.points.Placed.{Placed}
 use Rattle.csv.proofs.Entering.{entry-broken, entry-more, entry-long, entry-last, entry-short}
-use Rattle.csv.proofs.Snocs.{residues-snoc, length-residues, range-snoc, over-snoc}
+use Rattle.csv.proofs.Snocs.{residues-snoc, range-snoc, over-snoc}
 
 -- what an entry that is not faulty is
 pub whole : (e : Part (List ℤ)) → (e ≡ faulty → ⊥) → e ≡ part (levelsIn e) (behindEntry e)

@@ -10,9 +10,11 @@ use lib.IntN.{ℤ}
 use lib.ListN.{length, getD, set, take, drop, length-map, length-take}
 use lib.Seq.{take-suc, drop-cons, length-take-le, take-all}
 use lib.Dec.{eqb·suc-zero}
-use Rattle.basis.specs.Levels.{inRange}
-use Rattle.basis.specs.Layout.{fill, inPlaces, over}
-use Rattle.basis.proofs.Layouts.{length-fill}
+use Rattle.residue.specs.Layout.{fill, inPlaces, over}
+use Rattle.residue.proofs.Layouts.{length-fill, fill-put}
+use Rattle.residue.proofs.Places.{place-more}
+use Rattle.specification.specs.Levels.{inRange}
+use Rattle.specification.proofs.agreement.Points.{length-residues}
 use Rattle.csv.specs.Fields.{Part, part, faulty, recordsFrom, recordsOf}
 use Rattle.csv.specs.Reading.{pointOf, valueOf, isOutside, further, firstFault}
 use Rattle.csv.specs.Records.{entryPart, entriesAt, counted}
@@ -20,7 +22,7 @@ use Rattle.csv.specs.Points.{levelsIn, behindEntry, FilledAs, levelsAt, 
 use Rattle.csv.specs.declared.points.Filled.{Filled}
 use Rattle.csv.specs.declared.records.Entries.the-variants as N
 use Rattle.csv.proofs.Checking.{entries-more, entries-none}
-use Rattle.csv.proofs.Snocs.{map-snoc, length-residues, fill-snoc, row-snoc}
+use Rattle.csv.proofs.Snocs.{map-snoc}
 
 -- where the count was taken, every record is an entry
 pub all-entries : (k n : ℕ) (es : List (Option (List ℤ))) → counted k es ≡ N.Count n → (es ≡ map some (map (λ e. Option·getD e []) es)) × (n ≡ k + length es)
@@ -77,22 +79,14 @@ point-short : (p m : ℕ) (zs : List ℤ) → m ≤ 8 → length (pointOf p m zs
 unfolding pointOf
 point-short p m zs h = let e = length-residues p (take m zs) in omega (arith, length-take m zs)
 
-row-in : (Q : List (List ℕ)) (P : List ℕ) (i k : ℕ) (points row : List ℕ) → length Q ≡ i → k ≡ 8 → points ≡ fill 512 (inPlaces 8 Q)
+point-in : (Q : List (List ℕ)) (P : List ℕ) (i k : ℕ) (points row : List ℕ) → length Q ≡ i → k ≡ 8 → points ≡ fill 512 (inPlaces 8 Q)
     → row ≡ over P (take k (drop (8 * i) points)) → 8 * i + 8 ≤ 512 → length P ≤ 8
     → take (8 * i) points ++ (row ++ drop k (drop (8 * i) points)) ≡ fill 512 (inPlaces 8 (Q ++ (P ∷ [])))
-row-in Q P i k points row n e f r h l =
-    ap (put i k points) r ∙ ap (λ (t : List ℕ). put i k t (over P (take k (drop (8 * i) t)))) f
-    ∙ ap₂ (λ (a b : ℕ). put a b T (over P (take b (drop (8 * a) T)))) (sym n) e ∙ row-snoc 512 8 Q P (omega arith) l
-  where
-    T : List ℕ
-    T = fill 512 (inPlaces 8 Q)
-
-    put : ℕ → ℕ → List ℕ → List ℕ → List ℕ
-    put a b t r = take (8 * a) t ++ (r ++ drop b (drop (8 * a) t))
+point-in Q P i k points row n e f r h l = place-more 8 512 Q P points row (8 * i) k f (ap (λ (j : ℕ). 8 * j) (sym n)) e h l r
 
 value-in : (Q : List ℕ) (v i : ℕ) (values : List ℕ) (x : ℕ) → length Q ≡ i → values ≡ fill 64 Q → x ≡ v → i < 64 → set values i x ≡ fill 64 (Q ++ (v ∷ []))
 value-in Q v i values x n f e h =
-    ap₂ (λ (t : List ℕ) (y : ℕ). set t i y) f e ∙ ap (λ (j : ℕ). set (fill 64 Q) j v) (sym n) ∙ fill-snoc 64 Q v (omega arith)
+    ap₂ (λ (t : List ℕ) (y : ℕ). set t i y) f e ∙ ap (λ (j : ℕ). set (fill 64 Q) j v) (sym n) ∙ fill-put 64 Q v (omega arith)
 
 -- How far the filling of the tables has come: the first i entries are written, the others are to be read from `from` on.
 pub record Gathered (p m n : ℕ) (t : List ℕ) (S : List (List ℤ)) (points values : List ℕ) (from outside i : ℕ) : Type 0 where
@@ -173,7 +167,7 @@ module _ (p m n : ℕ) (t : List ℕ) where
           within = f .within;
           left = ap (entriesAt m) rested ∙ read .2 ∙ ap (λ (j : ℕ). map some (drop j S)) (sym (add-one i));
           written =
-              row-in (map (pointOf p m) (take i S)) (pointOf p m zs) i k points row (count (pointOf p m)) e (g .written)
+              point-in (map (pointOf p m) (take i S)) (pointOf p m zs) i k points row (count (pointOf p m)) e (g .written)
               (s ∙ ap (λ (l : List ℤ). over (pointOf p m l) (take k (drop (8 * i) points))) levels) (omega arith) (point-short p m zs w)
               ∙ ap (λ (l : List (List ℕ)). fill 512 (inPlaces 8 l)) (sym (mapped (pointOf p m)));
           valued =

@@ -7,7 +7,7 @@ use Prim.Native.Nat.{ℕ, _-_, _<_, _≤_}
 use native.Mathlib.Omega.{arith}
 use lib.ListN.{length, take, drop, length-drop, length-take}
 use lib.Seq.{take-all}
-use Rattle.basis.specs.Levels.{sameList}
+use Rattle.residue.specs.Lists.{sameList}
 use Rattle.csv.specs.Fields.{front}
 use Rattle.csv.specs.Forms.{isDigit, numberOf, mod-word, lex-word, grlex-word, grevlex-word, orderWord, header, settingsOf, lastField}
 use Rattle.csv.specs.Said.{numberSaid, orderSaid, lastSaid}

@@ -10,7 +10,7 @@ use lib.ListN.{length, drop}
 use borrow.Author.Tests.{lt-ltb, le-ltb}
 use Rattle.residue.specs.Level.{residueOf}
 use Rattle.residue.specs.declared.level.Level.the-variants.{Residue, Outside}
-use Rattle.basis.specs.Levels.{isResidue, residueOr0}
+use Rattle.specification.specs.Levels.{isResidue, residueOr0}
 use Rattle.csv.specs.Fields.{Field, field}
 use Rattle.csv.specs.Forms.{negative}
 use Rattle.csv.specs.Said.{signedOf}

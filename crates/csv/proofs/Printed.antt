@@ -5,9 +5,9 @@ use Prim.Native.Nat.{ℕ, _+_, _*_, _-_, _<_, _≤_}
 use native.Mathlib.Omega.{arith}
 use lib.ListN.{length, getD, take, drop, length-map}
 use lib.Seq.{take-take}
-use Rattle.residue.proofs.Vectors.{zip-length, zip-at, map-at}
-use Rattle.basis.specs.Levels.{groups}
-use Rattle.basis.proofs.Places.{length-groups, groups-at}
+use Rattle.residue.specs.Layout.{groups}
+use Rattle.residue.proofs.vector.Vectors.{zip-length, zip-at, map-at}
+use Rattle.residue.proofs.Places.{length-groups, groups-at}
 use Rattle.csv.specs.Printing.{line, rowLine}
 use Rattle.csv.specs.Appending.{inTable}
 

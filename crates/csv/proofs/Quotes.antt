@@ -10,8 +10,8 @@ use lib.IntN.{pos}
 use lib.ListN.{length, take, drop}
 use lib.Dec.{T, eqb, leb}
 use borrow.Author.Tests.{ne-eqb, eqb-true}
-use Rattle.basis.specs.Levels.{sameList}
-use Rattle.basis.proofs.Equality.{same-is}
+use Rattle.residue.specs.Lists.{sameList}
+use Rattle.residue.proofs.bytes.Equality.{same-is}
 use Rattle.csv.specs.Fields.{quote, front}
 use Rattle.csv.specs.Forms.{isDigit, digitsFrom, numberOf, negative, levelOf, mod-word, lex-word, grlex-word, grevlex-word, orderWord, header, settingsOf, lastField}
 use Rattle.csv.specs.Spans.{undoubled}

@@ -8,7 +8,7 @@ use lib.ListN.{length}
 use lib.Dec.{eqb·suc-zero}
 use borrow.Author.Tests.{lt-ltb, le-ltb, lt-leb, le-leb, eq-eqb, ne-eqb}
 use Rattle.residue.specs.Modulus.{isModulus}
-use Rattle.basis.specs.Levels.{isAmong}
+use Rattle.specification.specs.Levels.{isAmong}
 use Rattle.csv.specs.Reading.{Entries, Case, Outcome, pointsOf, firstOutside, further, firstFault, firstRepeat, settingsCases, entriesCases, firstCase, refused, decided}
 use Rattle.csv.specs.declared.reading.Refusal.{Refusal}
 

@@ -1,31 +1,33 @@
 -- Repeated points: the search over the rows of a table, and that rows filled up with zeros repeat where the points do.
 use mathlib.Core.Path.{_≡_, refl, sym, ap, ap₂, _∙_}
-use mathlib.Core.Bool.{Bool, true, false, cond, _&&_, _||_}
+use mathlib.Core.Bool.{Bool, true, false, cond, _||_}
 use mathlib.Core.List.{List, [], _∷_, map}
 use Prim.Native.Nat.{ℕ, zero, suc, _+_, _*_, _-_, _<_, _≤_}
-use native.Mathlib.Nat.{not-suc-le-zero, le-of-suc-le-suc, suc-inj}
+use native.Mathlib.Nat.{not-suc-le-zero}
 use native.Mathlib.Numerals.{add-one}
 use native.Mathlib.Omega.{arith}
-use lib.ListN.{length, take, drop, replicate}
-use lib.Seq.{drop-drop}
+use lib.ListN.{length, drop, replicate}
 use lib.Dec.{eqb, eqb·suc-zero}
-use Rattle.basis.specs.Levels.{groups, sameList, isAmong}
-use Rattle.basis.specs.Layout.{fill, inPlaces}
-use Rattle.basis.proofs.Layouts.{places-back, table-split}
+use Rattle.residue.specs.Layout.{groups, fill, inPlaces, rowAt}
+use Rattle.residue.specs.Lists.{sameList}
+use Rattle.residue.proofs.Layouts.{places-back, table-split}
+use Rattle.residue.proofs.bytes.Equality.{same-filled}
+use Rattle.residue.proofs.Places.{groups-step}
+use Rattle.specification.specs.Levels.{isAmong}
 use Rattle.csv.specs.Reading.{further, firstRepeat}
-use Rattle.csv.specs.Points.{rowAt, earlier}
+use Rattle.csv.specs.Points.{earlier}
 
 -- the rows before the jth, the last first
 module _ (P t : List ℕ) (j : ℕ) (h : 0 < j) where
-  before : earlier j t ≡ rowAt (j - 1) t ∷ earlier (j - 1) t
+  before : earlier j t ≡ rowAt 8 (j - 1) t ∷ earlier (j - 1) t
   unfolding earlier
   before = let e : j ≡ suc (j - 1) = omega arith in ap (λ (k : ℕ). earlier k t) e
 
-  pub among-here : sameList P (rowAt (j - 1) t) ≡ true → isAmong P (earlier j t) ≡ true
+  pub among-here : sameList P (rowAt 8 (j - 1) t) ≡ true → isAmong P (earlier j t) ≡ true
   unfolding isAmong
   among-here e = ap (isAmong P) before ∙ rw e
 
-  pub among-on : sameList P (rowAt (j - 1) t) ≡ false → isAmong P (earlier (j - 1) t) ≡ isAmong P (earlier j t)
+  pub among-on : sameList P (rowAt 8 (j - 1) t) ≡ false → isAmong P (earlier (j - 1) t) ≡ isAmong P (earlier j t)
   unfolding isAmong
   among-on e = sym (ap (isAmong P) before ∙ rw e)
 
@@ -62,39 +64,24 @@ unfolding repeatsFrom groups firstRepeat passed
 repeats-end n i t h = let e : n - i ≡ 0 = omega arith in rw e
 
 module _ (n i : ℕ) (t : List ℕ) (h : i < n) where
-  rows : groups 8 (n - i) (drop (8 * i) t) ≡ rowAt i t ∷ groups 8 (n - (i + 1)) (drop (8 * (i + 1)) t)
-  unfolding groups rowAt
-  rows =
-      let e : n - i ≡ suc (n - (i + 1)) = omega arith in
-      let f : 8 * i + 8 ≡ 8 * (i + 1) = omega arith in
-      ap (λ (k : ℕ). groups 8 k (drop (8 * i) t)) e
-      ∙ ap (λ (l : List ℕ). take 8 (drop (8 * i) t) ∷ groups 8 (n - (i + 1)) l) (drop-drop 8 (8 * i) t ∙ ap (λ (k : ℕ). drop k t) f)
+  rows : groups 8 (n - i) (drop (8 * i) t) ≡ rowAt 8 i t ∷ groups 8 (n - (i + 1)) (drop (8 * (i + 1)) t)
+  rows = groups-step 8 n i t h
 
-  pub repeats-here : isAmong (rowAt i t) (earlier i t) ≡ true → i + 1 ≡ repeatsFrom n i t
+  pub repeats-here : isAmong (rowAt 8 i t) (earlier i t) ≡ true → i + 1 ≡ repeatsFrom n i t
   unfolding repeatsFrom firstRepeat passed
   repeats-here e = sym (ap (λ (l : List (List ℕ)). passed i (firstRepeat (earlier i t) l)) rows ∙ rw e)
 
-  pub repeats-on : isAmong (rowAt i t) (earlier i t) ≡ false → repeatsFrom n (i + 1) t ≡ repeatsFrom n i t
+  pub repeats-on : isAmong (rowAt 8 i t) (earlier i t) ≡ false → repeatsFrom n (i + 1) t ≡ repeatsFrom n i t
   unfolding repeatsFrom firstRepeat earlier
   repeats-on e =
       ap (λ (k : ℕ). passed (i + 1) (firstRepeat (earlier k t) (groups 8 (n - (i + 1)) (drop (8 * (i + 1)) t)))) (add-one i)
-      ∙ passed-further i (firstRepeat (rowAt i t ∷ earlier i t) (groups 8 (n - (i + 1)) (drop (8 * (i + 1)) t)))
+      ∙ passed-further i (firstRepeat (rowAt 8 i t ∷ earlier i t) (groups 8 (n - (i + 1)) (drop (8 * (i + 1)) t)))
       ∙ sym (ap (λ (l : List (List ℕ)). passed i (firstRepeat (earlier i t) l)) rows ∙ rw e)
 
 -- every list of the list has this length
 abbrev pub AllLong : {A : Type 0} → ℕ → List (List A) → Type 0
 AllLong m [] = Unit {0}
 AllLong m (l ∷ ls) = (length l ≡ m) × AllLong m ls
-
-same-filled : (k : ℕ) (P Q : List ℕ) → length P ≡ length Q → length P ≤ k → sameList (fill k P) (fill k Q) ≡ sameList P Q
-unfolding fill sameList
-same-filled zero [] [] e h = refl
-same-filled zero [] (b ∷ Q) e h = absurd (omega arith)
-same-filled zero (a ∷ P) Q e h = absurd (not-suc-le-zero h)
-same-filled (suc k) [] [] e h = same-filled k [] [] refl (omega arith)
-same-filled (suc k) [] (b ∷ Q) e h = absurd (omega arith)
-same-filled (suc k) (a ∷ P) [] e h = absurd (omega arith)
-same-filled (suc k) (a ∷ P) (b ∷ Q) e h = ap (λ (x : Bool). eqb a b && x) (same-filled k P Q (suc-inj e) (le-of-suc-le-suc h))
 
 module _ (m : ℕ) (w : m ≤ 8) where
   among-filled : (P : List ℕ) (S : List (List ℕ)) → length P ≡ m → AllLong m S → isAmong (fill 8 P) (map (fill 8) S) ≡ isAmong P S

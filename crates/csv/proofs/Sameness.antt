@@ -8,7 +8,7 @@ use lib.ListN.{length, getD, drop, drop-of-length-le}
 use lib.Seq.{drop-cons}
 use lib.Dec.{eqb}
 use borrow.Author.Tests.{eq-eqb, ne-eqb}
-use Rattle.basis.specs.Levels.{sameList}
+use Rattle.residue.specs.Lists.{sameList}
 
 pub same-length : (a b : List ℕ) → (length a ≡ length b → ⊥) → sameList a b ≡ false
 unfolding sameList

@@ -16,20 +16,20 @@ use Rattle.residue.specs.Lists.{Among}
 use Rattle.residue.specs.Level.{residueOf}
 use Rattle.residue.specs.Modulus.{isModulus}
 use Rattle.residue.specs.Vector.{Below}
-use Rattle.residue.proofs.Moduli.{modulus-range}
-use Rattle.residue.proofs.Vectors.{map-at}
-use Rattle.basis.specs.declared.settings.Settings.{Settings}
-use Rattle.basis.specs.Levels.{isResidue, inRange, residues, noRepeat}
-use Rattle.basis.specs.Layout.{fill, inPlaces, over, length-fill}
+use Rattle.residue.specs.Layout.{fill, inPlaces, over}
+use Rattle.residue.proofs.level.Moduli.{modulus-range}
+use Rattle.residue.proofs.vector.Vectors.{map-at}
+use Rattle.residue.proofs.Layouts.{length-fill, take-fill, over-all}
+use Rattle.residue.proofs.Tests.{true-of, of-true, and-left, and-right, and-both}
+use Rattle.specification.specs.declared.settings.Settings.{Settings}
+use Rattle.specification.specs.Levels.{isResidue, inRange, residues, noRepeat}
+use Rattle.specification.specs.Tables.{pointsIn}
+use Rattle.specification.specs.Instance.{reduced}
+use Rattle.specification.proofs.ideal.Lists.{getD-among, among-map}
+use Rattle.specification.proofs.agreement.Points.{IsPoint, residues-same, length-residues}
+use Rattle.specification.proofs.agreement.Refusals.{Accepted}
 use Rattle.basis.specs.Drawing.{PointsGiven}
-use Rattle.basis.specs.Tables.{pointsIn}
 use Rattle.basis.specs.Drawing as D
-use Rattle.basis.proofs.Equality.{true-of, of-true, and-left, and-right, and-both}
-use Rattle.basis.specs.Instance.{reduced}
-use Rattle.basis.proofs.Layouts.{take-fill, over-all}
-use Rattle.basis.proofs.ideal.Lists.{getD-among, among-map}
-use Rattle.basis.proofs.agreement.Points.{IsPoint, residues-same, length-residues}
-use Rattle.basis.proofs.agreement.Refusals.{Accepted}
 use Rattle.basis.proofs.calls.Given as G
 use Rattle.csv.specs.declared.reading.Refusal.{Refusal}
 use Rattle.csv.specs.Forms.{Header}

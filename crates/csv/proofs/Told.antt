@@ -5,20 +5,19 @@ use Prim.Native.Nat.{ℕ, _<_, _≤_}
 use native.Mathlib.Omega.{arith}
 use lib.ListN.{length, getD, take}
 use Rattle.residue.specs.Vector.{Below}
-use Rattle.basis.specs.declared.settings.Settings.{Settings}
-use Rattle.basis.specs.Levels.{groups}
-use Rattle.basis.specs.Layout.{fill}
-use Rattle.basis.specs.BasisOf.{standardOf, interpolantOf}
-use Rattle.basis.specs.Tables.{spaceUnder, pointsUnder, pointsIn, rowCount, tablesOf}
+use Rattle.residue.specs.Layout.{groups, fill}
+use Rattle.residue.proofs.Layouts.{take-fill}
+use Rattle.specification.specs.declared.settings.Settings.{Settings}
+use Rattle.specification.specs.BasisOf.{standardOf, interpolantOf}
+use Rattle.specification.specs.Tables.{spaceUnder, pointsUnder, pointsIn, rowCount, tablesOf}
+use Rattle.specification.proofs.agreement.Points.{Points}
+use Rattle.specification.proofs.agreement.Refusals.{Accepted}
+use Rattle.specification.proofs.agreement.Drawings.{few-rows}
 use Rattle.basis.specs.Interpolants.{solution}
 use Rattle.basis.specs.Interpolants as I
 use Rattle.basis.specs.Drawing.{PointsGiven, DrawnUp}
-use Rattle.basis.proofs.Layouts.{take-fill}
 use Rattle.basis.proofs.PointTables.{length-points, points-in}
 use Rattle.basis.proofs.Wiring.{names-length, names-are}
-use Rattle.basis.proofs.agreement.Points.{Points}
-use Rattle.basis.proofs.agreement.Refusals.{Accepted}
-use Rattle.basis.proofs.agreement.Drawings.{few-rows}
 use Rattle.basis.proofs.calls.Given.{read}
 use Rattle.basis.proofs.calls.Answers.{length-interpolant, solution-is, names-in}
 use Rattle.csv.specs.Appending.{Room, Put, inTable}

@@ -7,7 +7,7 @@ use native.Mathlib.Omega.{arith}
 use lib.IntN.{ℤ}
 use lib.ListN.{length, drop, length-map}
 use borrow.Author.Tests.{lt-ltb, le-ltb, eq-eqb, ne-eqb}
-use Rattle.basis.specs.Levels.{sameList}
+use Rattle.residue.specs.Lists.{sameList}
 use Rattle.csv.specs.Fields.{Part, part, faulty, front, ending, unquoted, fieldOf, behindField, recordFrom, recordOf, behindRecord, recordsFrom, recordsOf}
 use Rattle.csv.specs.Forms.{Header, lastField, headerFrom, headerOf}
 use Rattle.csv.specs.Reading.{Entries, Outcome, further, firstFault, isNone, headerIn, entryIn, entriesIn, formFault, entriesOf, settingsCases, entriesCases, readCases, firstCase, accepted, refused, decided, readOutcome}

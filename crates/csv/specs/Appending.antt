@@ -3,7 +3,7 @@ use mathlib.Core.Path.{_≡_}
 use mathlib.Core.List.{List, _++_, map}
 use Prim.Native.Nat.{ℕ, _+_, _≤_}
 use lib.ListN.{length, take, drop}
-use Rattle.basis.specs.Levels.{groups}
+use Rattle.residue.specs.Layout.{groups}
 
 -- the buffer has room for them
 abbrev pub Room : ℕ → List ℕ → List ℕ → Type 0

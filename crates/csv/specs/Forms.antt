@@ -6,7 +6,7 @@ use Prim.Native.Nat.{ℕ, zero, suc, _+_, _*_, _-_}
 use lib.IntN.{ℤ, pos, negsuc}
 use lib.ListN.{length, take, drop}
 use lib.Dec.{eqb, leb}
-use Rattle.basis.specs.Levels.{sameList}
+use Rattle.residue.specs.Lists.{sameList}
 use Rattle.csv.specs.Fields.{front}
 
 unfoldable pub isDigit : ℕ → Bool

@@ -3,12 +3,13 @@ use mathlib.Core.Path.{_≡_}
 use mathlib.Core.Bool.{Bool, cond}
 use mathlib.Core.List.{List, [], _∷_, map}
 use mathlib.Core.Option.{Option·getD}
-use Prim.Native.Nat.{ℕ, zero, suc, _*_, _≤_}
+use Prim.Native.Nat.{ℕ, zero, suc, _≤_}
 use lib.IntN.{ℤ, pos}
-use lib.ListN.{length, take, drop}
+use lib.ListN.{length, drop}
 use lib.Dec.{eqb}
 use Rattle.residue.specs.Level.{residueOf}
-use Rattle.basis.specs.Levels.{isResidue, residueOr0, inRange}
+use Rattle.residue.specs.Layout.{rowAt}
+use Rattle.specification.specs.Levels.{isResidue, residueOr0, inRange}
 use Rattle.csv.specs.Fields.{Field, field, broken, Part, part, faulty}
 use Rattle.csv.specs.Reading.{Entries, valueOf}
 use Rattle.csv.specs.Records.{entriesAt}
@@ -59,10 +60,7 @@ saying p m order l = record { header = record { variables = m; modulus = p; orde
 unfoldable pub firstPlace : ℕ → Bool → ℕ → ℕ
 firstPlace found inside place = cond (eqb found 0) (cond inside 0 place) found
 
--- the jth row of a table of rows of 8, and the rows before the jth, the last first
-unfoldable pub rowAt : ℕ → List ℕ → List ℕ
-rowAt j t = take 8 (drop (8 * j) t)
-
+-- the rows before the jth of a table of rows of 8, the last first
 unfoldable pub earlier : ℕ → List ℕ → List (List ℕ)
 earlier zero t = []
-earlier (suc j) t = rowAt j t ∷ earlier j t
+earlier (suc j) t = rowAt 8 j t ∷ earlier j t

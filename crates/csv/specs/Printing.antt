@@ -6,11 +6,11 @@ use mathlib.Core.Logic.{_≢_}
 use Prim.Native.Nat.{ℕ, zero, suc, _+_, _/_, _%_, _<_, _≤_}
 use lib.Dec.{ltb}
 use lib.ListN.{length, take, replicate}
-use Rattle.basis.specs.declared.settings.Settings.{Settings}
-use Rattle.basis.specs.BasisOf.{standardOf, leadsOf, rowsOf, interpolantOf}
-use Rattle.basis.specs.Tables.{spaceUnder, pointsUnder, pointsIn}
+use Rattle.specification.specs.declared.settings.Settings.{Settings}
+use Rattle.specification.specs.BasisOf.{standardOf, leadsOf, rowsOf, interpolantOf}
+use Rattle.specification.specs.Tables.{spaceUnder, pointsUnder, pointsIn}
 use Rattle.basis.specs.Drawing.{settingsOf}
-use Rattle.basis.specs.Solving.{Names}
+use Rattle.specification.specs.Solving.{Names}
 use Rattle.csv.specs.Appending.{Put}
 use Rattle.csv.specs.Reading.{Outcome, readOutcome}
 

@@ -7,8 +7,8 @@ use lib.IntN.{ℤ}
 use lib.ListN.{length, getD, take, drop}
 use lib.Dec.{eqb, leb, ltb}
 use Rattle.residue.specs.Modulus.{isModulus}
-use Rattle.basis.specs.Levels.{inRange, residues, isAmong}
-use Rattle.basis.specs.Layout.{fill, inPlaces, over}
+use Rattle.residue.specs.Layout.{fill, inPlaces, over}
+use Rattle.specification.specs.Levels.{inRange, residues, isAmong}
 use Rattle.csv.specs.declared.reading.Refusal.{Refusal}
 use Rattle.csv.specs.declared.reading.Read.{Read}
 use Rattle.csv.specs.Fields.{recordsOf}

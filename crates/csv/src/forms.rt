@@ -1,7 +1,7 @@
 // The forms of a field's content.
 ghost use mathlib.Core.Path.{_≡_};
 ghost use Prim.Native.Nat.{ℕ};
-ghost use Rattle.basis.specs.Levels.{sameList};
+ghost use Rattle.residue.specs.Lists.{sameList};
 ghost use Rattle.csv.specs.Fields.{front};
 ghost use Rattle.csv.specs.Forms.{isDigit, numberOf, levelOf, orderWord, settingsOf, lastField};
 ghost use Rattle.csv.specs.Said.{numberSaid, orderSaid, levelSaid, lastSaid};

@@ -1,20 +1,20 @@
 // The points and values of a text whose records are entries.
+use crate::records;
+use crate::records::LevelAt;
+use residue::level::Level;
 ghost use mathlib.Core.Path.{_≡_};
 ghost use mathlib.Core.Bool.{_&&_};
 ghost use mathlib.Core.List.{[], map};
 ghost use Prim.Native.Nat.{_≤_};
 ghost use lib.ListN.{length, drop};
 ghost use Rattle.residue.specs.Level.{residueOf};
-ghost use Rattle.basis.specs.Layout.{fill, inPlaces, over};
+ghost use Rattle.residue.specs.Layout.{fill, inPlaces, over};
 ghost use Rattle.csv.specs.Fields.{broken, faulty};
 ghost use Rattle.csv.specs.Said.{signedOf};
 ghost use Rattle.csv.specs.Reading.{pointOf, valueOf, isOutside, firstFault};
 ghost use Rattle.csv.specs.Records.{levelField, entryPart, entriesAt, counted};
 ghost use Rattle.csv.specs.Points.{PlacedAs, levelsIn, FilledAs, levelsAt, firstPlace};
 ghost use Rattle.csv.specs.declared.records.Entries.the-variants.{Count};
-use crate::records;
-use crate::records::LevelAt;
-use residue::level::Level;
 
 // The residue of a level by its sign and size. A size that fits no byte is out of range like any other.
 fn residue_of(p: u8, negative: bool, size: u16) -> Level

@@ -1,16 +1,16 @@
 // Printing into a lent buffer: each function writes from a place on, and answers the place behind what it wrote.
 use crate::reading::read_text;
-use basis::bytes;
 use basis::draw::draw;
 use basis::solve::put_names;
 use basis::solve::solve;
+use residue::bytes;
 ghost use mathlib.Core.Path.{_≡_};
 ghost use mathlib.Core.List.{[], _∷_};
 ghost use Prim.Native.Nat.{ℕ, _+_, _*_, _<_, _≤_};
 ghost use lib.ListN.{length, getD, replicate};
 ghost use Rattle.residue.specs.Vector.{Below};
-ghost use Rattle.basis.specs.Layout.{fill};
-ghost use Rattle.basis.specs.Tables.{pointsIn};
+ghost use Rattle.residue.specs.Layout.{fill};
+ghost use Rattle.specification.specs.Tables.{pointsIn};
 ghost use Rattle.basis.specs.Drawing.{settingsOf, PointsGiven};
 ghost use Rattle.basis.specs.Interpolants.{solution};
 ghost use Rattle.csv.specs.Printing.{decimal, spaced, numbers, labelled, line, firstLine, standardLines, rowLine, rowLines, basisLines, refusalLine, Prints, PrintsText, Within};

@@ -12,7 +12,7 @@ use crate::records;
 use crate::records::Entries;
 use crate::records::HeaderAt;
 use crate::tables;
-use basis::bytes;
+use residue::bytes;
 
 // The number of a refusal, or 0, with the record at fault.
 pub struct Refusal {

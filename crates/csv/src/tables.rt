@@ -1,17 +1,18 @@
 // Tables of points, in rows of 8 residues.
+use crate::forms;
 ghost use mathlib.Core.Path.{_≡_};
 ghost use mathlib.Core.List.{[]};
 ghost use Prim.Native.Nat.{_+_, _*_, _≤_};
 ghost use lib.ListN.{length};
-ghost use Rattle.basis.specs.Levels.{isAmong, groups};
+ghost use Rattle.residue.specs.Layout.{groups, rowAt};
+ghost use Rattle.specification.specs.Levels.{isAmong};
 ghost use Rattle.csv.specs.Reading.{firstRepeat};
-ghost use Rattle.csv.specs.Points.{rowAt, earlier};
-use crate::forms;
+ghost use Rattle.csv.specs.Points.{earlier};
 
 // Whether the point in row i equals an earlier one.
 fn is_earlier(points: &[u8], i: usize) -> bool
     requires { ⌜ (i ≤ 63) × (8 * i + 8 ≤ length (now points)) ⌝ }
-    ensures { λ r. ⌜ r ≡ isAmong (rowAt i (now (points .entry))) (earlier i (now (points .entry))) ⌝ }
+    ensures { λ r. ⌜ r ≡ isAmong (rowAt 8 i (now (points .entry))) (earlier i (now (points .entry))) ⌝ }
 {
     let at = 8 * i;
     let row = &points[at..at + 8];

@@ -3,12 +3,12 @@ use mathlib.Core.Path.{_≡_, ap, subst, _∙_}
 use mathlib.Core.List.{List}
 use Prim.Native.Nat.{ℕ}
 use lib.IntN.{ℤ}
-use Rattle.basis.specs.declared.settings.Settings.{Settings}
-use Rattle.basis.specs.declared.settings.Answer.{Answer}
-use Rattle.basis.specs.declared.settings.Wired.{Wired}
-use Rattle.basis.specs.Tables.{Tables}
-use Rattle.basis.specs.Adding.{Outcome, ended}
-use Rattle.basis.specs.Solving.{WiringEnds}
+use Rattle.specification.specs.declared.settings.Settings.{Settings}
+use Rattle.specification.specs.declared.settings.Answer.{Answer}
+use Rattle.specification.specs.declared.settings.Wired.{Wired}
+use Rattle.specification.specs.Tables.{Tables}
+use Rattle.specification.specs.Adding.{Outcome, ended}
+use Rattle.specification.specs.Solving.{WiringEnds}
 use Rattle.csv.specs.declared.reading.Read.{Read}
 use Rattle.csv.specs.Reading.{Outcome as ReadOutcome, ended as read}
 use Rattle.misqafur.specs.Packing.{packedAnswer, packedWired, packedRead, left, packedOutcome, PackedWiring, leftReading, packedReading}

@@ -7,8 +7,8 @@ use lib.IntN.{ℤ, pos}
 use lib.ListN.{length, getD, take, drop, length-map}
 use lib.Seq.{take-at}
 use Rattle.residue.specs.Level.{signedOf}
-use Rattle.residue.proofs.Filled.{filled, filled-front}
-use Rattle.residue.proofs.Vectors.{map-at}
+use Rattle.residue.proofs.vector.Filled.{filled, filled-front}
+use Rattle.residue.proofs.vector.Vectors.{map-at}
 use Rattle.misqafur.specs.Bytes.{signedBytes}
 
 pub length-signed : (bytes : List ℕ) → length (signedBytes bytes) ≡ length bytes

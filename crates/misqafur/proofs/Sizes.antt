@@ -8,13 +8,13 @@ use native.Mathlib.Omega.{arith}
 use lib.ListN.{length}
 use lib.Dec.{eqb, leb, ltb}
 use borrow.Author.Tests.{ltb-false, eqb-true, not-false}
-use Rattle.basis.specs.declared.settings.Settings.{Settings}
-use Rattle.basis.specs.Refusal.{firstOf}
-use Rattle.basis.specs.Settings.{settingsCases}
-use Rattle.basis.specs.Tables.{Tables, tooShort}
-use Rattle.basis.specs.Adding.{Outcome, refused, addOutcome, drawOutcome}
-use Rattle.basis.specs.Solving.{valuesCases, remainderCases}
-use Rattle.basis.proofs.Equality.{neither}
+use Rattle.residue.proofs.Tests.{neither}
+use Rattle.specification.specs.declared.settings.Settings.{Settings}
+use Rattle.specification.specs.Refusal.{firstOf}
+use Rattle.specification.specs.Settings.{settingsCases}
+use Rattle.specification.specs.Tables.{Tables, tooShort}
+use Rattle.specification.specs.Adding.{Outcome, refused, addOutcome, drawOutcome}
+use Rattle.specification.specs.Solving.{valuesCases, remainderCases}
 use Rattle.basis.proofs.adding.Addition.{add-size}
 use Rattle.basis.proofs.calls.Refusing.{sizes, passed, when-refused}
 use Rattle.basis.proofs.calls.Outcomes.{draw-size, values-size, wiring-refused, remainder-size}

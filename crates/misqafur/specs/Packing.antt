@@ -5,12 +5,12 @@ use mathlib.Core.List.{List, [], _∷_}
 use Prim.Native.Nat.{ℕ, _+_, _*_}
 use lib.IntN.{ℤ}
 use lib.Dec.{eqb}
-use Rattle.basis.specs.declared.settings.Settings.{Settings}
-use Rattle.basis.specs.declared.settings.Answer.{Answer}
-use Rattle.basis.specs.declared.settings.Wired.{Wired}
-use Rattle.basis.specs.Tables.{Tables, fourTables}
-use Rattle.basis.specs.Adding.{Outcome}
-use Rattle.basis.specs.Solving.{WiringEnds}
+use Rattle.specification.specs.declared.settings.Settings.{Settings}
+use Rattle.specification.specs.declared.settings.Answer.{Answer}
+use Rattle.specification.specs.declared.settings.Wired.{Wired}
+use Rattle.specification.specs.Tables.{Tables, fourTables}
+use Rattle.specification.specs.Adding.{Outcome}
+use Rattle.specification.specs.Solving.{WiringEnds}
 use Rattle.csv.specs.declared.reading.Read.{Read}
 use Rattle.csv.specs.Reading.{Outcome as ReadOutcome}
 

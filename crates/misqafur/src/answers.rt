@@ -3,10 +3,10 @@ use crate::packing::pack_wired;
 use crate::signed::put_signed;
 use basis::answers;
 use basis::refusal;
-use basis::settings::Settings;
+use specification::settings::Settings;
 ghost use mathlib.Core.Path.{_≡_};
-ghost use Rattle.basis.specs.Tables.{fourTables};
-ghost use Rattle.basis.specs.Solving.{answering, interpolateOutcome, remainderOutcome};
+ghost use Rattle.specification.specs.Tables.{fourTables};
+ghost use Rattle.specification.specs.Solving.{answering, interpolateOutcome, remainderOutcome};
 ghost use Rattle.misqafur.specs.Bytes.{signedBytes};
 ghost use Rattle.misqafur.specs.Packing.{PackedWiring};
 

@@ -1,7 +1,7 @@
 // Answers as one number.
-use basis::settings::Answer;
-use basis::settings::Wired;
 use csv::reading::Read;
+use specification::settings::Answer;
+use specification::settings::Wired;
 ghost use mathlib.Core.Path.{_≡_};
 ghost use Rattle.misqafur.specs.Packing.{packedAnswer, packedWired, packedRead};
 

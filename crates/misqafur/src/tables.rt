@@ -4,11 +4,11 @@ use crate::signed::put_signed;
 use basis::adding;
 use basis::calls;
 use basis::refusal;
-use basis::settings::Settings;
+use specification::settings::Settings;
 ghost use mathlib.Core.Path.{_≡_};
-ghost use Rattle.basis.specs.Tables.{fourTables};
-ghost use Rattle.basis.specs.Adding.{addOutcome, drawOutcome};
-ghost use Rattle.basis.specs.Solving.{checkRefusal};
+ghost use Rattle.specification.specs.Tables.{fourTables};
+ghost use Rattle.specification.specs.Adding.{addOutcome, drawOutcome};
+ghost use Rattle.specification.specs.Solving.{checkRefusal};
 ghost use Rattle.misqafur.specs.Bytes.{signedBytes};
 ghost use Rattle.misqafur.specs.Packing.{left, packedOutcome};
 

@@ -1,7 +1,5 @@
--- The lemmas of the crate monomial that the crates above cite.
+-- The lemmas of the crate monomial that the crates above cite. Those of a module of src/ stand in the folder of its name.
 pub mod Algebra
 pub mod Orders
 pub mod Padding
-pub mod Ranks
 pub mod Loops
-mod Truncation

@@ -1,11 +1,13 @@
 -- A monomial of m exponents and the 8 bytes that hold it, as the tables do: what holds of one holds of the other.
-use mathlib.Core.Path.{_≡_, refl, sym, _∙_}
+use mathlib.Core.Path.{_≡_, refl, sym, ap, ap₂, _∙_}
 use mathlib.Core.List.{List, [], _∷_, _++_}
 use Prim.Native.Nat.{ℕ, zero, suc, _+_, _-_, _<_, _≤_}
 use native.Mathlib.Nat.{add-zero}
 use native.Mathlib.Omega.{arith}
-use lib.ListN.{length, replicate, getD, length-append, length-replicate, List·getD-append}
+use lib.ListN.{length, replicate, getD, List·getD-append}
 use lib.Seq.{set-append-left}
+use Rattle.residue.specs.Layout.{fill}
+use Rattle.residue.proofs.Layouts.{fill-tail}
 use Rattle.monomial.specs.Monomial.{degree, one, timesVariable, divides, valueAt}
 use Rattle.monomial.specs.Order.{Order, lex, grlex, grevlex, byFirst, byLast, cmp}
 use Rattle.monomial.proofs.Algebra.Products.{Aligned, nil, cons, aligned, length-timesVariable}
@@ -46,29 +48,40 @@ degree-one zero = refl
 degree-one (suc m) = omega (arith, degree-one m)
 
 -- 8 exponents or coordinates, those above m being 0
-abbrev pub pad : List ℕ → List ℕ
+abbrev pad : List ℕ → List ℕ
 pad a = a ++ replicate (8 - length a) 0
 
-module _ (a : List ℕ) where
-  pub length-pad : length a ≤ 8 → length (pad a) ≡ 8
-  length-pad h = simp (length-append, length-replicate) (omega arith)
+module _ (a : List ℕ) (s : length a ≤ 8) where
+  pub degree-fill : degree (fill 8 a) ≡ degree a
+  degree-fill = ap degree (fill-tail 8 a s) ∙ degree-append a (replicate (8 - length a) 0) ∙ rw (degree-one (8 - length a)) (omega arith)
 
-  pub degree-pad : degree (pad a) ≡ degree a
-  degree-pad = degree-append a (replicate (8 - length a) 0) ∙ rw (degree-one (8 - length a)) (omega arith)
-
-  pub timesVariable-pad : (k : ℕ) → k < length a → timesVariable k (pad a) ≡ pad (timesVariable k a)
-  timesVariable-pad k h =
-      rw (length-timesVariable k a, List·getD-append a (replicate (8 - length a) 0) 0 k h)
-      (set-append-left a (replicate (8 - length a) 0) k (getD a k 0 + 1) h)
+  -- x_(k+1) times a monomial, in its bytes
+  pub fill-timesVariable : (k : ℕ) → k < length a → fill 8 (timesVariable k a) ≡ timesVariable k (fill 8 a)
+  fill-timesVariable k h =
+      fill-tail 8 (timesVariable k a) (rw (length-timesVariable k a) s) ∙ sym padded ∙ ap (λ (z : List ℕ). timesVariable k z) (sym (fill-tail 8 a s))
+    where
+      padded : timesVariable k (pad a) ≡ pad (timesVariable k a)
+      padded =
+          rw (length-timesVariable k a, List·getD-append a (replicate (8 - length a) 0) 0 k h)
+          (set-append-left a (replicate (8 - length a) 0) k (getD a k 0 + 1) h)
 
 -- two of one length
-module _ (a b : List ℕ) (l : length a ≡ length b) where
-  pub cmp-pad : (order : Order) → cmp order (pad a) (pad b) ≡ cmp order a b
-  cmp-pad order = rw l (cmp-append order (replicate (8 - length b) 0) (aligned a b l))
+module _ (a b : List ℕ) (l : length a ≡ length b) (s : length a ≤ 8) where
+  pub cmp-fill : (order : Order) → cmp order (fill 8 a) (fill 8 b) ≡ cmp order a b
+  cmp-fill order = ap₂ (cmp order) (fill-tail 8 a s) (fill-tail 8 b (omega arith)) ∙ padded
+    where
+      padded : cmp order (pad a) (pad b) ≡ cmp order a b
+      padded = rw l (cmp-append order (replicate (8 - length b) 0) (aligned a b l))
 
-  pub divides-pad : divides (pad a) (pad b) ≡ divides a b
-  divides-pad = rw l (divides-append (replicate (8 - length b) 0) (aligned a b l))
+  pub divides-fill : divides (fill 8 a) (fill 8 b) ≡ divides a b
+  divides-fill = ap₂ divides (fill-tail 8 a s) (fill-tail 8 b (omega arith)) ∙ padded
+    where
+      padded : divides (pad a) (pad b) ≡ divides a b
+      padded = rw l (divides-append (replicate (8 - length b) 0) (aligned a b l))
 
-  -- a point's coordinates are padded as well
-  pub value-pad : valueAt (pad a) (pad b) ≡ valueAt a b
-  value-pad = rw l (value-append (8 - length b) (aligned a b l))
+  -- a point's coordinates are filled up as well
+  pub value-fill : valueAt (fill 8 a) (fill 8 b) ≡ valueAt a b
+  value-fill = ap₂ valueAt (fill-tail 8 a s) (fill-tail 8 b (omega arith)) ∙ padded
+    where
+      padded : valueAt (pad a) (pad b) ≡ valueAt a b
+      padded = rw l (value-append (8 - length b) (aligned a b l))

@@ -4,3 +4,7 @@ pub mod Order
 pub mod Comparison
 pub mod Increasing
 pub mod Rank
+pub mod Candidate
+pub mod Insert
+pub mod Columns
+pub mod Terms

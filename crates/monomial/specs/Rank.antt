@@ -1,6 +1,6 @@
 -- The rank of a monomial: one number whose order is the monomial order, as long as the total degree is below 128. No public promise names it;
 -- the functions that look for the next monomial compare ranks in place of exponents.
-use mathlib.Core.List.{List, [], _∷_, _++_, dropLast}
+use mathlib.Core.List.{List, [], _∷_, _++_, dropLast, map}
 use Prim.Native.Nat.{ℕ, _+_, _*_, _^_}
 use lib.ListN.{length}
 use Rattle.monomial.specs.Monomial.{degree, one, timesVariable}
@@ -22,10 +22,17 @@ abbrev pub numeral : List ℕ → ℕ
 numeral [] = 0
 numeral (d ∷ ds) = d * 128 ^ length ds + numeral ds
 
--- 56 bits for 8 exponents
+-- every rank is below this: 56 bits for 8 exponents
+abbrev pub rankBound : ℕ
+rankBound = 2 ^ 56
+
 unfoldable pub rankOf : Order → List ℕ → ℕ
 rankOf order a = numeral (key order a)
 
 -- the rank of x_(k+1), one of 8 variables
 unfoldable pub variableRank : Order → ℕ → ℕ
 variableRank order k = rankOf order (timesVariable k (one 8))
+
+-- the ranks of x1 to x8
+unfoldable pub stepsOf : Order → List ℕ
+stepsOf order = map (variableRank order) (0 ∷ 1 ∷ 2 ∷ 3 ∷ 4 ∷ 5 ∷ 6 ∷ 7 ∷ [])

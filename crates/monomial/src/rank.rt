@@ -2,9 +2,8 @@
 ghost use mathlib.Core.Path.{_≡_};
 ghost use Prim.Native.Nat.{_<_, _≤_};
 ghost use lib.ListN.{length};
-ghost use Rattle.monomial.specs.Monomial.{degree};
 ghost use Rattle.monomial.specs.Order.{orderOf};
-ghost use Rattle.monomial.specs.Rank.{rankOf, variableRank};
+ghost use Rattle.monomial.specs.Rank.{variableRank, stepsOf};
 
 // The ranks of x1 to x8, order after order.
 const VARIABLES: [u64; 24] = [
@@ -42,15 +41,12 @@ pub fn variable_rank(order: u8, k: usize) -> u64
     VARIABLES[8 * order as usize + k]
 }
 
-// The sum of the exponents' shares: a product's rank is the sum of its factors' ranks.
-pub fn rank(order: u8, a: &[u8]) -> u64
-    requires { ⌜ order ≤ 2 ⌝ }
-    requires { ⌜ (length (now a) ≡ 8) × (degree (now a) < 128) ⌝ }
-    ensures { λ r. ⌜ r ≡ rankOf (orderOf order) (now (a .entry)) ⌝ }
+// The ranks of the variables.
+pub fn put_steps(order: u8, steps: &mut [u64])
+    requires { ⌜ (order ≤ 2) × (length (now steps) ≡ 8) ⌝ }
+    ensures { λ _. ⌜ now (steps .exit) ≡ stepsOf (orderOf order) ⌝ }
 {
-    let mut sum: u64 = 0;
-    for i in 0..8 {
-        sum += a[i] as u64 * variable_rank(order, i);
+    for k in 0..8 {
+        steps[k] = variable_rank(order, k);
     }
-    sum
 }

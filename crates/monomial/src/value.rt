@@ -1,11 +1,13 @@
 // Values of monomials at a point, modulo p.
 use residue::arithmetic::power;
 use residue::arithmetic::reciprocal;
-use residue::arithmetic::reduce;
+use residue::arithmetic::reduced_product;
 ghost use mathlib.Core.Path.{_≡_};
-ghost use Prim.Native.Nat.{_%_, _≤_};
+ghost use mathlib.Core.List.{map};
+ghost use Prim.Native.Nat.{_*_, _%_, _≤_};
 ghost use lib.ListN.{length};
 ghost use Rattle.residue.specs.Vector.{Below};
+ghost use Rattle.residue.specs.Layout.{groups, over};
 ghost use Rattle.monomial.specs.Monomial.{valueAt};
 
 // The product of the coordinates' powers. Exponents stay as they are: modulo p - 1 they would be wrong at 0.
@@ -18,7 +20,20 @@ pub fn value(p: u16, point: &[u8], a: &[u8]) -> u16
     let m = reciprocal(p);
     let mut product = 1;
     for i in 0..8 {
-        product = reduce(p, m, product * power(p, m, point[i] as u16, a[i]));
+        product = reduced_product(p, m, product, power(p, m, point[i] as u16, a[i]));
     }
     product
+}
+
+// The values of k monomials at a point.
+pub fn values_at(p: u16, k: usize, monomials: &[u8], point: &[u8], values: &mut [u16])
+    requires { ⌜ (2 ≤ p) × (p ≤ 61) ⌝ }
+    requires { ⌜ (8 * k ≤ length (now monomials)) × (k ≤ length (now values)) ⌝ }
+    requires { ⌜ (length (now point) ≡ 8) × Below p (now point) ⌝ }
+    ensures { λ _. ⌜ now (values .exit) ≡ over (map (λ a. valueAt (now (point .entry)) a % p) (groups 8 k (now (monomials .entry)))) (now (values .entry)) ⌝ }
+{
+    for i in 0..k {
+        let from = 8 * i;
+        values[i] = value(p, point, &monomials[from..from + 8]);
+    }
 }

@@ -1,13 +1,7 @@
--- The lemmas of the crate residue that the crates above cite.
+-- The lemmas of the crate residue that the crates above cite. Those of a module of src/ stand in the folder of its name.
+pub mod Tests
 pub mod Congruence
 pub mod Sums
-pub mod Moduli
-pub mod Levels
-pub mod SignedBytes
-pub mod Reduction
-pub mod Powers
-pub mod Inverses
-pub mod Filled
-pub mod Vectors
-pub mod Eliminated
-pub mod Fours
+pub mod Layouts
+pub mod Places
+pub mod Replaced

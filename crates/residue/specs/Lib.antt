@@ -1,8 +1,10 @@
 -- The definitions of the crate residue.
 pub mod Lists
+pub mod Layout
 pub mod Congruence
 pub mod Modulus
 pub mod Level
 pub mod Inverse
 pub mod Vector
 pub mod Elimination
+pub mod Rows

@@ -1,8 +1,11 @@
--- Members of a list, and sums over a list. The whole repository uses this one membership relation.
+-- Lists of numbers: members, sums, tests and the number that bytes spell. The whole repository uses this one membership relation.
 use mathlib.Core.Path.{_≡_}
-use mathlib.Core.List.{List, [], _∷_}
+use mathlib.Core.Bool.{Bool, true, false, _&&_}
 use mathlib.Core.Logic.{_⊎_}
-use Prim.Native.Nat.{ℕ, _+_}
+use mathlib.Core.List.{List, [], _∷_}
+use Prim.Native.Nat.{ℕ, _+_, zero, suc, _*_}
+use lib.ListN.{getD}
+use lib.Dec.{eqb}
 
 -- a stands in the list
 abbrev pub Among : {A : Type 0} → A → List A → Type 0
@@ -13,3 +16,20 @@ Among a (b ∷ l) = (a ≡ b) ⊎ Among a l
 abbrev pub sumOver : {A : Type 0} → (A → ℕ) → List A → ℕ
 sumOver f [] = 0
 sumOver f (a ∷ l) = f a + sumOver f l
+
+-- two lists of numbers are equal
+unfoldable pub sameList : List ℕ → List ℕ → Bool
+sameList [] [] = true
+sameList [] (b ∷ l) = false
+sameList (a ∷ k) [] = false
+sameList (a ∷ k) (b ∷ l) = eqb a b && sameList k l
+
+-- the number whose digits to the base 256 the first k entries are
+unfoldable pub keyOf : ℕ → List ℕ → ℕ
+keyOf zero l = 0
+keyOf (suc k) l = 256 * keyOf k l + getD l k 0
+
+-- each number is 0
+unfoldable pub allZero : List ℕ → Bool
+allZero [] = true
+allZero (a ∷ l) = eqb a 0 && allZero l

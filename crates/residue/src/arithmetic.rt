@@ -55,6 +55,15 @@ pub fn reduce(p: u16, m: u16, x: u16) -> u16
     rest - p
 }
 
+// The product of two bytes, reduced without a division.
+pub fn reduced_product(p: u16, m: u16, x: u16, y: u16) -> u16
+    requires { ⌜ (2 ≤ p) × (m ≡ 65536 / p) ⌝ }
+    requires { ⌜ (x < 256) × (y < 256) ⌝ }
+    ensures { λ r. ⌜ r ≡ (x * y) % p ⌝ }
+{
+    reduce(p, m, x * y)
+}
+
 // x to the power e by squares, with the modulus' reciprocal; anything to the power 0 is 1.
 pub fn power(p: u16, m: u16, x: u16, e: u8) -> u16
     requires { ⌜ (2 ≤ p) × (p ≤ 61) × (m ≡ 65536 / p) ⌝ }
@@ -66,9 +75,9 @@ pub fn power(p: u16, m: u16, x: u16, e: u8) -> u16
     let mut left = e;
     while 0 < left {
         if left % 2 == 1 {
-            product = reduce(p, m, product * square);
+            product = reduced_product(p, m, product, square);
         }
-        square = reduce(p, m, square * square);
+        square = reduced_product(p, m, square, square);
         left = left / 2;
     }
     product

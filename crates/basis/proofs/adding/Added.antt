@@ -12,36 +12,34 @@ use lib.Seq.{length-take-le}
 use Rattle.residue.specs.Lists.{Among}
 use Rattle.residue.specs.Vector.{Below}
 use Rattle.residue.specs.Elimination.{eliminated}
+use Rattle.residue.specs.Layout.{groups, fill, inPlaces, over, rowAt}
+use Rattle.residue.proofs.vector.Vectors.{below-take, map-same}
+use Rattle.residue.proofs.Tests.{true-of}
+use Rattle.residue.proofs.Layouts.{fill-exact, below-fill, length-fill}
+use Rattle.residue.proofs.Places.{places-append, over-zeros, place-more}
 use Rattle.monomial.specs.Monomial.{valueAt}
 use Rattle.monomial.specs.Order.{orderOf}
-use Rattle.monomial.proofs.Padding.{value-pad}
-use Rattle.basis.specs.declared.settings.Settings.{Settings}
-use Rattle.basis.specs.Levels.{groups, isAmong}
-use Rattle.basis.specs.Layout.{fill, inPlaces, over}
-use Rattle.basis.specs.Space.{Space}
-use Rattle.basis.specs.Polynomial.{Distinct}
-use Rattle.basis.specs.BasisOf.{standardOf, leadsOf, rowOf, rowsOf, interpolantOf}
-use Rattle.basis.specs.Instance.{Monomial, Point, reduced, pointOf}
-use Rattle.basis.specs.Tables.{spaceUnder, pointsUnder, rowCount, tablesOf, pointsIn}
+use Rattle.monomial.proofs.Padding.{value-fill}
+use Rattle.specification.specs.declared.settings.Settings.{Settings}
+use Rattle.specification.specs.Levels.{isAmong}
+use Rattle.specification.specs.Space.{Space}
+use Rattle.specification.specs.Polynomial.{Distinct}
+use Rattle.specification.specs.BasisOf.{standardOf, leadsOf, rowOf, rowsOf, interpolantOf}
+use Rattle.specification.specs.Instance.{Monomial, Point, reduced, pointOf}
+use Rattle.specification.specs.Tables.{spaceUnder, pointsUnder, rowCount, tablesOf, pointsIn}
+use Rattle.specification.proofs.Repeats.{is-among}
+use Rattle.specification.proofs.Instance.{laws, point-of, lead-exponent}
+use Rattle.specification.proofs.ideal.Laws.{Laws}
+use Rattle.specification.proofs.ideal.Lists.{getD-among, among-map}
+use Rattle.specification.proofs.ideal.Basis.{row-is}
+use Rattle.specification.proofs.ideal.Counts.{leads-length, standard-length}
+use Rattle.specification.proofs.ideal.Permutation.{basis-snoc}
 use Rattle.basis.specs.Drawing.{settingsOf, PointsGiven, DrawnUp}
-use Rattle.basis.specs.Insertions.{rowAt, valueOfRow, firstFrom, Grown, grown, standardGrown, grownBy, NewPoint, Tabled}
-use Rattle.residue.proofs.Vectors.{below-take}
-use Rattle.basis.proofs.Equality.{is-among, true-of}
-use Rattle.basis.proofs.Instance.{laws, point-of, lead-exponent}
-use Rattle.basis.proofs.Layouts.{length-fill, fill-exact}
-use Rattle.basis.proofs.Places.{places-append, over-zeros, place-more}
+use Rattle.basis.specs.Insertions.{valueOfRow, firstFrom, Grown, grown, standardGrown, grownBy, NewPoint, Tabled}
 use Rattle.basis.proofs.PointTables.{length-points, points-in}
-use Rattle.basis.proofs.ValueRows.{below-fill}
-use Rattle.basis.proofs.ideal.Laws.{Laws}
-use Rattle.basis.proofs.ideal.Lists.{getD-among, among-map}
-use Rattle.basis.proofs.ideal.Basis.{row-is}
-use Rattle.basis.proofs.ideal.Counts.{leads-length, standard-length}
-use Rattle.basis.proofs.ideal.Permutation.{basis-snoc}
-use Rattle.basis.proofs.elimination.Exponents.{fill-pad}
 use Rattle.basis.proofs.elimination.Grounds.{ground, places-below}
 use Rattle.basis.proofs.adding.Corrections.{valuesAt}
 use Rattle.basis.proofs.adding.LostRow.{lost, lost-one}
-use Rattle.basis.proofs.Copies.{map-same}
 use Rattle.basis.proofs.adding.NewTables.{table, read, few-standard, short, most, grown-are, standard-are}
 
 -- residues are kept
@@ -234,7 +232,7 @@ module _ {p m o n r : ℕ} {points standard leads coefficients rows pivots point
       let f : Monomial m → List ℕ = λ b. fill 8 (b .0) in
       let back : groups 8 n standard ≡ map f (standardOf D S) = ap₂ (λ (k : ℕ) (t : List ℕ). groups 8 k t) (sym standard-count) standard-is ∙ read q m o (given .few) L 512 (standardOf D S) (omega (arith, standard-count)) in
       let value : (b : Monomial m) → valueAt (fill 8 (P .0)) (fill 8 (b .0)) % suc q ≡ valueAt (P .0) (b .0) % suc q =
-      λ b. ap (λ (z : ℕ). z % suc q) (ap₂ valueAt (fill-pad (P .0) (rw (P .1 .0) (given .few))) (fill-pad (b .0) (rw (b .1) (given .few))) ∙ value-pad (P .0) (b .0) (P .1 .0 ∙ sym (b .1))) in
+      λ b. ap (λ (z : ℕ). z % suc q) (value-fill (P .0) (b .0) (P .1 .0 ∙ sym (b .1)) (rw (P .1 .0) (given .few))) in
       let n64 = length-map (standardOf D S) (λ (b : Monomial m). valueAt (P .0) (b .0) % suc q) in
       ap (λ (z : List ℕ). over z (replicate 64 0))
       (ap (map (λ a. valueAt point a % p)) back ∙ map-map (λ a. valueAt point a % p) f (standardOf D S)

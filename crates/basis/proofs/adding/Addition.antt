@@ -9,23 +9,23 @@ use lib.ListN.{length, take, length-append}
 use lib.Dec.{T, eqb, leb}
 use borrow.Author.Tests.{eqb-true, leb-false, not-false}
 use Rattle.residue.specs.Vector.{Below}
-use Rattle.residue.proofs.Moduli.{modulus-range}
-use Rattle.basis.specs.declared.settings.Settings.{Settings}
-use Rattle.basis.specs.Refusal.{Case, firstOf}
-use Rattle.basis.specs.Settings.{settingsCases}
-use Rattle.basis.specs.Levels.{inRange, residues, groups, isAmong}
-use Rattle.basis.specs.Layout.{fill, inPlaces, over}
-use Rattle.basis.specs.Tables.{Tables, rowCount, tablesOf, tooShort, pointsIn, recognised}
-use Rattle.basis.specs.Adding.{ended, holding, addCases, addRefusal, addOutcome}
+use Rattle.residue.specs.Layout.{groups, fill, inPlaces, over}
+use Rattle.residue.proofs.level.Moduli.{modulus-range}
+use Rattle.residue.proofs.Tests.{of-true}
+use Rattle.residue.proofs.Layouts.{take-fill, below-fill}
+use Rattle.residue.proofs.Places.{table-groups}
+use Rattle.specification.specs.declared.settings.Settings.{Settings}
+use Rattle.specification.specs.Refusal.{Case, firstOf}
+use Rattle.specification.specs.Settings.{settingsCases}
+use Rattle.specification.specs.Levels.{inRange, residues, isAmong}
+use Rattle.specification.specs.Tables.{Tables, rowCount, tablesOf, tooShort, pointsIn, recognised}
+use Rattle.specification.specs.Adding.{ended, holding, addCases, addRefusal, addOutcome}
+use Rattle.specification.proofs.Repeats.{is-among, among-filled}
+use Rattle.specification.proofs.agreement.Points.{IsPoint, Points, length-residues, levels-point, points-more}
+use Rattle.specification.proofs.agreement.Refusals.{Accepted, accepted, Large, large-of}
+use Rattle.specification.proofs.agreement.Drawings.{few-rows}
 use Rattle.basis.specs.Drawing.{PointsGiven, Solves, DrawnUp}
 use Rattle.basis.specs.Insertions.{NewPoint}
-use Rattle.basis.proofs.Equality.{of-true, is-among}
-use Rattle.basis.proofs.Layouts.{take-fill}
-use Rattle.basis.proofs.Places.{table-groups, among-filled}
-use Rattle.basis.proofs.ValueRows.{below-fill}
-use Rattle.basis.proofs.agreement.Points.{IsPoint, Points, length-residues, levels-point, points-more}
-use Rattle.basis.proofs.agreement.Refusals.{Accepted, accepted, Large, large-of}
-use Rattle.basis.proofs.agreement.Drawings.{few-rows}
 use Rattle.basis.proofs.calls.Given.{table-points, given, drawn-of}
 use Rattle.basis.proofs.calls.Refusing.{sizes, none-of, by-size, by-rest, when-accepted}
 use Rattle.basis.proofs.calls.Answers.{residues-below}

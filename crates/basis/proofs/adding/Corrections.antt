@@ -9,22 +9,23 @@ use lib.ListN.{length, length-map}
 use Rattle.residue.specs.Congruence.{Mod}
 use Rattle.residue.specs.Lists.{Among, sumOver}
 use Rattle.residue.specs.Vector.{addScaled, dotOf}
+use Rattle.residue.specs.Layout.{fill}
 use Rattle.residue.proofs.Congruence.{rfl, of, _then_, _plus_, _times_, scale, reduce, negative}
+use Rattle.residue.proofs.Layouts.{fill-twice}
 use Rattle.monomial.specs.Monomial.{valueAt}
 use Rattle.monomial.specs.Order.{Order, cmp}
-use Rattle.monomial.proofs.Padding.{value-pad}
-use Rattle.basis.specs.Layout.{fill}
-use Rattle.basis.specs.Space.{Space}
-use Rattle.basis.specs.Polynomial.{terms}
-use Rattle.basis.specs.Extension.{minus}
-use Rattle.basis.specs.Instance.{Monomial, Point, spaceOf}
-use Rattle.basis.specs.Insertions.{insertedAt, placeOf, rowValueAt, factorOf, correctedBy, correctedRow}
-use Rattle.basis.proofs.Layouts.{fill-twice}
-use Rattle.basis.proofs.ideal.Laws.{Laws}
-use Rattle.basis.proofs.ideal.Columns.{minus-length}
+use Rattle.monomial.specs.Insert.{insertedAt, placeOf}
+use Rattle.monomial.proofs.Padding.{value-fill}
+use Rattle.monomial.proofs.insert.Tables.{place-bound}
+use Rattle.specification.specs.Space.{Space}
+use Rattle.specification.specs.Polynomial.{terms}
+use Rattle.specification.specs.Extension.{minus}
+use Rattle.specification.specs.Instance.{Monomial, Point, spaceOf}
+use Rattle.specification.proofs.ideal.Laws.{Laws}
+use Rattle.specification.proofs.ideal.Columns.{minus-length}
+use Rattle.basis.specs.Insertions.{rowValueAt, factorOf, correctedBy, correctedRow}
 use Rattle.basis.proofs.elimination.Adding.{rowValue, ratio, kept}
-use Rattle.basis.proofs.elimination.Exponents.{fill-pad}
-use Rattle.basis.proofs.adding.Insertion.{place-bound, slot-at}
+use Rattle.basis.proofs.adding.Insertion.{slot-at}
 
 -- put in before it is filled up or after
 pub fill-inserted : (k i f : ℕ) (l : List ℕ) → i ≤ length l → fill k (insertedAt i f (fill k l)) ≡ fill k (insertedAt i f l)
@@ -76,7 +77,7 @@ module _ (q m : ℕ) (order : Order) (few : m ≤ 8) where
     unfolding rowValueAt
     row-value-is a cs =
         let vs : List ℕ = map (λ b. valueAt (P .0) (b .0) % suc q) l in
-        let value : valueAt (fill 8 (P .0)) (fill 8 (a .0)) ≡ valueAt (P .0) (a .0) = ap₂ valueAt (fill-pad (P .0) (rw (P .1 .0) few)) (fill-pad (a .0) (rw (a .1) few)) ∙ value-pad (P .0) (a .0) (P .1 .0 ∙ sym (a .1)) in
+        let value : valueAt (fill 8 (P .0)) (fill 8 (a .0)) ≡ valueAt (P .0) (a .0) = value-fill (P .0) (a .0) (P .1 .0 ∙ sym (a .1)) (rw (P .1 .0) few) in
         let both : Mod (suc q) (valueAt (P .0) (a .0) + dotOf cs vs) (rowValue D l a cs P) = of (omega arith) plus values-sum l P cs in
         ap (λ (u : ℕ). (u + dotOf cs vs) % suc q) value ∙ both .same
 

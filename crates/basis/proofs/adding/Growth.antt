@@ -9,11 +9,12 @@ use native.Mathlib.Omega.{arith}
 use lib.ListN.{length, take, drop, length-set, length-append, length-drop}
 use lib.Seq.{length-take-le}
 use Rattle.residue.specs.Inverse.{inverseOf}
+use Rattle.residue.specs.Layout.{groups, rowAt}
 use Rattle.monomial.specs.Monomial.{timesVariable}
 use Rattle.monomial.specs.Order.{orderOf, cmp}
-use Rattle.basis.specs.Levels.{groups}
-use Rattle.basis.specs.Insertions.{Grown, grown, rowAt, placeOf, dividedBy, rowValueAt, othersOf, othersCorrected, grownBy, withRowAt, correctedRow, reducedRow, putWithRow, productPut, productsPut}
-use Rattle.basis.proofs.adding.Searches.{place-within}
+use Rattle.monomial.specs.Insert.{placeOf, dividedBy, withRowAt}
+use Rattle.monomial.proofs.insert.Searches.{place-within}
+use Rattle.basis.specs.Insertions.{Grown, grown, rowValueAt, othersOf, othersCorrected, grownBy, correctedRow, reducedRow, putWithRow, productPut, productsPut}
 use Rattle.basis.proofs.adding.Writes.{length-row}
 
 -- the tables keep their sizes, and v products are at most v leads more

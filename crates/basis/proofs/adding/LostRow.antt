@@ -9,22 +9,22 @@ use native.Mathlib.Omega.{arith}
 use lib.ListN.{length, getD, take, length-map}
 use Rattle.residue.specs.Congruence.{Mod}
 use Rattle.residue.specs.Lists.{Among}
-use Rattle.residue.proofs.Vectors.{map-at}
+use Rattle.residue.specs.Layout.{fill, inPlaces, rowAt}
+use Rattle.residue.proofs.vector.Vectors.{map-at}
+use Rattle.residue.proofs.Layouts.{take-fill}
+use Rattle.residue.proofs.Places.{place-at}
 use Rattle.monomial.specs.Monomial.{valueAt}
 use Rattle.monomial.specs.Order.{Order}
-use Rattle.basis.specs.Layout.{fill, inPlaces}
-use Rattle.basis.specs.Space.{Space}
-use Rattle.basis.specs.Polynomial.{Distinct}
-use Rattle.basis.specs.BasisOf.{standardOf, leadsOf, rowOf, rowsOf}
-use Rattle.basis.specs.Instance.{Monomial, Point, spaceOf}
-use Rattle.basis.specs.Insertions.{rowAt, rowValueAt, valueOfRow, firstFrom}
-use Rattle.basis.proofs.ideal.Laws.{Laws}
-use Rattle.basis.proofs.ideal.Counts.{standard-length}
-use Rattle.basis.proofs.ideal.Basis.{rows-at, row-is}
+use Rattle.specification.specs.Space.{Space}
+use Rattle.specification.specs.Polynomial.{Distinct}
+use Rattle.specification.specs.BasisOf.{standardOf, leadsOf, rowOf, rowsOf}
+use Rattle.specification.specs.Instance.{Monomial, Point, spaceOf}
+use Rattle.specification.proofs.ideal.Laws.{Laws}
+use Rattle.specification.proofs.ideal.Counts.{standard-length}
+use Rattle.specification.proofs.ideal.Basis.{rows-at, row-is}
+use Rattle.basis.specs.Insertions.{rowValueAt, valueOfRow, firstFrom}
 use Rattle.basis.proofs.elimination.Adding.{rowValue, valueOf, zero-set}
 use Rattle.basis.proofs.adding.Searches.{first-found}
-use Rattle.basis.proofs.Layouts.{take-fill}
-use Rattle.basis.proofs.Places.{place-at}
 use Rattle.basis.proofs.adding.Corrections.{valuesAt, row-value-is}
 
 module _ (q m : ℕ) (order : Order) (few : m ≤ 8) (L : Laws (spaceOf q m order)) (S : List (Point (suc q) m)) (d : Distinct (spaceOf q m order) S) (short : length S ≤ 64)

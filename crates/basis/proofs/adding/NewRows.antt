@@ -1,5 +1,5 @@
 -- Rows of the tables when a point is added: the row that elimination makes of a monomial's values, and the rows that stay, corrected.
-use mathlib.Core.Path.{_≡_, sym, _∙_, ap, ap₂}
+use mathlib.Core.Path.{_≡_, sym, _∙_, ap}
 use mathlib.Core.List.{List, [], _∷_, _++_, map, map-map}
 use Prim.Native.Nat.{ℕ, zero, suc, _+_, _*_, _-_, _%_, _<_, _≤_, suc-le-suc, zero-le}
 use native.Mathlib.Nat.{mod-lt, le-of-suc-le-suc}
@@ -10,28 +10,25 @@ use Rattle.residue.specs.Congruence.{Mod}
 use Rattle.residue.specs.Lists.{Among}
 use Rattle.residue.specs.Vector.{Below, dotOf}
 use Rattle.residue.specs.Elimination.{eliminated}
+use Rattle.residue.specs.Layout.{groups, fill, inPlaces, over}
 use Rattle.residue.proofs.Congruence.{of, _then_, reduce, negative, ring}
-use Rattle.residue.proofs.Vectors.{map-at}
+use Rattle.residue.proofs.vector.Vectors.{map-at, map-same}
+use Rattle.residue.proofs.Layouts.{fill-front}
+use Rattle.residue.proofs.Places.{table-groups, over-zeros}
 use Rattle.monomial.specs.Monomial.{valueAt}
 use Rattle.monomial.specs.Order.{Order}
-use Rattle.monomial.proofs.Padding.{value-pad}
-use Rattle.basis.specs.Levels.{groups}
-use Rattle.basis.specs.Layout.{fill, inPlaces, over}
-use Rattle.basis.specs.Space.{Space}
-use Rattle.basis.specs.Polynomial.{Distinct}
-use Rattle.basis.specs.BasisOf.{basisOf, rowOf, interpolantOf}
-use Rattle.basis.specs.Instance.{Monomial, Point, spaceOf}
+use Rattle.monomial.specs.Terms.{termValues}
+use Rattle.monomial.proofs.Padding.{value-fill}
+use Rattle.specification.specs.Space.{Space}
+use Rattle.specification.specs.Polynomial.{Distinct}
+use Rattle.specification.specs.BasisOf.{basisOf, rowOf, interpolantOf}
+use Rattle.specification.specs.Instance.{Monomial, Point, spaceOf}
+use Rattle.specification.specs.BasisOf as B
+use Rattle.specification.proofs.ideal.Laws.{Laws}
+use Rattle.specification.proofs.ideal.Lists.{index-of}
+use Rattle.specification.proofs.ideal.Basis.{value-at, interpolant-fits, interpolant-agree}
 use Rattle.basis.specs.Insertions.{reducedRow}
-use Rattle.basis.specs.Interpolants.{termValues}
-use Rattle.basis.proofs.Copies.{map-same}
-use Rattle.basis.proofs.Layouts.{fill-front}
-use Rattle.basis.proofs.Places.{table-groups, over-zeros}
-use Rattle.basis.proofs.ideal.Laws.{Laws}
-use Rattle.basis.proofs.ideal.Lists.{index-of}
-use Rattle.basis.proofs.ideal.Basis.{value-at, interpolant-fits, interpolant-agree}
-use Rattle.basis.proofs.elimination.Exponents.{fill-pad}
 use Rattle.basis.proofs.elimination.Pivots.{interpolant-minus}
-use Rattle.basis.specs.BasisOf as B
 
 -- the values of one term with coefficient 1 are those of its monomial
 pub one-term : (p n : ℕ) (a points : List ℕ) → length a ≡ 8 → termValues p (1 ∷ []) a n points ≡ map (λ point. valueAt point a % p) (groups 8 n points)
@@ -82,7 +79,7 @@ module _ (q m : ℕ) (order : Order) (few : m ≤ 8) (L : Laws (spaceOf q m orde
         let n = length-map S f in
         let read : groups 8 (length S) (fill 512 (inPlaces 8 (map f S))) ≡ map (fill 8) (map f S) = ap (λ (k : ℕ). groups 8 k (fill 512 (inPlaces 8 (map f S)))) (sym n) ∙ table-groups 8 512 (map f S) (omega arith) in
         let value : (Q : Point (suc q) m) → valueAt (fill 8 (Q .0)) (fill 8 (a .0)) ≡ valueAt (Q .0) (a .0) =
-        λ Q. ap₂ valueAt (fill-pad (Q .0) (rw (Q .1 .0) few)) (fill-pad (a .0) (rw (a .1) few)) ∙ value-pad (Q .0) (a .0) (Q .1 .0 ∙ sym (a .1)) in
+        λ Q. value-fill (Q .0) (a .0) (Q .1 .0 ∙ sym (a .1)) (rw (Q .1 .0) few) in
         let vs : map (λ point. valueAt point (fill 8 (a .0)) % suc q) (groups 8 (length S) (fill 512 (inPlaces 8 (map f S)))) ≡ valuesOf a =
         ap (map (λ point. valueAt point (fill 8 (a .0)) % suc q)) read ∙ map-map (λ point. valueAt point (fill 8 (a .0)) % suc q) (fill 8) (map f S) ∙ map-map (λ point. valueAt (fill 8 point) (fill 8 (a .0)) % suc q) f S
         ∙ map-same (λ (Q : Point (suc q) m). valueAt (fill 8 (Q .0)) (fill 8 (a .0)) % suc q) (λ Q. valueAt (Q .0) (a .0) % suc q) S (λ Q mem. ap (λ (z : ℕ). z % suc q) (value Q)) in

@@ -11,30 +11,31 @@ use Rattle.residue.specs.Lists.{Among}
 use Rattle.residue.specs.Inverse.{inverseOf}
 use Rattle.residue.specs.Vector.{Below}
 use Rattle.residue.specs.Elimination.{eliminated}
-use Rattle.residue.proofs.Vectors.{map-at}
+use Rattle.residue.specs.Layout.{groups, fill, inPlaces, over, rowAt}
+use Rattle.residue.proofs.vector.Vectors.{map-at}
+use Rattle.residue.proofs.Places.{table-groups, place-at, rows-filled, over-table}
+use Rattle.residue.proofs.Tests.{Decides, so, not-so}
 use Rattle.monomial.specs.Monomial.{timesVariable, divides}
 use Rattle.monomial.specs.Order.{orderOf, cmp}
 use Rattle.monomial.specs.Increasing.{inserted}
+use Rattle.monomial.specs.Insert.{removedAt, placeOf, dividedBy, takenOut, withRowAt}
 use Rattle.monomial.proofs.Algebra.Division.{divides-refl}
-use Rattle.monomial.proofs.Padding.{cmp-pad, divides-pad}
-use Rattle.basis.specs.Levels.{groups}
-use Rattle.basis.specs.Layout.{fill, inPlaces, over}
-use Rattle.basis.specs.Space.{Space}
-use Rattle.basis.specs.Polynomial.{Distinct}
-use Rattle.basis.specs.Extension.{without, divided, extended}
-use Rattle.basis.specs.BasisOf.{standardOf, leadsOf, rowOf, interpolantOf}
-use Rattle.basis.specs.Instance.{Monomial, Point, spaceOf}
-use Rattle.basis.specs.Insertions.{rowAt, removedAt, placeOf, dividedBy, rowValueAt, takenOut, correctedRow, correctedRows, Grown, grown, putWithRow, productPut, productsPut, othersOf, rowsLeft, othersCorrected, standardGrown, grownBy, withRowAt, reducedRow}
-use Rattle.basis.proofs.Places.{table-groups, place-at}
-use Rattle.basis.proofs.ideal.Laws.{Laws, Decides, so, not-so}
-use Rattle.basis.proofs.ideal.Lists.{getD-among}
-use Rattle.basis.proofs.ideal.Increasing.{divided-told}
-use Rattle.basis.proofs.ideal.Leads.{Divided, extended-of, extended-length-le}
-use Rattle.basis.proofs.ideal.Basis.{staircase, row-is}
+use Rattle.monomial.proofs.Padding.{cmp-fill, divides-fill, fill-timesVariable}
+use Rattle.monomial.proofs.insert.Tables.{map-inserted, map-removed, inserted-long, removed-long, place-map, place-bound, table-in, table-out}
+use Rattle.specification.specs.Space.{Space}
+use Rattle.specification.specs.Polynomial.{Distinct}
+use Rattle.specification.specs.Extension.{without, divided, extended}
+use Rattle.specification.specs.BasisOf.{standardOf, leadsOf, rowOf, interpolantOf}
+use Rattle.specification.specs.Instance.{Monomial, Point, spaceOf}
+use Rattle.specification.proofs.ideal.Laws.{Laws}
+use Rattle.specification.proofs.ideal.Lists.{getD-among}
+use Rattle.specification.proofs.ideal.Increasing.{divided-told}
+use Rattle.specification.proofs.ideal.Leads.{Divided, extended-of, extended-length-le}
+use Rattle.specification.proofs.ideal.Basis.{staircase, row-is}
+use Rattle.basis.specs.Insertions.{rowValueAt, correctedRow, correctedRows, Grown, grown, putWithRow, productPut, productsPut, othersOf, rowsLeft, othersCorrected, standardGrown, grownBy, reducedRow}
 use Rattle.basis.proofs.elimination.Adding.{kept, grow-at, row-grown}
-use Rattle.basis.proofs.elimination.Exponents.{fill-pad, fill-timesVariable}
 use Rattle.basis.proofs.adding.Growth.{product-passed, product-put, grown-by}
-use Rattle.basis.proofs.adding.Insertion.{map-inserted, map-removed, inserted-long, removed-long, place-map, place-bound, inserted-at, without-at, divided-map, table-in, table-out, rows-filled, over-table}
+use Rattle.basis.proofs.adding.Insertion.{inserted-at, without-at, divided-map}
 use Rattle.basis.proofs.adding.Corrections.{valuesAt, inverseAt, row-value-filled, corrected-is}
 use Rattle.basis.proofs.adding.LostRow.{leadsTable, rowsTable, lead-at, row-at, standard-count, lost, lost-one, lost-first, lost-nonzero}
 use Rattle.basis.proofs.adding.NewRows.{reduced-is}
@@ -51,10 +52,10 @@ module _ (q m o : ℕ) (few : m ≤ 8) (L : Laws (spaceOf q m (orderOf o))) wher
   table N l = fill N (inPlaces 8 (map (λ (a : Monomial m). a .0) l))
 
   cmp-bytes : (a b : Monomial m) → cmp (orderOf o) (bytes a) (bytes b) ≡ D .cmp a b
-  cmp-bytes a b = ap₂ (cmp (orderOf o)) (fill-pad (a .0) (rw (a .1) few)) (fill-pad (b .0) (rw (b .1) few)) ∙ cmp-pad (a .0) (b .0) (a .1 ∙ sym (b .1)) (orderOf o)
+  cmp-bytes a b = cmp-fill (a .0) (b .0) (a .1 ∙ sym (b .1)) (rw (a .1) few) (orderOf o)
 
   divides-bytes : (a b : Monomial m) → divides (bytes a) (bytes b) ≡ D .divides a b
-  divides-bytes a b = ap₂ divides (fill-pad (a .0) (rw (a .1) few)) (fill-pad (b .0) (rw (b .1) few)) ∙ divides-pad (a .0) (b .0) (a .1 ∙ sym (b .1))
+  divides-bytes a b = divides-fill (a .0) (b .0) (a .1 ∙ sym (b .1)) (rw (a .1) few)
 
   pub read : (N : ℕ) (l : List (Monomial m)) → 8 * length l ≤ N → groups 8 (length l) (table N l) ≡ map bytes l
   read N l h =

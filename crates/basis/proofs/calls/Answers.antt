@@ -1,6 +1,6 @@
 -- The answers of the calls that eliminate values.
 use mathlib.Core.Path.{_≡_, refl, sym, _∙_, ap, ap₂, subst}
-use mathlib.Core.List.{List, [], _∷_, _++_, map, append-assoc, append-nil}
+use mathlib.Core.List.{List, [], _∷_, _++_, map, append-assoc}
 use mathlib.Core.Logic.{inl, inr}
 use Prim.Native.Nat.{ℕ, zero, suc, _+_, _-_, _%_, _<_, _≤_}
 use native.Mathlib.Nat.{mod-lt, mod-self, mod-eq-of-lt}
@@ -12,31 +12,31 @@ use lib.Dec.{T}
 use Rattle.residue.specs.Lists.{Among}
 use Rattle.residue.specs.Congruence.{Mod}
 use Rattle.residue.specs.Vector.{Below, dotOf}
+use Rattle.residue.specs.Layout.{fill, inPlaces, over, groups}
 use Rattle.residue.proofs.Congruence.{of, reduce, _then_}
-use Rattle.residue.proofs.Vectors.{map-at}
-use Rattle.residue.proofs.Moduli.{modulus-range}
+use Rattle.residue.proofs.vector.Vectors.{map-at}
+use Rattle.residue.proofs.level.Moduli.{modulus-range}
+use Rattle.residue.proofs.Layouts.{fill-tail}
+use Rattle.residue.proofs.Places.{table-groups}
 use Rattle.monomial.specs.Monomial.{valueAt as valueOf}
 use Rattle.monomial.specs.Order.{orderOf}
-use Rattle.basis.specs.declared.settings.Settings.{Settings}
-use Rattle.basis.specs.Layout.{fill, inPlaces, over}
-use Rattle.basis.specs.BasisOf.{standardOf, valueAt, interpolantOf, remainderOf}
-use Rattle.basis.specs.Tables.{spaceUnder, pointsUnder, tablesOf}
-use Rattle.basis.specs.Polynomial.{Polynomial, eval}
-use Rattle.basis.specs.Instance.{Point, reduced, pointOf}
-use Rattle.basis.specs.Levels.{inRange, residues, groups}
-use Rattle.basis.specs.Solving.{withinVariables, polynomialOf}
+use Rattle.specification.specs.declared.settings.Settings.{Settings}
+use Rattle.specification.specs.BasisOf.{standardOf, valueAt, interpolantOf, remainderOf}
+use Rattle.specification.specs.Tables.{spaceUnder, pointsUnder, tablesOf}
+use Rattle.specification.specs.Polynomial.{Polynomial, eval}
+use Rattle.specification.specs.Instance.{Point, reduced, pointOf}
+use Rattle.specification.specs.Levels.{inRange, residues}
+use Rattle.specification.specs.Solving.{withinVariables, polynomialOf}
+use Rattle.specification.proofs.ideal.Lists.{getD-among, index-of}
+use Rattle.specification.proofs.ideal.Basis.{interpolant-fits, interpolant-agree, value-at}
+use Rattle.specification.proofs.ideal.Counts.{standard-length}
+use Rattle.specification.proofs.agreement.Points.{Points, point-same, residues-same}
+use Rattle.specification.proofs.agreement.Refusals.{Accepted}
+use Rattle.specification.proofs.agreement.Drawings.{laws-under, distinct-points}
 use Rattle.basis.specs.Interpolants.{solution, names}
 use Rattle.basis.specs.Drawing.{Solves}
-use Rattle.basis.proofs.Layouts.{fill-append, fill-zeros}
-use Rattle.basis.proofs.Places.{table-groups}
 use Rattle.basis.proofs.Terms.{terms-value}
 use Rattle.basis.proofs.Wiring.{names-filled}
-use Rattle.basis.proofs.ideal.Lists.{getD-among, index-of}
-use Rattle.basis.proofs.ideal.Basis.{interpolant-fits, interpolant-agree, value-at}
-use Rattle.basis.proofs.ideal.Counts.{standard-length}
-use Rattle.basis.proofs.agreement.Points.{Points, point-same, residues-same}
-use Rattle.basis.proofs.agreement.Refusals.{Accepted}
-use Rattle.basis.proofs.agreement.Drawings.{laws-under, distinct-points}
 
 -- a point of the space
 abbrev pub pointUnder : (s : Settings) → List ℕ → Point (suc (s .modulus - 1)) (s .variables)
@@ -68,12 +68,6 @@ twice (suc q) (suc c) h =
 back : (p : ℕ) (l : List ℕ) → ((c : ℕ) → Among c l → c < p) → map (λ x. (p - x) % p) (map (λ x. (p - x) % p) l) ≡ l
 back p [] h = refl
 back p (c ∷ l) h = ap₂ (λ (a : ℕ) (k : List ℕ). a ∷ k) (twice p c (h c (inl refl))) (back p l (λ d w. h d (inr w)))
-
--- a list filled up is the list and zeros
-fill-tail : (k : ℕ) (l : List ℕ) → length l ≤ k → fill k l ≡ l ++ replicate (k - length l) 0
-fill-tail k l h =
-    let e : k ≡ length l + (k - length l) = omega arith in
-    ap₂ fill e (sym (append-nil l)) ∙ fill-append l [] (k - length l) ∙ ap (λ (z : List ℕ). l ++ z) (fill-zeros (k - length l))
 
 -- what stands behind n zeros
 behind : (n k : ℕ) (l : List ℕ) → length l ≡ n → n + n ≤ k → take n (drop n (fill k (replicate n 0 ++ l))) ≡ l

@@ -10,21 +10,22 @@ use lib.ListN.{length, take, drop, length-drop}
 use lib.Seq.{length-take-le}
 use lib.Dec.{T}
 use Rattle.residue.specs.Lists.{Among}
-use Rattle.residue.proofs.Moduli.{modulus-range}
-use Rattle.basis.specs.declared.settings.Settings.{Settings}
-use Rattle.basis.specs.Levels.{inRange, residues, groups, noRepeat}
-use Rattle.basis.specs.Layout.{fill, inPlaces}
-use Rattle.basis.specs.Instance.{Point, reduced, pointOf}
-use Rattle.basis.specs.Tables.{pointsUnder, tablesOf, pointsIn}
-use Rattle.basis.specs.Adding.{pointsOffered}
+use Rattle.residue.specs.Layout.{groups, fill, inPlaces}
+use Rattle.residue.proofs.level.Moduli.{modulus-range}
+use Rattle.residue.proofs.Layouts.{fill-exact, over-all, length-fill}
+use Rattle.residue.proofs.Places.{length-groups, table-groups}
+use Rattle.specification.specs.declared.settings.Settings.{Settings}
+use Rattle.specification.specs.Levels.{inRange, residues, noRepeat}
+use Rattle.specification.specs.Instance.{Point, reduced, pointOf}
+use Rattle.specification.specs.Tables.{pointsUnder, tablesOf, pointsIn}
+use Rattle.specification.specs.Adding.{pointsOffered}
+use Rattle.specification.proofs.Instance.{point-of}
+use Rattle.specification.proofs.Repeats.{repeat-filled}
+use Rattle.specification.proofs.ideal.Lists.{among-map}
+use Rattle.specification.proofs.agreement.Points.{IsPoint, Points, points-back, residues-same, length-residues}
+use Rattle.specification.proofs.agreement.Refusals.{Accepted}
 use Rattle.basis.specs.Drawing.{PointsGiven, DrawnUp}
-use Rattle.basis.proofs.Instance.{point-of}
-use Rattle.basis.proofs.Layouts.{length-fill, fill-exact, over-all}
-use Rattle.basis.proofs.Places.{length-groups, table-groups, repeat-filled}
 use Rattle.basis.proofs.PointTables.{map-take, map-drop, length-points, points-in}
-use Rattle.basis.proofs.ideal.Lists.{among-map}
-use Rattle.basis.proofs.agreement.Points.{IsPoint, Points, points-back, residues-same, length-residues}
-use Rattle.basis.proofs.agreement.Refusals.{Accepted}
 
 -- groups of m residues each
 rows-of : (q m k : ℕ) (R : List ℕ) → reduced q R ≡ R → length R ≡ m * k → (P : List ℕ) → Among P (groups m k R) → (length P ≡ m) × (reduced q P ≡ P)

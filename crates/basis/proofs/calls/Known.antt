@@ -2,49 +2,40 @@
 use mathlib.Core.Path.{_≡_, sym, ap, ap₂, subst, _∙_}
 use mathlib.Core.Bool.{Bool, true, false, not, _&&_, _||_}
 use mathlib.Core.List.{List, [], map}
-use mathlib.Core.Logic.{inl, inr}
-use Prim.Native.Nat.{ℕ, zero, suc, _*_, _-_, _%_, _<_, _≤_}
+use Prim.Native.Nat.{ℕ, suc, _*_, _-_, _%_, _<_, _≤_}
 use native.Mathlib.Nat.{mod-lt}
 use native.Mathlib.Omega.{arith}
 use lib.IntN.{ℤ}
-use lib.ListN.{length, take, drop, getD, length-map, length-drop}
-use lib.Seq.{length-take-le}
+use lib.ListN.{length, take, getD, length-map}
 use lib.Dec.{eqb, ltb}
 use borrow.Author.Tests.{ltb-false, eqb-true, not-false}
-use Rattle.residue.specs.Lists.{Among}
 use Rattle.residue.specs.Vector.{Below, dotOf}
-use Rattle.residue.proofs.Moduli.{modulus-range}
-use Rattle.residue.proofs.Vectors.{map-at}
+use Rattle.residue.specs.Layout.{groups, fill, inPlaces, begins}
+use Rattle.residue.proofs.level.Moduli.{modulus-range}
+use Rattle.residue.proofs.vector.Vectors.{map-at}
+use Rattle.residue.proofs.Tests.{of-true, neither, and-left, and-right}
+use Rattle.residue.proofs.bytes.Equality.{same-is}
+use Rattle.residue.proofs.Places.{length-groups, groups-long}
+use Rattle.residue.proofs.Layouts.{below-fill, length-fill}
 use Rattle.monomial.specs.Monomial.{valueAt}
-use Rattle.basis.specs.declared.settings.Settings.{Settings}
-use Rattle.basis.specs.Refusal.{firstOf}
-use Rattle.basis.specs.Settings.{settingsCases}
-use Rattle.basis.specs.Levels.{inRange, residues, groups}
-use Rattle.basis.specs.Layout.{fill, inPlaces, begins}
-use Rattle.basis.specs.BasisOf.{standardOf, interpolantOf}
-use Rattle.basis.specs.Tables.{Tables, spaceUnder, pointsUnder, tablesOf, tooShort, pointsIn, recognised}
-use Rattle.basis.specs.Solving.{interpolantIn, withinVariables, polynomialUnder, remainderIn}
-use Rattle.basis.specs.Interpolants.{solution, termValues, names}
+use Rattle.monomial.specs.Terms.{termValues}
+use Rattle.specification.specs.declared.settings.Settings.{Settings}
+use Rattle.specification.specs.Refusal.{firstOf}
+use Rattle.specification.specs.Settings.{settingsCases}
+use Rattle.specification.specs.Levels.{inRange, residues}
+use Rattle.specification.specs.BasisOf.{standardOf, interpolantOf}
+use Rattle.specification.specs.Tables.{Tables, spaceUnder, pointsUnder, tablesOf, tooShort, pointsIn, recognised}
+use Rattle.specification.specs.Solving.{interpolantIn, withinVariables, polynomialUnder, remainderIn}
+use Rattle.specification.proofs.agreement.Points.{IsPoint, Points, length-residues}
+use Rattle.specification.proofs.agreement.Refusals.{Accepted, Large, large-of}
+use Rattle.basis.specs.Interpolants.{solution, names}
 use Rattle.basis.specs.Drawing.{Solves}
-use Rattle.basis.proofs.Equality.{of-true, neither, and-left, and-right, same-is}
-use Rattle.basis.proofs.Layouts.{length-fill}
-use Rattle.basis.proofs.Places.{length-groups}
 use Rattle.basis.proofs.PointTables.{length-points, points-in}
-use Rattle.basis.proofs.ValueRows.{below-fill}
 use Rattle.basis.proofs.elimination.Grounds.{places-below}
-use Rattle.basis.proofs.agreement.Points.{IsPoint, Points, length-residues}
-use Rattle.basis.proofs.agreement.Refusals.{Accepted, Large, large-of}
 use Rattle.basis.proofs.calls.Given.{read}
 use Rattle.basis.proofs.calls.Refusing.{Passed, passed, Parts, recognised-parts}
 use Rattle.basis.proofs.calls.Answers.{below-reduced, residues-below, solution-is, remainder-is, valuesIn, value-in, names-in}
 use Rattle.basis.proofs.calls.Outcomes.{valuesSizes, remainderSizes}
-
--- each group has its width
-groups-long : {A : Type 0} (w k : ℕ) (l : List A) → w * k ≤ length l → (e : List A) → Among e (groups w k l) → length e ≡ w
-unfolding groups
-groups-long w zero l h e q = absurd q
-groups-long w (suc k) l h e (inl f) = ap length f ∙ length-take-le w l (omega arith)
-groups-long w (suc k) l h e (inr q) = groups-long w k (drop w l) (rw (length-drop w l) (omega arith)) e q
 
 -- the values of terms are residues, one for each point
 module _ (p : ℕ) (cs exponents : List ℕ) (n : ℕ) (points : List ℕ) where

@@ -8,15 +8,15 @@ use lib.IntN.{ℤ}
 use lib.ListN.{length}
 use lib.Dec.{eqb, ltb}
 use borrow.Author.Tests.{not-false}
-use Rattle.basis.specs.declared.settings.Settings.{Settings}
-use Rattle.basis.specs.Refusal.{Case, firstOf}
-use Rattle.basis.specs.Settings.{settingsCases}
-use Rattle.basis.specs.Levels.{inRange, groups, noRepeat}
-use Rattle.basis.specs.BasisOf.{standardOf}
-use Rattle.basis.specs.Tables.{Tables, spaceUnder, pointsUnder, pointsIn, rowCount, tablesOf, written, tooShort, recognised}
-use Rattle.basis.specs.Layout.{fill, over}
-use Rattle.basis.specs.Adding.{ended, refused, holding, pointsOffered, drawCases, drawRefusal, drawOutcome}
-use Rattle.basis.specs.Solving.{checkRefusal, valuesCases, interpolantIn, Names, WiringEnds, withinVariables, remainderCases}
+use Rattle.residue.specs.Layout.{groups, fill, over}
+use Rattle.specification.specs.declared.settings.Settings.{Settings}
+use Rattle.specification.specs.Refusal.{Case, firstOf}
+use Rattle.specification.specs.Settings.{settingsCases}
+use Rattle.specification.specs.Levels.{inRange, noRepeat}
+use Rattle.specification.specs.BasisOf.{standardOf}
+use Rattle.specification.specs.Tables.{Tables, spaceUnder, pointsUnder, pointsIn, rowCount, tablesOf, written, tooShort, recognised}
+use Rattle.specification.specs.Adding.{ended, refused, holding, pointsOffered, drawCases, drawRefusal, drawOutcome}
+use Rattle.specification.specs.Solving.{checkRefusal, valuesCases, interpolantIn, Names, WiringEnds, withinVariables, remainderCases}
 use Rattle.basis.proofs.calls.Refusing.{sizes, by-size, by-rest, none-behind, when-refused, when-accepted}
 
 -- two tests after the sizes: the first that fails decides

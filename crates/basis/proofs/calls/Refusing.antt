@@ -6,17 +6,17 @@ use Prim.Native.Nat.{ℕ}
 use native.Mathlib.Decide.{ℕ-discrete}
 use lib.Dec.{T, eqb}
 use borrow.Author.Tests.{eq-eqb, ne-eqb, eqb-true}
-use Rattle.basis.specs.declared.settings.Settings.{Settings}
-use Rattle.basis.specs.declared.settings.Answer.{Answer}
-use Rattle.basis.specs.Refusal.{Case, firstOf}
-use Rattle.basis.specs.Settings.{settingsCases}
-use Rattle.basis.specs.Levels.{noRepeat}
-use Rattle.basis.specs.Tables.{Tables, fourTables, rowCount, tablesOf, pointsIn, recognised}
-use Rattle.basis.specs.Adding.{Outcome, refused, byRefusal}
-use Rattle.basis.specs.Solving.{Filled, filling}
-use Rattle.basis.specs.Layout.{over, begins}
-use Rattle.basis.proofs.Cases.{numbered, None, none-holds, first-stop, first-on}
-use Rattle.basis.proofs.agreement.Refusals.{Accepted, accepted, settings-pass}
+use Rattle.residue.specs.Layout.{over, begins}
+use Rattle.specification.specs.declared.settings.Settings.{Settings}
+use Rattle.specification.specs.declared.settings.Answer.{Answer}
+use Rattle.specification.specs.Refusal.{Case, firstOf}
+use Rattle.specification.specs.Settings.{settingsCases}
+use Rattle.specification.specs.Levels.{noRepeat}
+use Rattle.specification.specs.Tables.{Tables, fourTables, rowCount, tablesOf, pointsIn, recognised}
+use Rattle.specification.specs.Adding.{Outcome, refused, byRefusal}
+use Rattle.specification.specs.Solving.{Filled, filling}
+use Rattle.specification.proofs.Cases.{numbered, None, none-holds, first-stop, first-on}
+use Rattle.specification.proofs.agreement.Refusals.{Accepted, accepted, settings-pass}
 
 -- no case of the settings holds, and none of those behind them
 pub none-of : (s : Settings) (l : List Case) → T (numbered l) → firstOf (settingsCases s ++ l) ≡ 0 → (firstOf (settingsCases s) ≡ 0) × None l

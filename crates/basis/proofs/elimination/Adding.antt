@@ -10,21 +10,22 @@ use Rattle.residue.specs.Congruence.{Mod}
 use Rattle.residue.specs.Lists.{Among}
 use Rattle.residue.proofs.Congruence.{rfl, of, flip, _then_, _plus_, _times_, scale, lin, reduce}
 use Rattle.residue.proofs.Sums.{each}
+use Rattle.residue.proofs.Tests.{cond-so, cond-not}
 use Rattle.monomial.specs.Increasing.{inserted}
-use Rattle.basis.specs.Space.{Space}
-use Rattle.basis.specs.Polynomial.{eval, Distinct, terms}
-use Rattle.basis.specs.Basis.{Row}
-use Rattle.basis.specs.Extension.{slot, minus, extended, first, grow}
-use Rattle.basis.specs.BasisOf.{basisOf, standardOf, leadsOf, rowOf, rowsOf}
-use Rattle.basis.proofs.ideal.Laws.{Laws, cond-so, cond-not, zero-told}
-use Rattle.basis.proofs.ideal.Lists.{getD-among, index-of}
-use Rattle.basis.proofs.ideal.Newton.{at, error}
-use Rattle.basis.proofs.ideal.Staircase.{Holds}
-use Rattle.basis.proofs.ideal.ZeroSet.{zeros}
-use Rattle.basis.proofs.ideal.Columns.{slot-length, slot-value, slot-members, minus-length, minus-small, minus-value}
-use Rattle.basis.proofs.ideal.Extend.{error-holds}
-use Rattle.basis.proofs.ideal.Sound.{gapOf, gap-error}
-use Rattle.basis.proofs.ideal.Basis.{coefficientsOf, rows-at, staircase, row-value, row-is, row-only}
+use Rattle.specification.specs.Space.{Space}
+use Rattle.specification.specs.Polynomial.{eval, Distinct, terms}
+use Rattle.specification.specs.Basis.{Row}
+use Rattle.specification.specs.Extension.{slot, minus, extended, first, grow}
+use Rattle.specification.specs.BasisOf.{basisOf, standardOf, leadsOf, rowOf, rowsOf}
+use Rattle.specification.proofs.ideal.Laws.{Laws, zero-told}
+use Rattle.specification.proofs.ideal.Lists.{getD-among, index-of}
+use Rattle.specification.proofs.ideal.Newton.{at, error}
+use Rattle.specification.proofs.ideal.Staircase.{Holds}
+use Rattle.specification.proofs.ideal.ZeroSet.{zeros}
+use Rattle.specification.proofs.ideal.Columns.{slot-length, slot-value, slot-members, minus-length, minus-small, minus-value}
+use Rattle.specification.proofs.ideal.Extend.{error-holds}
+use Rattle.specification.proofs.ideal.Sound.{gapOf, gap-error}
+use Rattle.specification.proofs.ideal.Basis.{coefficientsOf, rows-at, staircase, row-value, row-is, row-only}
 
 module _ (D : Space) where
   open Space D using (q, m, Mono, Pt, one, val, cmp, inv)

@@ -12,31 +12,32 @@ use lib.ListN.{length, take, drop, getD, set, length-append, length-map, List·g
 use lib.Seq.{getD-at, getD-set-same, getD-set-other}
 use Rattle.residue.specs.Lists.{Among}
 use Rattle.residue.specs.Modulus.{isModulus}
+use Rattle.residue.specs.Layout.{fill, inPlaces}
+use Rattle.residue.proofs.Places.{place-at}
 use Rattle.monomial.specs.Monomial.{degree}
 use Rattle.monomial.specs.Order.{Order}
 use Rattle.monomial.specs.Rank.{rankOf, variableRank}
 use Rattle.monomial.specs.Increasing.{Increasing}
-use Rattle.basis.specs.declared.candidate.LeastRank.{LeastRank}
-use Rattle.basis.specs.declared.candidate.LeastRank.the-variants as LeastRank
-use Rattle.basis.specs.declared.candidate.Parents.{Parents}
-use Rattle.basis.specs.declared.candidate.Candidate.{Candidate}
-use Rattle.basis.specs.declared.candidate.Candidate.the-variants as Candidate
-use Rattle.basis.specs.Layout.{fill, inPlaces}
-use Rattle.basis.specs.Space.{Space, Less}
-use Rattle.basis.specs.Polynomial.{Distinct}
-use Rattle.basis.specs.BasisOf.{standardOf, leadsOf}
-use Rattle.basis.specs.Instance.{Monomial, Point, spaceOf}
-use Rattle.basis.specs.Candidates.{leastOf, passed, parentsOf, occurringIn, isWhole, Next, ended, atLeast, nextFrom, nextOf}
-use Rattle.basis.proofs.Instance.{monomial-path, laws, degree-timesVariable, standard-total}
-use Rattle.basis.proofs.Places.{place-at}
-use Rattle.basis.proofs.ideal.Laws.{Laws}
-use Rattle.basis.proofs.ideal.Lists.{getD-among}
+use Rattle.monomial.specs.declared.candidate.LeastRank.{LeastRank}
+use Rattle.monomial.specs.declared.candidate.LeastRank.the-variants as LeastRank
+use Rattle.monomial.specs.declared.candidate.Parents.{Parents}
+use Rattle.monomial.specs.declared.candidate.Candidate.{Candidate}
+use Rattle.monomial.specs.declared.candidate.Candidate.the-variants as Candidate
+use Rattle.monomial.specs.Candidate.{leastOf, productsPassed, parentsOf, occurringIn, isWhole, Searched, searchEnds, atLeast, nextFrom, nextOf}
+use Rattle.monomial.proofs.Algebra.Products.{degree-timesVariable}
+use Rattle.monomial.proofs.candidate.Products.{remaining, remaining-most, Product, least-of, least-nothing, passed-length, passed-is, passed-not, Last, passed-fewer, least-last}
+use Rattle.monomial.proofs.candidate.Counts.{Occurs, count-whole, whole-count}
+use Rattle.monomial.proofs.candidate.Exponents.{rank-small, rank-times, rank-less, rank-same, product-occurs, occurs-product}
+use Rattle.specification.specs.Space.{Space, Less}
+use Rattle.specification.specs.Polynomial.{Distinct}
+use Rattle.specification.specs.BasisOf.{standardOf, leadsOf}
+use Rattle.specification.specs.Instance.{Monomial, Point, spaceOf}
+use Rattle.specification.proofs.Instance.{monomial-path, laws, standard-total}
+use Rattle.specification.proofs.ideal.Laws.{Laws}
+use Rattle.specification.proofs.ideal.Lists.{getD-among}
 use Rattle.basis.proofs.elimination.Drawing as drawing
 use Rattle.basis.proofs.elimination.Drawing.{Drawn, Bordered, drawn-standard, drawn-leads, bordered, standard-room}
 use Rattle.basis.proofs.elimination.Positions.{productAt, Positions, Lowest, Advances, none-left, next-at, bordered-at, at-bordered, advanced}
-use Rattle.basis.proofs.elimination.Products.{remaining, remaining-most, Product, least-of, least-nothing, passed-length, passed-is, passed-not, Last, passed-fewer, least-last}
-use Rattle.basis.proofs.elimination.Occurring.{Occurs, count-whole, whole-count}
-use Rattle.basis.proofs.elimination.Exponents.{rank-small, rank-times, rank-less, rank-same, product-occurs, occurs-product}
 
 module _ (q m : ℕ) (order : Order) where
   abbrev D : Space
@@ -117,7 +118,7 @@ module _ (q m : ℕ) (order : Order) where
     product-same v t w u hv ht hw hu e =
         monomial-path (rank-same (prod v t .0) (rw (prod v t .1) l) order (prod w u .0) (prod v t .1 ∙ sym (prod w u .1)) (small v t hv ht) (small w u hw hu) e)
 
-    abbrev To : Next → Type 0
+    abbrev To : Searched → Type 0
     To e = Outcome S standard leads (e .answer) (e .positions)
 
     module _ (at : List ℕ) (long : length at ≡ 8) (c : Monomial m) (W : Drawn D S standard leads c) (P : Positions D standard c (λ v. getD at v 0)) where
@@ -150,7 +151,7 @@ module _ (q m : ℕ) (order : Order) where
         b = prod k t
 
         abbrev at′ : List ℕ
-        at′ = passed found ranks steps r at m
+        at′ = productsPassed found ranks steps r at m
 
         last : Last found ranks steps r at m pr
         last = least-last found ranks steps m at r e pr refl
@@ -223,15 +224,15 @@ module _ (q m : ℕ) (order : Order) where
                 (at-bordered D L standard inc c (λ v. getD at v 0) P b low after f i (w .by, w .long ∙ std t .1) hi (monomial-path (w .product)))
 
       -- one turn: b is what is sought, or it is not of the basis and is done
-      turn : (rest : List ℕ → Next) →
+      turn : (rest : List ℕ → Searched) →
           ((r : ℕ) → leastOf found ranks steps at m ≡ LeastRank.Of r → (b : Monomial m) → Drawn D S standard leads b →
-          Positions D standard b (λ v. getD (passed found ranks steps r at m) v 0) → To (rest (passed found ranks steps r at m))) →
+          Positions D standard b (λ v. getD (productsPassed found ranks steps r at m) v 0) → To (rest (productsPassed found ranks steps r at m))) →
           To (atLeast m found table ranks steps (leastOf found ranks steps at m) at rest)
       unfolding atLeast
       turn rest again = go (leastOf found ranks steps at m) refl
         where
           pick : (r : ℕ) (e : leastOf found ranks steps at m ≡ LeastRank.Of r) (w : Bool) → isWhole table (pr r e) ≡ w →
-              To (cond w (ended (Candidate.Of (k r e) (t r e) r) (at′ r e)) (rest (at′ r e)))
+              To (cond w (searchEnds (Candidate.Of (k r e) (t r e) r) (at′ r e)) (rest (at′ r e)))
           pick r e true f =
               record {
                 variable = last r e .within;
@@ -258,18 +259,18 @@ module _ (q m : ℕ) (order : Order) where
     unfolding nextFrom
     turns zero at long c W P h =
         turn at long c W P (λ a. nextFrom m found table ranks steps zero a)
-        (λ r e b U Q. absurd (omega (arith, passed-fewer found ranks steps m at r e (passed found ranks steps r at m) refl (omega arith))))
+        (λ r e b U Q. absurd (omega (arith, passed-fewer found ranks steps m at r e (productsPassed found ranks steps r at m) refl (omega arith))))
     turns (suc i) at long c W P h =
         turn at long c W P (λ a. nextFrom m found table ranks steps (suc i) a)
-        (λ r e b U Q. turns i (passed found ranks steps r at m) (passed-length found ranks steps r at m ∙ long) b U Q
-        (omega (arith, passed-fewer found ranks steps m at r e (passed found ranks steps r at m) refl (omega arith))))
+        (λ r e b U Q. turns i (productsPassed found ranks steps r at m) (passed-length found ranks steps r at m ∙ long) b U Q
+        (omega (arith, passed-fewer found ranks steps m at r e (productsPassed found ranks steps r at m) refl (omega arith))))
 
   -- What `candidate::next` answers, of the points S, with the standard monomials and leads found and all up to c decided.
   pub next-candidate : isModulus (suc q) ≡ true → m ≤ 8 → (S : List (Point (suc q) m)) → Distinct D S → length S ≤ 64 → (standard leads : List (Monomial m)) (c : Monomial m) →
       Drawn D S standard leads c → (ranks steps : List ℕ) → Ranked standard ranks steps → (at : List ℕ) → length at ≡ 8 → Positions D standard c (λ v. getD at v 0) →
-      (a : Candidate) (at′ : List ℕ) → ended a at′ ≡ nextOf m (length standard) (tableOf standard) ranks steps at → Outcome S standard leads a at′
+      (a : Candidate) (at′ : List ℕ) → searchEnds a at′ ≡ nextOf m (length standard) (tableOf standard) ranks steps at → Outcome S standard leads a at′
   unfolding nextOf
   next-candidate p l S d n standard leads c W ranks steps R at long P a at′ e =
-      subst (λ (z : Next). Outcome S standard leads (z .answer) (z .positions)) (sym e)
+      subst (λ (z : Searched). Outcome S standard leads (z .answer) (z .positions)) (sym e)
       (turns p l S d n standard leads ranks steps R (W .standard-to .increasing) (W .standard-to .of-all) (standard-room D (laws q m order p) S d standard leads c W)
       (m * length standard) at long c W P (remaining-most (length standard) at m))

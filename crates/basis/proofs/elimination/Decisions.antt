@@ -1,7 +1,7 @@
 -- A turn of drawing up decides what the monomial in hand is, by the working row that elimination leaves of its values, and keeps it.
 use mathlib.Core.Path.{_≡_, refl, sym, ap, _∙_}
 use mathlib.Core.List.{List, [], _∷_, _++_, map, map-append}
-use Prim.Native.Nat.{ℕ, suc, _+_, _*_, _^_, _<_, _≤_}
+use Prim.Native.Nat.{ℕ, suc, _+_, _*_, _<_, _≤_}
 use native.Mathlib.Nat.{mod-eq-of-lt, mul-le-mul-left}
 use native.Mathlib.Decide.{ℕ-discrete}
 use native.Mathlib.Omega.{arith}
@@ -12,28 +12,30 @@ use Rattle.residue.specs.Inverse.{inverseOf}
 use Rattle.residue.specs.Lists.{Among}
 use Rattle.residue.specs.Vector.{Below}
 use Rattle.residue.specs.Elimination.{eliminated}
+use Rattle.residue.specs.Layout.{fill, inPlaces, withPlace}
+use Rattle.residue.specs.Rows.{firstNonzero, pivotRow, withRow}
 use Rattle.residue.proofs.Congruence.{of, _then_}
-use Rattle.residue.proofs.Inverses.{inverse-mod}
-use Rattle.residue.proofs.Moduli.{modulus-range}
-use Rattle.residue.proofs.Vectors.{below-take, below-set}
+use Rattle.residue.proofs.inverse.Inverses.{inverse-mod}
+use Rattle.residue.proofs.level.Moduli.{modulus-range}
+use Rattle.residue.proofs.vector.Vectors.{below-take, below-set}
+use Rattle.residue.proofs.Places.{places-filled}
+use Rattle.residue.proofs.Layouts.{length-fill}
+use Rattle.residue.proofs.rows.Zeros.{zero-before, not-zero-there}
+use Rattle.residue.proofs.Replaced.{table-more, place-length, place-below, place-before, place-here}
+use Rattle.residue.proofs.elimination.PivotRows.{PivotRows, Working, ZeroAt, vanishes, eliminated-works, eliminated-zero}
+use Rattle.residue.proofs.elimination.NextPivot.{next-pivot}
 use Rattle.monomial.specs.Order.{Order}
-use Rattle.basis.specs.Layout.{fill, inPlaces}
-use Rattle.basis.specs.Space.{Space}
-use Rattle.basis.specs.Basis.{Row}
-use Rattle.basis.specs.BasisOf.{standardOf, leadsOf}
-use Rattle.basis.specs.Instance.{Monomial, Point, spaceOf, pointOf}
-use Rattle.basis.specs.Working.{firstNonzero, pivotRow, withRow, withPlace}
-use Rattle.basis.proofs.Instance.{laws, standard-total}
-use Rattle.basis.proofs.Layouts.{length-fill}
-use Rattle.basis.proofs.WorkingRows.{zero-before, not-zero-there}
-use Rattle.basis.proofs.ValueRows.{table-more, places-filled, place-length, place-below, place-before, place-here}
-use Rattle.basis.proofs.ideal.Laws.{Laws}
+use Rattle.monomial.specs.Rank.{rankBound}
+use Rattle.monomial.proofs.candidate.Exponents.{rank-small}
+use Rattle.specification.specs.Space.{Space}
+use Rattle.specification.specs.Basis.{Row}
+use Rattle.specification.specs.BasisOf.{standardOf, leadsOf}
+use Rattle.specification.specs.Instance.{Monomial, Point, spaceOf, pointOf}
+use Rattle.specification.proofs.Instance.{laws, standard-total}
+use Rattle.specification.proofs.ideal.Laws.{Laws}
 use Rattle.basis.proofs.elimination.Drawing.{Drawn, is-lead, is-standard, standard-room, leads-room}
 use Rattle.basis.proofs.elimination.Positions.{grown}
-use Rattle.basis.proofs.elimination.PivotRows.{PivotRows, Working, ZeroAt, vanishes, eliminated-works, eliminated-zero}
 use Rattle.basis.proofs.elimination.ReducedRows.{loaded}
-use Rattle.basis.proofs.elimination.NextPivot.{next-pivot}
-use Rattle.basis.proofs.elimination.Exponents.{rank-small}
 use Rattle.basis.proofs.elimination.Candidates.{ranked-more}
 use Rattle.basis.proofs.elimination.Matrix.{valuesOf, same-values, more-values, new-values, is-row, not-combined, row-spanned}
 use Rattle.basis.proofs.elimination.FoundRows.{longer, places-longer, rows-count, rows-more, rows-longer}
@@ -220,7 +222,7 @@ module _ {q m n : ℕ} {order : Order} {S : List (Point (suc q) m)} {p : ℕ} (G
         values-at = values-new;
         ranks-long = length-set ranks found rank ∙ H .ranks-long;
         ranks-below =
-            below-set (2 ^ 56) found rank ranks
+            below-set rankBound found rank ranks
             (rw (B .rank-is) (rank-small (b .0) (rw (b .1) (G .few)) order (omega (arith, standard-total q m order (G .prime) S (G .distinct) b new, G .count, G .most))))
             (H .ranks-below);
         ranked = ranked-more q m order std ranks steps (H .ranked) b rank (B .rank-is) (omega (arith, H .ranks-long, standard-more, G .most));

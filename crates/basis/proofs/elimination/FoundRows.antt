@@ -3,13 +3,13 @@ use mathlib.Core.Path.{_≡_, refl, ap, ap₂}
 use mathlib.Core.List.{List, [], _∷_, _++_, map}
 use Prim.Native.Nat.{ℕ, zero, suc}
 use lib.ListN.{length}
-use Rattle.basis.specs.Space.{Space}
-use Rattle.basis.specs.Polynomial.{Distinct}
-use Rattle.basis.specs.Layout.{fill, inPlaces}
-use Rattle.basis.specs.Basis.{Row, Rows}
-use Rattle.basis.specs.BasisOf.{standardOf, rowOf}
-use Rattle.basis.proofs.ideal.Laws.{Laws}
-use Rattle.basis.proofs.ideal.Basis.{row-only}
+use Rattle.residue.specs.Layout.{fill, inPlaces}
+use Rattle.specification.specs.Space.{Space}
+use Rattle.specification.specs.Polynomial.{Distinct}
+use Rattle.specification.specs.Basis.{Row, Rows}
+use Rattle.specification.specs.BasisOf.{standardOf, rowOf}
+use Rattle.specification.proofs.ideal.Laws.{Laws}
+use Rattle.specification.proofs.ideal.Basis.{row-only}
 use Rattle.basis.proofs.elimination.Drawing.{row-longer}
 
 -- a coefficient 0 more is what the place holds already

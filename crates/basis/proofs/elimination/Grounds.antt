@@ -14,31 +14,29 @@ use Rattle.residue.specs.Lists.{Among}
 use Rattle.residue.specs.Modulus.{isModulus}
 use Rattle.residue.specs.Vector.{Below}
 use Rattle.residue.specs.Elimination.{eliminated}
+use Rattle.residue.specs.Layout.{groups, fill, inPlaces}
 use Rattle.residue.proofs.Congruence.{of, flip, reduce, _then_}
-use Rattle.residue.proofs.Moduli.{modulus-range}
-use Rattle.residue.proofs.Vectors.{map-at, below-append}
+use Rattle.residue.proofs.level.Moduli.{modulus-range}
+use Rattle.residue.proofs.vector.Vectors.{map-at, below-append}
+use Rattle.residue.proofs.Layouts.{fill-at, below-fill, length-fill}
+use Rattle.residue.proofs.Places.{groups-at}
+use Rattle.residue.proofs.elimination.Combinations.{combination}
+use Rattle.residue.proofs.elimination.PivotRows.{PivotRows}
 use Rattle.monomial.specs.Order.{orderOf}
-use Rattle.basis.specs.declared.settings.Settings.{Settings}
-use Rattle.basis.specs.Levels.{groups}
-use Rattle.basis.specs.Layout.{fill, inPlaces}
-use Rattle.basis.specs.Space.{Space}
-use Rattle.basis.specs.Basis.{Fits}
-use Rattle.basis.specs.BasisOf.{standardOf, leadsOf, valueAt, interpolantOf}
-use Rattle.basis.specs.Instance.{Residues, Point, reduced, pointOf}
-use Rattle.basis.specs.Tables.{spaceUnder, pointsUnder, rowCount, tablesOf, pointsIn}
+use Rattle.specification.specs.declared.settings.Settings.{Settings}
+use Rattle.specification.specs.Space.{Space}
+use Rattle.specification.specs.Basis.{Fits}
+use Rattle.specification.specs.BasisOf.{standardOf, leadsOf, valueAt, interpolantOf}
+use Rattle.specification.specs.Instance.{Residues, Point, reduced, pointOf}
+use Rattle.specification.specs.Tables.{spaceUnder, pointsUnder, rowCount, tablesOf, pointsIn}
+use Rattle.specification.proofs.Instance.{laws, residues-reduced, point-of}
+use Rattle.specification.proofs.ideal.Laws.{Laws}
+use Rattle.specification.proofs.ideal.Lists.{getD-among}
+use Rattle.specification.proofs.ideal.Basis.{interpolant-fits, interpolant-values}
+use Rattle.specification.proofs.ideal.Counts.{standard-length}
+use Rattle.specification.proofs.agreement.Drawings.{distinct-under}
 use Rattle.basis.specs.Drawing.{settingsOf, PointsGiven, DrawnUp}
-use Rattle.basis.proofs.Instance.{laws, residues-reduced, point-of}
-use Rattle.basis.proofs.Layouts.{length-fill, fill-at}
-use Rattle.basis.proofs.Places.{groups-at}
 use Rattle.basis.proofs.PointTables.{length-points, points-in}
-use Rattle.basis.proofs.ValueRows.{below-fill}
-use Rattle.basis.proofs.ideal.Laws.{Laws}
-use Rattle.basis.proofs.ideal.Lists.{getD-among}
-use Rattle.basis.proofs.ideal.Basis.{interpolant-fits, interpolant-values}
-use Rattle.basis.proofs.ideal.Counts.{standard-length}
-use Rattle.basis.proofs.agreement.Drawings.{distinct-under}
-use Rattle.basis.proofs.elimination.Combinations.{combination}
-use Rattle.basis.proofs.elimination.PivotRows.{PivotRows}
 use Rattle.basis.proofs.elimination.ReducedRows.{solves}
 use Rattle.basis.proofs.elimination.Matrix.{valuesOf, terms-places}
 use Rattle.basis.proofs.elimination.FoundRows.{rows-only}

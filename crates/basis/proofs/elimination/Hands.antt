@@ -7,26 +7,30 @@ use native.Mathlib.Omega.{arith}
 use lib.ListN.{length, getD, take, drop, replicate, length-map, length-replicate, getD-replicate, List·getD-map}
 use lib.Seq.{getD-take, getD-drop}
 use Rattle.residue.specs.Congruence.{Mod}
+use Rattle.residue.specs.Layout.{fill}
 use Rattle.residue.proofs.Congruence.{of, reduce, _then_, _times_}
-use Rattle.residue.proofs.Moduli.{modulus-range}
-use Rattle.residue.proofs.Vectors.{below-take, below-drop, below-zeros}
+use Rattle.residue.proofs.level.Moduli.{modulus-range}
+use Rattle.residue.proofs.vector.Vectors.{below-take, below-drop, below-zeros}
+use Rattle.residue.proofs.Layouts.{fill-at, fill-zeros}
+use Rattle.residue.proofs.Places.{place-at, no-places}
+use Rattle.residue.proofs.Replaced.{zeros-long, part-long}
+use Rattle.residue.proofs.elimination.NextPivot.{no-rows}
 use Rattle.monomial.specs.Monomial.{timesVariable}
 use Rattle.monomial.specs.Order.{Order, lex, grlex, grevlex}
-use Rattle.monomial.specs.Rank.{key, rankOf}
-use Rattle.basis.specs.Layout.{fill}
-use Rattle.basis.specs.Space.{Space}
-use Rattle.basis.specs.Instance.{Monomial, Point, spaceOf}
-use Rattle.basis.specs.Drawing.{stepsOf, columnOf, productValues}
-use Rattle.basis.proofs.Instance.{laws, standard-exponent}
-use Rattle.basis.proofs.Layouts.{fill-at, fill-zeros}
-use Rattle.basis.proofs.Places.{place-at, no-places}
-use Rattle.basis.proofs.ValueRows.{zeros-long, part-long, steps-at, column-long, column-at, product-long, product-below, product-at}
-use Rattle.basis.proofs.ideal.Laws.{Laws}
-use Rattle.basis.proofs.ideal.Lists.{getD-among}
+use Rattle.monomial.specs.Rank.{key, rankOf, stepsOf}
+use Rattle.monomial.specs.Columns.{columnOf}
+use Rattle.monomial.proofs.rank.Steps.{steps-at}
+use Rattle.monomial.proofs.columns.Entries.{column-long, column-at}
+use Rattle.monomial.proofs.Padding.{fill-timesVariable}
+use Rattle.specification.specs.Space.{Space}
+use Rattle.specification.specs.Instance.{Monomial, Point, spaceOf}
+use Rattle.specification.proofs.Instance.{laws, standard-exponent}
+use Rattle.specification.proofs.ideal.Laws.{Laws}
+use Rattle.specification.proofs.ideal.Lists.{getD-among}
+use Rattle.basis.specs.Drawing.{productValues}
+use Rattle.basis.proofs.ValueRows.{product-long, product-below, product-at}
 use Rattle.basis.proofs.elimination.Drawing.{bordered-start, front-start, start-standard, start-lead, front-next, take-standard, take-lead}
 use Rattle.basis.proofs.elimination.Positions.{productAt, positions-start}
-use Rattle.basis.proofs.elimination.NextPivot.{no-rows}
-use Rattle.basis.proofs.elimination.Exponents.{fill-timesVariable}
 use Rattle.basis.proofs.elimination.Candidates.{Found}
 use Rattle.basis.proofs.elimination.Held.{Ground, Held, InHand, pointAt}
 

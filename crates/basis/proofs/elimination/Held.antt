@@ -3,23 +3,23 @@
 use mathlib.Core.Path.{_≡_}
 use mathlib.Core.Bool.{true}
 use mathlib.Core.List.{List, [], _∷_, _++_, map}
-use Prim.Native.Nat.{ℕ, suc, _+_, _*_, _^_, _<_, _≤_}
+use Prim.Native.Nat.{ℕ, suc, _+_, _*_, _<_, _≤_}
 use lib.ListN.{length, getD}
 use Rattle.residue.specs.Congruence.{Mod}
 use Rattle.residue.specs.Lists.{Among}
 use Rattle.residue.specs.Modulus.{isModulus}
 use Rattle.residue.specs.Vector.{Below}
+use Rattle.residue.specs.Layout.{fill, inPlaces}
+use Rattle.residue.proofs.elimination.PivotRows.{PivotRows}
 use Rattle.monomial.specs.Order.{Order}
-use Rattle.monomial.specs.Rank.{rankOf}
-use Rattle.basis.specs.Layout.{fill, inPlaces}
-use Rattle.basis.specs.Space.{Space}
-use Rattle.basis.specs.Polynomial.{Distinct}
-use Rattle.basis.specs.Basis.{Rows}
-use Rattle.basis.specs.BasisOf.{standardOf, leadsOf}
-use Rattle.basis.specs.Instance.{Monomial, Point, spaceOf, pointOf}
+use Rattle.monomial.specs.Rank.{rankOf, rankBound}
+use Rattle.specification.specs.Space.{Space}
+use Rattle.specification.specs.Polynomial.{Distinct}
+use Rattle.specification.specs.Basis.{Rows}
+use Rattle.specification.specs.BasisOf.{standardOf, leadsOf}
+use Rattle.specification.specs.Instance.{Monomial, Point, spaceOf, pointOf}
 use Rattle.basis.proofs.elimination.Drawing.{Drawn, Front, Bordered}
 use Rattle.basis.proofs.elimination.Positions.{Positions}
-use Rattle.basis.proofs.elimination.PivotRows.{PivotRows}
 use Rattle.basis.proofs.elimination.Candidates.{tableOf, Ranked}
 use Rattle.basis.proofs.elimination.Matrix.{valuesOf}
 
@@ -50,7 +50,7 @@ module _ (q m n : ℕ) (order : Order) (S : List (Point (suc q) m)) where
     pub values-below : Below (suc q) values
     pub values-at : (t i : ℕ) → t < length std → i < n → Mod (suc q) (getD values (64 * t + i) 0) (D .val (getD std t (D .one)) (pointAt i))
     pub ranks-long : length ranks ≡ 64
-    pub ranks-below : Below (2 ^ 56) ranks
+    pub ranks-below : Below rankBound ranks
     pub ranked : Ranked q m order std ranks steps
 
   -- the monomial in hand

@@ -1,25 +1,27 @@
 -- The loop of drawing up, over the lists that the code holds: its head, each turn, and its end.
 use mathlib.Core.Path.{_≡_, refl, sym, ap, ap₂, subst, _∙_}
 use mathlib.Core.List.{List, [], _∷_, _++_}
-use Prim.Native.Nat.{ℕ, suc, _+_, _-_, _*_, _^_, _<_, _≤_}
+use Prim.Native.Nat.{ℕ, suc, _+_, _-_, _*_, _<_, _≤_}
 use native.Mathlib.Omega.{arith}
 use lib.ListN.{length, getD, set, take, drop, replicate, length-append}
 use Rattle.residue.specs.Inverse.{inverseOf}
 use Rattle.residue.specs.Vector.{Below}
 use Rattle.residue.specs.Elimination.{eliminated, ZeroBehind}
+use Rattle.residue.specs.Layout.{fill, withPlace}
+use Rattle.residue.specs.Rows.{firstNonzero, pivotRow, withRow}
+use Rattle.residue.proofs.Layouts.{length-fill}
 use Rattle.monomial.specs.Monomial.{timesVariable}
 use Rattle.monomial.specs.Order.{Order, orderOf}
-use Rattle.basis.specs.declared.candidate.Candidate.{Candidate}
-use Rattle.basis.specs.declared.candidate.Candidate.the-variants as Candidate
-use Rattle.basis.specs.declared.settings.Settings.{Settings}
-use Rattle.basis.specs.Layout.{fill}
-use Rattle.basis.specs.BasisOf.{standardOf}
-use Rattle.basis.specs.Instance.{Monomial, Point}
-use Rattle.basis.specs.Tables.{spaceUnder, pointsUnder, pointsIn}
-use Rattle.basis.specs.Working.{firstNonzero, pivotRow, withRow, withPlace}
-use Rattle.basis.specs.Candidates.{ended, nextOf}
-use Rattle.basis.specs.Drawing.{stepsOf, columnOf, productValues, settingsOf, PointsGiven, DrawnUp}
-use Rattle.basis.proofs.Layouts.{length-fill}
+use Rattle.monomial.specs.declared.candidate.Candidate.{Candidate}
+use Rattle.monomial.specs.declared.candidate.Candidate.the-variants as Candidate
+use Rattle.monomial.specs.Rank.{stepsOf, rankBound}
+use Rattle.monomial.specs.Columns.{columnOf}
+use Rattle.monomial.specs.Candidate.{searchEnds, nextOf}
+use Rattle.specification.specs.declared.settings.Settings.{Settings}
+use Rattle.specification.specs.BasisOf.{standardOf}
+use Rattle.specification.specs.Instance.{Monomial, Point}
+use Rattle.specification.specs.Tables.{spaceUnder, pointsUnder, pointsIn}
+use Rattle.basis.specs.Drawing.{productValues, settingsOf, PointsGiven, DrawnUp}
 use Rattle.basis.proofs.elimination.Positions.{productAt}
 use Rattle.basis.proofs.elimination.Candidates.{Outcome, Found, next-candidate}
 use Rattle.basis.proofs.elimination.FoundRows.{longer}
@@ -40,7 +42,7 @@ pub record Sized (p n found : ℕ) (standard leads coefficients rows pivots valu
   pub ranks-long : length ranks ≡ 64
   pub rows-below : Below p rows
   pub values-below : Below p values
-  pub ranks-below : Below (2 ^ 56) ranks
+  pub ranks-below : Below rankBound ranks
   pub pivots-inside : (t : ℕ) → t < found → getD pivots t 0 < n
   pub rows-zero : ZeroBehind n found rows
 
@@ -208,13 +210,13 @@ module _ {p m order n : ℕ} {points : List ℕ} where
               G .most,
             )
 
-        outcome : (a : Candidate) (at′ : List ℕ) → ended a at′ ≡ nextOf m found standard ranks steps at → Outcome (p - 1) m o S (h .std) (h .lds) a at′
+        outcome : (a : Candidate) (at′ : List ℕ) → searchEnds a at′ ≡ nextOf m found standard ranks steps at → Outcome (p - 1) m o S (h .std) (h .lds) a at′
         outcome a at′ e =
             next-candidate (p - 1) m o (G .prime) (G .few) S (G .distinct) (omega (arith, G .count, G .most)) (h .std) (h .lds) (h .decided .last) (h .decided .drawn) ranks steps (h .held .ranked) at
             (h .decided .long) (h .decided .positions) a at′ (e ∙ ap₂ (λ (k : ℕ) (t : List ℕ). nextOf m k t ranks steps at) (h .found-is) (h .held .standard-table))
 
         -- nothing is left
-        pub ends : {a : Candidate} {at′ : List ℕ} → a ≡ Candidate.Nothing → ended a at′ ≡ nextOf m found standard ranks steps at
+        pub ends : {a : Candidate} {at′ : List ℕ} → a ≡ Candidate.Nothing → searchEnds a at′ ≡ nextOf m found standard ranks steps at
             → DrawnUp s (pointsIn s n points) r standard leads coefficients rows pivots
         ends {a} {at′} z e =
             let t : Outcome (p - 1) m o S (h .std) (h .lds) Candidate.Nothing at′ = subst (λ (c : Candidate). Outcome (p - 1) m o S (h .std) (h .lds) c at′) z (outcome a at′ e) in
@@ -224,7 +226,7 @@ module _ {p m order n : ℕ} {points : List ℕ} where
             (h .r-is ∙ ap length (t .1))
 
         -- the next monomial
-        module _ {a : Candidate} {at′ : List ℕ} {k t l : ℕ} (z : a ≡ Candidate.Of k t l) (e : ended a at′ ≡ nextOf m found standard ranks steps at) where
+        module _ {a : Candidate} {at′ : List ℕ} {k t l : ℕ} (z : a ≡ Candidate.Of k t l) (e : searchEnds a at′ ≡ nextOf m found standard ranks steps at) where
           F : Found (p - 1) m o S (h .std) (h .lds) k t l at′
           F = subst (λ (c : Candidate). Outcome (p - 1) m o S (h .std) (h .lds) c at′) z (outcome a at′ e)
 

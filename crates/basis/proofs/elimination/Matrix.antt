@@ -10,19 +10,19 @@ use Rattle.residue.specs.Congruence.{Mod}
 use Rattle.residue.specs.Lists.{Among, sumOver}
 use Rattle.residue.proofs.Congruence.{of, flip, _then_, _plus_, scale, lin}
 use Rattle.residue.proofs.Sums.{sum-zero}
-use Rattle.residue.proofs.Vectors.{below-take, below-drop}
+use Rattle.residue.proofs.vector.Vectors.{below-take, below-drop}
+use Rattle.residue.proofs.Replaced.{part-long}
+use Rattle.residue.proofs.elimination.Combinations.{sumTo, sumTo-front, sumTo-cong, combination}
+use Rattle.residue.proofs.elimination.PivotRows.{PivotRows, Working, ZeroAt}
 use Rattle.monomial.specs.Increasing.{Increasing}
-use Rattle.basis.specs.Space.{Space}
-use Rattle.basis.specs.Polynomial.{eval, coefficient, terms}
-use Rattle.basis.specs.Basis.{Row}
-use Rattle.basis.proofs.ideal.Laws.{Laws}
-use Rattle.basis.proofs.ideal.Lists.{getD-among, index-of}
-use Rattle.basis.proofs.ideal.Newton.{at-lin}
-use Rattle.basis.proofs.ideal.Sound.{eval-at}
-use Rattle.basis.proofs.ValueRows.{part-long}
+use Rattle.specification.specs.Space.{Space}
+use Rattle.specification.specs.Polynomial.{eval, coefficient, terms}
+use Rattle.specification.specs.Basis.{Row}
+use Rattle.specification.proofs.ideal.Laws.{Laws}
+use Rattle.specification.proofs.ideal.Lists.{getD-among, index-of}
+use Rattle.specification.proofs.ideal.Newton.{at-lin}
+use Rattle.specification.proofs.ideal.Sound.{eval-at}
 use Rattle.basis.proofs.elimination.Pivots.{Spanned}
-use Rattle.basis.proofs.elimination.Combinations.{sumTo, sumTo-front, sumTo-cong, combination}
-use Rattle.basis.proofs.elimination.PivotRows.{PivotRows, Working, ZeroAt}
 use Rattle.basis.proofs.elimination.ReducedRows.{no-combination}
 
 -- a sum over a list, by its places

@@ -9,13 +9,13 @@ use lib.ListN.{length-map}
 use Rattle.residue.specs.Congruence.{Mod}
 use Rattle.residue.specs.Lists.{Among}
 use Rattle.residue.proofs.Congruence.{rfl, of, _then_, _plus_, _times_, scale, reduce, ring}
-use Rattle.basis.specs.Space.{Space}
-use Rattle.basis.specs.Polynomial.{eval, Distinct, terms}
-use Rattle.basis.specs.Basis.{Fits}
-use Rattle.basis.specs.BasisOf.{basisOf, standardOf}
-use Rattle.basis.proofs.ideal.Laws.{Laws}
-use Rattle.basis.proofs.ideal.Newton.{at}
-use Rattle.basis.proofs.ideal.Basis.{interpolant-fits, interpolant-only}
+use Rattle.specification.specs.Space.{Space}
+use Rattle.specification.specs.Polynomial.{eval, Distinct, terms}
+use Rattle.specification.specs.Basis.{Fits}
+use Rattle.specification.specs.BasisOf.{basisOf, standardOf}
+use Rattle.specification.proofs.ideal.Laws.{Laws}
+use Rattle.specification.proofs.ideal.Newton.{at}
+use Rattle.specification.proofs.ideal.Basis.{interpolant-fits, interpolant-only}
 
 module _ (D : Space) where
   open Space D using (q, Mono, Pt, val)

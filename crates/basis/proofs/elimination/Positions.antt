@@ -11,9 +11,9 @@ use lib.Seq.{getD-at}
 use Rattle.residue.specs.Lists.{Among}
 use Rattle.monomial.specs.Increasing.{Increasing}
 use Rattle.monomial.proofs.Orders.Increasing.{below-member}
-use Rattle.basis.specs.Space.{Space, Less}
-use Rattle.basis.proofs.ideal.Laws.{Laws, Compares, lt, eq, gt, compared, same?, irrefl, trans, less-ne}
-use Rattle.basis.proofs.ideal.Lists.{getD-among, index-of}
+use Rattle.specification.specs.Space.{Space, Less}
+use Rattle.specification.proofs.ideal.Laws.{Laws, Compares, lt, eq, gt, compared, same?, irrefl, trans, less-ne}
+use Rattle.specification.proofs.ideal.Lists.{getD-among, index-of}
 use Rattle.basis.proofs.elimination.Drawing.{Next, Bordered}
 
 module _ (D : Space) where

@@ -7,14 +7,14 @@ use Rattle.residue.specs.Congruence.{Mod}
 use Rattle.residue.specs.Lists.{Among}
 use Rattle.residue.proofs.Congruence.{of, flip, _then_, _plus_, scale, lin}
 use Rattle.monomial.specs.Increasing.{Increasing}
-use Rattle.basis.specs.Space.{Space, Less}
-use Rattle.basis.specs.Polynomial.{hit, coefficient, Distinct, terms}
-use Rattle.basis.specs.BasisOf.{standardOf}
-use Rattle.basis.proofs.ideal.Laws.{Laws, Compares, lt, eq, gt, compared, hit-same}
-use Rattle.basis.proofs.ideal.Polynomials.{comb, pair-terms, terms-over, comb-hit, comb-miss, collect}
-use Rattle.basis.proofs.ideal.Newton.{at, at-lin, at-cong}
-use Rattle.basis.proofs.ideal.Staircase.{hit-at, member?}
-use Rattle.basis.proofs.ideal.Basis.{coefficientsOf, staircase}
+use Rattle.specification.specs.Space.{Space, Less}
+use Rattle.specification.specs.Polynomial.{hit, coefficient, Distinct, terms}
+use Rattle.specification.specs.BasisOf.{standardOf}
+use Rattle.specification.proofs.ideal.Laws.{Laws, Compares, lt, eq, gt, compared, hit-same}
+use Rattle.specification.proofs.ideal.Polynomials.{comb, pair-terms, terms-over, comb-hit, comb-miss, collect}
+use Rattle.specification.proofs.ideal.Newton.{at, at-lin, at-cong}
+use Rattle.specification.proofs.ideal.Staircase.{hit-at, member?}
+use Rattle.specification.proofs.ideal.Basis.{coefficientsOf, staircase}
 use Rattle.basis.proofs.elimination.Pivots.{Spanned}
 
 module _ (D : Space) (L : Laws D) (S : List (D .Pt)) (d : Distinct D S) where

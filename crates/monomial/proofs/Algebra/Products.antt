@@ -1,7 +1,7 @@
 -- Products of monomials, and products by one variable.
 use mathlib.Core.Path.{_≡_, refl, sym, ap, _∙_}
 use mathlib.Core.List.{List, [], _∷_}
-use Prim.Native.Nat.{ℕ, zero, suc, _+_, _<_}
+use Prim.Native.Nat.{ℕ, zero, suc, _+_, _<_, _≤_}
 use native.Mathlib.Nat.{zero-add, add-zero, add-comm, suc-inj}
 use native.Mathlib.Omega.{arith}
 use lib.ListN.{length, length-replicate, length-set, getD}
@@ -60,3 +60,14 @@ pub timesVariable-differs : (k : ℕ) (a : List ℕ) → k < length a → a ≡ 
 timesVariable-differs k a h e =
     let f : getD a k 0 ≡ getD a k 0 + 1 = ap (λ (l : List ℕ). getD l k 0) e ∙ getD-set-same a k (getD a k 0 + 1) 0 h in
     omega arith
+
+-- exponents and degrees
+pub degree-timesVariable : (k : ℕ) (a : List ℕ) → k < length a → degree (timesVariable k a) ≡ suc (degree a)
+degree-timesVariable k [] h = absurd (omega arith)
+degree-timesVariable zero (y ∷ a) h = omega arith
+degree-timesVariable (suc k) (y ∷ a) h = omega (arith, degree-timesVariable k a (omega arith))
+
+pub exponent-degree : (a : List ℕ) (i : ℕ) → getD a i 0 ≤ degree a
+exponent-degree [] i = omega arith
+exponent-degree (y ∷ a) zero = omega arith
+exponent-degree (y ∷ a) (suc i) = omega (arith, exponent-degree a i)

@@ -5,10 +5,10 @@ use Prim.Native.Nat.{ℕ, _+_, _*_, _-_}
 use native.Mathlib.Omega.{arith}
 use lib.ListN.{length, take, drop, replicate, length-drop}
 use lib.Seq.{length-take-le}
-use Rattle.residue.proofs.Moduli.{modulus-range}
-use Rattle.basis.specs.Layout.{over}
-use Rattle.basis.specs.Tables.{tablesOf, pointsIn}
-use Rattle.basis.proofs.Layouts.{length-fill, over-all}
+use Rattle.residue.specs.Layout.{over}
+use Rattle.residue.proofs.level.Moduli.{modulus-range}
+use Rattle.residue.proofs.Layouts.{over-all, length-fill}
+use Rattle.specification.specs.Tables.{tablesOf, pointsIn}
 use Rattle.basis.proofs.adding.Added.{states-more, states-long}
 use Rattle.basis.proofs.add.add_accepted.Statement.{statement}
 use Rattle.basis.proofs.add.add_accepted.Tie as tie

@@ -3,11 +3,11 @@ use mathlib.Core.Path.{sym, subst, refl}
 use Prim.Native.Nat.{_≤_}
 use native.Mathlib.Omega.{arith}
 use Rattle.residue.specs.Vector.{Below}
-use Rattle.residue.proofs.Moduli.{modulus-range}
+use Rattle.residue.specs.Layout.{groups}
+use Rattle.residue.proofs.level.Moduli.{modulus-range}
+use Rattle.residue.proofs.Layouts.{remainders-below}
 use Rattle.monomial.specs.Monomial.{valueAt}
-use Rattle.basis.specs.Levels.{groups}
 use Rattle.basis.proofs.elimination.Grounds.{points-long, points-below}
-use Rattle.basis.proofs.adding.Writes.{values-below}
 use Rattle.basis.proofs.adding.Added.{Sound, sound, inside, added}
 use Rattle.basis.proofs.add.add_to.Statement.{statement}
 use Rattle.basis.proofs.add.add_to.Tie as tie
@@ -33,7 +33,7 @@ module _ (s : tie.Start) where
 small : (d : tie.After-values-at) → Below (start d .args .p) (d .values-at .last .1 .1 .1 .1 .0)
 small d =
     let s = start d in
-    subst (Below (s .args .p)) (sym (d .values-at .ensures)) (values-below (s .args .p) (valueAt (s .args .point .now)) (groups 8 (s .args .n) (s .args .standard .now)) 64 (omega (arith, low s)))
+    subst (Below (s .args .p)) (sym (d .values-at .ensures)) (remainders-below (s .args .p) (valueAt (s .args .point .now)) (groups 8 (s .args .n) (s .args .standard .now)) 64 (omega (arith, low s)))
 
 slice-aggregate-values-at : tie.Need-slice-aggregate-values-at
 slice-aggregate-values-at c = refl

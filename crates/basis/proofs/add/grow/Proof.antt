@@ -7,16 +7,16 @@ use lib.ListN.{length, take, drop, replicate, length-drop}
 use lib.Seq.{length-take-le}
 use Rattle.residue.specs.Vector.{Below}
 use Rattle.residue.specs.Inverse.{inverseOf}
-use Rattle.residue.proofs.Vectors.{below-take, below-drop}
-use Rattle.residue.proofs.Inverses.{inverse-below}
+use Rattle.residue.specs.Layout.{groups, over, rowAt}
+use Rattle.residue.proofs.vector.Vectors.{below-take, below-drop, part-small}
+use Rattle.residue.proofs.inverse.Inverses.{inverse-below}
+use Rattle.residue.proofs.Layouts.{over-all}
+use Rattle.residue.proofs.Replaced.{zeros-long}
 use Rattle.monomial.specs.Order.{orderOf, cmp}
-use Rattle.basis.specs.Levels.{groups}
-use Rattle.basis.specs.Layout.{over}
-use Rattle.basis.specs.Insertions.{rowAt, placeOf, rowValueAt, withRowAt, standardGrown}
-use Rattle.basis.proofs.Layouts.{over-all}
-use Rattle.basis.proofs.ValueRows.{zeros-long}
-use Rattle.basis.proofs.adding.Searches.{place-within}
-use Rattle.basis.proofs.adding.Writes.{value-below, part-small}
+use Rattle.monomial.specs.Insert.{placeOf, withRowAt}
+use Rattle.monomial.proofs.insert.Searches.{place-within}
+use Rattle.basis.specs.Insertions.{rowValueAt, standardGrown}
+use Rattle.basis.proofs.adding.Writes.{value-below}
 use Rattle.basis.proofs.adding.Growth.{grown-by}
 use Rattle.basis.proofs.add.grow.Statement.{statement}
 use Rattle.basis.proofs.add.grow.Tie as tie

@@ -4,9 +4,10 @@ use mathlib.Core.List.{List}
 use Prim.Native.Nat.{ℕ, _-_}
 use native.Mathlib.Omega.{arith}
 use Rattle.residue.specs.Vector.{Below}
-use Rattle.basis.specs.Layout.{inPlaces, over}
-use Rattle.basis.specs.Insertions.{takenOut, correctedRows, othersOf, rowsLeft, othersCorrected}
-use Rattle.basis.proofs.ValueRows.{zeros-long}
+use Rattle.residue.specs.Layout.{inPlaces, over}
+use Rattle.residue.proofs.Replaced.{zeros-long}
+use Rattle.monomial.specs.Insert.{takenOut}
+use Rattle.basis.specs.Insertions.{correctedRows, othersOf, rowsLeft, othersCorrected}
 use Rattle.basis.proofs.adding.Writes.{left-below}
 use Rattle.basis.proofs.add.keep_others.Statement.{statement}
 use Rattle.basis.proofs.add.keep_others.Tie as tie

@@ -4,8 +4,8 @@ use mathlib.Core.Path.{_≡_, sym, _∙_, refl}
 use mathlib.Core.List.{List}
 use Prim.Native.Nat.{ℕ}
 use native.Mathlib.Omega.{arith}
-use Rattle.basis.specs.Tables.{Tables, fourTables}
-use Rattle.basis.specs.Adding.{addRefusal, addOutcome}
+use Rattle.specification.specs.Tables.{Tables, fourTables}
+use Rattle.specification.specs.Adding.{addRefusal, addOutcome}
 use Rattle.basis.proofs.calls.Refusing.{alone, when-refused}
 use Rattle.basis.proofs.adding.Addition.{Ready, ready, added}
 use Rattle.basis.proofs.adding.add_point.Statement.{statement}

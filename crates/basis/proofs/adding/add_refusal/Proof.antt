@@ -7,15 +7,15 @@ use Prim.Native.Nat.{ℕ, _<_}
 use native.Mathlib.Omega.{arith}
 use lib.ListN.{length}
 use lib.Dec.{eqb, leb}
-use Rattle.residue.proofs.Moduli.{modulus-range}
-use Rattle.basis.specs.Levels.{inRange, isAmong}
-use Rattle.basis.specs.Layout.{fill, inPlaces, over}
-use Rattle.basis.specs.Tables.{Tables, fourTables, tooShort, recognised}
+use Rattle.residue.specs.Layout.{fill, inPlaces, over}
+use Rattle.residue.proofs.level.Moduli.{modulus-range}
+use Rattle.residue.proofs.Places.{over-zeros}
+use Rattle.residue.proofs.Layouts.{length-fill}
+use Rattle.specification.specs.Levels.{inRange, isAmong}
+use Rattle.specification.specs.Tables.{Tables, fourTables, tooShort, recognised}
+use Rattle.specification.proofs.agreement.Points.{length-residues}
+use Rattle.specification.proofs.agreement.Refusals.{large-of}
 use Rattle.basis.specs.Drawing.{Solves}
-use Rattle.basis.proofs.Layouts.{length-fill}
-use Rattle.basis.proofs.Places.{over-zeros}
-use Rattle.basis.proofs.agreement.Points.{length-residues}
-use Rattle.basis.proofs.agreement.Refusals.{large-of}
 use Rattle.basis.proofs.calls.Refusing.{Passed, passed}
 use Rattle.basis.proofs.adding.Addition.{old, new, addSizes, add-size, add-range, add-unknown, add-repeat, add-good, asked}
 use Rattle.basis.proofs.adding.add_refusal.Statement.{statement}

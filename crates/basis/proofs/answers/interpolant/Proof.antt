@@ -5,13 +5,13 @@ use mathlib.Core.Bool.{true}
 use mathlib.Core.List.{List}
 use Prim.Native.Nat.{ℕ}
 use native.Mathlib.Omega.{arith}
-use Rattle.residue.proofs.Moduli.{modulus-range}
-use Rattle.basis.specs.Levels.{inRange}
-use Rattle.basis.specs.Layout.{fill, over}
-use Rattle.basis.specs.Tables.{Tables, fourTables, tooShort, pointsIn, recognised}
-use Rattle.basis.specs.Solving.{interpolantIn}
+use Rattle.residue.specs.Layout.{fill, over}
+use Rattle.residue.proofs.level.Moduli.{modulus-range}
+use Rattle.residue.proofs.Layouts.{over-all, length-fill}
+use Rattle.specification.specs.Levels.{inRange}
+use Rattle.specification.specs.Tables.{Tables, fourTables, tooShort, pointsIn, recognised}
+use Rattle.specification.specs.Solving.{interpolantIn}
 use Rattle.basis.specs.Drawing.{Solves}
-use Rattle.basis.proofs.Layouts.{length-fill, over-all}
 use Rattle.basis.proofs.calls.Outcomes.{valuesSizes, values-size, values-range, values-not, values-good}
 use Rattle.basis.proofs.calls.Known.{rows-long, rows-inside, Sized, values-sized, values-count, values-below, values-answer}
 use Rattle.basis.proofs.answers.interpolant.Statement.{statement}

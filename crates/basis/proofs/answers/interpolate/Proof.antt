@@ -4,11 +4,11 @@ use mathlib.Core.List.{List}
 use Prim.Native.Nat.{ℕ}
 use native.Mathlib.Omega.{arith}
 use lib.ListN.{length}
-use Rattle.basis.specs.Refusal.{firstOf}
-use Rattle.basis.specs.Layout.{fill, over}
-use Rattle.basis.specs.Tables.{Tables, fourTables}
-use Rattle.basis.specs.Solving.{valuesCases, interpolantIn, interpolateOutcome}
-use Rattle.basis.proofs.Layouts.{length-fill}
+use Rattle.residue.specs.Layout.{fill, over}
+use Rattle.residue.proofs.Layouts.{length-fill}
+use Rattle.specification.specs.Refusal.{firstOf}
+use Rattle.specification.specs.Tables.{Tables, fourTables}
+use Rattle.specification.specs.Solving.{valuesCases, interpolantIn, interpolateOutcome}
 use Rattle.basis.proofs.calls.Refusing.{fill-refused, fill-accepted}
 use Rattle.basis.proofs.calls.Outcomes.{values-none}
 use Rattle.basis.proofs.calls.Known.{Sized, values-sized}

@@ -5,15 +5,16 @@ use Prim.Native.Nat.{ℕ}
 use native.Mathlib.Omega.{arith}
 use lib.ListN.{length}
 use Rattle.residue.specs.Vector.{Below}
-use Rattle.residue.proofs.Moduli.{modulus-range}
-use Rattle.basis.specs.Refusal.{firstOf}
-use Rattle.basis.specs.Levels.{residues}
-use Rattle.basis.specs.Layout.{fill, inPlaces, over}
-use Rattle.basis.specs.Tables.{Tables, fourTables, pointsIn}
-use Rattle.basis.specs.Solving.{remainderCases, remainderOutcome}
-use Rattle.basis.specs.Interpolants.{solution, termValues}
+use Rattle.residue.specs.Layout.{fill, inPlaces, over}
+use Rattle.residue.proofs.level.Moduli.{modulus-range}
+use Rattle.residue.proofs.Layouts.{length-fill}
+use Rattle.monomial.specs.Terms.{termValues}
+use Rattle.specification.specs.Refusal.{firstOf}
+use Rattle.specification.specs.Levels.{residues}
+use Rattle.specification.specs.Tables.{Tables, fourTables, pointsIn}
+use Rattle.specification.specs.Solving.{remainderCases, remainderOutcome}
+use Rattle.basis.specs.Interpolants.{solution}
 use Rattle.basis.specs.Drawing.{Solves}
-use Rattle.basis.proofs.Layouts.{length-fill}
 use Rattle.basis.proofs.calls.Refusing.{fill-refused, fill-accepted}
 use Rattle.basis.proofs.calls.Outcomes.{remainder-none}
 use Rattle.basis.proofs.calls.Known.{table-below, rows-long, rows-inside, Sized, terms-sized, terms-count, terms-most, coefficients-below, terms-answer}

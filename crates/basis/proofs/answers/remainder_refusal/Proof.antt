@@ -5,10 +5,11 @@ use mathlib.Core.Bool.{true}
 use Prim.Native.Nat.{ℕ}
 use native.Mathlib.Omega.{arith}
 use lib.ListN.{length}
-use Rattle.residue.proofs.Moduli.{modulus-range}
-use Rattle.basis.specs.Levels.{inRange, groups}
-use Rattle.basis.specs.Tables.{Tables, fourTables, tooShort}
-use Rattle.basis.specs.Solving.{withinVariables}
+use Rattle.residue.specs.Layout.{groups}
+use Rattle.residue.proofs.level.Moduli.{modulus-range}
+use Rattle.specification.specs.Levels.{inRange}
+use Rattle.specification.specs.Tables.{Tables, fourTables, tooShort}
+use Rattle.specification.specs.Solving.{withinVariables}
 use Rattle.basis.proofs.calls.Outcomes.{remainderSizes, remainder-size, remainder-range, remainder-variable, remainder-not, remainder-good}
 use Rattle.basis.proofs.calls.Known.{Sized, terms-sized, terms-count}
 use Rattle.basis.proofs.answers.remainder_refusal.Statement.{statement}

@@ -6,13 +6,12 @@ use Prim.Native.Nat.{ℕ}
 use native.Mathlib.Omega.{arith}
 use lib.ListN.{length, take}
 use lib.Seq.{length-take-le}
-use Rattle.basis.specs.Refusal.{firstOf}
-use Rattle.basis.specs.Levels.{groups}
-use Rattle.basis.specs.Layout.{fill, over}
-use Rattle.basis.specs.Tables.{Tables, fourTables}
-use Rattle.basis.specs.Solving.{valuesCases, interpolantIn}
+use Rattle.residue.specs.Layout.{groups, fill, over}
+use Rattle.residue.proofs.Layouts.{length-fill}
+use Rattle.specification.specs.Refusal.{firstOf}
+use Rattle.specification.specs.Tables.{Tables, fourTables}
+use Rattle.specification.specs.Solving.{valuesCases, interpolantIn}
 use Rattle.basis.specs.Interpolants.{names}
-use Rattle.basis.proofs.Layouts.{length-fill}
 use Rattle.basis.proofs.Wiring.{names-are}
 use Rattle.basis.proofs.calls.Outcomes.{values-none, wiring-refused, wiring-accepted}
 use Rattle.basis.proofs.calls.Known.{Sized, values-sized, values-names}

@@ -3,9 +3,9 @@ use borrow.Author.Tests.{ltb-false}
 use mathlib.Core.Path.{_≡_, refl, sym, _∙_}
 use mathlib.Core.Bool.{false}
 use lib.Dec.{ltb}
-use Rattle.basis.specs.Refusal.{firstOf}
-use Rattle.basis.specs.Tables.{Tables, fourTables, tooShort}
-use Rattle.basis.proofs.agreement.Refusals.{large-of}
+use Rattle.specification.specs.Refusal.{firstOf}
+use Rattle.specification.specs.Tables.{Tables, fourTables, tooShort}
+use Rattle.specification.proofs.agreement.Refusals.{large-of}
 use Rattle.basis.proofs.calls.Refusing.{Passed, passed}
 use Rattle.basis.proofs.calls.Outcomes.{checkSizes, check-size, check-told}
 use Rattle.basis.proofs.calls.check.Statement.{statement}

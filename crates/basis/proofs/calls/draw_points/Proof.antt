@@ -6,9 +6,9 @@ use native.Mathlib.Omega.{arith}
 use native.Mathlib.Nat.{le-of-eq, le-trans}
 use lib.ListN.{length, drop}
 use lib.Seq.{length-take-le, length-front}
-use Rattle.residue.proofs.Moduli.{modulus-range}
-use Rattle.basis.specs.Tables.{tablesOf}
-use Rattle.basis.proofs.Layouts.{length-fill, cleared-front, cleared-long, answered-anew}
+use Rattle.residue.proofs.level.Moduli.{modulus-range}
+use Rattle.residue.proofs.Layouts.{cleared-front, cleared-long, answered-anew, length-fill}
+use Rattle.specification.specs.Tables.{tablesOf}
 use Rattle.basis.proofs.calls.draw_points.Statement.{statement}
 use Rattle.basis.proofs.calls.draw_points.Tie as tie
 

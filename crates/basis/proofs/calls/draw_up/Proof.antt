@@ -8,17 +8,17 @@ use native.Mathlib.Omega.{arith}
 use lib.IntN.{ℤ}
 use lib.ListN.{length}
 use lib.Dec.{eqb, ltb}
-use Rattle.residue.proofs.Moduli.{modulus-range}
-use Rattle.basis.specs.Levels.{inRange, groups, noRepeat}
-use Rattle.basis.specs.Layout.{fill, inPlaces, over}
-use Rattle.basis.specs.Tables.{Tables, fourTables, tooShort, rowCount, tablesOf, pointsIn}
-use Rattle.basis.specs.Adding.{pointsOffered}
+use Rattle.residue.specs.Layout.{groups, fill, inPlaces, over}
+use Rattle.residue.proofs.level.Moduli.{modulus-range}
+use Rattle.residue.proofs.Tests.{of-true}
+use Rattle.residue.proofs.Layouts.{length-fill}
+use Rattle.specification.specs.Levels.{inRange, noRepeat}
+use Rattle.specification.specs.Tables.{Tables, fourTables, tooShort, rowCount, tablesOf, pointsIn}
+use Rattle.specification.specs.Adding.{pointsOffered}
+use Rattle.specification.proofs.agreement.Points.{Points}
+use Rattle.specification.proofs.agreement.Refusals.{large-of}
+use Rattle.specification.proofs.agreement.Drawings.{few-rows}
 use Rattle.basis.specs.Drawing.{PointsGiven}
-use Rattle.basis.proofs.Equality.{of-true}
-use Rattle.basis.proofs.Layouts.{length-fill}
-use Rattle.basis.proofs.agreement.Points.{Points}
-use Rattle.basis.proofs.agreement.Refusals.{large-of}
-use Rattle.basis.proofs.agreement.Drawings.{few-rows}
 use Rattle.basis.proofs.calls.Given.{whole-levels, length-offered, offered-each, offered, table-repeat, table-points, given}
 use Rattle.basis.proofs.calls.Refusing.{Passed, passed, alone}
 use Rattle.basis.proofs.calls.Outcomes.{drawSizes, draw-size, draw-range, draw-repeat, draw-good, all-written}

@@ -6,11 +6,12 @@ use native.Mathlib.Omega.{arith}
 use lib.ListN.{length, take, drop, replicate, length-take, length-drop}
 use lib.Seq.{length-take-le}
 use Rattle.residue.specs.Vector.{Below}
-use Rattle.residue.proofs.Vectors.{below-take, below-drop}
-use Rattle.basis.specs.Layout.{inPlaces, over}
-use Rattle.basis.specs.Insertions.{rowAt, correctedRow, correctedRows}
-use Rattle.basis.proofs.Layouts.{over-all}
-use Rattle.basis.proofs.adding.Writes.{length-row, rows-none, rows-length, rows-more, rows-keep, row-own, corrected-more}
+use Rattle.residue.specs.Layout.{inPlaces, over, rowAt}
+use Rattle.residue.proofs.vector.Vectors.{below-take, below-drop}
+use Rattle.residue.proofs.Layouts.{over-all}
+use Rattle.residue.proofs.Places.{over-more, over-keep, over-own}
+use Rattle.basis.specs.Insertions.{correctedRow, correctedRows}
+use Rattle.basis.proofs.adding.Writes.{length-row, rows-none, rows-length, corrected-more}
 use Rattle.basis.proofs.correct.correct_rows.Statement.{statement}
 use Rattle.basis.proofs.correct.correct_rows.Tie as tie
 
@@ -32,7 +33,7 @@ module _ (l : tie.At-loop Inv-loop μ-loop) where
   done = correctedRows (s .args .p) (s .args .place) (s .args .inverse) (s .args .gone .now) (s .args .point .now) (s .args .values .now) (s .args .leads .now) (s .args .table .now) (l .loop .i)
 
   long : length (l .loop .table) ≡ length (s .args .table .now)
-  long = rows-keep done (s .args .table .now) (l .loop .table) (l .loop .inv .1) (omega (arith, rows-length (s .args .p) (s .args .place) (s .args .inverse) (s .args .gone .now) (s .args .point .now) (s .args .values .now) (s .args .leads .now) (s .args .table .now) (l .loop .i)))
+  long = over-keep done (s .args .table .now) (l .loop .table) (l .loop .inv .1) (omega (arith, rows-length (s .args .p) (s .args .place) (s .args .inverse) (s .args .gone .now) (s .args .point .now) (s .args .values .now) (s .args .leads .now) (s .args .table .now) (l .loop .i)))
 
   own-long : l .loop .i < s .args .k → length (rowAt 64 (l .loop .i) (s .args .table .now)) ≡ 64
   own-long h = length-take-le 64 (drop (64 * l .loop .i) (s .args .table .now)) (simp length-drop (omega arith))
@@ -41,7 +42,7 @@ module _ (l : tie.At-loop Inv-loop μ-loop) where
   widened h w e =
       let d : 64 * l .loop .i + 64 - 64 * l .loop .i ≡ 64 = omega arith in
       let at : 64 * l .loop .i ≡ 64 * length done = ap (λ (n : ℕ). 64 * n) (sym (rows-length (s .args .p) (s .args .place) (s .args .inverse) (s .args .gone .now) (s .args .point .now) (s .args .values .now) (s .args .leads .now) (s .args .table .now) (l .loop .i))) in
-      e ∙ ap (λ (z : List ℕ). over z (replicate 64 0)) (ap (λ (n : ℕ). take n (drop (64 * l .loop .i) (l .loop .table))) d ∙ row-own done (s .args .table .now) (l .loop .table) (l .loop .inv .1) (64 * l .loop .i) at)
+      e ∙ ap (λ (z : List ℕ). over z (replicate 64 0)) (ap (λ (n : ℕ). take n (drop (64 * l .loop .i) (l .loop .table))) d ∙ over-own done (s .args .table .now) (l .loop .table) (l .loop .inv .1) (64 * l .loop .i) at)
       ∙ over-all (rowAt 64 (l .loop .i) (s .args .table .now)) (replicate 64 0) (omega (arith, own-long h))
 
 loop-holds : tie.Need-loop-holds Inv-loop μ-loop
@@ -143,7 +144,7 @@ loop-again c =
     let is : c .before .before .before .correct .last .1 .1 .1 .1 .1 .1 .1 .1 .0 ≡ new = c .before .before .before .correct .ensures .1
     ∙ ap₂ (λ (n : ℕ) (z : List ℕ). correctedRow (s .args .p) (s .args .place) (s .args .inverse) (s .args .gone .now) (s .args .point .now) (s .args .values .now) (take n (drop (8 * i) (s .args .leads .now))) z) d (widened l (omega arith) _ (c .before .before .before .before .before .before .before .before .widen .ensures)) in (
       omega arith,
-      rows-more old new (s .args .table .now) (l .loop .table) _ (64 * i) (64 * i + 64 - 64 * i) (l .loop .inv .1) at (omega arith) e is (length-row (s .args .p) (s .args .place) (s .args .inverse) (s .args .gone .now) (s .args .point .now) (s .args .values .now) (rowAt 8 i (s .args .leads .now)) (rowAt 64 i (s .args .table .now)))
+      over-more old new (s .args .table .now) (l .loop .table) _ (64 * i) (64 * i + 64 - 64 * i) (l .loop .inv .1) at (omega arith) e is (length-row (s .args .p) (s .args .place) (s .args .inverse) (s .args .gone .now) (s .args .point .now) (s .args .values .now) (rowAt 8 i (s .args .leads .now)) (rowAt 64 i (s .args .table .now)))
           ∙ ap (λ (z : List (List ℕ)). over (inPlaces 64 z) (s .args .table .now)) (sym (corrected-more (s .args .p) (s .args .place) (s .args .inverse) (s .args .gone .now) (s .args .point .now) (s .args .values .now) (s .args .leads .now) (s .args .table .now) i)),
     )
 

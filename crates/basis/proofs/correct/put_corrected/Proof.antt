@@ -6,9 +6,10 @@ use native.Mathlib.Omega.{arith}
 use lib.ListN.{length, set, take, drop, length-set, length-take, length-drop}
 use lib.Seq.{length-take-le}
 use Rattle.residue.specs.Vector.{Below, addScaled}
-use Rattle.residue.proofs.Vectors.{addScaled-length, addScaled-below, below-take, below-drop}
-use Rattle.basis.specs.Layout.{fill}
-use Rattle.basis.specs.Insertions.{insertedAt, correctedBy}
+use Rattle.residue.specs.Layout.{fill}
+use Rattle.residue.proofs.vector.Vectors.{addScaled-length, addScaled-below, below-take, below-drop}
+use Rattle.monomial.specs.Insert.{insertedAt}
+use Rattle.basis.specs.Insertions.{correctedBy}
 use Rattle.basis.proofs.adding.Writes.{put-corrected, length-corrected}
 use Rattle.basis.proofs.correct.put_corrected.Statement.{statement}
 use Rattle.basis.proofs.correct.put_corrected.Tie as tie

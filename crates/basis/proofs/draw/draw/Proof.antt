@@ -2,12 +2,12 @@
 use mathlib.Core.Path.{refl, sym, _∙_}
 use native.Mathlib.Omega.{arith}
 use borrow.Author.Needs.{needs}
-use Rattle.basis.proofs.ValueRows.{zeros-long}
+use Rattle.residue.proofs.Replaced.{zeros-long}
 use Rattle.basis.proofs.elimination.Grounds.{points-long}
 use Rattle.basis.proofs.elimination.Loop.{head-start, own-below, kept-few, ends, next-small, next-exponent, goes-on}
+use Rattle.basis.proofs.draw.draw.Proof.Turn.{Inv-loop, μ-loop, start, given, head-sizes, exponents-8, range, top, work-128, work-residues, lead-fits, inside, standard-fits, above, kept, one-more, sizes, steps-8, steps-small, columns-512, column-small, values-are}
 use Rattle.basis.proofs.draw.draw.Statement.{statement}
 use Rattle.basis.proofs.draw.draw.Tie as tie
-use Rattle.basis.proofs.draw.draw.Proof.Turn.{Inv-loop, μ-loop, start, given, head-sizes, exponents-8, range, top, work-128, work-residues, lead-fits, inside, standard-fits, above, kept, one-more, sizes, steps-8, steps-small, columns-512, column-small, values-are}
 mod Turn
 
 slice-aggregate-put-steps : tie.Need-slice-aggregate-put-steps Inv-loop μ-loop

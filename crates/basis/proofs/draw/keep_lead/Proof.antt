@@ -6,9 +6,9 @@ use native.Mathlib.Nat.{add-sub-cancel-left}
 use native.Mathlib.Omega.{arith}
 use borrow.Rule.Slice.PartMut.{same-len-mid}
 use lib.ListN.{length, take, drop}
-use Rattle.residue.proofs.Vectors.{below-take, below-drop}
-use Rattle.basis.specs.Layout.{over}
-use Rattle.basis.proofs.ValueRows.{put-place, part-long}
+use Rattle.residue.specs.Layout.{over}
+use Rattle.residue.proofs.vector.Vectors.{below-take, below-drop}
+use Rattle.residue.proofs.Replaced.{put-place, part-long}
 use Rattle.basis.proofs.draw.keep_lead.Statement.{statement}
 use Rattle.basis.proofs.draw.keep_lead.Tie as tie
 

@@ -6,7 +6,7 @@ use native.Mathlib.Omega.{arith}
 use native.Mathlib.Nat.{add-sub-cancel-left}
 use lib.ListN.{length, length-set}
 use borrow.Rule.Slice.PartMut.{same-len-mid}
-use Rattle.basis.proofs.ValueRows.{put-place, part-long, put-whole}
+use Rattle.residue.proofs.Replaced.{put-place, part-long, put-whole}
 use Rattle.basis.proofs.draw.keep_standard.Statement.{statement}
 use Rattle.basis.proofs.draw.keep_standard.Tie as tie
 

@@ -6,8 +6,8 @@ use native.Mathlib.Omega.{arith}
 use borrow.Author.Needs.{needs}
 use lib.ListN.{getD, take, drop}
 use lib.Seq.{getD-take, getD-drop}
+use Rattle.residue.proofs.Replaced.{read-whole}
 use Rattle.monomial.specs.Monomial.{timesVariable}
-use Rattle.basis.proofs.ValueRows.{read-whole}
 use Rattle.basis.proofs.draw.put_exponents.Statement.{statement}
 use Rattle.basis.proofs.draw.put_exponents.Tie as tie
 

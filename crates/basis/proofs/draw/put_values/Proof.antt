@@ -8,9 +8,10 @@ use borrow.Author.Needs.{needs}
 use lib.ListN.{length, take, drop}
 use lib.Seq.{length-take-le}
 use Rattle.residue.specs.Vector.{Below, pointwise}
-use Rattle.residue.proofs.Vectors.{below-take, below-drop}
+use Rattle.residue.proofs.vector.Vectors.{below-take, below-drop}
+use Rattle.residue.proofs.Replaced.{part-long}
 use Rattle.basis.specs.Drawing.{productValues}
-use Rattle.basis.proofs.ValueRows.{part-long, product-made}
+use Rattle.basis.proofs.ValueRows.{product-made}
 use Rattle.basis.proofs.draw.put_values.Statement.{statement}
 use Rattle.basis.proofs.draw.put_values.Tie as tie
 

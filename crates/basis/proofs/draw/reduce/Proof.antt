@@ -7,10 +7,10 @@ use lib.ListN.{length, take, drop}
 use lib.Seq.{length-take-le}
 use Rattle.residue.specs.Vector.{Below}
 use Rattle.residue.specs.Elimination.{eliminated}
-use Rattle.residue.proofs.Vectors.{below-take}
-use Rattle.basis.specs.Layout.{fill}
-use Rattle.basis.proofs.Layouts.{length-fill}
-use Rattle.basis.proofs.ValueRows.{zeros-long, below-fill, load}
+use Rattle.residue.specs.Layout.{fill}
+use Rattle.residue.proofs.vector.Vectors.{below-take}
+use Rattle.residue.proofs.Layouts.{below-fill, length-fill}
+use Rattle.residue.proofs.Replaced.{zeros-long, load}
 use Rattle.basis.proofs.draw.reduce.Statement.{statement}
 use Rattle.basis.proofs.draw.reduce.Tie as tie
 

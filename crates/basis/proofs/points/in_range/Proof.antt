@@ -6,7 +6,7 @@ use native.Mathlib.Omega.{arith}
 use lib.IntN.{ℤ, pos}
 use lib.ListN.{length, drop, getD}
 use Rattle.residue.specs.Level.{residueOf}
-use Rattle.basis.specs.Levels.{inRange}
+use Rattle.specification.specs.Levels.{inRange}
 use Rattle.basis.proofs.LevelLists.{handed, range-on, range-stop, range-end}
 use Rattle.basis.proofs.points.in_range.Statement.{statement}
 use Rattle.basis.proofs.points.in_range.Tie as tie

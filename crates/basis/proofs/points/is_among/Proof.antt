@@ -7,11 +7,13 @@ use lib.ListN.{take, drop}
 use lib.Dec.{eqb}
 use borrow.Author.Tests.{eq-eqb, ne-eqb}
 use Rattle.residue.specs.Vector.{Below}
-use Rattle.residue.proofs.Vectors.{below-take, below-drop}
-use Rattle.basis.specs.Levels.{groups, sameList, keyOf, isAmong}
-use Rattle.basis.proofs.Keys.{key-same}
-use Rattle.basis.proofs.ValueRows.{part-long}
-use Rattle.basis.proofs.Places.{among-on, among-hit, among-end}
+use Rattle.residue.specs.Layout.{groups}
+use Rattle.residue.specs.Lists.{sameList, keyOf}
+use Rattle.residue.proofs.vector.Vectors.{below-take, below-drop}
+use Rattle.residue.proofs.bytes.Keys.{key-same}
+use Rattle.residue.proofs.Replaced.{part-long}
+use Rattle.specification.specs.Levels.{isAmong}
+use Rattle.specification.proofs.Repeats.{among-on, among-hit, among-end}
 use Rattle.basis.proofs.points.is_among.Statement.{statement}
 use Rattle.basis.proofs.points.is_among.Tie as tie
 

@@ -4,8 +4,8 @@ use Prim.Native.Nat.{ℕ, _+_, _*_, _^_, _-_, _<_, _≤_}
 use native.Mathlib.Omega.{arith}
 use lib.ListN.{drop}
 use lib.Seq.{getD-drop}
-use Rattle.basis.specs.Levels.{keyOf}
-use Rattle.basis.proofs.Keys.{digit-more, key-none, key-more, half-small, key-halves}
+use Rattle.residue.specs.Lists.{keyOf}
+use Rattle.residue.proofs.bytes.Keys.{digit-more, key-none, key-more, half-small, key-halves}
 use Rattle.basis.proofs.points.key.Statement.{statement}
 use Rattle.basis.proofs.points.key.Tie as tie
 

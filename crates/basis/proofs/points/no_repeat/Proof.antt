@@ -5,8 +5,9 @@ use Prim.Native.Nat.{ℕ, _+_, _*_, _-_, _≤_}
 use native.Mathlib.Omega.{arith}
 use lib.ListN.{length, take, drop, length-drop}
 use lib.Seq.{length-take-le, take-all}
-use Rattle.basis.specs.Levels.{groups, isAmong, noRepeat}
-use Rattle.basis.proofs.Places.{again, repeat-on, repeat-hit, repeat-end}
+use Rattle.residue.specs.Layout.{groups}
+use Rattle.specification.specs.Levels.{isAmong, noRepeat}
+use Rattle.specification.proofs.Repeats.{again, repeat-on, repeat-hit, repeat-end}
 use Rattle.basis.proofs.points.no_repeat.Statement.{statement}
 use Rattle.basis.proofs.points.no_repeat.Tie as tie
 

@@ -6,10 +6,10 @@ use native.Mathlib.Nat.{add-sub-cancel-left, mul-le-mul, mul-le-mul-left}
 use native.Mathlib.Omega.{arith}
 use lib.IntN.{ℤ}
 use lib.ListN.{length, take, drop, length-take}
-use Rattle.basis.specs.Levels.{residues, groups}
-use Rattle.basis.specs.Layout.{fill, inPlaces, over}
-use Rattle.basis.proofs.Layouts.{length-fill}
-use Rattle.basis.proofs.Places.{length-groups, groups-more, place-more, part-fits, no-places}
+use Rattle.residue.specs.Layout.{groups, fill, inPlaces, over}
+use Rattle.residue.proofs.Places.{length-groups, groups-more, place-more, part-fits, no-places}
+use Rattle.residue.proofs.Layouts.{length-fill}
+use Rattle.specification.specs.Levels.{residues}
 use Rattle.basis.proofs.PointTables.{residues-part}
 use Rattle.basis.proofs.points.put_points.Statement.{statement}
 use Rattle.basis.proofs.points.put_points.Tie as tie

@@ -4,8 +4,8 @@ use Prim.Native.Nat.{ℕ, _%_, _≤_, _-_}
 use native.Mathlib.Nat.{mod-lt}
 use native.Mathlib.Omega.{arith}
 use lib.ListN.{length, getD}
-use Rattle.residue.proofs.Filled.{filled, filled-none, kept-length, filled-more}
-use Rattle.basis.proofs.Copies.{mapped}
+use Rattle.residue.proofs.vector.Filled.{filled, filled-none, kept-length, filled-more}
+use Rattle.residue.proofs.bytes.Copies.{mapped}
 use Rattle.basis.proofs.points.put_reduced.Statement.{statement}
 use Rattle.basis.proofs.points.put_reduced.Tie as tie
 

@@ -5,9 +5,9 @@ use native.Mathlib.Omega.{arith}
 use lib.IntN.{ℤ, pos}
 use lib.ListN.{length, getD}
 use Rattle.residue.specs.Level.{residueOf}
-use Rattle.residue.proofs.Filled.{filled, filled-none, kept-length, filled-more}
-use Rattle.basis.specs.Levels.{residueOr0, residues}
-use Rattle.basis.proofs.Copies.{mapped}
+use Rattle.residue.proofs.vector.Filled.{filled, filled-none, kept-length, filled-more}
+use Rattle.residue.proofs.bytes.Copies.{mapped}
+use Rattle.specification.specs.Levels.{residueOr0, residues}
 use Rattle.basis.proofs.LevelLists.{handed}
 use Rattle.basis.proofs.points.put_residues.Statement.{statement}
 use Rattle.basis.proofs.points.put_residues.Tie as tie

@@ -4,10 +4,9 @@ use mathlib.Core.List.{List, [], _∷_, _++_, map}
 use Prim.Native.Nat.{ℕ, _+_, _*_, _-_, _%_, _<_, _≤_}
 use native.Mathlib.Omega.{arith}
 use lib.ListN.{length, take, drop, length-drop, length-take, length-map}
-use Rattle.basis.specs.Layout.{fill, inPlaces, over}
-use Rattle.basis.specs.Levels.{groups}
-use Rattle.basis.proofs.Layouts.{length-fill}
-use Rattle.basis.proofs.Places.{place-more, part-fits, no-places}
+use Rattle.residue.specs.Layout.{fill, inPlaces, over, groups}
+use Rattle.residue.proofs.Places.{place-more, part-fits, no-places}
+use Rattle.residue.proofs.Layouts.{length-fill}
 use Rattle.basis.proofs.PointTables.{pointsAs, length-points, points-more, point-read, points-in}
 use Rattle.basis.proofs.points.read_points.Statement.{statement}
 use Rattle.basis.proofs.points.read_points.Tie as tie

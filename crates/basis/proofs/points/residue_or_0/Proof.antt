@@ -4,7 +4,7 @@ use mathlib.Core.Path.{sym, ap, _∙_}
 use mir.Syntax.{w8}
 use mir.Facts.{toZ-ofZ}
 use Rattle.residue.specs.Level.{residueOf}
-use Rattle.basis.specs.Levels.{residueOr0}
+use Rattle.specification.specs.Levels.{residueOr0}
 use Rattle.basis.proofs.points.residue_or_0.Statement.{statement}
 use Rattle.basis.proofs.points.residue_or_0.Tie as tie
 

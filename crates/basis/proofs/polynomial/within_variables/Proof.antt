@@ -6,8 +6,9 @@ use native.Mathlib.Omega.{arith}
 use lib.ListN.{length, take, drop, length-drop}
 use borrow.Author.Tests.{not-true, not-false}
 use lib.Seq.{length-take-le, take-all}
-use Rattle.basis.specs.Levels.{groups}
-use Rattle.basis.specs.Solving.{allZero, withinVariables}
+use Rattle.residue.specs.Layout.{groups}
+use Rattle.residue.specs.Lists.{allZero}
+use Rattle.specification.specs.Solving.{withinVariables}
 use Rattle.basis.proofs.Terms.{within-on, within-stop, within-end}
 use Rattle.basis.proofs.polynomial.within_variables.Statement.{statement}
 use Rattle.basis.proofs.polynomial.within_variables.Tie as tie

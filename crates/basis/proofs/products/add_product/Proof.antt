@@ -3,7 +3,7 @@ use mathlib.Core.Path.{sym, _∙_}
 use Prim.Native.Nat.{_≤_}
 use native.Mathlib.Omega.{arith}
 use Rattle.monomial.specs.Order.{orderOf, cmp}
-use Rattle.basis.proofs.adding.Searches.{place-within}
+use Rattle.monomial.proofs.insert.Searches.{place-within}
 use Rattle.basis.proofs.adding.Growth.{product-passed, product-taken}
 use Rattle.basis.proofs.products.add_product.Statement.{statement}
 use Rattle.basis.proofs.products.add_product.Tie as tie

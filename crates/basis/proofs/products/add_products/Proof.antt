@@ -4,10 +4,10 @@ use mathlib.Core.List.{List}
 use Prim.Native.Nat.{ℕ, _+_, _-_, _≤_}
 use native.Mathlib.Omega.{arith}
 use lib.ListN.{length, getD, set, replicate, length-set, length-replicate}
+use Rattle.residue.specs.Layout.{over}
+use Rattle.residue.proofs.Layouts.{over-all}
 use Rattle.monomial.specs.Monomial.{timesVariable}
-use Rattle.basis.specs.Layout.{over}
 use Rattle.basis.specs.Insertions.{Grown, grown, productsPut, productPut}
-use Rattle.basis.proofs.Layouts.{over-all}
 use Rattle.basis.proofs.adding.Growth.{Sized, products-none, products-more, products-sized}
 use Rattle.basis.proofs.products.add_products.Statement.{statement}
 use Rattle.basis.proofs.products.add_products.Tie as tie

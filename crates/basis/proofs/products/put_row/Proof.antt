@@ -7,13 +7,13 @@ use lib.ListN.{getD, take, drop, replicate, length-drop}
 use lib.Seq.{length-take-le}
 use Rattle.residue.specs.Vector.{Below}
 use Rattle.residue.specs.Elimination.{eliminated}
-use Rattle.residue.proofs.Vectors.{below-take, below-drop}
-use Rattle.residue.proofs.Eliminated.{eliminated-below}
+use Rattle.residue.specs.Layout.{groups, over}
+use Rattle.residue.proofs.vector.Vectors.{below-take, below-drop}
+use Rattle.residue.proofs.elimination.Eliminated.{eliminated-below}
+use Rattle.residue.proofs.Layouts.{remainders-below}
 use Rattle.monomial.specs.Monomial.{valueAt}
-use Rattle.basis.specs.Levels.{groups}
-use Rattle.basis.specs.Layout.{over}
+use Rattle.monomial.proofs.insert.Writes.{row-in}
 use Rattle.basis.specs.Insertions.{correctedRow, reducedRow}
-use Rattle.basis.proofs.adding.Writes.{row-in, values-below}
 use Rattle.basis.proofs.adding.NewRows.{one-term}
 use Rattle.basis.proofs.products.put_row.Statement.{statement}
 use Rattle.basis.proofs.products.put_row.Tie as tie
@@ -24,41 +24,41 @@ one zero h k = omega arith
 one (suc i) h k = absurd (omega arith)
 
 -- the values are those of the monomial, zeros behind: residues
-abbrev start : tie.After-put-values → tie.Start
+abbrev start : tie.After-put-term-values → tie.Start
 start d = d .before .before .before .before .before .before .before .before .before .before .before
 
-module _ (d : tie.After-put-values) where
+module _ (d : tie.After-put-term-values) where
   abbrev s : tie.Start
   s = start d
 
   abbrev work : List ℕ
-  work = d .put-values .last .1 .1 .1 .1 .1 .0
+  work = d .put-term-values .last .1 .1 .1 .1 .1 .0
 
   loaded : work ≡ over (map (λ point. valueAt point (s .args .a .now) % s .args .p) (groups 8 (s .args .n) (s .args .points .now))) (replicate 128 0)
-  loaded = d .put-values .ensures ∙ ap (λ (l : List ℕ). over l (replicate 128 0)) (one-term (s .args .p) (s .args .n) (s .args .a .now) (s .args .points .now) (s .pre .1 .1 .0 .3))
+  loaded = d .put-term-values .ensures ∙ ap (λ (l : List ℕ). over l (replicate 128 0)) (one-term (s .args .p) (s .args .n) (s .args .a .now) (s .args .points .now) (s .pre .1 .1 .0 .3))
 
   below : Below (s .args .p) work
-  below = subst (Below (s .args .p)) (sym loaded) (values-below (s .args .p) (λ point. valueAt point (s .args .a .now)) (groups 8 (s .args .n) (s .args .points .now)) 128 (omega (arith, s .pre .0)))
+  below = subst (Below (s .args .p)) (sym loaded) (remainders-below (s .args .p) (λ point. valueAt point (s .args .a .now)) (groups 8 (s .args .n) (s .args .points .now)) 128 (omega (arith, s .pre .0)))
 
-slice-aggregate-put-values : tie.Need-slice-aggregate-put-values
-slice-aggregate-put-values c = refl
+slice-aggregate-put-term-values : tie.Need-slice-aggregate-put-term-values
+slice-aggregate-put-term-values c = refl
 
-slice-aggregate-put-values-2 : tie.Need-slice-aggregate-put-values-2
-slice-aggregate-put-values-2 c = refl
+slice-aggregate-put-term-values-2 : tie.Need-slice-aggregate-put-term-values-2
+slice-aggregate-put-term-values-2 c = refl
 
-put-values-requires : tie.Need-put-values-requires
-put-values-requires c κs =
+put-term-values-requires : tie.Need-put-term-values-requires
+put-term-values-requires c κs =
     let s = c .before .before .before .before .before .before .before .before .before .before in
     ((s .pre .0 .0, s .pre .0 .1), ((λ i h. one i h (s .pre .0 .0)), (s .pre .1 .1 .0 .3, ((omega arith, (s .pre .1 .0 .0, s .pre .1 .1 .1 .1 .0 .0)), refl))))
 
 slice-aggregate-eliminate : tie.Need-slice-aggregate-eliminate
-slice-aggregate-eliminate c = sym (c .before .before .put-values .kept .1 .1 .1 .1 .1 .0)
+slice-aggregate-eliminate c = sym (c .before .before .put-term-values .kept .1 .1 .1 .1 .1 .0)
 
 eliminate-requires : tie.Need-eliminate-requires
 eliminate-requires c κs =
     let d = c .before .before in
     let s = start d in
-    ((s .pre .0 .0, s .pre .0 .1, omega arith), (λ t j h l m. absurd (omega arith), (d .put-values .kept .1 .1 .1 .1 .1 .0, ((omega arith, omega arith), ((s .pre .1 .1 .1 .1 .0 .1, below d), λ t h. omega (arith, s .pre .1 .1 .1 .1 .1 t h))))))
+    ((s .pre .0 .0, s .pre .0 .1, omega arith), (λ t j h l m. absurd (omega arith), (d .put-term-values .kept .1 .1 .1 .1 .1 .0, ((omega arith, omega arith), ((s .pre .1 .1 .1 .1 .0 .1, below d), λ t h. omega (arith, s .pre .1 .1 .1 .1 .1 t h))))))
 
 mul-from : tie.Need-mul-from
 mul-from c = omega arith
@@ -108,7 +108,7 @@ correct-requires c κs =
     let r = length-take-le (64 * i + 64 - 64 * i) (drop (64 * i) moved) (simp length-drop (omega arith)) in
     let w = c .before .before .before .before .before .before .before .eliminate .last .1 .1 .1 .1 .1 .0 in
     let h = c .before .before .before .before .before .before .before .eliminate .kept .1 .1 .1 .1 .1 .0 in
-    let l = d .put-values .kept .1 .1 .1 .1 .1 .0 in
+    let l = d .put-term-values .kept .1 .1 .1 .1 .1 .0 in
     let z = length-take-le (n + 64 - n) (drop n w) (simp length-drop (omega arith)) in (
       (s .pre .0 .0, s .pre .0 .1, s .pre .0 .3, s .pre .0 .4),
       (
@@ -148,9 +148,9 @@ pub put-row-spec : {M : Type 1} → statement M
 put-row-spec =
     tie.close
     (tie.spec
-    slice-aggregate-put-values
-    slice-aggregate-put-values-2
-    put-values-requires
+    slice-aggregate-put-term-values
+    slice-aggregate-put-term-values-2
+    put-term-values-requires
     slice-aggregate-eliminate
     eliminate-requires
     mul-from

@@ -6,16 +6,16 @@ use mathlib.Core.List.{List}
 use Prim.Native.Nat.{ℕ}
 use native.Mathlib.Omega.{arith}
 use lib.ListN.{length}
-use Rattle.residue.proofs.Moduli.{modulus-range}
-use Rattle.basis.specs.Levels.{groups, noRepeat}
-use Rattle.basis.specs.Layout.{fill, inPlaces}
-use Rattle.basis.specs.Tables.{Tables, fourTables, tablesOf, pointsIn}
+use Rattle.residue.specs.Layout.{groups, fill, inPlaces}
+use Rattle.residue.proofs.level.Moduli.{modulus-range}
+use Rattle.residue.proofs.Tests.{of-true}
+use Rattle.residue.proofs.Layouts.{length-fill}
+use Rattle.specification.specs.Levels.{noRepeat}
+use Rattle.specification.specs.Tables.{Tables, fourTables, tablesOf, pointsIn}
+use Rattle.specification.proofs.agreement.Points.{Points}
+use Rattle.specification.proofs.agreement.Refusals.{Accepted, accepted}
 use Rattle.basis.specs.Drawing.{PointsGiven, DrawnUp}
-use Rattle.basis.proofs.Equality.{of-true}
-use Rattle.basis.proofs.Layouts.{length-fill}
 use Rattle.basis.proofs.PointTables.{length-points, points-in}
-use Rattle.basis.proofs.agreement.Points.{Points}
-use Rattle.basis.proofs.agreement.Refusals.{Accepted, accepted}
 use Rattle.basis.proofs.calls.Given.{read-each, read, table-repeat, table-points, given, drawn-long, drawn-of}
 use Rattle.basis.proofs.calls.Refusing.{not-once, not-count, by-tables}
 use Rattle.basis.proofs.recognise.recognise.Statement.{statement}

@@ -1,8 +1,8 @@
 -- `refusal::add_sizes` meets its contract.
 use borrow.Author.Needs.{needs}
 use mathlib.Core.Path.{refl, _∙_}
-use Rattle.basis.proofs.Cases.{sizes-are}
-use Rattle.basis.specs.Settings.{settingsCases}
+use Rattle.specification.proofs.Cases.{sizes-are}
+use Rattle.specification.specs.Settings.{settingsCases}
 use Rattle.basis.proofs.refusal.add_sizes.Statement.{statement}
 use Rattle.basis.proofs.refusal.add_sizes.Tie as tie
 

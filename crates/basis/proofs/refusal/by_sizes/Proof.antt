@@ -1,8 +1,8 @@
 -- `refusal::by_sizes` meets its contract: the cases of the settings first, then these three.
 use mathlib.Core.Path.{sym, _∙_}
-use Rattle.basis.specs.Refusal.{firstOf}
-use Rattle.basis.specs.Settings.{settingsCases}
-use Rattle.basis.proofs.Cases.{None, none-holds, first-stop, first-on}
+use Rattle.specification.specs.Refusal.{firstOf}
+use Rattle.specification.specs.Settings.{settingsCases}
+use Rattle.specification.proofs.Cases.{None, none-holds, first-stop, first-on}
 use Rattle.basis.proofs.refusal.by_sizes.Statement.{statement}
 use Rattle.basis.proofs.refusal.by_sizes.Tie as tie
 

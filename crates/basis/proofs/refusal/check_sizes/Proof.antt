@@ -3,8 +3,8 @@ use mathlib.Core.Path.{ap, _∙_}
 use mathlib.Core.Bool.{Bool, false}
 use mathlib.Core.List.{[], _∷_, _++_}
 use lib.Dec.{ltb}
-use Rattle.basis.specs.Refusal.{firstOf}
-use Rattle.basis.specs.Settings.{settingsCases}
+use Rattle.specification.specs.Refusal.{firstOf}
+use Rattle.specification.specs.Settings.{settingsCases}
 use Rattle.basis.proofs.refusal.check_sizes.Statement.{statement}
 use Rattle.basis.proofs.refusal.check_sizes.Tie as tie
 

@@ -3,8 +3,8 @@ use mathlib.Core.Path.{ap, _∙_}
 use mathlib.Core.Bool.{not}
 use Prim.Native.Nat.{ℕ}
 use lib.Dec.{eqb, ltb}
-use Rattle.basis.proofs.Cases.{sizes-are}
-use Rattle.basis.specs.Settings.{settingsCases}
+use Rattle.specification.proofs.Cases.{sizes-are}
+use Rattle.specification.specs.Settings.{settingsCases}
 use Rattle.basis.proofs.refusal.draw_sizes.Statement.{statement}
 use Rattle.basis.proofs.refusal.draw_sizes.Tie as tie
 

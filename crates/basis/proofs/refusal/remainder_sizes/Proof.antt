@@ -4,8 +4,8 @@ use mathlib.Core.Bool.{Bool, not, _||_}
 use lib.Dec.{ltb}
 use mathlib.Core.Logic.{⊎-elim}
 use borrow.Author.Tests.{lt-ltb, le-ltb, ne-eqb}
-use Rattle.basis.proofs.Cases.{sizes-are, eight-fold, not-eight-fold}
-use Rattle.basis.specs.Settings.{settingsCases}
+use Rattle.specification.proofs.Cases.{sizes-are, eight-fold, not-eight-fold}
+use Rattle.specification.specs.Settings.{settingsCases}
 use Rattle.basis.proofs.refusal.remainder_sizes.Statement.{statement}
 use Rattle.basis.proofs.refusal.remainder_sizes.Tie as tie
 

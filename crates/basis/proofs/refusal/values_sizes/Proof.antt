@@ -3,8 +3,8 @@ use mathlib.Core.Path.{refl, sym, ap, _∙_}
 use mathlib.Core.Bool.{Bool, _||_}
 use lib.Dec.{ltb}
 use mathlib.Core.Logic.{⊎-elim}
-use Rattle.basis.proofs.Cases.{sizes-are}
-use Rattle.basis.specs.Settings.{settingsCases}
+use Rattle.specification.proofs.Cases.{sizes-are}
+use Rattle.specification.specs.Settings.{settingsCases}
 use Rattle.basis.proofs.refusal.values_sizes.Statement.{statement}
 use Rattle.basis.proofs.refusal.values_sizes.Tie as tie
 

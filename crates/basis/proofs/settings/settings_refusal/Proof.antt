@@ -1,8 +1,8 @@
 -- `settings::settings_refusal` meets its contract: at each return the tests that led there decide the cases.
 use borrow.Author.Tests.{lt-ltb, le-ltb, le-leb, lt-leb}
 use mathlib.Core.Path.{sym, _∙_}
-use Rattle.basis.specs.Refusal.{firstOf}
-use Rattle.basis.specs.Settings.{settingsCases}
+use Rattle.specification.specs.Refusal.{firstOf}
+use Rattle.specification.specs.Settings.{settingsCases}
 use Rattle.basis.proofs.settings.settings_refusal.Statement.{statement}
 use Rattle.basis.proofs.settings.settings_refusal.Tie as tie
 

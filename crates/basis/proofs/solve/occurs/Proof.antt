@@ -4,8 +4,8 @@ use Prim.Native.Nat.{ℕ, _*_, _-_, _≤_}
 use native.Mathlib.Omega.{arith}
 use lib.ListN.{take, drop}
 use mathlib.Core.Logic.{⊎-elim}
-use Rattle.basis.specs.Levels.{groups}
-use Rattle.basis.specs.Solving.{occurs}
+use Rattle.residue.specs.Layout.{groups}
+use Rattle.specification.specs.Solving.{occurs}
 use Rattle.basis.proofs.Terms.{occurs-no-term, occurs-no-exponent, occurs-hit, occurs-end}
 use Rattle.basis.proofs.solve.occurs.Statement.{statement}
 use Rattle.basis.proofs.solve.occurs.Tie as tie

@@ -5,8 +5,8 @@ use Prim.Native.Nat.{ℕ, _-_, _%_}
 use native.Mathlib.Omega.{arith}
 use native.Mathlib.Nat.{le-of-eq, le-trans}
 use lib.ListN.{replicate, length-map}
-use Rattle.basis.specs.Layout.{over}
-use Rattle.basis.proofs.Places.{over-zeros}
+use Rattle.residue.specs.Layout.{over}
+use Rattle.residue.proofs.Places.{over-zeros}
 use Rattle.basis.proofs.solve.put_answer.Statement.{statement}
 use Rattle.basis.proofs.solve.put_answer.Tie as tie
 

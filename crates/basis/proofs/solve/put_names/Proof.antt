@@ -3,14 +3,12 @@ use mathlib.Core.Path.{_≡_, refl, sym, ap, ap₂, _∙_}
 use mathlib.Core.List.{List, [], _∷_}
 use Prim.Native.Nat.{ℕ, _+_, _-_, _≤_}
 use native.Mathlib.Omega.{arith}
-use lib.ListN.{length, take}
+use lib.ListN.{length, take, set, length-append}
 use mathlib.Core.Logic.{⊎-elim}
-use lib.ListN.{set, length-append}
-use Rattle.basis.specs.Levels.{groups}
-use Rattle.basis.specs.Layout.{fill}
+use Rattle.residue.specs.Layout.{groups, fill}
+use Rattle.residue.proofs.Layouts.{fill-zeros, fill-put, length-fill}
 use Rattle.basis.specs.Interpolants.{names}
-use Rattle.basis.proofs.Layouts.{length-fill, fill-zeros}
-use Rattle.basis.proofs.Wiring.{fill-put, names-on, names-off, names-length}
+use Rattle.basis.proofs.Wiring.{names-on, names-off, names-length}
 use Rattle.basis.proofs.solve.put_names.Statement.{statement}
 use Rattle.basis.proofs.solve.put_names.Tie as tie
 

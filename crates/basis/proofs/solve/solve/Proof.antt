@@ -7,11 +7,11 @@ use lib.ListN.{take, drop, length-take}
 use borrow.Author.Needs.{needs}
 use lib.Seq.{length-take-le}
 use Rattle.residue.specs.Vector.{Below}
-use Rattle.residue.proofs.Vectors.{below-take, below-drop}
-use Rattle.residue.proofs.Eliminated.{eliminated-below}
-use Rattle.basis.specs.Layout.{fill}
+use Rattle.residue.specs.Layout.{fill}
+use Rattle.residue.proofs.vector.Vectors.{below-take, below-drop}
+use Rattle.residue.proofs.elimination.Eliminated.{eliminated-below}
+use Rattle.residue.proofs.Layouts.{answered}
 use Rattle.basis.specs.Interpolants.{solution}
-use Rattle.basis.proofs.Layouts.{answered}
 use Rattle.basis.proofs.solve.solve.Statement.{statement}
 use Rattle.basis.proofs.solve.solve.Tie as tie
 

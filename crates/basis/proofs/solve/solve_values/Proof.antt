@@ -6,13 +6,12 @@ use Prim.Native.Nat.{ℕ}
 use native.Mathlib.Omega.{arith}
 use lib.ListN.{length, take, replicate}
 use Rattle.residue.specs.Vector.{Below}
-use Rattle.basis.specs.Levels.{residues}
-use Rattle.basis.specs.Layout.{fill, over}
+use Rattle.residue.specs.Layout.{fill, over}
+use Rattle.residue.proofs.Places.{over-zeros}
+use Rattle.residue.proofs.Layouts.{below-fill, length-fill}
+use Rattle.specification.specs.Levels.{residues}
+use Rattle.specification.proofs.agreement.Points.{length-residues}
 use Rattle.basis.specs.Interpolants.{solution}
-use Rattle.basis.proofs.Layouts.{length-fill}
-use Rattle.basis.proofs.Places.{over-zeros}
-use Rattle.basis.proofs.ValueRows.{below-fill}
-use Rattle.basis.proofs.agreement.Points.{length-residues}
 use Rattle.basis.proofs.calls.Answers.{front-of}
 use Rattle.basis.proofs.solve.solve_values.Statement.{statement}
 use Rattle.basis.proofs.solve.solve_values.Tie as tie

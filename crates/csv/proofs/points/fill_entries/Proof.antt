@@ -4,7 +4,7 @@ use mathlib.Core.List.{[]}
 use Prim.Native.Nat.{_+_, _*_, _-_}
 use native.Mathlib.Omega.{arith}
 use lib.ListN.{length, drop, length-take, length-drop}
-use Rattle.basis.proofs.Layouts.{length-fill}
+use Rattle.residue.proofs.Layouts.{length-fill}
 use Rattle.csv.specs.Points.{levelsAt}
 use Rattle.csv.proofs.Gathering.{Gathered, begun, counted-all, points-length, values-length, entry-there, gather, gathered}
 use Rattle.csv.proofs.points.fill_entries.Statement.{statement}

@@ -5,14 +5,14 @@ use Prim.Native.Nat.{ℕ}
 use native.Mathlib.Omega.{arith}
 use lib.ListN.{length, take}
 use lib.Seq.{length-take-le}
-use Rattle.residue.proofs.Moduli.{modulus-range}
-use Rattle.basis.specs.Levels.{groups}
-use Rattle.basis.specs.Layout.{length-fill}
-use Rattle.basis.proofs.Wiring.{names-length}
-use Rattle.csv.proofs.Appended.{put-within}
-use Rattle.basis.proofs.calls.Given.{drawn-long}
-use Rattle.csv.proofs.Told.{few, inside, told-room, told}
 use borrow.Author.Needs.{needs}
+use Rattle.residue.specs.Layout.{groups}
+use Rattle.residue.proofs.level.Moduli.{modulus-range}
+use Rattle.residue.proofs.Layouts.{length-fill}
+use Rattle.basis.proofs.Wiring.{names-length}
+use Rattle.basis.proofs.calls.Given.{drawn-long}
+use Rattle.csv.proofs.Appended.{put-within}
+use Rattle.csv.proofs.Told.{few, inside, told-room, told}
 use Rattle.csv.proofs.printing.print_points.Statement.{statement}
 use Rattle.csv.proofs.printing.print_points.Tie as tie
 

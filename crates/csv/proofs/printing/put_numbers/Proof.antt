@@ -4,7 +4,7 @@ use mathlib.Core.List.{[], map, flatten}
 use Prim.Native.Nat.{_-_, _<_, _≤_}
 use native.Mathlib.Omega.{arith}
 use lib.ListN.{length, getD, take, length-map}
-use Rattle.residue.proofs.Vectors.{map-at}
+use Rattle.residue.proofs.vector.Vectors.{map-at}
 use Rattle.csv.specs.Printing.{spaced, numbers}
 use Rattle.csv.specs.Appending.{Put}
 use Rattle.csv.proofs.Appended.{put-nothing, turn-room, turn, turns-all, turn-length}

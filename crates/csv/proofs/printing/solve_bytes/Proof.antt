@@ -4,13 +4,12 @@ use mathlib.Core.List.{List}
 use Prim.Native.Nat.{ℕ}
 use native.Mathlib.Omega.{arith}
 use lib.ListN.{length}
-use Rattle.residue.specs.Vector.{Below}
-use Rattle.basis.specs.Layout.{fill, length-fill}
-use Rattle.basis.specs.Interpolants.{solution}
-use Rattle.basis.proofs.Layouts.{over-all}
-use Rattle.basis.proofs.Places.{over-zeros}
-use Rattle.basis.proofs.ValueRows.{below-fill}
 use borrow.Author.Needs.{needs}
+use Rattle.residue.specs.Vector.{Below}
+use Rattle.residue.specs.Layout.{fill}
+use Rattle.residue.proofs.Layouts.{length-fill, over-all, below-fill}
+use Rattle.residue.proofs.Places.{over-zeros}
+use Rattle.basis.specs.Interpolants.{solution}
 use Rattle.csv.proofs.printing.solve_bytes.Statement.{statement}
 use Rattle.csv.proofs.printing.solve_bytes.Tie as tie
 

@@ -6,10 +6,9 @@ use Prim.Native.Nat.{ℕ, _≤_}
 use native.Mathlib.Omega.{arith}
 use lib.IntN.{ℤ}
 use lib.ListN.{length, drop, length-map}
-use Rattle.residue.proofs.Moduli.{modulus-range}
-use Rattle.basis.specs.Levels.{groups}
-use Rattle.basis.specs.Layout.{inPlaces, over}
-use Rattle.basis.proofs.Layouts.{length-fill, fill-zeros}
+use Rattle.residue.specs.Layout.{groups, inPlaces, over}
+use Rattle.residue.proofs.level.Moduli.{modulus-range}
+use Rattle.residue.proofs.Layouts.{fill-zeros, length-fill}
 use Rattle.csv.specs.Reading.{Case, Entries, pointOf, valueOf, isOutside, pointsOf, firstOutside, firstRepeat, entriesCases, settingsCases, firstCase, ended, refused}
 use Rattle.csv.specs.Points.{levelsAt, saying}
 use Rattle.csv.specs.declared.reading.Read.{Read}

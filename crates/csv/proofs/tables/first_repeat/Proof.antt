@@ -3,7 +3,7 @@ use mathlib.Core.Path.{_≡_, sym, _∙_}
 use mathlib.Core.List.{[]}
 use Prim.Native.Nat.{_-_, _≤_}
 use native.Mathlib.Omega.{arith}
-use Rattle.basis.specs.Levels.{groups}
+use Rattle.residue.specs.Layout.{groups}
 use Rattle.csv.specs.Reading.{firstRepeat}
 use Rattle.csv.proofs.Repeating.{repeatsFrom, repeats-start, repeats-end, repeats-here, repeats-on}
 use Rattle.csv.proofs.tables.first_repeat.Statement.{statement}

@@ -4,25 +4,26 @@ use mathlib.Core.List.{List}
 use Prim.Native.Nat.{ℕ, _+_, _*_, _-_, _≤_}
 use native.Mathlib.Omega.{arith}
 use lib.ListN.{take, drop}
-use Rattle.basis.specs.Levels.{sameList, isAmong}
-use Rattle.csv.specs.Points.{rowAt, earlier}
+use Rattle.residue.specs.Lists.{sameList}
+use Rattle.residue.specs.Layout.{rowAt}
+use Rattle.specification.specs.Levels.{isAmong}
+use Rattle.csv.specs.Points.{earlier}
 use Rattle.csv.proofs.Repeating.{among-here, among-on, among-end}
 use Rattle.csv.proofs.tables.is_earlier.Statement.{statement}
 use Rattle.csv.proofs.tables.is_earlier.Tie as tie
 
 abbrev Inv-loop : tie.InvT-loop
-Inv-loop points i at row j₀ j = (j ≤ i) × (isAmong (rowAt i points) (earlier j points) ≡ isAmong (rowAt i points) (earlier i points))
+Inv-loop points i at row j₀ j = (j ≤ i) × (isAmong (rowAt 8 i points) (earlier j points) ≡ isAmong (rowAt 8 i points) (earlier i points))
 
 abbrev μ-loop : tie.MeasureT-loop
 μ-loop points i at row j₀ j = j
 
 -- a row as it is lent
-lent : (t : List ℕ) (i : ℕ) → take (8 * i + 8 - 8 * i) (drop (8 * i) t) ≡ rowAt i t
-unfolding rowAt
+lent : (t : List ℕ) (i : ℕ) → take (8 * i + 8 - 8 * i) (drop (8 * i) t) ≡ rowAt 8 i t
 lent t i = let e : 8 * i + 8 - 8 * i ≡ 8 = omega arith in ap (λ (k : ℕ). take k (drop (8 * i) t)) e
 
 compared : (c : tie.After-same Inv-loop μ-loop)
-    → c .same .result ≡ sameList (rowAt (c .before .before .before .before .before .before .args .i) (c .before .before .before .before .before .before .args .points .now)) (rowAt (c .before .before .before .loop .j - 1) (c .before .before .before .before .before .before .args .points .now))
+    → c .same .result ≡ sameList (rowAt 8 (c .before .before .before .before .before .before .args .i) (c .before .before .before .before .before .before .args .points .now)) (rowAt 8 (c .before .before .before .loop .j - 1) (c .before .before .before .before .before .before .args .points .now))
 compared c = c .same .ensures ∙ ap₂ sameList (lent (c .before .before .before .before .before .before .args .points .now) (c .before .before .before .before .before .before .args .i)) (lent (c .before .before .before .before .before .before .args .points .now) (c .before .before .before .loop .j - 1))
 
 mul-at : tie.Need-mul-at Inv-loop μ-loop

@@ -7,9 +7,9 @@ use native.Mathlib.Omega.{arith}
 use lib.IntN.{ℤ}
 use lib.ListN.{length}
 use lib.Seq.{length-take-le}
-use Rattle.basis.specs.declared.settings.Settings.{Settings}
-use Rattle.basis.specs.Tables.{Tables, fourTables, tooShort}
-use Rattle.basis.specs.Solving.{remainderOutcome}
+use Rattle.specification.specs.declared.settings.Settings.{Settings}
+use Rattle.specification.specs.Tables.{Tables, fourTables, tooShort}
+use Rattle.specification.specs.Solving.{remainderOutcome}
 use Rattle.misqafur.proofs.SignedBytes.{signed-part}
 use Rattle.basis.proofs.calls.Refusing.{fill-refused}
 use Rattle.misqafur.proofs.Sizes.{termsBySize, terms-refused, terms-few}

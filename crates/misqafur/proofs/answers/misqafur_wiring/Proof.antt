@@ -7,8 +7,8 @@ use native.Mathlib.Omega.{arith}
 use lib.IntN.{ℤ}
 use lib.ListN.{length}
 use lib.Seq.{length-take-le}
-use Rattle.basis.specs.declared.settings.Settings.{Settings}
-use Rattle.basis.specs.Tables.{Tables, fourTables, tooShort}
+use Rattle.specification.specs.declared.settings.Settings.{Settings}
+use Rattle.specification.specs.Tables.{Tables, fourTables, tooShort}
 use Rattle.misqafur.proofs.SignedBytes.{signed-part}
 use Rattle.misqafur.proofs.Sizes.{valuesBySize, values-few, wiring-alone}
 use Rattle.misqafur.proofs.Packed.{wiring-packed}

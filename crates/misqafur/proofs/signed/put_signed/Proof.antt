@@ -8,7 +8,7 @@ use lib.ListN.{length, getD}
 use mir.Syntax.{w8}
 use mir.Facts.{toZ-ofZ}
 use Rattle.residue.specs.Level.{signedOf}
-use Rattle.residue.proofs.Filled.{filled, filled-none, kept-length, filled-more}
+use Rattle.residue.proofs.vector.Filled.{filled, filled-none, kept-length, filled-more}
 use Rattle.misqafur.proofs.SignedBytes.{signed-front}
 use Rattle.misqafur.proofs.signed.put_signed.Statement.{statement}
 use Rattle.misqafur.proofs.signed.put_signed.Tie as tie

@@ -6,10 +6,10 @@ use Prim.Native.Nat.{ℕ, _+_, _*_, _<_}
 use native.Mathlib.Omega.{arith}
 use lib.Dec.{eqb, eqb→eq}
 use lib.ListN.{getD}
-use Rattle.residue.proofs.Moduli.{below, below-at}
+use borrow.Author.Needs.{needs}
+use Rattle.residue.proofs.level.Moduli.{below, below-at}
 use Rattle.monomial.specs.Order.{lex, grlex, grevlex, orderOf}
 use Rattle.monomial.specs.Rank.{key, rankOf, variableRank}
-use borrow.Author.Needs.{needs}
 use Rattle.monomial.proofs.rank.variable_rank.Statement.{statement}
 use Rattle.monomial.proofs.rank.variable_rank.Tie as tie
 

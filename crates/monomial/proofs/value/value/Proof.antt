@@ -6,7 +6,6 @@ use native.Mathlib.Omega.{arith}
 use lib.ListN.{drop}
 use Rattle.residue.specs.Congruence.{Mod}
 use Rattle.residue.proofs.Congruence.{of}
-use Rattle.residue.proofs.Reduction.{product-small}
 use Rattle.monomial.specs.Monomial.{valueAt}
 use Rattle.monomial.proofs.Loops.{value-again, value-end}
 use Rattle.monomial.proofs.value.value.Statement.{statement}
@@ -44,13 +43,11 @@ power-requires c κs =
     let s = start l in
     ((s .pre .0 .0, s .pre .0 .1, l .before .reciprocal .ensures), s .pre .1 .1 (l .loop .i) (omega arith))
 
-mul-reduce : tie.Need-mul-reduce Inv-loop μ-loop
-mul-reduce c =
+reduced-product-requires : tie.Need-reduced-product-requires Inv-loop μ-loop
+reduced-product-requires c κs =
     let l = c .before .before .before .before in
-    omega (arith, product-small (start l .args .p) (l .loop .product) (c .power .result) (omega arith) (l .loop .inv .1) (rw (c .power .ensures) (mod-lt _ (omega arith))))
-
-reduce-requires : tie.Need-reduce-requires Inv-loop μ-loop
-reduce-requires c κs = let l = c .before .before .before .before in (omega arith, l .before .reciprocal .ensures)
+    let h : c .power .result < start l .args .p = rw (c .power .ensures) (mod-lt _ (omega arith)) in
+    ((omega arith, l .before .reciprocal .ensures), (omega arith, omega arith))
 
 add-i : tie.Need-add-i Inv-loop μ-loop
 add-i c = omega arith
@@ -63,8 +60,8 @@ loop-again c =
     let l = c .before .before .before .before .before in
     let s = start l in (
       omega arith,
-      rw (c .reduce .ensures) (mod-lt _ (omega arith)),
-      rw (c .reduce .ensures)
+      rw (c .reduced-product .ensures) (mod-lt _ (omega arith)),
+      rw (c .reduced-product .ensures)
           (value-again (s .args .p) (s .args .point .now) (s .args .a .now) (l .loop .i) (l .loop .product) (l .loop .inv .2) (omega arith) (omega arith) (c .before .power .ensures)),
     )
 
@@ -86,8 +83,7 @@ value-spec =
     cast-power
     shared-slice-read-power-2
     power-requires
-    mul-reduce
-    reduce-requires
+    reduced-product-requires
     add-i
     loop-less
     loop-again

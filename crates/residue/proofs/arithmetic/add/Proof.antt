@@ -1,7 +1,7 @@
 -- `arithmetic::add` meets its contract.
 use native.Mathlib.Omega.{arith}
-use Rattle.residue.proofs.Reduction.{kept, lessened}
 use borrow.Author.Needs.{needs}
+use Rattle.residue.proofs.arithmetic.Reduction.{kept, lessened}
 use Rattle.residue.proofs.arithmetic.add.Statement.{statement}
 use Rattle.residue.proofs.arithmetic.add.Tie as tie
 

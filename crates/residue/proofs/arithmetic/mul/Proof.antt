@@ -1,7 +1,7 @@
 -- `arithmetic::mul` meets its contract.
 use native.Mathlib.Omega.{arith}
-use Rattle.residue.proofs.Reduction.{product-small}
 use borrow.Author.Needs.{needs}
+use Rattle.residue.proofs.arithmetic.Reduction.{product-small}
 use Rattle.residue.proofs.arithmetic.mul.Statement.{statement}
 use Rattle.residue.proofs.arithmetic.mul.Tie as tie
 

@@ -2,8 +2,8 @@
 use mathlib.Core.Path.{_≡_, sym, _∙_}
 use Prim.Native.Nat.{_-_}
 use native.Mathlib.Omega.{arith}
-use Rattle.residue.proofs.Reduction.{kept, lessened}
 use borrow.Author.Needs.{needs}
+use Rattle.residue.proofs.arithmetic.Reduction.{kept, lessened}
 use Rattle.residue.proofs.arithmetic.neg.Statement.{statement}
 use Rattle.residue.proofs.arithmetic.neg.Tie as tie
 

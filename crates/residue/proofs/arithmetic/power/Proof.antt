@@ -6,8 +6,8 @@ use native.Mathlib.Nat.{mod-lt}
 use native.Mathlib.Omega.{arith}
 use Rattle.residue.specs.Congruence.{Mod}
 use Rattle.residue.proofs.Congruence.{of}
-use Rattle.residue.proofs.Reduction.{kept, product-small}
-use Rattle.residue.proofs.Powers.{even, odd, whole}
+use Rattle.residue.proofs.arithmetic.Reduction.{kept}
+use Rattle.residue.proofs.arithmetic.Powers.{even, odd, whole}
 use Rattle.residue.proofs.arithmetic.power.Statement.{statement}
 use Rattle.residue.proofs.arithmetic.power.Tie as tie
 
@@ -21,21 +21,11 @@ abbrev μ-loop : tie.MeasureT-loop
 loop-holds : tie.Need-loop-holds Inv-loop μ-loop
 loop-holds c = (omega arith, (omega arith, of (omega arith)))
 
-mul-reduce : tie.Need-mul-reduce Inv-loop μ-loop
-mul-reduce c =
-    let l = c .before .before in
-    omega (arith, product-small _ _ _ (l .before .pre .0 .1) (l .loop .inv .0) (l .loop .inv .1 .0))
+reduced-product-requires : tie.Need-reduced-product-requires Inv-loop μ-loop
+reduced-product-requires c κs = let r = c .before .before .before in ((r .pre .0 .0, r .pre .0 .2), (omega arith, omega arith))
 
-reduce-requires : tie.Need-reduce-requires Inv-loop μ-loop
-reduce-requires c κs = let r = c .before .before .before in (r .pre .0 .0, r .pre .0 .2)
-
-mul-reduce-2 : tie.Need-mul-reduce-2 Inv-loop μ-loop
-mul-reduce-2 c =
-    let l = c .before .before in
-    omega (arith, product-small _ _ _ (l .before .pre .0 .1) (l .loop .inv .1 .0) (l .loop .inv .1 .0))
-
-reduce-requires-2 : tie.Need-reduce-requires-2 Inv-loop μ-loop
-reduce-requires-2 c κs = let r = c .before .before .before in (r .pre .0 .0, r .pre .0 .2)
+reduced-product-requires-2 : tie.Need-reduced-product-requires-2 Inv-loop μ-loop
+reduced-product-requires-2 c κs = let r = c .before .before .before in ((r .pre .0 .0, r .pre .0 .2), (omega arith, omega arith))
 
 loop-less : tie.Need-loop-less Inv-loop μ-loop
 loop-less c = omega arith
@@ -45,8 +35,8 @@ loop-again c =
     let l = c .before .before .before in
     let p = l .before .args .p in
     let two : 0 < p = omega arith in
-    let sq = c .reduce2 .ensures in
-    let low : c .reduce2 .result < p = rw sq (mod-lt _ two) in
+    let sq = c .reduced-product2 .ensures in
+    let low : c .reduced-product2 .result < p = rw sq (mod-lt _ two) in
     ⊎-elim
     (λ w. let e = w .2 ∙ w .1 .ensures in (rw e (mod-lt _ two), (low, odd _ _ _ (l .loop .inv .1 .1) sq (w .0 .taken) e)))
     (λ w. (rw (w .1) (l .loop .inv .0), (low, even _ _ _ (l .loop .inv .1 .1) sq (w .0 .left) (w .1))))
@@ -65,10 +55,8 @@ power-spec =
     Inv-loop
     μ-loop
     loop-holds
-    mul-reduce
-    reduce-requires
-    mul-reduce-2
-    reduce-requires-2
+    reduced-product-requires
+    reduced-product-requires-2
     loop-less
     loop-again
     returns)

@@ -1,7 +1,7 @@
 -- `arithmetic::reciprocal` meets its contract.
 use native.Mathlib.Omega.{arith}
-use Rattle.residue.proofs.Reduction.{reciprocal-small}
 use borrow.Author.Needs.{needs}
+use Rattle.residue.proofs.arithmetic.Reduction.{reciprocal-small}
 use Rattle.residue.proofs.arithmetic.reciprocal.Statement.{statement}
 use Rattle.residue.proofs.arithmetic.reciprocal.Tie as tie
 

@@ -1,7 +1,7 @@
 -- `arithmetic::reduce` meets its contract.
 use mathlib.Core.Path.{_∙_}
 use native.Mathlib.Omega.{arith}
-use Rattle.residue.proofs.Reduction.{kept, lessened, wide-fits, quotient-low, rest-small, rest-same}
+use Rattle.residue.proofs.arithmetic.Reduction.{kept, lessened, wide-fits, quotient-low, rest-small, rest-same}
 use Rattle.residue.proofs.arithmetic.reduce.Statement.{statement}
 use Rattle.residue.proofs.arithmetic.reduce.Tie as tie
 

@@ -8,8 +8,8 @@ use lib.ListN.{length, getD}
 use borrow.Author.Needs.{needs}
 use Rattle.residue.specs.Vector.{Below}
 use Rattle.residue.specs.Elimination.{cancelled, gained, reduced}
-use Rattle.residue.proofs.Reduction.{square-small}
-use Rattle.residue.proofs.Eliminated.{long-as, entry-as, cancel-kept, cancel-gained, gained-below}
+use Rattle.residue.proofs.arithmetic.Reduction.{square-small}
+use Rattle.residue.proofs.elimination.Eliminated.{long-as, entry-as, cancel-kept, cancel-gained, gained-below}
 use Rattle.residue.proofs.elimination.cancel.Statement.{statement}
 use Rattle.residue.proofs.elimination.cancel.Tie as tie
 

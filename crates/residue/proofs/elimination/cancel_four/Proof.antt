@@ -8,8 +8,8 @@ use lib.ListN.{getD}
 use borrow.Author.Needs.{needs}
 use Rattle.residue.specs.Vector.{Below}
 use Rattle.residue.specs.Elimination.{eliminated, gainedFour, reduced}
-use Rattle.residue.proofs.Reduction.{square-small}
-use Rattle.residue.proofs.Fours.{cancel-four, four-below}
+use Rattle.residue.proofs.arithmetic.Reduction.{square-small}
+use Rattle.residue.proofs.elimination.FourRows.{cancel-four, four-below}
 use Rattle.residue.proofs.elimination.cancel_four.Statement.{statement}
 use Rattle.residue.proofs.elimination.cancel_four.Tie as tie
 

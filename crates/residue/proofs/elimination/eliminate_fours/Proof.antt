@@ -7,10 +7,10 @@ use lib.ListN.{length, take, drop, length-drop}
 use lib.Seq.{length-take-le, getD-take, getD-drop}
 use Rattle.residue.specs.Vector.{Below}
 use Rattle.residue.specs.Elimination.{eliminated, reduced}
-use Rattle.residue.proofs.Reduction.{square-small}
-use Rattle.residue.proofs.Vectors.{below-take, below-drop}
-use Rattle.residue.proofs.Eliminated.{long-as, eliminated-none, eliminated-part, eliminated-length, reduced-length, reduced-residues}
-use Rattle.residue.proofs.Fours.{block-zero}
+use Rattle.residue.proofs.arithmetic.Reduction.{square-small}
+use Rattle.residue.proofs.vector.Vectors.{below-take, below-drop}
+use Rattle.residue.proofs.elimination.Eliminated.{long-as, eliminated-none, eliminated-part, eliminated-length, reduced-length, reduced-residues}
+use Rattle.residue.proofs.elimination.FourRows.{block-zero}
 use Rattle.residue.proofs.elimination.eliminate_fours.Statement.{statement}
 use Rattle.residue.proofs.elimination.eliminate_fours.Tie as tie
 

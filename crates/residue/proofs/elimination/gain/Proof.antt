@@ -4,8 +4,8 @@ use mathlib.Core.List.{List}
 use Prim.Native.Nat.{ℕ, _+_, _*_, _-_, _<_, _≤_}
 use native.Mathlib.Omega.{arith}
 use lib.ListN.{length, getD}
-use Rattle.residue.proofs.Filled.{filled, filled-none, kept-length, own, filled-more, filled-all}
-use Rattle.residue.proofs.Eliminated.{gained-length, gained-at}
+use Rattle.residue.proofs.vector.Filled.{filled, filled-none, kept-length, own, filled-more, filled-all}
+use Rattle.residue.proofs.elimination.Eliminated.{gained-length, gained-at}
 use Rattle.residue.proofs.elimination.gain.Statement.{statement}
 use Rattle.residue.proofs.elimination.gain.Tie as tie
 

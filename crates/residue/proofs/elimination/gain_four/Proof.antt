@@ -5,8 +5,8 @@ use Prim.Native.Nat.{ℕ, _+_, _*_, _-_, _<_, _≤_}
 use native.Mathlib.Omega.{arith}
 use lib.ListN.{length, getD}
 use Rattle.residue.specs.Elimination.{gainedFour}
-use Rattle.residue.proofs.Filled.{filled, filled-none, kept-length, own, filled-more}
-use Rattle.residue.proofs.Fours.{four-length, four-at, four-within}
+use Rattle.residue.proofs.vector.Filled.{filled, filled-none, kept-length, own, filled-more}
+use Rattle.residue.proofs.elimination.FourRows.{four-length, four-at, four-within}
 use Rattle.residue.proofs.elimination.gain_four.Statement.{statement}
 use Rattle.residue.proofs.elimination.gain_four.Tie as tie
 

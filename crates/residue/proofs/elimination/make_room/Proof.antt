@@ -4,7 +4,7 @@ use native.Mathlib.Omega.{arith}
 use borrow.Author.Needs.{needs}
 use Rattle.residue.specs.Vector.{Below}
 use Rattle.residue.specs.Elimination.{reduced}
-use Rattle.residue.proofs.Eliminated.{reduced-again, reduced-below}
+use Rattle.residue.proofs.elimination.Eliminated.{reduced-again, reduced-below}
 use Rattle.residue.proofs.elimination.make_room.Statement.{statement}
 use Rattle.residue.proofs.elimination.make_room.Tie as tie
 

@@ -6,8 +6,8 @@ use native.Mathlib.Nat.{lt-of-lt-of-le}
 use native.Mathlib.Omega.{arith}
 use lib.ListN.{getD, drop}
 use Rattle.residue.specs.Modulus.{primes, isOneOf, isModulus}
-use Rattle.residue.proofs.Moduli.{search-end, search-on, search-hit, prime-small}
-use Rattle.residue.proofs.Inverses.{inverses, start, start-small, start-more, inside, entry-is, entry-below, inverse-is, no-modulus, no-residue}
+use Rattle.residue.proofs.level.Moduli.{search-end, search-on, search-hit, prime-small}
+use Rattle.residue.proofs.inverse.Inverses.{inverses, start, start-small, start-more, inside, entry-is, entry-below, inverse-is, no-modulus, no-residue}
 use Rattle.residue.proofs.inverse.inverse.Statement.{statement}
 use Rattle.residue.proofs.inverse.inverse.Tie as tie
 

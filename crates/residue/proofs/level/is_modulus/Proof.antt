@@ -4,7 +4,7 @@ use Prim.Native.Nat.{_≤_, _-_}
 use native.Mathlib.Omega.{arith}
 use lib.ListN.{drop}
 use Rattle.residue.specs.Modulus.{primes, isOneOf, isModulus}
-use Rattle.residue.proofs.Moduli.{search-end, search-on, search-hit, prime-small}
+use Rattle.residue.proofs.level.Moduli.{search-end, search-on, search-hit, prime-small}
 use Rattle.residue.proofs.level.is_modulus.Statement.{statement}
 use Rattle.residue.proofs.level.is_modulus.Tie as tie
 

@@ -12,8 +12,8 @@ use mir.Val.{SFits, Fits, toZ, ofZ}
 use mir.Facts.{toZ-ofZ}
 use Rattle.residue.specs.Level.{residueOf}
 use Rattle.residue.specs.declared.level.Level.the-variants.{Residue}
-use Rattle.residue.proofs.Levels.{of-negative, of-low, of-kept, of-high}
-use Rattle.residue.proofs.SignedBytes.{wide, word, magnitude, negated, kept}
+use Rattle.residue.proofs.level.Levels.{of-negative, of-low, of-kept, of-high}
+use Rattle.residue.proofs.level.SignedBytes.{wide, word, magnitude, negated, kept}
 use Rattle.residue.proofs.level.residue.Statement.{statement}
 use Rattle.residue.proofs.level.residue.Tie as tie
 

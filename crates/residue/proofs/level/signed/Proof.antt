@@ -7,8 +7,8 @@ use lib.IntN.{ℤ, pos, negsuc, _-ℤ_}
 use mir.Syntax.{w8, w16}
 use mir.Val.{SFits, toZ, ofZ}
 use mir.Facts.{toZ-ofZ}
-use Rattle.residue.proofs.Levels.{signed-low, signed-high}
-use Rattle.residue.proofs.SignedBytes.{wide, lowered}
+use Rattle.residue.proofs.level.Levels.{signed-low, signed-high}
+use Rattle.residue.proofs.level.SignedBytes.{wide, lowered}
 use Rattle.residue.proofs.level.signed.Statement.{statement}
 use Rattle.residue.proofs.level.signed.Tie as tie
 

@@ -6,8 +6,8 @@ use native.Mathlib.Omega.{arith}
 use lib.ListN.{length, getD, take}
 use lib.Seq.{take-all}
 use Rattle.residue.specs.Vector.{dotOf}
-use Rattle.residue.proofs.Reduction.{product-small}
-use Rattle.residue.proofs.Vectors.{dot-more}
+use Rattle.residue.proofs.arithmetic.Reduction.{product-small}
+use Rattle.residue.proofs.vector.Vectors.{dot-more}
 use Rattle.residue.proofs.vector.dot.Statement.{statement}
 use Rattle.residue.proofs.vector.dot.Tie as tie
 

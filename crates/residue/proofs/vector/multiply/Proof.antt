@@ -4,9 +4,9 @@ use mathlib.Core.List.{List}
 use Prim.Native.Nat.{ℕ, _*_, _-_, _%_, _<_, _≤_}
 use native.Mathlib.Omega.{arith}
 use lib.ListN.{length, getD}
-use Rattle.residue.proofs.Reduction.{product-small}
-use Rattle.residue.proofs.Filled.{filled, filled-none, kept-length, own, filled-more, filled-all}
-use Rattle.residue.proofs.Vectors.{pointwise-length, pointwise-at}
+use Rattle.residue.proofs.arithmetic.Reduction.{product-small}
+use Rattle.residue.proofs.vector.Filled.{filled, filled-none, kept-length, own, filled-more, filled-all}
+use Rattle.residue.proofs.vector.Vectors.{pointwise-length, pointwise-at}
 use Rattle.residue.proofs.vector.multiply.Statement.{statement}
 use Rattle.residue.proofs.vector.multiply.Tie as tie
 

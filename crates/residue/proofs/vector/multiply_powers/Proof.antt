@@ -9,9 +9,9 @@ use lib.Seq.{ext-getD}
 use Rattle.residue.specs.Congruence.{Mod}
 use Rattle.residue.specs.Vector.{Below, pointwise}
 use Rattle.residue.proofs.Congruence.{rfl}
-use Rattle.residue.proofs.Reduction.{kept}
-use Rattle.residue.proofs.Powers.{even, odd, whole}
-use Rattle.residue.proofs.Vectors.{pointwise-length, pointwise-at, pointwise-below, powered-length, powered-at}
+use Rattle.residue.proofs.arithmetic.Reduction.{kept}
+use Rattle.residue.proofs.arithmetic.Powers.{even, odd, whole}
+use Rattle.residue.proofs.vector.Vectors.{pointwise-length, pointwise-at, pointwise-below, powered-length, powered-at}
 use Rattle.residue.proofs.vector.multiply_powers.Statement.{statement}
 use Rattle.residue.proofs.vector.multiply_powers.Tie as tie
 

@@ -2,16 +2,19 @@
 use mathlib.Core.Path.{_≡_, sym, ap, subst, _∙_}
 use mathlib.Core.Logic.{⊎-elim}
 use mathlib.Core.List.{List}
-use Prim.Native.Nat.{ℕ, _+_, _*_, _-_, _^_, _<_, _≤_}
+use Prim.Native.Nat.{ℕ, _+_, _*_, _-_, _<_, _≤_}
 use native.Mathlib.Omega.{arith}
 use lib.ListN.{length, take, drop}
 use Rattle.residue.specs.Vector.{Below}
-use Rattle.residue.proofs.Moduli.{modulus-range}
+use Rattle.residue.proofs.level.Moduli.{modulus-range}
+use Rattle.residue.proofs.Layouts.{length-fill}
+use Rattle.residue.proofs.rows.Zeros.{first-most}
 use Rattle.monomial.specs.Order.{orderOf}
-use Rattle.basis.specs.Drawing.{columnOf, productValues, settingsOf, PointsGiven}
-use Rattle.basis.proofs.Layouts.{length-fill}
-use Rattle.basis.proofs.WorkingRows.{first-most}
-use Rattle.basis.proofs.ValueRows.{steps-long, steps-below, column-below, column-in}
+use Rattle.monomial.specs.Columns.{columnOf}
+use Rattle.monomial.specs.Rank.{rankBound}
+use Rattle.monomial.proofs.rank.Steps.{steps-long, steps-below}
+use Rattle.monomial.proofs.columns.Entries.{column-below, column-in}
+use Rattle.basis.specs.Drawing.{productValues, settingsOf, PointsGiven}
 use Rattle.basis.proofs.elimination.Grounds.{points-long, points-below}
 use Rattle.basis.proofs.elimination.Loop.{Head, Kept, Sized, head-sized, exponents-long, worked-long, worked-below, room-lead, keeps-lead, room-standard, keeps-standard, kept-as, kept-sized}
 use Rattle.basis.proofs.draw.draw.Tie as tie
@@ -106,8 +109,8 @@ module _ (j : tie.Joined1 Inv-loop μ-loop) where
   pub steps-8 : length steps ≡ 8
   steps-8 = ap length (ranked .put-steps .ensures) ∙ steps-long (orderOf (start above .args .order))
 
-  pub steps-small : Below (2 ^ 56) steps
-  steps-small = subst (Below (2 ^ 56)) (sym (ranked .put-steps .ensures)) (steps-below (orderOf (start above .args .order)))
+  pub steps-small : Below rankBound steps
+  steps-small = subst (Below rankBound) (sym (ranked .put-steps .ensures)) (steps-below (orderOf (start above .args .order)))
 
   pub columns-512 : length columns ≡ 512
   columns-512 = ap length (gathered .put-columns .ensures) ∙ length-fill 512 _

@@ -1,0 +1,3 @@
+-- Laws of ranks.
+pub mod Ranks
+pub mod Steps

@@ -1,0 +1,3 @@
+-- Laws of the values of terms.
+pub mod Values
+pub mod TermRows

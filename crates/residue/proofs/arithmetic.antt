@@ -1,0 +1,3 @@
+-- Laws of sums, products and powers.
+pub mod Reduction
+pub mod Powers

@@ -1,0 +1,2 @@
+-- Laws of inverses.
+pub mod Inverses

@@ -1,0 +1,3 @@
+-- Laws of working rows.
+pub mod Kept
+pub mod Zeros

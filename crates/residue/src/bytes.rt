@@ -1,0 +1,82 @@
+// Lent bytes: comparing, copying and clearing them, and copies between bytes and working numbers.
+ghost use mathlib.Core.Path.{_≡_};
+ghost use Prim.Native.Nat.{_<_, _≤_};
+ghost use lib.ListN.{length, replicate};
+ghost use Rattle.residue.specs.Vector.{Below};
+ghost use Rattle.residue.specs.Lists.{sameList, allZero};
+ghost use Rattle.residue.specs.Layout.{over, begins};
+
+// Whether two slices are equal. The differences are counted to the end, so that the loop is compiled to packed instructions.
+fn same(a: &[u8], b: &[u8]) -> bool
+    requires { ⌜ length (now a) ≡ length (now b) ⌝ }
+    requires { ⌜ length (now a) < 65536 ⌝ }
+    ensures { λ r. ⌜ r ≡ sameList (now (a .entry)) (now (b .entry)) ⌝ }
+{
+    let mut differences: u16 = 0;
+    for i in 0..a.len() {
+        if a[i] != b[i] {
+            differences += 1;
+        }
+    }
+    differences == 0
+}
+
+// Whether the lent table begins with these bytes.
+pub fn begins(new: &[u8], table: &[u8]) -> bool
+    requires { ⌜ length (now new) ≤ length (now table) ⌝ }
+    requires { ⌜ length (now new) < 65536 ⌝ }
+    ensures { λ r. ⌜ r ≡ begins (now (new .entry)) (now (table .entry)) ⌝ }
+{
+    same(new, &table[..new.len()])
+}
+
+pub fn copy(from: &[u8], to: &mut [u8])
+    requires { ⌜ length (now from) ≤ length (now to) ⌝ }
+    ensures { λ _. ⌜ now (to .exit) ≡ over (now (from .entry)) (now (to .entry)) ⌝ }
+{
+    for i in 0..from.len() {
+        to[i] = from[i];
+    }
+}
+
+pub fn clear(to: &mut [u8])
+    ensures { λ _. ⌜ now (to .exit) ≡ replicate (length (now (to .entry))) 0 ⌝ }
+{
+    for i in 0..to.len() {
+        to[i] = 0;
+    }
+}
+
+// Bytes as working numbers.
+pub fn widen(from: &[u8], to: &mut [u16])
+    requires { ⌜ length (now from) ≤ length (now to) ⌝ }
+    ensures { λ _. ⌜ now (to .exit) ≡ over (now (from .entry)) (now (to .entry)) ⌝ }
+{
+    for i in 0..from.len() {
+        to[i] = from[i] as u16;
+    }
+}
+
+// Working numbers that are residues as bytes.
+pub fn narrow(p: u16, from: &[u16], to: &mut [u8])
+    requires { ⌜ p ≤ 61 ⌝ }
+    requires { ⌜ length (now from) ≤ length (now to) ⌝ }
+    requires { ⌜ Below p (now from) ⌝ }
+    ensures { λ _. ⌜ now (to .exit) ≡ over (now (from .entry)) (now (to .entry)) ⌝ }
+{
+    for i in 0..from.len() {
+        to[i] = from[i] as u8;
+    }
+}
+
+// Whether all bytes are 0.
+pub fn all_zero(a: &[u8]) -> bool
+    ensures { λ r. ⌜ r ≡ allZero (now (a .entry)) ⌝ }
+{
+    for i in 0..a.len() {
+        if a[i] != 0 {
+            return false;
+        }
+    }
+    true
+}

@@ -1,0 +1,169 @@
+-- Call by call: what is left by each call whose number is 0, whatever it was handed (docs/SCOPE.md, 'The sheet'). No run from fresh tables is asked for.
+use mathlib.Core.Path.{_≡_, refl, sym, _∙_, ap, ap₂, subst}
+use mathlib.Core.Bool.{true}
+use mathlib.Core.List.{List, [], _∷_, _++_, map}
+use mathlib.Core.Logic.{inl, inr, _↔_}
+use Prim.Native.Nat.{ℕ, _-_, _≤_}
+use native.Mathlib.Omega.{arith}
+use lib.IntN.{ℤ}
+use lib.ListN.{length, length-map}
+use lib.Dec.{T, ltb}
+use borrow.Author.Tests.{eqb-true, ltb-false, leb-false, not-false}
+use Rattle.residue.specs.Lists.{Among}
+use Rattle.residue.proofs.level.Moduli.{modulus-range}
+use Rattle.specification.specs.declared.settings.Settings.{Settings}
+use Rattle.specification.specs.Refusal.{firstOf}
+use Rattle.specification.specs.Levels.{inRange, residues, noRepeat}
+use Rattle.specification.specs.Polynomial.{Distinct}
+use Rattle.specification.specs.Basis.{IsBasis}
+use Rattle.specification.specs.BasisOf.{standardOf, leadsOf, rowsOf, remainderOf, interpolantOf, valueAt}
+use Rattle.specification.specs.Instance.{pointOf}
+use Rattle.specification.specs.Tables.{Tables, spaceUnder, pointsUnder, rowCount, tablesOf, written, pointsIn, recognised}
+use Rattle.specification.specs.Adding.{holding, byRefusal, pointsOffered, addCases, addRefusal, addOutcome, drawCases, drawRefusal, drawOutcome}
+use Rattle.specification.specs.Solving.{checkRefusal, filling, valuesCases, interpolantIn, interpolateOutcome, polynomialUnder, remainderCases, remainderIn, remainderOutcome}
+use Rattle.specification.specs.Agreement.{Remains}
+use Rattle.specification.specs.CallByCall.{HoldsBasis, Interpolates}
+use Rattle.residue.proofs.Tests.{of-true, neither}
+use Rattle.specification.proofs.Repeats.{is-among}
+use Rattle.specification.proofs.ideal.Lists.{among-map}
+use Rattle.specification.proofs.ideal.Basis.{basis-is, interpolant-fits, interpolant-values, remainder-fits}
+use Rattle.specification.proofs.ideal.Division.{basis-reduced}
+use Rattle.specification.proofs.agreement.Points.{IsPoint, Points, no-points, point-same, length-residues, levels-point, of-once, points-more}
+use Rattle.specification.proofs.agreement.Refusals.{Accepted, accepted, written-recognised}
+use Rattle.specification.proofs.agreement.Run.{number-of, same-tables}
+use Rattle.specification.proofs.agreement.Drawings.{laws-under, among-under, distinct-points, few-rows}
+use Rattle.specification.proofs.agreement.Claim.{over-begins, filled}
+use Rattle.specification.proofs.Recognised.{none-of, offered, length-read, is-read, read, Parts, recognised-parts}
+
+module _ (s : Settings) (ok : Accepted s) (S : List (List ℕ)) (h : Points s S) where
+  -- each point is its m residues
+  same-points : (K : List (List ℕ)) → ((P : List ℕ) → Among P K → IsPoint s P) → map (λ P. P .0) (pointsUnder s K) ≡ K
+  same-points [] each = refl
+  same-points (P ∷ K) each = ap₂ (λ (a : List ℕ) (l : List (List ℕ)). a ∷ l) (point-same s (ok .few) P (each P (inl refl))) (same-points K (λ Q q. each Q (inr q)))
+
+  holds-basis : {n r : ℕ} {end : Tables} (lent : Tables) → n ≡ length S → r ≡ rowCount s S → end ≡ written (tablesOf s S) lent → HoldsBasis s S lent n r end
+  holds-basis lent en er et = record {
+    points = same-points S (h .points);
+    distinct = distinct-points s ok S h;
+    basis = is;
+    groebner = basis-reduced (spaceUnder s) (laws-under s ok) (pointsUnder s S) _ _ _ is;
+    count = en;
+    rows = er;
+    tables = et;
+    few-points = h .few;
+    few-rows = few-rows s ok S h;
+  }
+    where
+      is : let D = spaceUnder s in let K = pointsUnder s S in IsBasis D K (standardOf D K) (leadsOf D K) (rowsOf D K)
+      is = basis-is (spaceUnder s) (laws-under s ok) (pointsUnder s S) (distinct-points s ok S h)
+
+  -- a call that writes tables
+  written-basis : (k : ℕ) (t : Tables) → byRefusal k t (holding s S t) .answer .refusal ≡ 0
+      → let o = byRefusal k t (holding s S t) in HoldsBasis s S t (o .answer .n) (o .answer .r) (o .tables)
+  unfolding byRefusal holding
+  written-basis k t e = rw (sym (number-of k t s S) ∙ e) (holds-basis t refl refl refl)
+
+-- Recognised tables.
+module _ (s : Settings) (ok : Accepted s) (n r : ℕ) (t : Tables) (few : n ≤ 64) (known : recognised s n r t ≡ true) where
+  parts : Parts s n r t
+  parts = recognised-parts s n r t known
+
+  pub known-points : Points s (pointsIn s n (t .states))
+  known-points = read s ok n (t .states) few (of-true (parts .once))
+
+  known-tables : t ≡ written (tablesOf s (pointsIn s n (t .states))) t
+  unfolding written
+  known-tables = sym (same-tables (over-begins _ (t .states) (of-true (parts .states))) (over-begins _ (t .standard) (of-true (parts .standard))) (over-begins _ (t .leads) (of-true (parts .leads))) (over-begins _ (t .coefficients) (of-true (parts .coefficients))))
+
+  pub known-basis : HoldsBasis s (pointsIn s n (t .states)) t n r t
+  known-basis = holds-basis s ok _ known-points t (sym (length-read s ok n (t .states))) (parts .rows) known-tables
+
+-- The basis of distinct points is recognised, and nothing else is: refusal 10 is given in its case alone.
+module _ (s : Settings) (ok : Accepted s) (n r : ℕ) (t : Tables) (few : n ≤ 64) where
+  pub recognised-basis : recognised s n r t ≡ true ↔ ((S : List (List ℕ)) × HoldsBasis s S t n r t)
+  recognised-basis = ((λ known. (pointsIn s n (t .states), known-basis s ok n r t few known)), λ w. told (w .0) (w .1))
+    where
+      once : (K : List (List ℕ)) → Distinct (spaceUnder s) (pointsUnder s K) → T (noRepeat K)
+      once [] d = no-points s .once
+      once (P ∷ K) d = of-once K P (λ Q q e. d .0 _ (among-under s ok K Q q) (ap (pointOf (s .modulus - 1) (s .variables)) e)) (once K (d .1))
+
+      is-points : (S : List (List ℕ)) → HoldsBasis s S t n r t → Points s S
+      is-points S h = record {
+        points = λ P q. let w = among-map (λ X. X .0) (pointsUnder s S) P (subst (Among P) (sym (h .points)) q) in subst (IsPoint s) (sym (w .2)) (is-read s ok (w .0));
+        once = once S (h .distinct);
+        few = h .few-points;
+      }
+
+      told : (S : List (List ℕ)) → HoldsBasis s S t n r t → recognised s n r t ≡ true
+      told S h = subst (λ (u : Tables). recognised s n r u ≡ true) (sym (h .tables)) (rw (h .count, h .rows) (written-recognised s ok S (is-points S h) t))
+
+-- Drawing up leaves the basis of the points offered.
+pub draw-leaves : (s : Settings) (t : Tables) (levels : List ℤ) → let o = drawOutcome s t levels in o .answer .refusal ≡ 0
+    → HoldsBasis s (pointsOffered s levels) t (o .answer .n) (o .answer .r) (o .tables)
+unfolding drawOutcome drawRefusal drawCases
+draw-leaves s t levels e =
+    let z = none-of s _ tt (sym (number-of (drawRefusal s t levels) t s (pointsOffered s levels)) ∙ e) in
+    let ok = accepted s (z .0) in
+    let n = z .1 in
+    let h = offered s ok levels (eqb-true _ 0 (not-false _ (n .1 .0))) (ltb-false 64 _ (n .1 .1 .0)) (of-true (not-false (inRange (s .modulus) levels) (n .1 .1 .1 .0)))
+    (of-true (not-false (noRepeat (pointsOffered s levels)) (n .1 .1 .1 .1 .0))) in
+    written-basis s ok (pointsOffered s levels) h (drawRefusal s t levels) t e
+
+-- Adding leaves the basis of the points of the tables with the new one at their end.
+pub add-leaves : (s : Settings) (n r : ℕ) (t : Tables) (levels : List ℤ) → let o = addOutcome s n r t levels in o .answer .refusal ≡ 0
+    → HoldsBasis s (pointsIn s n (t .states) ++ (residues (s .modulus) levels ∷ [])) t (o .answer .n) (o .answer .r) (o .tables)
+unfolding addOutcome addRefusal addCases
+add-leaves s n r t levels e =
+    let S = pointsIn s n (t .states) in
+    let P = residues (s .modulus) levels in
+    let z = none-of s _ tt (sym (number-of (addRefusal s n r t levels) t s (S ++ (P ∷ []))) ∙ e) in
+    let ok = accepted s (z .0) in
+    let room = leb-false 64 n (z .1 .1 .1 .0) in
+    let known = not-false (recognised s n r t) (z .1 .1 .1 .1 .1 .0) in
+    let point = levels-point s levels (omega (arith, modulus-range (s .modulus) (ok .modulus))) (eqb-true (length levels) (s .variables) (not-false _ (z .1 .1 .0))) (of-true (not-false (inRange (s .modulus) levels) (z .1 .1 .1 .1 .0))) in
+    let h = points-more s S P (known-points s ok n r t (omega arith) known) point (λ q. subst T (z .1 .1 .1 .1 .1 .1 .0) (is-among P S q)) (omega (arith, length-read s ok n (t .states))) in
+    written-basis s ok (S ++ (P ∷ [])) h (addRefusal s n r t levels) t e
+
+-- Tables that are checked are the basis of their points.
+pub check-passes : (s : Settings) (n r : ℕ) (t : Tables) → checkRefusal s n r t ≡ 0 → HoldsBasis s (pointsIn s n (t .states)) t n r t
+unfolding checkRefusal
+check-passes s n r t e = let z = none-of s _ tt e in
+    known-basis s (accepted s (z .0)) n r t (ltb-false 64 n (z .1 .1 .0)) (not-false (recognised s n r t) (z .1 .1 .1 .0))
+
+-- The interpolant call leaves the interpolant of the values at the points of the tables.
+pub interpolate-leaves : (s : Settings) (n r : ℕ) (t : Tables) (values : List ℤ) (buffer : List ℕ) → interpolateOutcome s n r t values buffer .refusal ≡ 0
+    → HoldsBasis s (pointsIn s n (t .states)) t n r t × Interpolates s (pointsIn s n (t .states)) values buffer (interpolateOutcome s n r t values buffer .buffer)
+unfolding interpolateOutcome interpolantIn valuesCases filling
+interpolate-leaves s n r t values buffer e =
+    let S = pointsIn s n (t .states) in
+    let z = none-of s _ tt e in
+    let ok = accepted s (z .0) in
+    let b = known-basis s ok n r t (ltb-false 64 n (z .1 .1 .1 .0)) (not-false (recognised s n r t) (z .1 .1 .1 .1 .1 .0)) in
+    let long : length values ≡ n = eqb-true (length values) n (not-false _ (z .1 .1 .0)) in
+    let as-many : length (pointsUnder s S) ≡ length S = length-map S _ in (
+      b,
+      record {
+        coefficients = interpolantOf (spaceUnder s) (pointsUnder s S) (residues (s .modulus) values);
+        held = filled (firstOf (valuesCases 64 s n r t values buffer)) _ buffer e;
+        fits = interpolant-fits (spaceUnder s) (laws-under s ok) (pointsUnder s S) (b .distinct) (valueAt (spaceUnder s) (pointsUnder s S) (residues (s .modulus) values));
+        values-at = λ i P h. interpolant-values (spaceUnder s) (laws-under s ok) (pointsUnder s S) (b .distinct) (residues (s .modulus) values) i P
+            (omega (arith, as-many)) (omega (arith, length-residues (s .modulus) values, b .count));
+      },
+    )
+
+-- The remainder call leaves the remainder of the polynomial at the points of the tables.
+pub remainder-leaves : (s : Settings) (n r : ℕ) (t : Tables) (terms : List ℤ) (exponents buffer : List ℕ) → remainderOutcome s n r t terms exponents buffer .refusal ≡ 0
+    → HoldsBasis s (pointsIn s n (t .states)) t n r t × Remains s (pointsIn s n (t .states)) terms exponents buffer (remainderOutcome s n r t terms exponents buffer .buffer)
+unfolding remainderOutcome remainderIn remainderCases filling
+remainder-leaves s n r t terms exponents buffer e =
+    let S = pointsIn s n (t .states) in
+    let z = none-of s _ tt e in
+    let ok = accepted s (z .0) in
+    let b = known-basis s ok n r t (ltb-false 64 n (neither (ltb 64 n) _ (z .1 .1 .1 .0) .0)) (not-false (recognised s n r t) (z .1 .1 .1 .1 .1 .0)) in (
+      b,
+      record {
+        coefficients = remainderOf (spaceUnder s) (pointsUnder s S) (polynomialUnder s terms exponents);
+        held = filled (firstOf (remainderCases s n r t terms exponents buffer)) _ buffer e;
+        fits = remainder-fits (spaceUnder s) (laws-under s ok) (pointsUnder s S) (b .distinct) (polynomialUnder s terms exponents);
+      },
+    )

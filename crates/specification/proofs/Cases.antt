@@ -1,0 +1,57 @@
+-- The first case that holds, along a list of cases that is judged part after part.
+use mathlib.Core.Path.{_≡_, refl, sym, _∙_}
+use mathlib.Core.Bool.{Bool, true, false, not, _&&_}
+use mathlib.Core.List.{List, [], _∷_, _++_}
+use Prim.Native.Nat.{ℕ, _*_, _/_, _%_}
+use native.Mathlib.Decide.{ℕ-discrete}
+use native.Mathlib.Omega.{arith}
+use lib.Dec.{T, eqb}
+use borrow.Author.Tests.{eq-eqb, ne-eqb}
+use Rattle.residue.proofs.Tests.{and-left, and-right}
+use Rattle.specification.specs.Refusal.{Case, firstOf}
+
+-- no case has the number 0
+abbrev pub numbered : List Case → Bool
+numbered [] = true
+numbered (c ∷ l) = not (eqb (c .1) 0) && numbered l
+
+-- no case holds
+abbrev pub None : List Case → Type 0
+None [] = Unit {0}
+None (c ∷ l) = (c .0 ≡ false) × None l
+
+-- the first part has a case that holds
+pub first-stop : (l r : List Case) → (firstOf l ≡ 0 → ⊥) → firstOf l ≡ firstOf (l ++ r)
+unfolding firstOf
+first-stop [] r h = absurd (h refl)
+first-stop ((true, k) ∷ l) r h = refl
+first-stop ((false, k) ∷ l) r h = first-stop l r h
+
+-- it has none
+pub none-holds : (l : List Case) → T (numbered l) → firstOf l ≡ 0 → None l
+unfolding firstOf
+none-holds [] t e = tt
+none-holds ((true, k) ∷ l) t e = absurd (rw (eq-eqb k 0 e) at (and-left (not (eqb k 0)) (numbered l) t))
+none-holds ((false, k) ∷ l) t e = (refl, none-holds l (and-right (not (eqb k 0)) (numbered l) t) e)
+
+pub first-on : (l r : List Case) → None l → firstOf r ≡ firstOf (l ++ r)
+unfolding firstOf
+first-on [] r n = refl
+first-on ((true, k) ∷ l) r n = absurd (let z : _≡_ {A = ℕ} 0 1 = cc in omega arith)
+first-on ((false, k) ∷ l) r n = first-on l r (n .1)
+
+-- the refusals on numbers, each test by what it comes to
+pub sizes-are : (l : List Case) {a b c a′ b′ c′ : Bool} → a ≡ a′ → b ≡ b′ → c ≡ c′
+    → firstOf (l ++ ((a, 6) ∷ (b, 7) ∷ (c, 8) ∷ [])) ≡ firstOf (l ++ ((a′, 6) ∷ (b′, 7) ∷ (c′, 8) ∷ []))
+sizes-are l e f g = rw (e, f, g)
+
+-- a length that is 8 times another
+pub eight-fold : (e k : ℕ) → e / 8 ≡ k → eqb (e % 8) 0 ≡ eqb e (8 * k)
+eight-fold e k h = go (ℕ-discrete (e % 8) 0)
+  where
+    go : Dec (e % 8 ≡ 0) → eqb (e % 8) 0 ≡ eqb e (8 * k)
+    go (yes z) = eq-eqb (e % 8) 0 z ∙ sym (eq-eqb e (8 * k) (omega arith))
+    go (no z) = ne-eqb (e % 8) 0 z ∙ sym (ne-eqb e (8 * k) (λ y. z (omega arith)))
+
+pub not-eight-fold : (e k : ℕ) → (e / 8 ≡ k → ⊥) → eqb e (8 * k) ≡ false
+not-eight-fold e k h = ne-eqb e (8 * k) (λ y. h (omega arith))

@@ -1,0 +1,9 @@
+-- The theory over the definitions: the basis exists, is unique and is what is computed; agreement; the worked examples.
+pub mod Cases
+pub mod Repeats
+pub mod ideal
+pub mod agreement
+pub mod Instance
+pub mod Recognised
+pub mod CallByCall
+pub mod Examples

@@ -1,0 +1,118 @@
+-- THE claim over any list of additions (docs/SCOPE.md, 'The two desks').
+use mathlib.Core.Path.{_≡_, refl, sym, _∙_, ap}
+use mathlib.Core.List.{List, [], _∷_, _++_, append-nil}
+use Prim.Native.Nat.{ℕ, zero, suc, _≤_}
+use native.Mathlib.Omega.{arith}
+use lib.IntN.{ℤ}
+use lib.ListN.{length, take, drop, replicate, length-take, take-append-drop}
+use lib.Dec.{T}
+use Rattle.residue.specs.Layout.{fill, inPlaces, over, begins}
+use Rattle.residue.proofs.bytes.Equality.{same-is}
+use Rattle.residue.proofs.Layouts.{fill-zeros, length-fill}
+use Rattle.specification.specs.declared.settings.Settings.{Settings}
+use Rattle.specification.specs.Refusal.{firstOf}
+use Rattle.specification.specs.Settings.{settingsCases}
+use Rattle.specification.specs.Polynomial.{Distinct}
+use Rattle.specification.specs.BasisOf.{basisOf, remainderOf}
+use Rattle.specification.specs.Tables.{Tables, spaceUnder, pointsUnder, rowCount, tablesOf, written}
+use Rattle.specification.specs.Solving.{filling, polynomialUnder, remainderIn, remainderCases, remainderOutcome}
+use Rattle.specification.specs.Reference.{Event, Held, numbers, heldAtEnd, referenceAtEnd, due, Refuses}
+use Rattle.specification.specs.Agreement.{Fresh, freshly, Remains, Agrees}
+use Rattle.specification.proofs.ideal.Laws.{Laws}
+use Rattle.specification.proofs.ideal.Basis.{basis-is, remainder-fits}
+use Rattle.specification.proofs.agreement.Points.{no-points}
+use Rattle.specification.proofs.agreement.Refusals.{Accepted, accepted, Large}
+use Rattle.specification.proofs.agreement.Run.{same-tables, At, held-points, run}
+use Rattle.specification.proofs.agreement.Drawings.{laws-under, distinct-points, few-rows, drawn-same}
+
+-- the front of a list is what it begins with
+pub over-begins : (a t : List ℕ) → T (begins a t) → over a t ≡ t
+unfolding begins over
+over-begins a t h = ap (λ (z : List ℕ). z ++ drop (length a) t) (same-is a (take (length a) t) h) ∙ take-append-drop (length a) t
+
+-- zeros filled up are zeros
+blank : (k j : ℕ) → fill k (replicate j 0) ≡ fill k []
+unfolding fill
+blank zero j = refl
+blank (suc k) zero = refl
+blank (suc k) (suc j) = ap (λ (z : List ℕ). 0 ∷ z) (blank k j)
+
+-- the tables of no points are blank in their sizes
+nothing : (k w j : ℕ) (t : List ℕ) → T (begins (fill k []) t) → over (fill k (fill w (replicate j 0) ++ [])) t ≡ t
+nothing k w j t h = ap (λ (z : List ℕ). over z t) (ap (fill k) (append-nil (fill w (replicate j 0)) ∙ blank w j ∙ fill-zeros w) ∙ blank k w) ∙ over-begins (fill k []) t h
+
+module _ (s : Settings) (fine : firstOf (settingsCases s) ≡ 0) (start : Tables) (fresh : Fresh start) where
+  -- long enough for what they begin with
+  long : (k : ℕ) (t : List ℕ) → T (begins (fill k []) t) → k ≤ length t
+  unfolding begins
+  long k t h = omega (arith, length-fill k [], ap length (same-is (fill k []) (take (length (fill k [])) t) h), length-take (length (fill k [])) t)
+
+  large : Large start
+  large = record { states = long 512 (start .states) (fresh .states); standard = long 512 (start .standard) (fresh .standard); leads = long 3592 (start .leads) (fresh .leads); coefficients = long 28736 (start .coefficients) (fresh .coefficients) }
+
+  -- fresh tables are those of no points: one row, the monomial 1
+  at-start : At s fine start large (freshly start) []
+  unfolding freshly rowCount tablesOf written basisOf inPlaces
+  at-start = record {
+    points = no-points s;
+    count = refl;
+    rows = refl;
+    tables =
+        sym
+        (same-tables (over-begins (fill 512 []) (start .states) (fresh .states)) (over-begins (fill 512 []) (start .standard) (fresh .standard))
+        (nothing 3592 8 (s .variables) (start .leads) (fresh .leads)) (nothing 28736 64 0 (start .coefficients) (fresh .coefficients)));
+  }
+
+-- a buffer that a call without a refusal has filled
+pub filled : (k : ℕ) (l buffer : List ℕ) → k ≡ 0 → filling k l buffer .buffer ≡ over l buffer
+unfolding filling
+filled k l buffer e = rw e
+
+-- For all settings that adding does not refuse, all fresh tables, and every list of additions with refused calls between them.
+pub agreement : (s : Settings) → firstOf (settingsCases s) ≡ 0 → (start : Tables) → Fresh start → (es : List Event) → Refuses s (freshly start) es
+    → Agrees s start es (referenceAtEnd s [] es) (heldAtEnd s (freshly start) es)
+unfolding remainderOutcome remainderIn filling
+agreement s fine start fresh es refuses = record {
+  answers = end .0;
+  count = at .count;
+  rows = at .rows;
+  tables = at .tables;
+  basis = basis-is (spaceUnder s) laws (pointsUnder s L) distinct;
+  few-points = at .points .few;
+  few-rows = few-rows s good L (at .points);
+  drawn = λ t levels short a. drawn-same s good fine L (at .points) levels a start big h (at .count) (at .rows) (at .tables) t short;
+  remainders = remains;
+}
+  where
+    good : Accepted s
+    good = accepted s fine
+
+    big : Large start
+    big = large s fine start fresh
+
+    L : List (List ℕ)
+    L = referenceAtEnd s [] es
+
+    h : Held
+    h = heldAtEnd s (freshly start) es
+
+    end : (numbers s (freshly start) es ≡ due s [] (freshly start) es) × At s fine start big h L
+    end = run s fine start big es (freshly start) [] (at-start s fine start fresh) refuses
+
+    at : At s fine start big h L
+    at = end .1
+
+    laws : Laws (spaceUnder s)
+    laws = laws-under s good
+
+    distinct : Distinct (spaceUnder s) (pointsUnder s L)
+    distinct = distinct-points s good L (at .points)
+
+    remains : (terms : List ℤ) (exponents buffer : List ℕ) → remainderOutcome s (h .n) (h .r) (h .tables) terms exponents buffer .refusal ≡ 0
+        → Remains s L terms exponents buffer (remainderOutcome s (h .n) (h .r) (h .tables) terms exponents buffer .buffer)
+    remains terms exponents buffer e = record {
+      coefficients = remainderOf (spaceUnder s) (pointsUnder s L) (polynomialUnder s terms exponents);
+      held = filled (firstOf (remainderCases s (h .n) (h .r) (h .tables) terms exponents buffer)) _ buffer e
+          ∙ ap (λ (S : List (List ℕ)). over (fill 64 (remainderOf (spaceUnder s) (pointsUnder s S) (polynomialUnder s terms exponents))) buffer) (held-points s fine start big h L at);
+      fits = remainder-fits (spaceUnder s) laws (pointsUnder s L) distinct (polynomialUnder s terms exponents);
+    }

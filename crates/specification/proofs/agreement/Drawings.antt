@@ -1,0 +1,186 @@
+-- Drawing up the same points in any order gives the same basis, and the same remainders.
+use mathlib.Core.Path.{_≡_, refl, sym, _∙_, ap, ap₂, subst}
+use mathlib.Core.Bool.{true, false, not, _&&_, _||_}
+use mathlib.Core.List.{List, [], _∷_, _++_}
+use mathlib.Core.Logic.{inl, inr, _≢_}
+use Prim.Native.Nat.{ℕ, suc, _+_, _-_, _*_, _/_, _%_, _≤_}
+use native.Mathlib.Nat.{mul-le-mul-left}
+use native.Mathlib.Omega.{arith}
+use lib.IntN.{ℤ}
+use lib.ListN.{length, take, length-map}
+use lib.Dec.{T, eqb, ltb}
+use borrow.Author.Tests.{eq-eqb, le-ltb}
+use Rattle.residue.specs.Lists.{Among}
+use Rattle.residue.specs.Modulus.{isModulus}
+use Rattle.residue.specs.Layout.{groups, fill, over}
+use Rattle.residue.proofs.level.Moduli.{modulus-range}
+use Rattle.residue.proofs.Tests.{true-of}
+use Rattle.residue.proofs.Layouts.{take-over, length-fill}
+use Rattle.residue.proofs.Places.{length-groups}
+use Rattle.monomial.specs.Order.{orderOf}
+use Rattle.specification.specs.declared.settings.Settings.{Settings}
+use Rattle.specification.specs.Refusal.{firstOf}
+use Rattle.specification.specs.Settings.{settingsCases}
+use Rattle.specification.specs.Levels.{inRange, residues, noRepeat}
+use Rattle.specification.specs.Polynomial.{Polynomial, Distinct}
+use Rattle.specification.specs.BasisOf.{standardOf, leadsOf, rowsOf, remainderOf}
+use Rattle.specification.specs.Instance.{Point, pointOf}
+use Rattle.specification.specs.Tables.{Tables, spaceUnder, pointsUnder, rowCount, tablesOf, written, tooShort}
+use Rattle.specification.specs.Adding.{holding, byRefusal, pointsOffered, drawCases, drawRefusal, drawOutcome}
+use Rattle.specification.specs.Solving.{Filled, filling, withinVariables, polynomialUnder, remainderIn, remainderCases, remainderOutcome}
+use Rattle.specification.specs.Reference.{Held}
+use Rattle.specification.specs.Agreement.{Rearranges, SameAs}
+use Rattle.specification.proofs.Instance.{laws}
+use Rattle.specification.proofs.ideal.Laws.{Laws}
+use Rattle.specification.proofs.ideal.Lists.{among-map}
+use Rattle.specification.proofs.ideal.Counts.{standard-length, leads-length}
+use Rattle.specification.proofs.ideal.Permutation.{basis-permuted, remainder-permuted}
+use Rattle.specification.proofs.agreement.Points.{Points, IsPoint, point-same, once-of}
+use Rattle.specification.proofs.agreement.Refusals.{Accepted, settings-pass, Large, not-short, large-of, written-large, written-points, written-recognised}
+
+module _ (s : Settings) (ok : Accepted s) where
+  -- the space under these settings obeys the laws
+  pub laws-under : Laws (spaceUnder s)
+  laws-under = laws (s .modulus - 1) (s .variables) (orderOf (s .order)) (subst (λ (p : ℕ). isModulus p ≡ true) above (ok .modulus))
+    where
+      above : s .modulus ≡ suc (s .modulus - 1)
+      above = omega (arith, modulus-range (s .modulus) (ok .modulus))
+
+  -- points under the settings, and their lists
+  abbrev pt : List ℕ → Point (suc (s .modulus - 1)) (s .variables)
+  pt = pointOf (s .modulus - 1) (s .variables)
+
+  pub among-under : (K : List (List ℕ)) (P : List ℕ) → Among P K → Among (pt P) (pointsUnder s K)
+  among-under (Q ∷ K) P (inl e) = inl (ap pt e)
+  among-under (Q ∷ K) P (inr q) = inr (among-under K P q)
+
+  pub distinct-under : (K : List (List ℕ)) → ((P : List ℕ) → Among P K → IsPoint s P) → T (noRepeat K) → Distinct (spaceUnder s) (pointsUnder s K)
+  distinct-under [] h t = tt
+  distinct-under (P ∷ K) h t = (far, distinct-under K (λ Q q. h Q (inr q)) (once-of K P t .1))
+    where
+      far : (X : Point (suc (s .modulus - 1)) (s .variables)) → Among X (pointsUnder s K) → pt P ≢ X
+      far X q e = let w = among-map pt K X q in
+          once-of K P t .0 (w .0) (w .1) (sym (point-same s (ok .few) P (h P (inl refl))) ∙ ap (λ (Z : Point (suc (s .modulus - 1)) (s .variables)). Z .0) (e ∙ w .2) ∙ point-same s (ok .few) (w .0) (h (w .0) (inr (w .1))))
+
+  pub distinct-points : (K : List (List ℕ)) → Points s K → Distinct (spaceUnder s) (pointsUnder s K)
+  distinct-points K h = distinct-under K (h .points) (h .once)
+
+  -- at most 1 + n(m-1) rows, so at most 449
+  pub few-rows : (K : List (List ℕ)) → Points s K → rowCount s K ≤ 449
+  unfolding rowCount
+  few-rows K h = bound (length (leadsOf (spaceUnder s) (pointsUnder s K))) (length K) (s .variables) (h .few) (ok .few)
+      (subst (λ (n : ℕ). length (leadsOf (spaceUnder s) (pointsUnder s K)) + n ≤ 1 + n * s .variables) (length-map K pt) (leads-length (spaceUnder s) laws-under (pointsUnder s K) (distinct-points K h)))
+    where
+      bound : (r n m : ℕ) → n ≤ 64 → m ≤ 8 → r + n ≤ 1 + n * m → r ≤ 449
+      bound r n m a b c = let k : n * m ≤ n * 8 = mul-le-mul-left n b in omega arith
+
+  -- Another arrangement of the same points.
+  module _ (L K : List (List ℕ)) (dL : Distinct (spaceUnder s) (pointsUnder s L)) (dK : Distinct (spaceUnder s) (pointsUnder s K)) (to : (P : List ℕ) → Among P K → Among P L) (from : (P : List ℕ) → Among P L → Among P K) where
+    carried : (A B : List (List ℕ)) → ((P : List ℕ) → Among P A → Among P B) → (X : Point (suc (s .modulus - 1)) (s .variables)) → Among X (pointsUnder s A) → Among X (pointsUnder s B)
+    carried A B f X q = let w = among-map pt A X q in subst (λ (Z : Point (suc (s .modulus - 1)) (s .variables)). Among Z (pointsUnder s B)) (sym (w .2)) (among-under B (w .0) (f (w .0) (w .1)))
+
+    same-basis : (standardOf (spaceUnder s) (pointsUnder s K) ≡ standardOf (spaceUnder s) (pointsUnder s L))
+        × (leadsOf (spaceUnder s) (pointsUnder s K) ≡ leadsOf (spaceUnder s) (pointsUnder s L)) × (rowsOf (spaceUnder s) (pointsUnder s K) ≡ rowsOf (spaceUnder s) (pointsUnder s L))
+    same-basis = basis-permuted (spaceUnder s) laws-under (pointsUnder s K) (pointsUnder s L) dK dL (carried K L to) (carried L K from)
+
+    pub same-rows : rowCount s K ≡ rowCount s L
+    unfolding rowCount
+    same-rows = ap length (same-basis .1)
+
+    pub same-length : length K ≡ length L
+    same-length = sym (count K dK) ∙ ap length (same-basis .0) ∙ count L dL
+      where
+        count : (A : List (List ℕ)) → Distinct (spaceUnder s) (pointsUnder s A) → length (standardOf (spaceUnder s) (pointsUnder s A)) ≡ length A
+        count A d = standard-length (spaceUnder s) laws-under (pointsUnder s A) d ∙ length-map A pt
+
+    pub same-remainder : (f : Polynomial (spaceUnder s)) → remainderOf (spaceUnder s) (pointsUnder s K) f ≡ remainderOf (spaceUnder s) (pointsUnder s L) f
+    same-remainder = remainder-permuted (spaceUnder s) laws-under (pointsUnder s K) (pointsUnder s L) dK dL (carried K L to) (carried L K from)
+
+    pub same-standard : tablesOf s K .standard ≡ tablesOf s L .standard
+    unfolding tablesOf
+    same-standard = rw (same-basis .0)
+
+    pub same-leads : tablesOf s K .leads ≡ tablesOf s L .leads
+    unfolding tablesOf
+    same-leads = rw (same-basis .1)
+
+    pub same-coefficients : tablesOf s K .coefficients ≡ tablesOf s L .coefficients
+    unfolding tablesOf
+    same-coefficients = rw (same-basis .2)
+
+  -- The remainder call, handed the basis of A, is told by how many points there are and by the remainder.
+  module _ (terms : List ℤ) (exponents buffer : List ℕ) where
+    unfoldable pub told : ℕ → List ℕ → Filled
+    told n l = filling (firstOf (settingsCases s
+        ++ ((false || ltb (length buffer) 64, 6) ∷ (not (eqb (length exponents) (8 * length terms)), 7) ∷ (ltb 64 n || ltb 256 (length terms), 8)
+        ∷ (not (inRange (s .modulus) terms && withinVariables (s .variables) (groups 8 (length terms) exponents)), 9) ∷ (false, 10) ∷ []))) (fill 64 l) buffer
+
+    pub remainder-told : (A : List (List ℕ)) → Points s A → (t : Tables) → Large t
+        → remainderOutcome s (length A) (rowCount s A) (written (tablesOf s A) t) terms exponents buffer ≡ told (length A) (remainderOf (spaceUnder s) (pointsUnder s A) (polynomialUnder s terms exponents))
+    unfolding remainderOutcome remainderCases remainderIn told
+    remainder-told A h t large =
+        rw (not-short (written (tablesOf s A) t) (written-large s A t large), written-recognised s ok A h t, written-points s ok A h t)
+
+  -- the sizes of the tables
+  pub record Sized (t : Tables) : Type 0 where
+    pub standard : length (t .standard) ≡ 512
+    pub leads : length (t .leads) ≡ 3592
+    pub coefficients : length (t .coefficients) ≡ 28736
+
+  sizes : (A : List (List ℕ)) → Sized (tablesOf s A)
+  unfolding tablesOf
+  sizes A = record { standard = length-fill 512 _; leads = length-fill 3592 _; coefficients = length-fill 28736 _ }
+
+  -- Every drawing up of the points of L, in any order.
+  module _ (fine : firstOf (settingsCases s) ≡ 0) (L : List (List ℕ)) (hL : Points s L) (levels : List ℤ) (a : Rearranges s L levels) where
+    abbrev K : List (List ℕ)
+    K = pointsOffered s levels
+
+    is-point : (P : List ℕ) → Among P K → IsPoint s P
+    is-point P q = hL .points P (a .members P .0 q)
+
+    dK : Distinct (spaceUnder s) (pointsUnder s K)
+    dK = distinct-under K is-point (a .once)
+
+    dL : Distinct (spaceUnder s) (pointsUnder s L)
+    dL = distinct-points L hL
+
+    to : (P : List ℕ) → Among P K → Among P L
+    to P = a .members P .0
+
+    from : (P : List ℕ) → Among P L → Among P K
+    from P = a .members P .1
+
+    as-many : length K ≡ length L
+    as-many = same-length L K dL dK to from
+
+    hK : Points s K
+    hK = record { points = is-point; once = a .once; few = omega (arith, as-many, hL .few) }
+
+    -- nothing refuses
+    draws : (t : Tables) → tooShort t ≡ false → drawOutcome s t levels ≡ holding s K t
+    unfolding drawOutcome drawRefusal drawCases byRefusal firstOf pointsOffered
+    draws t large = rw (settings-pass s fine _, large, eq-eqb (length levels % s .variables) 0 (a .whole), le-ltb 64 (length levels / s .variables) few, true-of (inRange (s .modulus) levels) (a .range), true-of (noRepeat K) (a .once))
+      where
+        few : length levels / s .variables ≤ 64
+        few = omega (arith, length-groups (s .variables) (length levels / s .variables) (residues (s .modulus) levels), as-many, hL .few)
+
+    -- and what is drawn up is what is held, with the same remainders
+    pub drawn-same : (start : Tables) → Large start → (h : Held) → h .n ≡ length L → h .r ≡ rowCount s L → h .tables ≡ written (tablesOf s L) start
+        → (t : Tables) → tooShort t ≡ false → SameAs s h (drawOutcome s t levels)
+    unfolding holding written
+    drawn-same start large h en er et t short = subst (SameAs s h) (sym (draws t short)) (record {
+      number = refl;
+      count = as-many ∙ sym en;
+      rows = same-rows L K dL dK to from ∙ sym er;
+      standard = sized 512 (tablesOf s K .standard) (tablesOf s L .standard) (same-standard L K dL dK to from) (t .standard) (start .standard) (sizes K .standard) ∙ ap (λ (u : Tables). take 512 (u .standard)) (sym et);
+      leads = sized 3592 (tablesOf s K .leads) (tablesOf s L .leads) (same-leads L K dL dK to from) (t .leads) (start .leads) (sizes K .leads) ∙ ap (λ (u : Tables). take 3592 (u .leads)) (sym et);
+      coefficients = sized 28736 (tablesOf s K .coefficients) (tablesOf s L .coefficients) (same-coefficients L K dL dK to from) (t .coefficients) (start .coefficients) (sizes K .coefficients) ∙ ap (λ (u : Tables). take 28736 (u .coefficients)) (sym et);
+      remainder = λ terms exponents buffer. remainder-told terms exponents buffer K hK t (large-of t short)
+          ∙ ap₂ (told terms exponents buffer) as-many (same-remainder L K dL dK to from (polynomialUnder s terms exponents))
+          ∙ sym (rw (en, er, et) (remainder-told terms exponents buffer L hL start large));
+    })
+      where
+        -- two tables of one layout agree in each byte of its size
+        sized : (k : ℕ) (a b : List ℕ) → a ≡ b → (u v : List ℕ) → length a ≡ k → take k (over a u) ≡ take k (over b v)
+        sized k a b e u v l = ap (λ (j : ℕ). take j (over a u)) (sym l) ∙ take-over a u ∙ e ∙ sym (ap (λ (j : ℕ). take j (over b v)) (sym (ap length (sym e) ∙ l)) ∙ take-over b v)

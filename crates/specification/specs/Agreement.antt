@@ -1,0 +1,74 @@
+-- What is claimed of every list of additions: docs/SCOPE.md, 'The two desks', as one statement. proofs/agreement has its proof.
+use mathlib.Core.Path.{_≡_}
+use mathlib.Core.Bool.{false}
+use mathlib.Core.List.{List, []}
+use mathlib.Core.Logic.{_↔_}
+use Prim.Native.Nat.{ℕ, _%_, _≤_}
+use lib.IntN.{ℤ}
+use lib.ListN.{length, take}
+use lib.Dec.{T}
+use Rattle.residue.specs.Lists.{Among}
+use Rattle.residue.specs.Layout.{fill, over, begins}
+use Rattle.specification.specs.declared.settings.Settings.{Settings}
+use Rattle.specification.specs.Levels.{inRange, noRepeat}
+use Rattle.specification.specs.Polynomial.{eval}
+use Rattle.specification.specs.Basis.{IsBasis, Fits}
+use Rattle.specification.specs.BasisOf.{standardOf, leadsOf, rowsOf}
+use Rattle.specification.specs.Tables.{Tables, spaceUnder, pointsUnder, rowCount, tablesOf, written, tooShort}
+use Rattle.specification.specs.Adding.{Outcome, pointsOffered, drawOutcome}
+use Rattle.specification.specs.Solving.{polynomialUnder, remainderOutcome}
+use Rattle.specification.specs.Reference.{Event, Held, numbers, due}
+
+-- Fresh tables: none is shorter than its size, and every byte of the sizes is 0.
+pub record Fresh (t : Tables) : Type 0 where
+  pub states : T (begins (fill 512 []) (t .states))
+  pub standard : T (begins (fill 512 []) (t .standard))
+  pub leads : T (begins (fill 3592 []) (t .leads))
+  pub coefficients : T (begins (fill 28736 []) (t .coefficients))
+
+-- n = 0, r = 1
+unfoldable pub freshly : Tables → Held
+freshly t = record { n = 0; r = 1; tables = t }
+
+-- The points of L, each once, in any order and as any levels in range with their residues.
+pub record Rearranges (s : Settings) (L : List (List ℕ)) (levels : List ℤ) : Type 0 where
+  pub whole : length levels % s .variables ≡ 0
+  pub range : T (inRange (s .modulus) levels)
+  pub once : T (noRepeat (pointsOffered s levels))
+  pub members : (P : List ℕ) → Among P (pointsOffered s levels) ↔ Among P L
+
+-- A drawing up agrees with what the additions hold: the number is 0, and n, r and the three tables are equal in each byte of their sizes; the remainder
+-- call, handed the same terms and buffers of equal bytes, answers the same with either tables and leaves equal buffers.
+pub record SameAs (s : Settings) (h : Held) (o : Outcome) : Type 0 where
+  pub number : o .answer .refusal ≡ 0
+  pub count : o .answer .n ≡ h .n
+  pub rows : o .answer .r ≡ h .r
+  pub standard : take 512 (o .tables .standard) ≡ take 512 (h .tables .standard)
+  pub leads : take 3592 (o .tables .leads) ≡ take 3592 (h .tables .leads)
+  pub coefficients : take 28736 (o .tables .coefficients) ≡ take 28736 (h .tables .coefficients)
+  pub remainder : (terms : List ℤ) (exponents buffer : List ℕ)
+      → remainderOutcome s (o .answer .n) (o .answer .r) (o .tables) terms exponents buffer ≡ remainderOutcome s (h .n) (h .r) (h .tables) terms exponents buffer
+
+-- The buffer of a remainder call whose number is 0 holds the one combination of standard monomials with the polynomial's values at the points.
+pub record Remains (s : Settings) (L : List (List ℕ)) (terms : List ℤ) (exponents buffer end : List ℕ) : Type 0 where
+  pub coefficients : List ℕ
+  pub held : end ≡ over (fill 64 coefficients) buffer
+  pub fits : Fits (spaceUnder s) (pointsUnder s L) (standardOf (spaceUnder s) (pointsUnder s L)) (eval (spaceUnder s) (polynomialUnder s terms exponents)) coefficients
+
+-- After the list `es` from fresh tables `start`, with L the reference list then and h what is held.
+pub record Agrees (s : Settings) (start : Tables) (es : List Event) (L : List (List ℕ)) (h : Held) : Type 0 where
+  -- each addition has returned the reference list's answer, each interposed call its number of the list of refusals
+  pub answers : numbers s (freshly start) es ≡ due s [] (freshly start) es
+  -- n is its length; the tables are those of its points, in its order, and zeros in the rest of their sizes; bytes past the sizes are as they were
+  pub count : h .n ≡ length L
+  pub rows : h .r ≡ rowCount s L
+  pub tables : h .tables ≡ written (tablesOf s L) start
+  -- these are the basis by definition, and nothing of it is cut off in the tables
+  pub basis : IsBasis (spaceUnder s) (pointsUnder s L) (standardOf (spaceUnder s) (pointsUnder s L)) (leadsOf (spaceUnder s) (pointsUnder s L)) (rowsOf (spaceUnder s) (pointsUnder s L))
+  pub few-points : length L ≤ 64
+  pub few-rows : rowCount s L ≤ 449
+  -- every drawing up of its points into tables none of which is shorter than its size
+  pub drawn : (t : Tables) (levels : List ℤ) → tooShort t ≡ false → Rearranges s L levels → SameAs s h (drawOutcome s t levels)
+  -- remainders
+  pub remainders : (terms : List ℤ) (exponents buffer : List ℕ) → remainderOutcome s (h .n) (h .r) (h .tables) terms exponents buffer .refusal ≡ 0
+      → Remains s L terms exponents buffer (remainderOutcome s (h .n) (h .r) (h .tables) terms exponents buffer .buffer)

@@ -1,0 +1,96 @@
+-- The eleven examples marked * in docs/SCOPE.md, 'Examples', as one list, and what each of them says.
+use mathlib.Core.Path.{_≡_}
+use mathlib.Core.List.{List, [], _∷_, _++_, map}
+use Prim.Native.Nat.{ℕ, suc, _+_, _-_, _%_, _≤_, _<_}
+use lib.IntN.{ℤ, pos, negsuc}
+use lib.ListN.{length, replicate}
+use lib.Dec.{T}
+use Rattle.residue.specs.Lists.{Among}
+use Rattle.residue.specs.Level.{residueOf}
+use Rattle.residue.specs.declared.level.Level.the-variants.{Residue}
+use Rattle.specification.specs.declared.settings.Settings.{Settings}
+use Rattle.specification.specs.Levels.{inRange}
+use Rattle.specification.specs.Polynomial.{Polynomial}
+use Rattle.specification.specs.BasisOf.{standardOf, leadsOf, rowsOf, interpolantOf, remainderOf}
+use Rattle.specification.specs.Tables.{spaceUnder, pointsUnder}
+use Rattle.specification.specs.Solving.{Names, polynomialOf}
+use Rattle.specification.specs.Reference.{addition, Held, numbers}
+use Rattle.specification.specs.Agreement.{freshly}
+
+pub data Example : Type 0 where
+  -- the standard monomials, leads and rows of points, under each order of a list
+  basis : (p m : ℕ) (orders : List ℕ) (S standard leads rows : List (List ℕ)) → Example
+  no-points : Example
+  one-point : Example
+  -- values in the points' order, the interpolant over the standard monomials, and the wiring list
+  interpolant : (s : Settings) (S : List (List ℕ)) (values coefficients names : List ℕ) → Example
+  -- coefficients and exponents of a polynomial, and its remainder over the standard monomials
+  remainder : (s : Settings) (S : List (List ℕ)) (coefficients : List ℕ) (exponents : List (List ℕ)) (left : List ℕ) → Example
+  -- a modulus, a level and its residue
+  levels : List (ℕ × ℤ × ℕ) → Example
+  -- additions to fresh tables, and the numbers they return
+  additions : (p m : ℕ) (offered : List (List ℤ)) (numbers : List ℕ) → Example
+  -- a level that is taken and one that is refused with 9
+  range : (p : ℕ) (taken outside : ℤ) → Example
+
+pub record Tabled (s : Settings) (S standard leads rows : List (List ℕ)) : Type 0 where
+  pub standard-are : map (λ a. a .0) (standardOf (spaceUnder s) (pointsUnder s S)) ≡ standard
+  pub leads-are : map (λ a. a .0) (leadsOf (spaceUnder s) (pointsUnder s S)) ≡ leads
+  pub rows-are : rowsOf (spaceUnder s) (pointsUnder s S) ≡ rows
+
+abbrev pub under : ℕ → ℕ → ℕ → Settings
+under p m order = record { modulus = p; variables = m; order = order }
+
+-- the orders 0 to 2, for examples that leave the order open
+abbrev pub anyOrder : List ℕ
+anyOrder = 0 ∷ 1 ∷ 2 ∷ []
+
+abbrev pub fresh : Held
+fresh = freshly (record { states = replicate 512 0; standard = replicate 512 0; leads = replicate 3592 0; coefficients = replicate 28736 0 })
+
+unfoldable pub Holds : Example → Type 0
+Holds (basis p m orders S standard leads rows) = (order : ℕ) → Among order orders → Tabled (under p m order) S standard leads rows
+-- under any settings: one row, 1, and every remainder and interpolant has no term
+Holds no-points = (s : Settings) → Tabled s [] [] (replicate (s .variables) 0 ∷ []) ([] ∷ [])
+    × ((values : List ℕ) → interpolantOf (spaceUnder s) [] values ≡ []) × ((f : Polynomial (spaceUnder s)) → remainderOf (spaceUnder s) [] f ≡ [])
+-- p = 5, orders 0 to 2: rows y - b, then x - a
+Holds one-point = (order a b : ℕ) → Among order anyOrder → a < 5 → b < 5
+    → Tabled (under 5 2 order) ((a ∷ b ∷ []) ∷ []) ((0 ∷ 0 ∷ []) ∷ []) ((0 ∷ 1 ∷ []) ∷ (1 ∷ 0 ∷ []) ∷ []) (((5 - b) % 5 ∷ []) ∷ ((5 - a) % 5 ∷ []) ∷ [])
+Holds (interpolant s S values coefficients names) =
+    (interpolantOf (spaceUnder s) (pointsUnder s S) values ≡ coefficients)
+    × Names (s .variables) coefficients (map (λ a. a .0) (standardOf (spaceUnder s) (pointsUnder s S))) names
+Holds (remainder s S coefficients exponents left) = remainderOf (spaceUnder s) (pointsUnder s S) (polynomialOf (s .variables) coefficients exponents) ≡ left
+Holds (levels l) = (e : ℕ × ℤ × ℕ) → Among e l → residueOf (e .0) (e .1) ≡ Residue (e .2)
+Holds (additions p m offered due) = (order : ℕ) → Among order anyOrder → numbers (under p m order) fresh (map addition offered) ≡ due
+-- under every m and order, in any place of m levels of which the others are in range
+Holds (range p taken outside) = (m order : ℕ) (before behind : List ℤ) → m ≤ 8 → Among order anyOrder
+    → length before + suc (length behind) ≡ m → T (inRange p before) → T (inRange p behind)
+    → numbers (under p m order) fresh (addition (before ++ (taken ∷ behind)) ∷ addition (before ++ (outside ∷ behind)) ∷ []) ≡ 0 ∷ 9 ∷ []
+
+-- the points A: (0,0), (1,2), (2,1)
+abbrev pub A : List (List ℕ)
+A = (0 ∷ 0 ∷ []) ∷ (1 ∷ 2 ∷ []) ∷ (2 ∷ 1 ∷ []) ∷ []
+
+unfoldable pub examples : List Example
+examples =
+    -- A, p=5, grlex: standard 1, y, x; rows y²+y+4x, xy+y+x, x²+4y+x
+    basis 5 2 (1 ∷ []) A ((0 ∷ 0 ∷ []) ∷ (0 ∷ 1 ∷ []) ∷ (1 ∷ 0 ∷ []) ∷ []) ((0 ∷ 2 ∷ []) ∷ (1 ∷ 1 ∷ []) ∷ (2 ∷ 0 ∷ []) ∷ [])
+    ((0 ∷ 1 ∷ 4 ∷ []) ∷ (0 ∷ 1 ∷ 1 ∷ []) ∷ (0 ∷ 4 ∷ 1 ∷ []) ∷ [])
+    -- A, p=5, lex: standard 1, y, y²; rows y³+2y²+2y, x+4y²+4y
+    ∷ basis 5 2 (0 ∷ []) A ((0 ∷ 0 ∷ []) ∷ (0 ∷ 1 ∷ []) ∷ (0 ∷ 2 ∷ []) ∷ []) ((0 ∷ 3 ∷ []) ∷ (1 ∷ 0 ∷ []) ∷ []) ((0 ∷ 2 ∷ 2 ∷ []) ∷ (0 ∷ 4 ∷ 4 ∷ []) ∷ [])
+    -- A, p=3, grlex: standard 1, y, y²; rows x+y, y³+2y
+    ∷ basis 3 2 (1 ∷ []) A ((0 ∷ 0 ∷ []) ∷ (0 ∷ 1 ∷ []) ∷ (0 ∷ 2 ∷ []) ∷ []) ((1 ∷ 0 ∷ []) ∷ (0 ∷ 3 ∷ []) ∷ []) ((0 ∷ 1 ∷ 0 ∷ []) ∷ (0 ∷ 2 ∷ 0 ∷ []) ∷ [])
+    ∷ no-points
+    ∷ one-point
+    -- p=2, m=1, states 0 and 1: row x²+x
+    ∷ basis 2 1 anyOrder ((0 ∷ []) ∷ (1 ∷ []) ∷ []) ((0 ∷ []) ∷ (1 ∷ []) ∷ []) ((2 ∷ []) ∷ []) ((0 ∷ 1 ∷ []) ∷ [])
+    -- A, p=5, grlex, values 1, 0, 3: interpolant 1+2y; wiring list 2
+    ∷ interpolant (under 5 2 1) A (1 ∷ 0 ∷ 3 ∷ []) (1 ∷ 2 ∷ 0 ∷ []) (2 ∷ [])
+    -- x²y has remainder 2x
+    ∷ remainder (under 5 2 1) A (1 ∷ []) ((2 ∷ 1 ∷ []) ∷ []) (0 ∷ 0 ∷ 2 ∷ [])
+    -- level -1: residue 4 for p=5, 2 for p=3, 1 for p=2
+    ∷ levels ((5, negsuc 0, 4) ∷ (3, negsuc 0, 2) ∷ (2, negsuc 0, 1) ∷ [])
+    -- p=5, m=1: level -1 after level 4 is refused with 11
+    ∷ additions 5 1 ((pos 4 ∷ []) ∷ (negsuc 0 ∷ []) ∷ []) (0 ∷ 11 ∷ [])
+    -- p=5: level -4 is taken, -5 refused with 9
+    ∷ range 5 (negsuc 3) (negsuc 4) ∷ []

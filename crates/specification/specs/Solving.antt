@@ -1,0 +1,106 @@
+-- Checking the tables, the interpolant, the remainder and the wiring list: what each call answers and leaves in the lent buffer, refused or not.
+use mathlib.Core.Path.{_≡_}
+use mathlib.Core.Bool.{Bool, true, false, not, cond, _&&_, _||_}
+use mathlib.Core.List.{List, [], _∷_, _++_, map}
+use mathlib.Core.Logic.{_↔_, _≢_}
+use Prim.Native.Nat.{ℕ, suc, _*_, _<_}
+use lib.IntN.{ℤ}
+use lib.ListN.{length, getD, drop}
+use lib.Dec.{T, eqb, ltb}
+use Rattle.residue.specs.Lists.{Among, allZero}
+use Rattle.residue.specs.Layout.{groups, fill, over}
+use Rattle.specification.specs.declared.settings.Settings.{Settings}
+use Rattle.specification.specs.declared.settings.Wired.{Wired}
+use Rattle.specification.specs.Refusal.{Case, firstOf}
+use Rattle.specification.specs.Settings.{settingsCases}
+use Rattle.specification.specs.Levels.{inRange, residues}
+use Rattle.specification.specs.BasisOf.{standardOf, interpolantOf, remainderOf}
+use Rattle.specification.specs.Instance.{Monomial, monomialOf}
+use Rattle.specification.specs.Tables.{Tables, spaceUnder, pointsUnder, tooShort, pointsIn, recognised}
+
+-- Checking lent tables.
+unfoldable pub checkRefusal : Settings → ℕ → ℕ → Tables → ℕ
+checkRefusal s n r t = firstOf (settingsCases s ++ ((tooShort t, 6) ∷ (ltb 64 n, 8) ∷ (not (recognised s n r t), 10) ∷ []))
+
+-- The answer of a call that fills a buffer: the refusal, and the buffer at exit.
+pub record Filled : Type 0 where
+  pub refusal : ℕ
+  pub buffer : List ℕ
+
+abbrev pub answering : ℕ → List ℕ → Filled
+answering k buffer = record { refusal = k; buffer = buffer }
+
+unfoldable pub filling : ℕ → List ℕ → List ℕ → Filled
+filling k new buffer = record { refusal = k; buffer = cond (eqb k 0) (over new buffer) buffer }
+
+-- The interpolant of n values in the points' order: 64 bytes.
+unfoldable pub valuesCases : ℕ → Settings → ℕ → ℕ → Tables → List ℤ → List ℕ → List Case
+valuesCases size s n r t values buffer = settingsCases s
+    ++ ((tooShort t || ltb (length buffer) size, 6)
+    ∷ (not (eqb (length values) n), 7)
+    ∷ (ltb 64 n, 8)
+    ∷ (not (inRange (s .modulus) values), 9)
+    ∷ (not (recognised s n r t), 10) ∷ [])
+
+unfoldable pub interpolantIn : Settings → ℕ → Tables → List ℤ → List ℕ
+interpolantIn s n t values = interpolantOf (spaceUnder s) (pointsUnder s (pointsIn s n (t .states))) (residues (s .modulus) values)
+
+unfoldable pub interpolateOutcome : Settings → ℕ → ℕ → Tables → List ℤ → List ℕ → Filled
+interpolateOutcome s n r t values buffer =
+    filling (firstOf (valuesCases 64 s n r t values buffer)) (fill 64 (interpolantIn s n t values)) buffer
+
+-- no number stands twice
+abbrev pub Once : List ℕ → Type 0
+Once [] = Unit {0}
+Once (a ∷ l) = (¬ Among a l) × Once l
+
+-- The wiring list. Variable k+1 occurs in a combination of standard monomials with a coefficient that is not 0.
+unfoldable pub occurs : ℕ → List ℕ → List (List ℕ) → Bool
+occurs k [] l = false
+occurs k (c ∷ cs) [] = false
+occurs k (c ∷ cs) (a ∷ l) = not (eqb c 0) && not (eqb (getD a k 0) 0) || occurs k cs l
+
+-- The numbers, from 1, of the variables that occur, each once; their order is free.
+pub record Names (m : ℕ) (cs : List ℕ) (standard : List (List ℕ)) (names : List ℕ) : Type 0 where
+  pub once : Once names
+  pub members : (k : ℕ) → Among (suc k) names ↔ ((k < m) × T (occurs k cs standard))
+  pub positive : ¬ Among 0 names
+
+-- What the call answers and leaves: 8 bytes of names, unused bytes 0.
+pub record WiringEnds (s : Settings) (n r : ℕ) (t : Tables) (values : List ℤ) (buffer : List ℕ) (a : Wired) (end : List ℕ) : Type 0 where
+  pub number : a .refusal ≡ firstOf (valuesCases 8 s n r t values buffer)
+  pub alone : a .refusal ≢ 0 → (a .count ≡ 0) × (end ≡ buffer)
+  pub list : a .refusal ≡ 0 → (names : List ℕ) × Names (s .variables) (interpolantIn s n t values) (map (λ a. a .0) (standardOf (spaceUnder s) (pointsUnder s (pointsIn s n (t .states))))) names
+      × (a .count ≡ length names) × (end ≡ over (fill 8 names) buffer)
+
+-- The remainder of a polynomial, term after term a coefficient and 8 exponents: 64 bytes.
+
+-- no exponent of a variable above m but 0
+unfoldable pub withinVariables : ℕ → List (List ℕ) → Bool
+withinVariables m [] = true
+withinVariables m (e ∷ es) = allZero (drop m e) && withinVariables m es
+
+unfoldable pub remainderCases : Settings → ℕ → ℕ → Tables → List ℤ → List ℕ → List ℕ → List Case
+remainderCases s n r t coefficients exponents buffer = settingsCases s
+    ++ ((tooShort t || ltb (length buffer) 64, 6)
+    ∷ (not (eqb (length exponents) (8 * length coefficients)), 7)
+    ∷ (ltb 64 n || ltb 256 (length coefficients), 8)
+    ∷ (not (inRange (s .modulus) coefficients && withinVariables (s .variables) (groups 8 (length coefficients) exponents)), 9)
+    ∷ (not (recognised s n r t), 10) ∷ [])
+
+-- coefficients and exponents as a polynomial: repeated terms add up
+unfoldable pub polynomialOf : (m : ℕ) → List ℕ → List (List ℕ) → List (ℕ × Monomial m)
+polynomialOf m [] es = []
+polynomialOf m (c ∷ cs) [] = []
+polynomialOf m (c ∷ cs) (e ∷ es) = (c, monomialOf m e) ∷ polynomialOf m cs es
+
+abbrev pub polynomialUnder : (s : Settings) → List ℤ → List ℕ → List (ℕ × Monomial (s .variables))
+polynomialUnder s coefficients exponents = polynomialOf (s .variables) (residues (s .modulus) coefficients) (groups 8 (length coefficients) exponents)
+
+unfoldable pub remainderIn : Settings → ℕ → Tables → List ℤ → List ℕ → List ℕ
+remainderIn s n t coefficients exponents =
+    remainderOf (spaceUnder s) (pointsUnder s (pointsIn s n (t .states))) (polynomialUnder s coefficients exponents)
+
+unfoldable pub remainderOutcome : Settings → ℕ → ℕ → Tables → List ℤ → List ℕ → List ℕ → Filled
+remainderOutcome s n r t coefficients exponents buffer =
+    filling (firstOf (remainderCases s n r t coefficients exponents buffer)) (fill 64 (remainderIn s n t coefficients exponents)) buffer

@@ -1,0 +1,2 @@
+// The definitions of the calls, and the theory over them. No code: the structs that the definitions are over.
+pub mod settings;

@@ -1,0 +1,21 @@
+// What every call is handed and answers.
+
+// The modulus p, the number m of variables, and the number of the monomial order, of any content.
+pub struct Settings {
+    pub modulus: u64,
+    pub variables: u64,
+    pub order: u64,
+}
+
+// The refusal, or 0 with the number of points and the number of basis elements. A refusal comes alone: the counts are then 0.
+pub struct Answer {
+    pub refusal: u8,
+    pub n: u8,
+    pub r: u16,
+}
+
+// The refusal, or 0 with how many variables the wiring list names.
+pub struct Wired {
+    pub refusal: u8,
+    pub count: u8,
+}
