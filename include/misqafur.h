@@ -168,7 +168,7 @@ uint32_t misqafur_remainder(uint64_t modulus, uint64_t variables, uint64_t order
 
 /* The variables that occur in the interpolant of the values with a coefficient that is not 0.
  * Reads: the settings, n, r, the four tables, n values in the points' order.
- * Writes: 8 bytes of out, the variables' numbers from 1, each once, in no promised order, then zeros.
+ * Writes: 8 bytes of out, the variables' numbers from 1, increasing, then zeros.
  * Answers how many they are (misqafur_wiring_count).
  * Refusals: 3, 4, 5, 6 (also: out_length is below 8), 7 (values_length is not n), 8 (n is above 64), 9, 10. */
 uint32_t misqafur_wiring(uint64_t modulus, uint64_t variables, uint64_t order, uint64_t n, uint64_t r,

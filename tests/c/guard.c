@@ -110,18 +110,6 @@ int guard_intact(const struct guard *guard)
     return 1;
 }
 
-static int compare_bytes(const void *a, const void *b)
-{
-    return *(const uint8_t *)a - *(const uint8_t *)b;
-}
-
-void sort_wiring(const struct call *call, uint64_t number)
-{
-    uint32_t count = misqafur_wiring_count((uint32_t)number);
-    if (call->kind == WIRING && misqafur_refusal((uint32_t)number) == 0 && count <= MISQAFUR_WIRING_SIZE)
-        qsort(call->buffer[OUT].at, count, 1, compare_bytes);
-}
-
 int same_bytes(const struct call *a, const struct call *b, const char *name)
 {
     for (int i = 0; i < BUFFERS; i++) {
@@ -161,7 +149,6 @@ static int compare_with_reference(struct guard *guard, const struct call *call, 
         fprintf(stderr, "%s: returned %" PRIx64 " (hex), the reference %" PRIx64 "\n", name, *number, wanted);
         return 0;
     }
-    sort_wiring(&tested, *number);
     if (!guard_intact(guard)) {
         fprintf(stderr, "%s: bytes beside a buffer have changed\n", name);
         return 0;

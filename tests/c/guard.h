@@ -42,7 +42,4 @@ void guard_watch(void);
 /* What this thread performs, for that line. */
 extern _Thread_local const char *performing;
 
-/* Puts the entries of a wiring list in increasing order: docs/SCOPE.md leaves their order free. */
-void sort_wiring(const struct call *call, uint64_t number);
-
 #endif

@@ -1,5 +1,5 @@
 /* Part "lists": whole lists of additions, refused ones and others between them, against a plain
- * list of points; now and then the same points drawn up in another order, and remainders over both. */
+ * list of points; now and then the same points drawn up in another order, and remainders and wiring lists over both. */
 #include "guard.h"
 #include "made.h"
 #include "parts.h"
@@ -183,6 +183,45 @@ static int both_ways(struct made *made, struct made *other, const struct list *l
     return holds;
 }
 
+/* The value of a residue below p, or for p itself one that is out of range. */
+static uint8_t value_of(struct chance *c, int p, int residue)
+{
+    if (residue < p)
+        return random_level(c, p, (uint8_t)residue);
+    return (uint8_t)(once_in(c, 2) ? p : -p);
+}
+
+/* Whether the wiring call, handed values that are equal at each point, each in the order of its own points, answers
+ * the same over either set of tables, and as the reference does; values of another number than the points, too. */
+static int wirings_alike(struct guard *guard, struct made *made, struct made *drawn, const struct list *list)
+{
+    struct chance *c = &made->chance;
+    uint64_t number;
+    int residues[64], outside = once_in(c, 4);
+    size_t count = once_in(c, 8) ? below(c, 65) : list->n, length = MISQAFUR_WIRING_SIZE + below(c, 4);
+    for (size_t i = 0; i < list->n; i++)
+        residues[i] = outside && once_in(c, 8) ? list->p : (int)below(c, once_in(c, 2) ? 1 : (uint64_t)list->p);
+    for (size_t i = 0; i < 64; i++)
+        made->bytes[GIVEN][i] = drawn->bytes[GIVEN][i] = 0;
+    for (size_t i = 0; i < list->n; i++) {
+        made->bytes[GIVEN][i] = value_of(c, list->p, residues[i]);
+        for (size_t j = 0; j < list->n; j++)
+            if (memcmp(drawn->bytes[STATES] + 8 * j, list->points + 8 * i, 8) == 0)
+                drawn->bytes[GIVEN][j] = value_of(c, list->p, residues[i]);
+    }
+    struct made *both[2] = {made, drawn};
+    for (int k = 0; k < 2; k++) {
+        both[k]->call.kind = WIRING;
+        set(both[k], GIVEN, count);
+        set(both[k], OUT, length);
+        memset(both[k]->bytes[OUT], 170, length);
+        if (!agrees(guard, &both[k]->call, 0, "wiring list in a list", &number))
+            return 0;
+    }
+    return perform(&archive, &made->call) == perform(&archive, &drawn->call) &&
+           memcmp(made->bytes[OUT], drawn->bytes[OUT], length) == 0;
+}
+
 static int list_holds(struct guard *guard, struct made *made, struct made *other, uint64_t index, struct tally *tally)
 {
     struct list list;
@@ -203,7 +242,8 @@ static int list_holds(struct guard *guard, struct made *made, struct made *other
         return 0;
     made->call.kind = REMAINDER;
     return agrees(guard, &made->call, 0, "remainder after adding", &number) &&
-           agrees(guard, &other->call, 0, "remainder after drawing up", &number);
+           agrees(guard, &other->call, 0, "remainder after drawing up", &number) &&
+           wirings_alike(guard, made, other, &list);
 }
 
 /* Says what came up; whether everything did. */

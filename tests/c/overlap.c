@@ -94,8 +94,6 @@ static int overlap_holds(struct guard *guard, const struct call *call, struct me
     struct call separate = guard_lend(guard, call, 0);
     performing = "overlapping buffers";
     uint64_t apart = perform(&archive, &separate), together = perform(&archive, call);
-    sort_wiring(&separate, apart);
-    sort_wiring(call, together);
     if (number != apart || number != together || !same_bytes(call, &separate, performing))
         return 0;
     if (misqafur_refusal((uint32_t)number) == 0)

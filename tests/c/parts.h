@@ -27,6 +27,7 @@ static inline void count(struct score *score, int holds)
 
 struct score stored_calls(const struct options *options);
 struct score stored_texts(const struct options *options);
+struct score stored_changes(const struct options *options);
 struct score examples(const struct options *options);
 struct score lists(const struct options *options);
 struct score random_calls(const struct options *options);

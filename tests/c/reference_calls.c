@@ -220,7 +220,7 @@ uint32_t reference_interpolate(uint64_t modulus, uint64_t variables, uint64_t or
     return (uint32_t)refusal;
 }
 
-/* Variables in increasing order; docs/SCOPE.md leaves the order free. */
+/* Variables in increasing order. */
 uint32_t reference_wiring(uint64_t modulus, uint64_t variables, uint64_t order, uint64_t n, uint64_t r,
                           const uint8_t *states, size_t states_length,
                           const uint8_t *standard, size_t standard_length,

@@ -3,6 +3,7 @@
 #include "guard.h"
 #include "parts.h"
 #include "reference.h"
+#include "stored.h"
 
 #include <inttypes.h>
 #include <stdio.h>
@@ -35,8 +36,7 @@ static void need(int holds)
         abort();
 }
 
-/* All numbers of a line; gives how many. */
-static size_t numbers(const char *line, long *to, size_t most)
+size_t numbers(const char *line, long *to, size_t most)
 {
     size_t count = 0;
     char *end;
@@ -153,8 +153,7 @@ static void take(struct block *b, const char *word, const char *rest)
         need(0);
 }
 
-/* FNV-1a, 64 bits. */
-static uint64_t hash(const struct bytes *bytes)
+uint64_t hash(const struct bytes *bytes)
 {
     uint64_t h = 0xcbf29ce484222325u;
     for (size_t i = 0; i < bytes->length; i++)
@@ -178,7 +177,6 @@ static int block_holds(struct guard *guard, const struct block *b, uint64_t choi
     struct call lent = guard_lend(guard, &b->call, choice);
     performing = "a block of calls.txt";
     uint64_t number = perform(&archive, &lent);
-    sort_wiring(&lent, number);
     if (number != expected_number(b) || !guard_intact(guard))
         return 0;
     for (int t = 0; t < 4; t++)

@@ -2,6 +2,5 @@
 pub mod LevelLists
 pub mod PointTables
 pub mod Terms
-pub mod Wiring
 pub mod ValueRows
 pub mod elimination

@@ -12,7 +12,7 @@ ghost use lib.ListN.{length, replicate};
 ghost use Rattle.residue.specs.Layout.{fill, inPlaces};
 ghost use Rattle.specification.specs.Refusal.{firstOf};
 ghost use Rattle.specification.specs.Tables.{fourTables, pointsIn};
-ghost use Rattle.specification.specs.Solving.{answering, valuesCases, interpolantIn, interpolateOutcome, remainderCases, remainderOutcome, WiringEnds};
+ghost use Rattle.specification.specs.Solving.{answering, valuesCases, interpolantIn, interpolateOutcome, remainderCases, remainderOutcome, listed, wiringOutcome};
 ghost use Rattle.basis.specs.Drawing.{Solves};
 
 // The refusal of a call that answers n values in an output of so many bytes, or 0; their interpolant is then left in 64 bytes.
@@ -120,7 +120,7 @@ pub fn wiring(
     values: &[i8],
     out: &mut [u8],
 ) -> Wired
-    ensures { λ a. ⌜ WiringEnds settings n r (fourTables (now (states .entry)) (now (standard .entry)) (now (leads .entry)) (now (coefficients .entry))) (now (values .entry)) (now (out .entry)) a (now (out .exit)) ⌝ }
+    ensures { λ a. ⌜ listed a (now (out .exit)) ≡ wiringOutcome settings n r (fourTables (now (states .entry)) (now (standard .entry)) (now (leads .entry)) (now (coefficients .entry))) (now (values .entry)) (now (out .entry)) ⌝ }
 {
     let mut found = [0u8; 64];
     let refusal = interpolant(

@@ -13,8 +13,8 @@ ghost use Rattle.residue.specs.Elimination.{eliminated};
 ghost use Rattle.residue.specs.Layout.{groups, fill, over};
 ghost use Rattle.monomial.specs.Terms.{termValues};
 ghost use Rattle.specification.specs.Levels.{residues};
-ghost use Rattle.specification.specs.Solving.{occurs};
-ghost use Rattle.basis.specs.Interpolants.{solution, names};
+ghost use Rattle.specification.specs.Solving.{occurs, wiringOf};
+ghost use Rattle.basis.specs.Interpolants.{solution};
 
 // Minus residues, as bytes.
 fn put_negatives(p: u16, from: &[u16], to: &mut [u8])
@@ -115,8 +115,8 @@ fn occurs(k: usize, n: usize, coefficients: &[u8], standard: &[u8]) -> bool
 pub fn put_names(m: usize, n: usize, coefficients: &[u8], standard: &[u8], out: &mut [u8]) -> u8
     requires { ⌜ (m ≤ 8) × (n ≤ length (now coefficients)) × (8 * n ≤ length (now standard)) ⌝ }
     requires { ⌜ now out ≡ replicate 8 0 ⌝ }
-    ensures { λ c. ⌜ c ≡ length (names m (take n (now (coefficients .entry))) (groups 8 n (now (standard .entry)))) ⌝ }
-    ensures { λ _. ⌜ now (out .exit) ≡ fill 8 (names m (take n (now (coefficients .entry))) (groups 8 n (now (standard .entry)))) ⌝ }
+    ensures { λ c. ⌜ c ≡ length (wiringOf m (take n (now (coefficients .entry))) (groups 8 n (now (standard .entry)))) ⌝ }
+    ensures { λ _. ⌜ now (out .exit) ≡ fill 8 (wiringOf m (take n (now (coefficients .entry))) (groups 8 n (now (standard .entry)))) ⌝ }
 {
     let mut count: u8 = 0;
     for k in 0..m {

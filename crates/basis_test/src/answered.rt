@@ -187,12 +187,12 @@ pub fn interpolated(
     buffers::holds(&out, &want)
 }
 
-// Strikes a listed variable out of those that occur; a place past the list's end holds 0.
-fn strike(listed: bool, name: u8, variables: &mut [u8; 8]) -> bool {
+// Strikes a listed variable, behind the last one, out of those that occur; a place past the list's end holds 0.
+fn strike(listed: bool, last: u8, name: u8, variables: &mut [u8; 8]) -> bool {
     if !listed {
         return name == 0;
     }
-    if name < 1 {
+    if name <= last {
         return false;
     }
     if 8 < name {
@@ -204,12 +204,15 @@ fn strike(listed: bool, name: u8, variables: &mut [u8; 8]) -> bool {
     occurs == 1
 }
 
-// Whether each name of a list is that of a variable that occurs, and stands in it once. Its order is free.
+// Whether the names of a list are those of variables that occur, increasing.
 fn names(count: u8, list: &[u8; 16], variables: &mut [u8; 8]) -> bool {
+    let mut last: u8 = 0;
     for i in 0..8u8 {
-        if !strike(i < count, list[i as usize], variables) {
+        let name = list[i as usize];
+        if !strike(i < count, last, name, variables) {
             return false;
         }
+        last = name;
     }
     true
 }

@@ -3,7 +3,7 @@ use mathlib.Core.Path.{_≡_, refl, sym, _∙_, ap, ap₂, subst}
 use mathlib.Core.Bool.{true}
 use mathlib.Core.List.{List, [], _∷_, map}
 use mathlib.Core.Logic.{inl, inr}
-use Prim.Native.Nat.{ℕ, zero, suc, _-_, _*_, _<_, _≤_}
+use Prim.Native.Nat.{ℕ, suc, _-_, _*_, _<_, _≤_}
 use native.Mathlib.Omega.{arith}
 use lib.ListN.{length, getD, take, length-map}
 use Rattle.residue.specs.Lists.{Among}
@@ -19,7 +19,7 @@ use Rattle.specification.specs.Polynomial.{Distinct}
 use Rattle.specification.specs.BasisOf.{basisOf, standardOf, leadsOf, rowOf, rowsOf, interpolantOf}
 use Rattle.specification.specs.Instance.{Monomial, Point, pointOf}
 use Rattle.specification.specs.Tables.{spaceUnder, pointsUnder, rowCount, tablesOf}
-use Rattle.specification.specs.Solving.{Names}
+use Rattle.specification.specs.Solving.{wiringOf, wiringUnder}
 use Rattle.specification.proofs.Instance.{standard-exponent, lead-exponent}
 use Rattle.specification.proofs.ideal.Lists.{getD-among, among-map}
 use Rattle.specification.proofs.ideal.Basis.{interpolant-fits}
@@ -27,6 +27,7 @@ use Rattle.specification.proofs.ideal.Counts.{standard-length}
 use Rattle.specification.proofs.agreement.Points.{Points}
 use Rattle.specification.proofs.agreement.Refusals.{Accepted}
 use Rattle.specification.proofs.agreement.Drawings.{laws-under, distinct-points, few-rows}
+use Rattle.specification.proofs.Wiring.{names-length, names-are}
 use Rattle.csv.specs.Printing.{linesOf}
 use Rattle.csv.specs.Appending.{inTable}
 use Rattle.csv.proofs.Lengths.{Short, EachShort, printed-length}
@@ -46,12 +47,8 @@ below-of : (p : ℕ) (l : List ℕ) → ((c : ℕ) → Among c l → c < p) → 
 below-of p l h i k = h (getD l i 0) (getD-among l i 0 k)
 
 -- numbers of at most 8 variables
-pub names-below : (m : ℕ) (cs : List ℕ) (l : List (List ℕ)) (names : List ℕ) → Names m cs l names → m ≤ 8 → Below 10 names
-names-below m cs l names N h = below-of 10 names each
-  where
-    each : (c : ℕ) → Among c names → c < 10
-    each zero w = absurd (N .positive w)
-    each (suc k) w = omega (arith, N .members k .0 w .0)
+names-below : (m : ℕ) (cs : List ℕ) (l : List (List ℕ)) → m ≤ 8 → Below 10 (wiringOf m cs l)
+names-below m cs l h = below-of 10 (wiringOf m cs l) (λ c w. let t = names-are cs l m .members c .0 w in omega (arith, t .1, t .2))
 
 module _ (s : Settings) (ok : Accepted s) (S : List (List ℕ)) (h : Points s S) where
   abbrev pub standards : List (List ℕ)
@@ -133,10 +130,14 @@ module _ (s : Settings) (ok : Accepted s) (S : List (List ℕ)) (h : Points s S)
       let t = among-map (rowOf (spaceUnder s) (pointsUnder s S)) (leadsOf (spaceUnder s) (pointsUnder s S)) a w in
       subst (Short 64) (sym (t .2)) (solved-short _)
 
-  pub lines-length : (values names : List ℕ) → length names ≤ 8 → Below 10 names → length (linesOf s S values names) ≤ 102048
-  unfolding linesOf
-  lines-length values names few below =
-      printed-length standards leads (rowsOf (spaceUnder s) (pointsUnder s S)) (interpolantOf (spaceUnder s) (pointsUnder s S) values) names
+  pub names-few : (values : List ℕ) → length (wiringUnder s S values) ≤ 8
+  unfolding wiringUnder
+  names-few values = omega (arith, names-length (interpolantOf (spaceUnder s) (pointsUnder s S) values) standards (s .variables), ok .few)
+
+  pub lines-length : (values : List ℕ) → length (linesOf s S values) ≤ 102048
+  unfolding linesOf wiringUnder
+  lines-length values =
+      printed-length standards leads (rowsOf (spaceUnder s) (pointsUnder s S)) (interpolantOf (spaceUnder s) (pointsUnder s S) values) (wiringUnder s S values)
       (omega (arith, length-map (standardOf (spaceUnder s) (pointsUnder s S)) (λ (b : Monomial (s .variables)). b .0), standard-count, h .few))
       (omega (arith, lead-count, few-rows s ok S h))
-      standards-short leads-short rows-short (solved-short _) (few, below)
+      standards-short leads-short rows-short (solved-short _) (names-few values, names-below (s .variables) _ standards (ok .few))

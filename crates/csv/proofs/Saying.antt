@@ -1,17 +1,17 @@
 -- The points and values of an accepted text, as printing asks for them.
-use mathlib.Core.Path.{_≡_, refl, sym, _∙_, ap, subst}
+use mathlib.Core.Path.{_≡_, refl, sym, _∙_, ap, ap₂, subst}
 use mathlib.Core.Bool.{Bool, true, false, not, _&&_, _||_}
 use mathlib.Core.List.{List, [], _∷_}
 use mathlib.Core.Logic.{inl, inr}
 use mathlib.Core.Option.{Option·getD}
 use Prim.Native.Nat.{ℕ, zero, suc, _-_, _%_, _<_, _≤_}
-use native.Mathlib.Nat.{mod-lt}
+use native.Mathlib.Nat.{zero-add, mod-lt}
 use native.Mathlib.Omega.{arith}
 use lib.IntN.{ℤ}
 use lib.ListN.{length, getD, take, length-map, length-replicate, replicate}
 use lib.Seq.{length-take-le}
 use lib.Dec.{T, eqb, leb, ltb}
-use borrow.Author.Tests.{not-false, eqb-true, eqb-false, leb-true, ltb-false}
+use borrow.Author.Tests.{not-false, eq-eqb, ne-eqb, eqb-true, eqb-false, leb-true, lt-ltb, le-ltb, ltb-false}
 use Rattle.residue.specs.Lists.{Among}
 use Rattle.residue.specs.Level.{residueOf}
 use Rattle.residue.specs.Modulus.{isModulus}
@@ -35,8 +35,8 @@ use Rattle.csv.specs.declared.reading.Refusal.{Refusal}
 use Rattle.csv.specs.Forms.{Header}
 use Rattle.csv.specs.Fields.{recordsOf}
 use Rattle.csv.specs.Reading.{Entries, Outcome, headerIn, formFault, entriesOf, pointOf, valueOf, pointsOf, valuesOf, firstOutside, firstRepeat, settingsCases, entriesCases, readCases, firstCase, accepted, decided, refused, readOutcome}
-use Rattle.csv.specs.Appending.{Put}
-use Rattle.csv.specs.Printing.{refusalLine, Prints, PrintsRead}
+use Rattle.csv.specs.Appending.{putAt, Put}
+use Rattle.csv.specs.Printing.{refusalLine, linesOf, linesRead, linesFor, printed, printOutcome}
 use Rattle.csv.proofs.Repeating.{AllLong}
 use Rattle.csv.proofs.Accepting.{passed, in-small, or-small, no-fault, all-long, all-inside, none-again}
 
@@ -183,13 +183,25 @@ fit text o e z = go (eqb (deciding text .refusal) 0) refl
         absurd (eqb-false (deciding text .refusal) 0 k (sym (ap (λ (x : Outcome). x .answer .refusal) (e ∙ y)) ∙ z))
 
 -- what was read, printed
-module _ {before after : List ℕ} {end : ℕ} {o w : Outcome} (e : o ≡ w) where
-  pub printed-refusal : (o .answer .refusal ≡ 0 → ⊥) → Put 0 (refusalLine (o .answer .refusal) (o .answer .at)) before after end → PrintsRead w before after end
-  printed-refusal n put = subst (λ (x : Outcome). PrintsRead x before after end) e (record { refusal = λ _. put; basis = λ z. absurd (n z) })
+module _ {o w : Outcome} (e : o ≡ w) where
+  pub printed-refusal : (o .answer .refusal ≡ 0 → ⊥) → refusalLine (o .answer .refusal) (o .answer .at) ≡ linesRead w
+  unfolding linesRead
+  printed-refusal n = rw (← e) (simp (ne-eqb (o .answer .refusal) 0 n))
 
   pub printed-basis : o .answer .refusal ≡ 0
-      → Prints (D.settingsOf (o .answer .modulus) (o .answer .variables) (o .answer .order))
+      → linesOf (D.settingsOf (o .answer .modulus) (o .answer .variables) (o .answer .order))
       (pointsIn (D.settingsOf (o .answer .modulus) (o .answer .variables) (o .answer .order)) (o .answer .n) (o .states))
-      (take (o .answer .n) (o .values)) before after end
-      → PrintsRead w before after end
-  printed-basis z printed = subst (λ (x : Outcome). PrintsRead x before after end) e (record { refusal = λ n. absurd (n z); basis = λ _. printed })
+      (take (o .answer .n) (o .values)) ≡ linesRead w
+  unfolding linesRead
+  printed-basis z = rw (← e) (simp (eq-eqb (o .answer .refusal) 0 z))
+
+-- into a buffer that is too short, and into one that is not
+module _ (text before : List ℕ) where
+  pub print-short : length before < 131072 → printed 0 before ≡ printOutcome text before
+  unfolding printOutcome linesFor over
+  print-short h = simp (lt-ltb (length before) 131072 h)
+
+  pub print-long : {lines after : List ℕ} {end : ℕ} → 131072 ≤ length before → lines ≡ linesRead (readOutcome text (replicate 512 0) (replicate 64 0)) → Put 0 lines before after end
+      → printed end after ≡ printOutcome text before
+  unfolding printOutcome linesFor over putAt
+  print-long h e put = rw (le-ltb (length before) 131072 h, ← e) (simp zero-add at (ap₂ printed (put .ends) (put .holds)))

@@ -1,6 +1,6 @@
 -- Points and values printed: the tables, the interpolant and the wiring list that the calls leave give the lines of the definitions.
 use mathlib.Core.Path.{_≡_, refl, sym, _∙_, ap, ap₂}
-use mathlib.Core.List.{List, map}
+use mathlib.Core.List.{List}
 use Prim.Native.Nat.{ℕ, _<_, _≤_}
 use native.Mathlib.Omega.{arith}
 use lib.ListN.{length, getD, take}
@@ -8,21 +8,20 @@ use Rattle.residue.specs.Vector.{Below}
 use Rattle.residue.specs.Layout.{groups, fill}
 use Rattle.residue.proofs.Layouts.{take-fill}
 use Rattle.specification.specs.declared.settings.Settings.{Settings}
-use Rattle.specification.specs.BasisOf.{standardOf, interpolantOf}
+use Rattle.specification.specs.BasisOf.{interpolantOf}
 use Rattle.specification.specs.Tables.{spaceUnder, pointsUnder, pointsIn, rowCount, tablesOf}
 use Rattle.specification.proofs.agreement.Points.{Points}
 use Rattle.specification.proofs.agreement.Refusals.{Accepted}
 use Rattle.specification.proofs.agreement.Drawings.{few-rows}
+use Rattle.specification.specs.Solving.{wiringOf, wiringUnder}
 use Rattle.basis.specs.Interpolants.{solution}
-use Rattle.basis.specs.Interpolants as I
 use Rattle.basis.specs.Drawing.{PointsGiven, DrawnUp}
 use Rattle.basis.proofs.PointTables.{length-points, points-in}
-use Rattle.basis.proofs.Wiring.{names-length, names-are}
 use Rattle.basis.proofs.calls.Given.{read}
 use Rattle.basis.proofs.calls.Answers.{length-interpolant, solution-is, names-in}
 use Rattle.csv.specs.Appending.{Room, Put, inTable}
-use Rattle.csv.specs.Printing.{basisLines, linesOf, Prints}
-use Rattle.csv.proofs.Drawn.{standard-back, leads-back, rows-back, names-below, lines-length}
+use Rattle.csv.specs.Printing.{basisLines, linesOf}
+use Rattle.csv.proofs.Drawn.{standard-back, leads-back, rows-back, names-few, lines-length}
 
 module _ (s : Settings) (n : ℕ) (points values : List ℕ) (g : PointsGiven s n points) (lv : length values ≡ n) (bv : Below (s .modulus) values) where
   abbrev pub S : List (List ℕ)
@@ -40,9 +39,6 @@ module _ (s : Settings) (n : ℕ) (points values : List ℕ) (g : PointsGiven s 
   abbrev cs : List ℕ
   cs = interpolantOf (spaceUnder s) (pointsUnder s S) values
 
-  abbrev named : List ℕ
-  named = I.names (s .variables) cs (map (λ a. a .0) (standardOf (spaceUnder s) (pointsUnder s S)))
-
   module _ (r : ℕ) (standard leads coefficients rows pivots : List ℕ) (u : DrawnUp s S r standard leads coefficients rows pivots) where
     pub few : r ≤ 449
     few = omega (arith, u .row-count, few-rows s ok S given)
@@ -59,24 +55,23 @@ module _ (s : Settings) (n : ℕ) (points values : List ℕ) (g : PointsGiven s 
       solved : take n interpolant ≡ cs
       solved = ap (take n) filled ∙ take-fill n 64 cs (length-interpolant s ok S given values ∙ count-points) (g .most)
 
-      module _ (count : ℕ) (names : List ℕ) (c : count ≡ length (I.names (s .variables) (take n interpolant) (groups 8 n standard)))
-          (f : names ≡ fill 8 (I.names (s .variables) (take n interpolant) (groups 8 n standard))) where
-        same-names : I.names (s .variables) (take n interpolant) (groups 8 n standard) ≡ named
+      module _ (count : ℕ) (names : List ℕ) (c : count ≡ length (wiringOf (s .variables) (take n interpolant) (groups 8 n standard)))
+          (f : names ≡ fill 8 (wiringOf (s .variables) (take n interpolant) (groups 8 n standard))) where
+        same-names : wiringOf (s .variables) (take n interpolant) (groups 8 n standard) ≡ wiringUnder s S values
         same-names =
-            ap₂ (λ (l : List ℕ) (t : List ℕ). I.names (s .variables) (take n l) (groups 8 n t)) filled (u .standard-table)
-            ∙ ap (λ (j : ℕ). I.names (s .variables) (take j (fill 64 cs)) (groups 8 j (tablesOf s S .standard))) (sym count-points)
+            ap₂ (λ (l : List ℕ) (t : List ℕ). wiringOf (s .variables) (take n l) (groups 8 n t)) filled (u .standard-table)
+            ∙ ap (λ (j : ℕ). wiringOf (s .variables) (take j (fill 64 cs)) (groups 8 j (tablesOf s S .standard))) (sym count-points)
             ∙ names-in s ok S given values
 
-        short : length named ≤ 8
-        short = omega (arith, names-length cs (map (λ a. a .0) (standardOf (spaceUnder s) (pointsUnder s S))) (s .variables), g .few)
-
-        listed : take count names ≡ named
+        listed : take count names ≡ wiringUnder s S values
         listed =
             ap₂ (λ (k : ℕ) (l : List ℕ). take k l) (c ∙ ap length same-names) (f ∙ ap (fill 8) same-names)
-            ∙ take-fill (length named) 8 named refl short
+            ∙ take-fill (length (wiringUnder s S values)) 8 (wiringUnder s S values) refl (names-few s ok S given values)
 
-        text : basisLines (inTable 8 n (s .variables) standard) (inTable 8 r (s .variables) leads) (inTable 64 r n coefficients) (take n interpolant) (take count names)
-            ≡ linesOf s S values named
+        abbrev pub lines : List ℕ
+        lines = basisLines (inTable 8 n (s .variables) standard) (inTable 8 r (s .variables) leads) (inTable 64 r n coefficients) (take n interpolant) (take count names)
+
+        text : lines ≡ linesOf s S values
         unfolding linesOf
         text =
             let x = ap₂ (λ (j : ℕ) (t : List ℕ). inTable 8 j (s .variables) t) (sym count-points) (u .standard-table) ∙ standard-back s ok S given in
@@ -87,18 +82,10 @@ module _ (s : Settings) (n : ℕ) (points values : List ℕ) (g : PointsGiven s 
             let w = listed in
             cc
 
-        pub told-room : (o : List ℕ) → 102048 ≤ length o
-            → Room 0 (basisLines (inTable 8 n (s .variables) standard) (inTable 8 r (s .variables) leads) (inTable 64 r n coefficients) (take n interpolant) (take count names)) o
+        pub told-room : (o : List ℕ) → 102048 ≤ length o → Room 0 lines o
         told-room o h =
             let e = ap length text in
-            let b = names-below (s .variables) cs (map (λ a. a .0) (standardOf (spaceUnder s) (pointsUnder s S))) named (names-are cs (map (λ a. a .0) (standardOf (spaceUnder s) (pointsUnder s S))) (s .variables)) (g .few) in
-            omega (arith, lines-length s ok S given values named short b)
+            omega (arith, lines-length s ok S given values)
 
-        pub told : {o after : List ℕ} {end : ℕ}
-            → Put 0 (basisLines (inTable 8 n (s .variables) standard) (inTable 8 r (s .variables) leads) (inTable 64 r n coefficients) (take n interpolant) (take count names)) o after end
-            → Prints s S values o after end
-        told p = record {
-          names = named;
-          wiring = names-are cs (map (λ a. a .0) (standardOf (spaceUnder s) (pointsUnder s S))) (s .variables);
-          lines = rw text at p;
-        }
+        pub told : {o after : List ℕ} {end : ℕ} → Put 0 lines o after end → Put 0 (linesOf s S values) o after end
+        told p = rw text at p

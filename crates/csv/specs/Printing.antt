@@ -2,16 +2,15 @@
 use mathlib.Core.Path.{_≡_}
 use mathlib.Core.Bool.{cond}
 use mathlib.Core.List.{List, [], _∷_, _++_, map, flatten, zipWith}
-use mathlib.Core.Logic.{_≢_}
-use Prim.Native.Nat.{ℕ, zero, suc, _+_, _/_, _%_, _<_, _≤_}
-use lib.Dec.{ltb}
+use Prim.Native.Nat.{ℕ, zero, suc, _+_, _/_, _%_, _≤_}
+use lib.Dec.{eqb, ltb}
 use lib.ListN.{length, take, replicate}
 use Rattle.specification.specs.declared.settings.Settings.{Settings}
 use Rattle.specification.specs.BasisOf.{standardOf, leadsOf, rowsOf, interpolantOf}
 use Rattle.specification.specs.Tables.{spaceUnder, pointsUnder, pointsIn}
 use Rattle.basis.specs.Drawing.{settingsOf}
-use Rattle.specification.specs.Solving.{Names}
-use Rattle.csv.specs.Appending.{Put}
+use Rattle.specification.specs.Solving.{wiringUnder}
+use Rattle.residue.specs.Layout.{over}
 use Rattle.csv.specs.Reading.{Outcome, readOutcome}
 
 -- a number in decimal, with more turns than it has digits
@@ -89,34 +88,35 @@ basisLines standard leads rows interpolant names =
 unfoldable pub refusalLine : ℕ → ℕ → List ℕ
 refusalLine refusal at = labelled refused-word refusal ++ (spaced at ++ lineEnd)
 
--- The lines of the basis of points under settings, of the interpolant of values at them, and of a wiring list.
-unfoldable pub linesOf : Settings → List (List ℕ) → List ℕ → List ℕ → List ℕ
-linesOf s S values names =
+-- The lines of the basis of points under settings, of the interpolant of values at them, and of its wiring list.
+unfoldable pub linesOf : Settings → List (List ℕ) → List ℕ → List ℕ
+linesOf s S values =
     basisLines
     (map (λ a. a .0) (standardOf (spaceUnder s) (pointsUnder s S)))
     (map (λ a. a .0) (leadsOf (spaceUnder s) (pointsUnder s S)))
     (rowsOf (spaceUnder s) (pointsUnder s S))
     (interpolantOf (spaceUnder s) (pointsUnder s S) values)
-    names
-
--- They are printed at the front of a lent buffer; the order in the wiring list is free.
-pub record Prints (s : Settings) (S : List (List ℕ)) (values before after : List ℕ) (end : ℕ) : Type 0 where
-  pub names : List ℕ
-  pub wiring : Names (s .variables) (interpolantOf (spaceUnder s) (pointsUnder s S) values) (map (λ a. a .0) (standardOf (spaceUnder s) (pointsUnder s S))) names
-  pub lines : Put 0 (linesOf s S values names) before after end
+    (wiringUnder s S values)
 
 -- What is printed of the reader's answer: the refusal's line, or the lines of the points and values that were read.
-pub record PrintsRead (o : Outcome) (before after : List ℕ) (end : ℕ) : Type 0 where
-  pub refusal : o .answer .refusal ≢ 0 → Put 0 (refusalLine (o .answer .refusal) (o .answer .at)) before after end
-  pub basis : o .answer .refusal ≡ 0
-      → Prints (settingsOf (o .answer .modulus) (o .answer .variables) (o .answer .order))
-      (pointsIn (settingsOf (o .answer .modulus) (o .answer .variables) (o .answer .order)) (o .answer .n) (o .states))
-      (take (o .answer .n) (o .values)) before after end
+unfoldable pub linesRead : Outcome → List ℕ
+linesRead o = let a = o .answer in let s = settingsOf (a .modulus) (a .variables) (a .order) in
+    cond (eqb (a .refusal) 0) (linesOf s (pointsIn s (a .n) (o .states)) (take (a .n) (o .values))) (refusalLine (a .refusal) (a .at))
 
--- What is printed of a text, into a buffer of at least 131,072 bytes; nothing into a shorter one.
-pub record PrintsText (text before after : List ℕ) (end : ℕ) : Type 0 where
-  pub short : length before < 131072 → (end ≡ 0) × (after ≡ before)
-  pub printed : 131072 ≤ length before → PrintsRead (readOutcome text (replicate 512 0) (replicate 64 0)) before after end
+-- What is printed of a text: nothing into a buffer of less than 131,072 bytes.
+unfoldable pub linesFor : ℕ → List ℕ → List ℕ
+linesFor size text = cond (ltb size 131072) [] (linesRead (readOutcome text (replicate 512 0) (replicate 64 0)))
+
+-- The answer of printing, how many bytes were written, and the lent buffer at exit: they stand at its front.
+pub record Printed : Type 0 where
+  pub count : ℕ
+  pub buffer : List ℕ
+
+abbrev pub printed : ℕ → List ℕ → Printed
+printed count buffer = record { count = count; buffer = buffer }
+
+unfoldable pub printOutcome : List ℕ → List ℕ → Printed
+printOutcome text buffer = let lines = linesFor (length buffer) text in printed (length lines) (over lines buffer)
 
 -- so many bytes stand at the front, as lending them asks
 abbrev pub Within : ℕ → List ℕ → Type 0

@@ -13,7 +13,7 @@ ghost use Rattle.residue.specs.Layout.{fill};
 ghost use Rattle.specification.specs.Tables.{pointsIn};
 ghost use Rattle.basis.specs.Drawing.{settingsOf, PointsGiven};
 ghost use Rattle.basis.specs.Interpolants.{solution};
-ghost use Rattle.csv.specs.Printing.{decimal, spaced, numbers, labelled, line, firstLine, standardLines, rowLine, rowLines, basisLines, refusalLine, Prints, PrintsText, Within};
+ghost use Rattle.csv.specs.Printing.{decimal, spaced, numbers, labelled, line, firstLine, standardLines, rowLine, rowLines, basisLines, refusalLine, linesOf, printed, printOutcome, Within};
 ghost use Rattle.csv.specs.Appending.{Room, Put, inTable};
 
 fn put_byte(out: &mut [u8], at: usize, b: u8) -> usize
@@ -206,7 +206,7 @@ fn print_points(
     requires { ⌜ PointsGiven (settingsOf p m order) n (now points) ⌝ }
     requires { ⌜ (length (now values) ≡ n) × (Below p (now values)) ⌝ }
     requires { ⌜ 102048 ≤ length (now out) ⌝ }
-    ensures { λ e. ⌜ Prints (settingsOf p m order) (pointsIn (settingsOf p m order) n (now (points .entry))) (now (values .entry)) (now (out .entry)) (now (out .exit)) e ⌝ ∗ ⌜ Within e (now (out .exit)) ⌝ }
+    ensures { λ e. ⌜ Put 0 (linesOf (settingsOf p m order) (pointsIn (settingsOf p m order) n (now (points .entry))) (now (values .entry))) (now (out .entry)) (now (out .exit)) e ⌝ ∗ ⌜ Within e (now (out .exit)) ⌝ }
 {
     let mut standard = [0u8; 512];
     let mut leads = [0u8; 3592];
@@ -244,7 +244,7 @@ fn print_points(
 
 // A text printed: its refusal, or its basis, interpolant and wiring list. The answer is how many bytes were written.
 pub fn print_text(text: &[u8], out: &mut [u8]) -> usize
-    ensures { λ e. ⌜ PrintsText (now (text .entry)) (now (out .entry)) (now (out .exit)) e ⌝ ∗ ⌜ Within e (now (out .exit)) ⌝ }
+    ensures { λ e. ⌜ printed e (now (out .exit)) ≡ printOutcome (now (text .entry)) (now (out .entry)) ⌝ ∗ ⌜ Within e (now (out .exit)) ⌝ }
 {
     if out.len() < 131072 {
         return 0;

@@ -14,12 +14,14 @@ use Rattle.specification.specs.Refusal.{firstOf}
 use Rattle.specification.specs.Settings.{settingsCases}
 use Rattle.specification.specs.Tables.{Tables, tooShort}
 use Rattle.specification.specs.Adding.{Outcome, refused, addOutcome, drawOutcome}
-use Rattle.specification.specs.Solving.{valuesCases, remainderCases}
+use Rattle.specification.specs.Solving.{valuesCases, remainderCases, wiringOutcome}
 use Rattle.basis.proofs.adding.Addition.{add-size}
+use Rattle.specification.proofs.Wiring.{list-refused}
 use Rattle.basis.proofs.calls.Refusing.{sizes, passed, when-refused}
-use Rattle.basis.proofs.calls.Outcomes.{draw-size, values-size, wiring-refused, remainder-size}
+use Rattle.basis.proofs.calls.Outcomes.{draw-size, values-size, remainder-size}
 use Rattle.misqafur.specs.Bytes.{signedBytes}
-use Rattle.misqafur.specs.Packing.{Left, packedOutcome, PackedWiring}
+use Rattle.misqafur.specs.Packing.{Left, packedOutcome, leftList, packedList}
+use Rattle.misqafur.proofs.Packed.{packs-list}
 use Rattle.misqafur.proofs.SignedBytes.{length-signed}
 
 -- a refusal alone, of a call that writes the tables
@@ -72,13 +74,9 @@ module _ (size : ℕ) (s : Settings) (n r : ℕ) (t : Tables) (values buffer : L
       omega (arith, eqb-true (length values) n (not-false _ (ok .right)), ltb-false 64 n (ok .few))
 
 module _ (s : Settings) (n r : ℕ) (t : Tables) (values buffer : List ℕ) where
-  pub wiring-alone : (k : ℕ) → k ≡ valuesBySize 8 s n t buffer (length values) → (k ≡ 0 → ⊥) → PackedWiring s n r t (signedBytes values) buffer k buffer
-  wiring-alone k e z =
-      record {
-        answer = record { refusal = k; count = 0 };
-        ends = wiring-refused s n r t (signedBytes values) buffer k (values-refused 8 s n r t values buffer k e z) z;
-        number = omega arith;
-      }
+  pub wiring-alone : (k : ℕ) → k ≡ valuesBySize 8 s n t buffer (length values) → (k ≡ 0 → ⊥) → leftList k buffer ≡ packedList (wiringOutcome s n r t (signedBytes values) buffer)
+  unfolding wiringOutcome
+  wiring-alone k e z = packs-list (list-refused _ buffer _ k (values-refused 8 s n r t values buffer k e z) z) (omega arith)
 
 -- A polynomial.
 abbrev pub termsBySize : Settings → ℕ → Tables → List ℕ → List ℕ → ℕ → ℕ

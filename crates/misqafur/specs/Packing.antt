@@ -1,16 +1,13 @@
 -- What C sees of a call: one number that holds the refusal and the counts, and the lent bytes. A call that answers a refusal alone answers it as it is.
-use mathlib.Core.Path.{_≡_}
 use mathlib.Core.Bool.{cond}
 use mathlib.Core.List.{List, [], _∷_}
 use Prim.Native.Nat.{ℕ, _+_, _*_}
-use lib.IntN.{ℤ}
 use lib.Dec.{eqb}
-use Rattle.specification.specs.declared.settings.Settings.{Settings}
 use Rattle.specification.specs.declared.settings.Answer.{Answer}
 use Rattle.specification.specs.declared.settings.Wired.{Wired}
 use Rattle.specification.specs.Tables.{Tables, fourTables}
 use Rattle.specification.specs.Adding.{Outcome}
-use Rattle.specification.specs.Solving.{WiringEnds}
+use Rattle.specification.specs.Solving.{Listed}
 use Rattle.csv.specs.declared.reading.Read.{Read}
 use Rattle.csv.specs.Reading.{Outcome as ReadOutcome}
 
@@ -42,11 +39,16 @@ left a states standard leads coefficients = record { number = a; tables = fourTa
 unfoldable pub packedOutcome : Outcome → Left
 packedOutcome o = record { number = packedAnswer (o .answer); tables = o .tables }
 
--- The wiring call, whose list has a free order: what it answers is some answer that its contract allows, packed.
-pub record PackedWiring (s : Settings) (n r : ℕ) (t : Tables) (values : List ℤ) (buffer : List ℕ) (a : ℕ) (end : List ℕ) : Type 0 where
-  pub answer : Wired
-  pub ends : WiringEnds s n r t values buffer answer end
-  pub number : a ≡ packedWired answer
+-- The wiring call: the number, and the lent buffer at exit.
+pub record LeftList : Type 0 where
+  pub number : ℕ
+  pub buffer : List ℕ
+
+abbrev pub leftList : ℕ → List ℕ → LeftList
+leftList a buffer = record { number = a; buffer = buffer }
+
+unfoldable pub packedList : Listed → LeftList
+packedList o = record { number = packedWired (o .answer); buffer = o .buffer }
 
 -- Reading a text: the number, and the lent buffers at exit.
 pub record LeftReading : Type 0 where

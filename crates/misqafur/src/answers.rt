@@ -6,9 +6,9 @@ use basis::refusal;
 use specification::settings::Settings;
 ghost use mathlib.Core.Path.{_≡_};
 ghost use Rattle.specification.specs.Tables.{fourTables};
-ghost use Rattle.specification.specs.Solving.{answering, interpolateOutcome, remainderOutcome};
+ghost use Rattle.specification.specs.Solving.{answering, interpolateOutcome, remainderOutcome, wiringOutcome};
 ghost use Rattle.misqafur.specs.Bytes.{signedBytes};
-ghost use Rattle.misqafur.specs.Packing.{PackedWiring};
+ghost use Rattle.misqafur.specs.Packing.{leftList, packedList};
 
 // The interpolant of n values, in the order of the points.
 #[no_mangle]
@@ -131,7 +131,7 @@ pub extern "C" fn misqafur_wiring(
     values: &[u8],
     out: &mut [u8],
 ) -> u32
-    ensures { λ a. ⌜ PackedWiring (record { modulus = modulus; variables = variables; order = order }) n r (fourTables (now (states .entry)) (now (standard .entry)) (now (leads .entry)) (now (coefficients .entry))) (signedBytes (now (values .entry))) (now (out .entry)) a (now (out .exit)) ⌝ }
+    ensures { λ a. ⌜ leftList a (now (out .exit)) ≡ packedList (wiringOutcome (record { modulus = modulus; variables = variables; order = order }) n r (fourTables (now (states .entry)) (now (standard .entry)) (now (leads .entry)) (now (coefficients .entry))) (signedBytes (now (values .entry))) (now (out .entry))) ⌝ }
 {
     let settings = Settings {
         modulus,

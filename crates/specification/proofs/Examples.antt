@@ -29,7 +29,7 @@ use Rattle.specification.specs.Extension.{slot, minus, without, divided,
 use Rattle.specification.specs.BasisOf.{basisOf, valueAt, standardOf, leadsOf, rowsOf}
 use Rattle.specification.specs.Instance.{monomialOf, pointOf}
 use Rattle.specification.specs.Tables.{spaceUnder, pointsUnder}
-use Rattle.specification.specs.Solving.{Names, occurs, polynomialOf}
+use Rattle.specification.specs.Solving.{occurs, wiringOf, wiringUnder, polynomialOf}
 use Rattle.specification.specs.Reference.{addition, referenceAnswer, referenceAfter, numbers, fed, dueAt, due, Refuses}
 use Rattle.specification.specs.Examples.{Example, Holds, Tabled, under, anyOrder, fresh, A, examples}
 use Rattle.residue.proofs.Tests.{true-of}
@@ -125,8 +125,8 @@ All [] = Unit {0}
 All (e ∷ l) = Holds e × All l
 
 all : All examples
-unfolding tested each-tested sameLists examples Holds primes isOneOf isModulus inverseBelow inverseOf residueOf orderOf cmp firstOf settingsCases isResidue residueOr0 inRange residues fill sameList isAmong slot minus without divided extended gap first newton grow basisOf valueAt monomialOf pointOf occurs polynomialOf referenceAnswer referenceAfter fed dueAt due Refuses
-all = (under-each 5 2 (1 ∷ []) A _ _ _ tt, (under-each 5 2 (0 ∷ []) A _ _ _ tt, (under-each 3 2 (1 ∷ []) A _ _ _ tt, ((λ s. (record { standard-are = refl; leads-are = refl; rows-are = refl }, (λ values. refl), λ f. refl)), (single, (under-each 2 1 anyOrder _ _ _ _ tt, ((refl, named), (refl, (lowest, (again, (ends, tt)))))))))))
+unfolding tested each-tested sameLists examples Holds primes isOneOf isModulus inverseBelow inverseOf residueOf orderOf cmp firstOf settingsCases isResidue residueOr0 inRange residues fill sameList isAmong slot minus without divided extended gap first newton grow basisOf valueAt monomialOf pointOf occurs wiringOf wiringUnder polynomialOf referenceAnswer referenceAfter fed dueAt due Refuses
+all = (under-each 5 2 (1 ∷ []) A _ _ _ tt, (under-each 5 2 (0 ∷ []) A _ _ _ tt, (under-each 3 2 (1 ∷ []) A _ _ _ tt, ((λ s. (record { standard-are = refl; leads-are = refl; rows-are = refl }, (λ values. refl), λ f. refl)), (single, (under-each 2 1 anyOrder _ _ _ _ tt, ((refl, refl), (refl, (lowest, (again, (ends, tt)))))))))))
   where
     -- each order, and each point (a, b) modulo 5
     one : ℕ → ℕ → ℕ → Bool
@@ -136,14 +136,6 @@ all = (under-each 5 2 (1 ∷ []) A _ _ _ tt, (under-each 5 2 (0 ∷ []) A _ _ _ 
         → Tabled (under 5 2 order) ((a ∷ b ∷ []) ∷ []) ((0 ∷ 0 ∷ []) ∷ []) ((0 ∷ 1 ∷ []) ∷ (1 ∷ 0 ∷ []) ∷ []) (((5 - b) % 5 ∷ []) ∷ ((5 - a) % 5 ∷ []) ∷ [])
     single order a b ho ha hb = of-test (under 5 2 order) ((a ∷ b ∷ []) ∷ []) ((0 ∷ 0 ∷ []) ∷ []) ((0 ∷ 1 ∷ []) ∷ (1 ∷ 0 ∷ []) ∷ []) (((5 - b) % 5 ∷ []) ∷ ((5 - a) % 5 ∷ []) ∷ [])
         (below-at (one order a) 5 (below-at (λ c. below (one order c) 5) 5 (below-at (λ o. below (λ c. below (one o c) 5) 5) 3 tt order (known-order order ho)) a ha) b hb)
-
-    second : (k : ℕ) → Among (suc k) (2 ∷ []) ↔ ((k < 2) × T (occurs k (1 ∷ 2 ∷ 0 ∷ []) ((0 ∷ 0 ∷ []) ∷ (0 ∷ 1 ∷ []) ∷ (1 ∷ 0 ∷ []) ∷ [])))
-    second zero = ((λ q. elim q [ inl e ↦ absurd (omega arith) | inr z ↦ absurd z ]), λ t. absurd (t .1))
-    second (suc zero) = ((λ q. (omega arith, tt)), λ t. inl refl)
-    second (suc (suc k)) = ((λ q. elim q [ inl e ↦ absurd (omega arith) | inr z ↦ absurd z ]), λ t. absurd (omega (arith, t .0)))
-
-    named : Names 2 (1 ∷ 2 ∷ 0 ∷ []) ((0 ∷ 0 ∷ []) ∷ (0 ∷ 1 ∷ []) ∷ (1 ∷ 0 ∷ []) ∷ []) (2 ∷ [])
-    named = record { once = ((λ q. q), tt); members = second; positive = λ q. elim q [ inl e ↦ absurd (omega arith) | inr z ↦ z ] }
 
     lowest : (e : ℕ × ℤ × ℕ) → Among e ((5, negsuc 0, 4) ∷ (3, negsuc 0, 2) ∷ (2, negsuc 0, 1) ∷ []) → residueOf (e .0) (e .1) ≡ Residue (e .2)
     lowest e (inl q) = rw q

@@ -2,5 +2,6 @@
 pub mod Points
 pub mod Refusals
 pub mod Run
+pub mod Values
 pub mod Drawings
 pub mod Claim

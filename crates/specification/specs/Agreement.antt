@@ -1,7 +1,7 @@
 -- What is claimed of every list of additions: docs/SCOPE.md, 'The two desks', as one statement. proofs/agreement has its proof.
 use mathlib.Core.Path.{_≡_}
 use mathlib.Core.Bool.{false}
-use mathlib.Core.List.{List, []}
+use mathlib.Core.List.{List, [], map, zip}
 use mathlib.Core.Logic.{_↔_}
 use Prim.Native.Nat.{ℕ, _%_, _≤_}
 use lib.IntN.{ℤ}
@@ -10,14 +10,15 @@ use lib.Dec.{T}
 use Rattle.residue.specs.Lists.{Among}
 use Rattle.residue.specs.Layout.{fill, over, begins}
 use Rattle.specification.specs.declared.settings.Settings.{Settings}
-use Rattle.specification.specs.Levels.{inRange, noRepeat}
+use Rattle.specification.specs.Levels.{inRange, noRepeat, residues}
 use Rattle.specification.specs.Polynomial.{eval}
 use Rattle.specification.specs.Basis.{IsBasis, Fits}
-use Rattle.specification.specs.BasisOf.{standardOf, leadsOf, rowsOf}
-use Rattle.specification.specs.Tables.{Tables, spaceUnder, pointsUnder, rowCount, tablesOf, written, tooShort}
+use Rattle.specification.specs.BasisOf.{standardOf, leadsOf, rowsOf, valueAt}
+use Rattle.specification.specs.Tables.{Tables, spaceUnder, pointsUnder, rowCount, tablesOf, written, tooShort, pointsIn}
 use Rattle.specification.specs.Adding.{Outcome, pointsOffered, drawOutcome}
-use Rattle.specification.specs.Solving.{polynomialUnder, remainderOutcome}
+use Rattle.specification.specs.Solving.{polynomialUnder, remainderOutcome, Names, Listed, wiringOutcome}
 use Rattle.specification.specs.Reference.{Event, Held, numbers, due}
+use Rattle.residue.specs.Level.{residueOf}
 
 -- Fresh tables: none is shorter than its size, and every byte of the sizes is 0.
 pub record Fresh (t : Tables) : Type 0 where
@@ -37,8 +38,15 @@ pub record Rearranges (s : Settings) (L : List (List ℕ)) (levels : List ℤ) :
   pub once : T (noRepeat (pointsOffered s levels))
   pub members : (P : List ℕ) → Among P (pointsOffered s levels) ↔ Among P L
 
--- A drawing up agrees with what the additions hold: the number is 0, and n, r and the three tables are equal in each byte of their sizes; the remainder
--- call, handed the same terms and buffers of equal bytes, answers the same with either tables and leaves equal buffers.
+-- Values of any number and content that two calls are handed with the same points in the orders K and L: as many, and equal at each point. Two levels are
+-- equal when they have one residue, or neither is in range (docs/SCOPE.md, 'The two desks'; request M-100).
+pub record SameValues (s : Settings) (K L : List (List ℕ)) (v w : List ℤ) : Type 0 where
+  pub count : length v ≡ length w
+  pub equal : (P : List ℕ) (y z : ℤ) → Among (P, y) (zip K v) → Among (P, z) (zip L w) → residueOf (s .modulus) y ≡ residueOf (s .modulus) z
+
+-- A drawing up agrees with what the additions hold: the number is 0, and n, r and the three tables are equal in each byte of their sizes. The remainder call,
+-- handed the same terms, and the wiring call, handed values that are equal at each point, each desk's in the order of its own points, answer the same with
+-- either tables, and leave equal buffers where they were lent buffers of equal bytes.
 pub record SameAs (s : Settings) (h : Held) (o : Outcome) : Type 0 where
   pub number : o .answer .refusal ≡ 0
   pub count : o .answer .n ≡ h .n
@@ -48,12 +56,26 @@ pub record SameAs (s : Settings) (h : Held) (o : Outcome) : Type 0 where
   pub coefficients : take 28736 (o .tables .coefficients) ≡ take 28736 (h .tables .coefficients)
   pub remainder : (terms : List ℤ) (exponents buffer : List ℕ)
       → remainderOutcome s (o .answer .n) (o .answer .r) (o .tables) terms exponents buffer ≡ remainderOutcome s (h .n) (h .r) (h .tables) terms exponents buffer
+  pub wiring : (v w : List ℤ) (buffer : List ℕ) → SameValues s (pointsIn s (o .answer .n) (o .tables .states)) (pointsIn s (h .n) (h .tables .states)) v w
+      → wiringOutcome s (o .answer .n) (o .answer .r) (o .tables) v buffer ≡ wiringOutcome s (h .n) (h .r) (h .tables) w buffer
 
 -- The buffer of a remainder call whose number is 0 holds the one combination of standard monomials with the polynomial's values at the points.
 pub record Remains (s : Settings) (L : List (List ℕ)) (terms : List ℤ) (exponents buffer end : List ℕ) : Type 0 where
   pub coefficients : List ℕ
   pub held : end ≡ over (fill 64 coefficients) buffer
   pub fits : Fits (spaceUnder s) (pointsUnder s L) (standardOf (spaceUnder s) (pointsUnder s L)) (eval (spaceUnder s) (polynomialUnder s terms exponents)) coefficients
+
+-- The buffer of a wiring call whose number is 0 holds the numbers of the variables that occur, increasing, in the one combination of standard monomials with
+-- these values at the points.
+pub record Wires (s : Settings) (L : List (List ℕ)) (values : List ℤ) (buffer : List ℕ) (end : Listed) : Type 0 where
+  pub coefficients : List ℕ
+  pub fits : Fits (spaceUnder s) (pointsUnder s L) (standardOf (spaceUnder s) (pointsUnder s L))
+      (valueAt (spaceUnder s) (pointsUnder s L) (residues (s .modulus) values)) coefficients
+  pub names : List ℕ
+  pub named : Names (s .variables) coefficients (map (λ a. a .0) (standardOf (spaceUnder s) (pointsUnder s L))) names
+  pub few : length names ≤ 8
+  pub count : end .answer .count ≡ length names
+  pub held : end .buffer ≡ over (fill 8 names) buffer
 
 -- After the list `es` from fresh tables `start`, with L the reference list then and h what is held.
 pub record Agrees (s : Settings) (start : Tables) (es : List Event) (L : List (List ℕ)) (h : Held) : Type 0 where
@@ -69,6 +91,8 @@ pub record Agrees (s : Settings) (start : Tables) (es : List Event) (L : List (L
   pub few-rows : rowCount s L ≤ 449
   -- every drawing up of its points into tables none of which is shorter than its size
   pub drawn : (t : Tables) (levels : List ℤ) → tooShort t ≡ false → Rearranges s L levels → SameAs s h (drawOutcome s t levels)
-  -- remainders
+  -- remainders and wiring lists
   pub remainders : (terms : List ℤ) (exponents buffer : List ℕ) → remainderOutcome s (h .n) (h .r) (h .tables) terms exponents buffer .refusal ≡ 0
       → Remains s L terms exponents buffer (remainderOutcome s (h .n) (h .r) (h .tables) terms exponents buffer .buffer)
+  pub wirings : (values : List ℤ) (buffer : List ℕ) → wiringOutcome s (h .n) (h .r) (h .tables) values buffer .answer .refusal ≡ 0
+      → Wires s L values buffer (wiringOutcome s (h .n) (h .r) (h .tables) values buffer)

@@ -13,7 +13,7 @@ use Rattle.specification.specs.Levels.{inRange}
 use Rattle.specification.specs.Polynomial.{Polynomial}
 use Rattle.specification.specs.BasisOf.{standardOf, leadsOf, rowsOf, interpolantOf, remainderOf}
 use Rattle.specification.specs.Tables.{spaceUnder, pointsUnder}
-use Rattle.specification.specs.Solving.{Names, polynomialOf}
+use Rattle.specification.specs.Solving.{polynomialOf, wiringUnder}
 use Rattle.specification.specs.Reference.{addition, Held, numbers}
 use Rattle.specification.specs.Agreement.{freshly}
 
@@ -57,8 +57,7 @@ Holds no-points = (s : Settings) → Tabled s [] [] (replicate (s .variables) 0 
 Holds one-point = (order a b : ℕ) → Among order anyOrder → a < 5 → b < 5
     → Tabled (under 5 2 order) ((a ∷ b ∷ []) ∷ []) ((0 ∷ 0 ∷ []) ∷ []) ((0 ∷ 1 ∷ []) ∷ (1 ∷ 0 ∷ []) ∷ []) (((5 - b) % 5 ∷ []) ∷ ((5 - a) % 5 ∷ []) ∷ [])
 Holds (interpolant s S values coefficients names) =
-    (interpolantOf (spaceUnder s) (pointsUnder s S) values ≡ coefficients)
-    × Names (s .variables) coefficients (map (λ a. a .0) (standardOf (spaceUnder s) (pointsUnder s S))) names
+    (interpolantOf (spaceUnder s) (pointsUnder s S) values ≡ coefficients) × (wiringUnder s S values ≡ names)
 Holds (remainder s S coefficients exponents left) = remainderOf (spaceUnder s) (pointsUnder s S) (polynomialOf (s .variables) coefficients exponents) ≡ left
 Holds (levels l) = (e : ℕ × ℤ × ℕ) → Among e l → residueOf (e .0) (e .1) ≡ Residue (e .2)
 Holds (additions p m offered due) = (order : ℕ) → Among order anyOrder → numbers (under p m order) fresh (map addition offered) ≡ due

@@ -2,8 +2,8 @@
 use mathlib.Core.Path.{_≡_}
 use mathlib.Core.Bool.{Bool, true, false, not, cond, _&&_, _||_}
 use mathlib.Core.List.{List, [], _∷_, _++_, map}
-use mathlib.Core.Logic.{_↔_, _≢_}
-use Prim.Native.Nat.{ℕ, suc, _*_, _<_}
+use mathlib.Core.Logic.{_↔_}
+use Prim.Native.Nat.{ℕ, zero, suc, _*_, _<_, compare}
 use lib.IntN.{ℤ}
 use lib.ListN.{length, getD, drop}
 use lib.Dec.{T, eqb, ltb}
@@ -17,6 +17,7 @@ use Rattle.specification.specs.Levels.{inRange, residues}
 use Rattle.specification.specs.BasisOf.{standardOf, interpolantOf, remainderOf}
 use Rattle.specification.specs.Instance.{Monomial, monomialOf}
 use Rattle.specification.specs.Tables.{Tables, spaceUnder, pointsUnder, tooShort, pointsIn, recognised}
+use Rattle.monomial.specs.Increasing.{Increasing}
 
 -- Checking lent tables.
 unfoldable pub checkRefusal : Settings → ℕ → ℕ → Tables → ℕ
@@ -49,29 +50,45 @@ unfoldable pub interpolateOutcome : Settings → ℕ → ℕ → Tables → List
 interpolateOutcome s n r t values buffer =
     filling (firstOf (valuesCases 64 s n r t values buffer)) (fill 64 (interpolantIn s n t values)) buffer
 
--- no number stands twice
-abbrev pub Once : List ℕ → Type 0
-Once [] = Unit {0}
-Once (a ∷ l) = (¬ Among a l) × Once l
-
--- The wiring list. Variable k+1 occurs in a combination of standard monomials with a coefficient that is not 0.
+-- The wiring list (docs/SCOPE.md, 'The sheet'). Variable k+1 occurs in a combination of standard monomials with a coefficient that is not 0.
 unfoldable pub occurs : ℕ → List ℕ → List (List ℕ) → Bool
 occurs k [] l = false
 occurs k (c ∷ cs) [] = false
 occurs k (c ∷ cs) (a ∷ l) = not (eqb c 0) && not (eqb (getD a k 0) 0) || occurs k cs l
 
--- The numbers, from 1, of the variables that occur, each once; their order is free.
-pub record Names (m : ℕ) (cs : List ℕ) (standard : List (List ℕ)) (names : List ℕ) : Type 0 where
-  pub once : Once names
-  pub members : (k : ℕ) → Among (suc k) names ↔ ((k < m) × T (occurs k cs standard))
-  pub positive : ¬ Among 0 names
+-- the numbers, from 1, of those of the first m variables that occur, increasing
+unfoldable pub wiringOf : ℕ → List ℕ → List (List ℕ) → List ℕ
+wiringOf zero cs standard = []
+wiringOf (suc k) cs standard = wiringOf k cs standard ++ cond (occurs k cs standard) (suc k ∷ []) []
 
--- What the call answers and leaves: 8 bytes of names, unused bytes 0.
-pub record WiringEnds (s : Settings) (n r : ℕ) (t : Tables) (values : List ℤ) (buffer : List ℕ) (a : Wired) (end : List ℕ) : Type 0 where
-  pub number : a .refusal ≡ firstOf (valuesCases 8 s n r t values buffer)
-  pub alone : a .refusal ≢ 0 → (a .count ≡ 0) × (end ≡ buffer)
-  pub list : a .refusal ≡ 0 → (names : List ℕ) × Names (s .variables) (interpolantIn s n t values) (map (λ a. a .0) (standardOf (spaceUnder s) (pointsUnder s (pointsIn s n (t .states))))) names
-      × (a .count ≡ length names) × (end ≡ over (fill 8 names) buffer)
+-- The same list, said and not computed: increasing, and the numbers in it are those of the variables that occur. proofs/Wiring has that the computed one
+-- is such a list.
+pub record Names (m : ℕ) (cs : List ℕ) (standard : List (List ℕ)) (names : List ℕ) : Type 0 where
+  pub increasing : Increasing compare names
+  pub members : (j : ℕ) → Among j names ↔ ((k : ℕ) × (j ≡ suc k) × (k < m) × T (occurs k cs standard))
+
+-- of the interpolant of values at points
+unfoldable pub wiringUnder : Settings → List (List ℕ) → List ℕ → List ℕ
+wiringUnder s S values =
+    wiringOf (s .variables) (interpolantOf (spaceUnder s) (pointsUnder s S) values) (map (λ a. a .0) (standardOf (spaceUnder s) (pointsUnder s S)))
+
+-- The answer of the wiring call, and the buffer at exit: the count and 8 bytes of numbers, unused bytes 0, or a refusal alone.
+pub record Listed : Type 0 where
+  pub answer : Wired
+  pub buffer : List ℕ
+
+abbrev pub listed : Wired → List ℕ → Listed
+listed a buffer = record { answer = a; buffer = buffer }
+
+unfoldable pub listing : ℕ → List ℕ → List ℕ → Listed
+listing k names buffer = record {
+  answer = record { refusal = k; count = cond (eqb k 0) (length names) 0 };
+  buffer = cond (eqb k 0) (over (fill 8 names) buffer) buffer;
+}
+
+unfoldable pub wiringOutcome : Settings → ℕ → ℕ → Tables → List ℤ → List ℕ → Listed
+wiringOutcome s n r t values buffer =
+    listing (firstOf (valuesCases 8 s n r t values buffer)) (wiringUnder s (pointsIn s n (t .states)) (residues (s .modulus) values)) buffer
 
 -- The remainder of a polynomial, term after term a coefficient and 8 exponents: 64 bytes.
 

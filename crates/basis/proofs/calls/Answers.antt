@@ -26,17 +26,17 @@ use Rattle.specification.specs.Tables.{spaceUnder, pointsUnder, tablesOf}
 use Rattle.specification.specs.Polynomial.{Polynomial, eval}
 use Rattle.specification.specs.Instance.{Point, reduced, pointOf}
 use Rattle.specification.specs.Levels.{inRange, residues}
-use Rattle.specification.specs.Solving.{withinVariables, polynomialOf}
+use Rattle.specification.specs.Solving.{withinVariables, polynomialOf, wiringOf, wiringUnder}
 use Rattle.specification.proofs.ideal.Lists.{getD-among, index-of}
 use Rattle.specification.proofs.ideal.Basis.{interpolant-fits, interpolant-agree, value-at}
 use Rattle.specification.proofs.ideal.Counts.{standard-length}
 use Rattle.specification.proofs.agreement.Points.{Points, point-same, residues-same}
 use Rattle.specification.proofs.agreement.Refusals.{Accepted}
 use Rattle.specification.proofs.agreement.Drawings.{laws-under, distinct-points}
-use Rattle.basis.specs.Interpolants.{solution, names}
+use Rattle.basis.specs.Interpolants.{solution}
 use Rattle.basis.specs.Drawing.{Solves}
 use Rattle.basis.proofs.Terms.{terms-value}
-use Rattle.basis.proofs.Wiring.{names-filled}
+use Rattle.specification.proofs.Wiring.{names-filled}
 
 -- a point of the space
 abbrev pub pointUnder : (s : Settings) → List ℕ → Point (suc (s .modulus - 1)) (s .variables)
@@ -139,16 +139,15 @@ module _ (s : Settings) (ok : Accepted s) (S : List (List ℕ)) (h : Points s S)
         ∙ ap (λ (v : ℕ). v % s .modulus) (terms-value (s .modulus - 1) (s .variables) (orderOf (s .order)) (pointUnder s P) 8 cs es (ok .few) eight within)
 
   -- The wiring list, from the interpolant in 64 bytes and the table of the standard monomials.
-  pub names-in : (vs : List ℕ) → names (s .variables) (take (length S) (fill 64 (interpolant vs))) (groups 8 (length S) (tablesOf s S .standard))
-      ≡ names (s .variables) (interpolant vs) (map (λ a. a .0) (standardOf (spaceUnder s) (pointsUnder s S)))
-  unfolding tablesOf
+  pub names-in : (vs : List ℕ) → wiringOf (s .variables) (take (length S) (fill 64 (interpolant vs))) (groups 8 (length S) (tablesOf s S .standard)) ≡ wiringUnder s S vs
+  unfolding tablesOf wiringUnder
   names-in vs =
       let M : List (List ℕ) = map (λ a. a .0) (standardOf (spaceUnder s) (pointsUnder s S)) in
       let n : length M ≡ length S =
       length-map (standardOf (spaceUnder s) (pointsUnder s S)) _ ∙ standard-length (spaceUnder s) (laws-under s ok) (pointsUnder s S) (distinct-points s ok S h) ∙ length-map S _ in
       let k = length-interpolant vs in
       let few = h .few in
-      ap₂ (names (s .variables))
+      ap₂ (wiringOf (s .variables))
       (ap (take (length S)) (fill-tail 64 (interpolant vs) (omega arith)) ∙ take-at (interpolant vs) _ (length S) k)
       (ap (λ (j : ℕ). groups 8 j (fill 512 (inPlaces 8 M))) (sym n) ∙ table-groups 8 512 M (omega arith))
       ∙ names-filled (s .variables) 8 (interpolant vs) M (ok .few)

@@ -23,12 +23,12 @@ use Rattle.specification.specs.declared.settings.Settings.{Settings}
 use Rattle.specification.specs.Refusal.{firstOf}
 use Rattle.specification.specs.Settings.{settingsCases}
 use Rattle.specification.specs.Levels.{inRange, residues}
-use Rattle.specification.specs.BasisOf.{standardOf, interpolantOf}
+use Rattle.specification.specs.BasisOf.{interpolantOf}
 use Rattle.specification.specs.Tables.{Tables, spaceUnder, pointsUnder, tablesOf, tooShort, pointsIn, recognised}
-use Rattle.specification.specs.Solving.{interpolantIn, withinVariables, polynomialUnder, remainderIn}
+use Rattle.specification.specs.Solving.{interpolantIn, withinVariables, polynomialUnder, remainderIn, wiringOf, wiringUnder}
 use Rattle.specification.proofs.agreement.Points.{IsPoint, Points, length-residues}
 use Rattle.specification.proofs.agreement.Refusals.{Accepted, Large, large-of}
-use Rattle.basis.specs.Interpolants.{solution, names}
+use Rattle.basis.specs.Interpolants.{solution}
 use Rattle.basis.specs.Drawing.{Solves}
 use Rattle.basis.proofs.PointTables.{length-points, points-in}
 use Rattle.basis.proofs.elimination.Grounds.{places-below}
@@ -138,11 +138,11 @@ module _ (size : ℕ) (s : Settings) (n r : ℕ) (t : Tables) (values : List ℤ
         solved s ready n r t (values-sized .few) known rows pivots e (residues (s .modulus) values) (length-residues (s .modulus) values ∙ values-count) values-below
 
     -- the wiring list, from the interpolant in 64 bytes and the lent standard table
-    pub values-names : names (s .variables) (take n (fill 64 (interpolantIn s n t values))) (groups 8 n (take 512 (t .standard)))
-        ≡ names (s .variables) (interpolantIn s n t values) (map (λ a. a .0) (standardOf (spaceUnder s) (pointsUnder s (pointsIn s n (t .states)))))
+    pub values-names : wiringOf (s .variables) (take n (fill 64 (interpolantIn s n t values))) (groups 8 n (take 512 (t .standard)))
+        ≡ wiringUnder s (pointsIn s n (t .states)) (residues (s .modulus) values)
     unfolding interpolantIn
     values-names =
-        ap₂ (λ (k : ℕ) (l : List ℕ). names (s .variables) (take k (fill 64 (interpolantIn s n t values))) (groups 8 k l))
+        ap₂ (λ (k : ℕ) (l : List ℕ). wiringOf (s .variables) (take k (fill 64 (interpolantIn s n t values))) (groups 8 k l))
         (sym (count s ready n r t (values-sized .few) known)) (standard-there s ready n r t (values-sized .few) known)
         ∙ names-in s ready (pointsIn s n (t .states)) (points s ready n r t (values-sized .few) known) (residues (s .modulus) values)
 

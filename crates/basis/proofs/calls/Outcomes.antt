@@ -1,22 +1,21 @@
 -- The outcome of each call by what its tests found, in the order of checking.
 use mathlib.Core.Path.{_≡_, refl, ap, _∙_}
 use mathlib.Core.Bool.{Bool, true, false, not, _&&_, _||_}
-use mathlib.Core.List.{List, [], _∷_, _++_, map}
+use mathlib.Core.List.{List, [], _∷_, _++_}
 use Prim.Native.Nat.{ℕ, _*_, _/_, _%_}
 use native.Mathlib.Omega.{arith}
 use lib.IntN.{ℤ}
 use lib.ListN.{length}
 use lib.Dec.{eqb, ltb}
 use borrow.Author.Tests.{not-false}
-use Rattle.residue.specs.Layout.{groups, fill, over}
+use Rattle.residue.specs.Layout.{groups, over}
 use Rattle.specification.specs.declared.settings.Settings.{Settings}
 use Rattle.specification.specs.Refusal.{Case, firstOf}
 use Rattle.specification.specs.Settings.{settingsCases}
 use Rattle.specification.specs.Levels.{inRange, noRepeat}
-use Rattle.specification.specs.BasisOf.{standardOf}
-use Rattle.specification.specs.Tables.{Tables, spaceUnder, pointsUnder, pointsIn, rowCount, tablesOf, written, tooShort, recognised}
+use Rattle.specification.specs.Tables.{Tables, rowCount, tablesOf, written, tooShort, recognised}
 use Rattle.specification.specs.Adding.{ended, refused, holding, pointsOffered, drawCases, drawRefusal, drawOutcome}
-use Rattle.specification.specs.Solving.{checkRefusal, valuesCases, interpolantIn, Names, WiringEnds, withinVariables, remainderCases}
+use Rattle.specification.specs.Solving.{checkRefusal, valuesCases, withinVariables, remainderCases}
 use Rattle.basis.proofs.calls.Refusing.{sizes, by-size, by-rest, none-behind, when-refused, when-accepted}
 
 -- two tests after the sizes: the first that fails decides
@@ -164,13 +163,3 @@ module _ (s : Settings) (n r : ℕ) (t : Tables) (coefficients : List ℤ) (expo
       → (remainderSizes ≡ 0) × (((inRange (s .modulus) coefficients && within) ≡ true) × (recognised s n r t ≡ true))
   unfolding remainderCases
   remainder-none e = let w = none-behind s small (not (eqb (length exponents) (8 * length coefficients))) many _ tt e in (w .0, (not-false _ (w .1 .0), not-false _ (w .1 .1 .0)))
-
--- The wiring list.
-module _ (s : Settings) (n r : ℕ) (t : Tables) (values : List ℤ) (buffer : List ℕ) where
-  pub wiring-refused : (k : ℕ) → k ≡ firstOf (valuesCases 8 s n r t values buffer) → (k ≡ 0 → ⊥) → WiringEnds s n r t values buffer (record { refusal = k; count = 0 }) buffer
-  wiring-refused k e z = record { number = e; alone = λ y. (refl, refl); list = λ y. absurd (z y) }
-
-  pub wiring-accepted : 0 ≡ firstOf (valuesCases 8 s n r t values buffer) → (l : List ℕ)
-      → Names (s .variables) (interpolantIn s n t values) (map (λ a. a .0) (standardOf (spaceUnder s) (pointsUnder s (pointsIn s n (t .states))))) l
-      → (k : ℕ) → k ≡ length l → (end : List ℕ) → end ≡ over (fill 8 l) buffer → WiringEnds s n r t values buffer (record { refusal = 0; count = k }) end
-  wiring-accepted e l is k f end g = record { number = e; alone = λ y. absurd (y refl); list = λ y. (l, is, f, g) }

@@ -109,7 +109,7 @@ module _ (D : Space) where
 
       pub upTo-snoc : Among b all → UpTo all (found ++ (b ∷ [])) b
       upTo-snoc at-b = record {
-        increasing = snoc-increasing D found b (U .increasing) (λ a mem. below a (U .not-above a mem) (compared D L a b));
+        increasing = snoc-increasing cmp found b (U .increasing) (λ a mem. below a (U .not-above a mem) (compared D L a b));
         of-all = λ a mem. elim (snoc-of found b a mem) [ inl z ↦ U .of-all a z | inr e ↦ subst (λ (z : Mono). Among z all) (sym e) at-b ];
         not-above = λ a mem. elim (snoc-of found b a mem) [ inl z ↦ lower a (U .not-above a z) | inr e ↦ λ h. less-ne D L h (sym e) ];
         found-all = λ a mem h. elim (to-next a mem h) [ inl e ↦ snoc-in found b a (inr e) | inr z ↦ snoc-in found b a (inl z) ];

@@ -1,6 +1,6 @@
 -- THE claim over any list of additions (docs/SCOPE.md, 'The two desks').
 use mathlib.Core.Path.{_≡_, refl, sym, _∙_, ap}
-use mathlib.Core.List.{List, [], _∷_, _++_, append-nil}
+use mathlib.Core.List.{List, [], _∷_, _++_, map, append-nil}
 use Prim.Native.Nat.{ℕ, zero, suc, _≤_}
 use native.Mathlib.Omega.{arith}
 use lib.IntN.{ℤ}
@@ -13,17 +13,19 @@ use Rattle.specification.specs.declared.settings.Settings.{Settings}
 use Rattle.specification.specs.Refusal.{firstOf}
 use Rattle.specification.specs.Settings.{settingsCases}
 use Rattle.specification.specs.Polynomial.{Distinct}
-use Rattle.specification.specs.BasisOf.{basisOf, remainderOf}
+use Rattle.specification.specs.BasisOf.{basisOf, remainderOf, standardOf, interpolantOf}
 use Rattle.specification.specs.Tables.{Tables, spaceUnder, pointsUnder, rowCount, tablesOf, written}
-use Rattle.specification.specs.Solving.{filling, polynomialUnder, remainderIn, remainderCases, remainderOutcome}
+use Rattle.specification.specs.Solving.{filling, polynomialUnder, remainderIn, remainderCases, remainderOutcome, valuesCases, wiringUnder, Listed, listed, listing, wiringOutcome}
 use Rattle.specification.specs.Reference.{Event, Held, numbers, heldAtEnd, referenceAtEnd, due, Refuses}
-use Rattle.specification.specs.Agreement.{Fresh, freshly, Remains, Agrees}
+use Rattle.specification.specs.Agreement.{Fresh, freshly, Remains, Agrees, Wires}
 use Rattle.specification.proofs.ideal.Laws.{Laws}
-use Rattle.specification.proofs.ideal.Basis.{basis-is, remainder-fits}
+use Rattle.specification.proofs.ideal.Basis.{basis-is, remainder-fits, interpolant-fits}
 use Rattle.specification.proofs.agreement.Points.{no-points}
 use Rattle.specification.proofs.agreement.Refusals.{Accepted, accepted, Large}
 use Rattle.specification.proofs.agreement.Run.{same-tables, At, held-points, run}
 use Rattle.specification.proofs.agreement.Drawings.{laws-under, distinct-points, few-rows, drawn-same}
+use Rattle.specification.specs.Levels.{residues}
+use Rattle.specification.proofs.Wiring.{names-length, names-are, list-accepted}
 
 -- the front of a list is what it begins with
 pub over-begins : (a t : List ℕ) → T (begins a t) → over a t ≡ t
@@ -71,7 +73,7 @@ filled k l buffer e = rw e
 -- For all settings that adding does not refuse, all fresh tables, and every list of additions with refused calls between them.
 pub agreement : (s : Settings) → firstOf (settingsCases s) ≡ 0 → (start : Tables) → Fresh start → (es : List Event) → Refuses s (freshly start) es
     → Agrees s start es (referenceAtEnd s [] es) (heldAtEnd s (freshly start) es)
-unfolding remainderOutcome remainderIn filling
+unfolding remainderOutcome remainderIn filling wiringOutcome wiringUnder listing
 agreement s fine start fresh es refuses = record {
   answers = end .0;
   count = at .count;
@@ -82,6 +84,7 @@ agreement s fine start fresh es refuses = record {
   few-rows = few-rows s good L (at .points);
   drawn = λ t levels short a. drawn-same s good fine L (at .points) levels a start big h (at .count) (at .rows) (at .tables) t short;
   remainders = remains;
+  wirings = wires;
 }
   where
     good : Accepted s
@@ -116,3 +119,22 @@ agreement s fine start fresh es refuses = record {
           ∙ ap (λ (S : List (List ℕ)). over (fill 64 (remainderOf (spaceUnder s) (pointsUnder s S) (polynomialUnder s terms exponents))) buffer) (held-points s fine start big h L at);
       fits = remainder-fits (spaceUnder s) laws (pointsUnder s L) distinct (polynomialUnder s terms exponents);
     }
+
+    wires : (values : List ℤ) (buffer : List ℕ) → wiringOutcome s (h .n) (h .r) (h .tables) values buffer .answer .refusal ≡ 0
+        → Wires s L values buffer (wiringOutcome s (h .n) (h .r) (h .tables) values buffer)
+    wires values buffer e = record {
+      coefficients = interpolantOf (spaceUnder s) (pointsUnder s L) (residues (s .modulus) values);
+      fits = interpolant-fits (spaceUnder s) laws (pointsUnder s L) distinct _;
+      names = wiringUnder s L (residues (s .modulus) values);
+      named = names-are _ _ (s .variables);
+      few = omega (arith, names-length (interpolantOf (spaceUnder s) (pointsUnder s L) (residues (s .modulus) values)) (map (λ a. a .0) (standardOf (spaceUnder s) (pointsUnder s L))) (s .variables), good .few);
+      count = ap (λ (o : Listed). o .answer .count) is;
+      held = ap (λ (o : Listed). o .buffer) is;
+    }
+      where
+        names : List ℕ
+        names = wiringUnder s L (residues (s .modulus) values)
+
+        is : wiringOutcome s (h .n) (h .r) (h .tables) values buffer ≡ listed (record { refusal = 0; count = length names }) (over (fill 8 names) buffer)
+        is = ap (λ (S : List (List ℕ)). listing (firstOf (valuesCases 8 s (h .n) (h .r) (h .tables) values buffer)) (wiringUnder s S (residues (s .modulus) values)) buffer) (held-points s fine start big h L at)
+            ∙ sym (list-accepted names buffer _ (length names) _ (sym e) refl refl)

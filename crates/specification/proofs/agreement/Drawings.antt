@@ -1,42 +1,47 @@
--- Drawing up the same points in any order gives the same basis, and the same remainders.
+-- Drawing up the same points in any order gives the same basis, the same remainders and the same wiring lists.
 use mathlib.Core.Path.{_≡_, refl, sym, _∙_, ap, ap₂, subst}
-use mathlib.Core.Bool.{true, false, not, _&&_, _||_}
-use mathlib.Core.List.{List, [], _∷_, _++_}
+use mathlib.Core.Bool.{Bool, true, false, not, cond, _&&_, _||_}
+use mathlib.Core.List.{List, [], _∷_, _++_, map, zipWith, zip}
 use mathlib.Core.Logic.{inl, inr, _≢_}
 use Prim.Native.Nat.{ℕ, suc, _+_, _-_, _*_, _/_, _%_, _≤_}
 use native.Mathlib.Nat.{mul-le-mul-left}
+use native.Mathlib.Decide.{ℕ-discrete}
 use native.Mathlib.Omega.{arith}
 use lib.IntN.{ℤ}
 use lib.ListN.{length, take, length-map}
 use lib.Dec.{T, eqb, ltb}
-use borrow.Author.Tests.{eq-eqb, le-ltb}
+use borrow.Author.Tests.{eq-eqb, ne-eqb, le-ltb}
 use Rattle.residue.specs.Lists.{Among}
+use Rattle.residue.specs.Level.{residueOf}
 use Rattle.residue.specs.Modulus.{isModulus}
 use Rattle.residue.specs.Layout.{groups, fill, over}
 use Rattle.residue.proofs.level.Moduli.{modulus-range}
-use Rattle.residue.proofs.Tests.{true-of}
+use Rattle.residue.proofs.Tests.{true-of, cond-so, cond-not}
 use Rattle.residue.proofs.Layouts.{take-over, length-fill}
 use Rattle.residue.proofs.Places.{length-groups}
 use Rattle.monomial.specs.Order.{orderOf}
 use Rattle.specification.specs.declared.settings.Settings.{Settings}
 use Rattle.specification.specs.Refusal.{firstOf}
 use Rattle.specification.specs.Settings.{settingsCases}
-use Rattle.specification.specs.Levels.{inRange, residues, noRepeat}
+use Rattle.specification.specs.Levels.{inRange, residues, noRepeat, residueOr0}
 use Rattle.specification.specs.Polynomial.{Polynomial, Distinct}
-use Rattle.specification.specs.BasisOf.{standardOf, leadsOf, rowsOf, remainderOf}
+use Rattle.specification.specs.BasisOf.{standardOf, leadsOf, rowsOf, valueAt, remainderOf}
 use Rattle.specification.specs.Instance.{Point, pointOf}
 use Rattle.specification.specs.Tables.{Tables, spaceUnder, pointsUnder, rowCount, tablesOf, written, tooShort}
 use Rattle.specification.specs.Adding.{holding, byRefusal, pointsOffered, drawCases, drawRefusal, drawOutcome}
-use Rattle.specification.specs.Solving.{Filled, filling, withinVariables, polynomialUnder, remainderIn, remainderCases, remainderOutcome}
+use Rattle.specification.specs.Solving.{Filled, filling, withinVariables, polynomialUnder, remainderIn, remainderCases, remainderOutcome, valuesCases, wiringOf, wiringUnder, Listed, listing, wiringOutcome}
 use Rattle.specification.specs.Reference.{Held}
-use Rattle.specification.specs.Agreement.{Rearranges, SameAs}
+use Rattle.specification.specs.Agreement.{Rearranges, SameAs, SameValues}
 use Rattle.specification.proofs.Instance.{laws}
-use Rattle.specification.proofs.ideal.Laws.{Laws}
+use Rattle.specification.proofs.ideal.Laws.{Laws, point-told}
 use Rattle.specification.proofs.ideal.Lists.{among-map}
 use Rattle.specification.proofs.ideal.Counts.{standard-length, leads-length}
-use Rattle.specification.proofs.ideal.Permutation.{basis-permuted, remainder-permuted}
+use Rattle.specification.proofs.ideal.Permutation.{basis-permuted, remainder-permuted, interpolant-permuted}
 use Rattle.specification.proofs.agreement.Points.{Points, IsPoint, point-same, once-of}
 use Rattle.specification.proofs.agreement.Refusals.{Accepted, settings-pass, Large, not-short, large-of, written-large, written-points, written-recognised}
+use Rattle.residue.proofs.Congruence.{of}
+use Rattle.specification.proofs.ideal.Basis.{interpolant-agree}
+use Rattle.specification.proofs.agreement.Values.{point-of, value-there, same-range}
 
 module _ (s : Settings) (ok : Accepted s) where
   -- the space under these settings obeys the laws
@@ -64,6 +69,15 @@ module _ (s : Settings) (ok : Accepted s) where
 
   pub distinct-points : (K : List (List ℕ)) → Points s K → Distinct (spaceUnder s) (pointsUnder s K)
   distinct-points K h = distinct-under K (h .points) (h .once)
+
+  -- the value handed for a point is the function's value there
+  value-told : (K : List (List ℕ)) → Distinct (spaceUnder s) (pointsUnder s K) → (v : List ℤ) (P : List ℕ) (y : ℤ) → Among (P, y) (zip K v)
+      → valueAt (spaceUnder s) (pointsUnder s K) (residues (s .modulus) v) (pt P) ≡ residueOr0 (residueOf (s .modulus) y)
+  unfolding valueAt residues zip zipWith
+  value-told (Q ∷ K) d (x ∷ v) P y (inl e) =
+      cond-so (point-told (spaceUnder s) laws-under (pt P) (pt Q)) (ap (λ (a : List ℕ × ℤ). pt (a .0)) e) _ _ ∙ sym (ap (λ (a : List ℕ × ℤ). residueOr0 (residueOf (s .modulus) (a .1))) e)
+  value-told (Q ∷ K) d (x ∷ v) P y (inr q) =
+      cond-not (point-told (spaceUnder s) laws-under (pt P) (pt Q)) (λ e. d .0 (pt P) (among-under K P (point-of K v P y q)) (sym e)) _ _ ∙ value-told K (d .1) v P y q
 
   -- at most 1 + n(m-1) rows, so at most 449
   pub few-rows : (K : List (List ℕ)) → Points s K → rowCount s K ≤ 449
@@ -96,6 +110,23 @@ module _ (s : Settings) (ok : Accepted s) where
     pub same-remainder : (f : Polynomial (spaceUnder s)) → remainderOf (spaceUnder s) (pointsUnder s K) f ≡ remainderOf (spaceUnder s) (pointsUnder s L) f
     same-remainder = remainder-permuted (spaceUnder s) laws-under (pointsUnder s K) (pointsUnder s L) dK dL (carried K L to) (carried L K from)
 
+    -- Values that are equal at each point, one for each: one function of the points, one interpolant, one wiring list.
+    module _ (v w : List ℤ) (k : length v ≡ length K) (l : length w ≡ length L) (e : SameValues s K L v w) where
+      same-value : (X : Point (suc (s .modulus - 1)) (s .variables)) → Among X (pointsUnder s L)
+          → valueAt (spaceUnder s) (pointsUnder s K) (residues (s .modulus) v) X ≡ valueAt (spaceUnder s) (pointsUnder s L) (residues (s .modulus) w) X
+      same-value X q =
+          let p = among-map pt L X q in
+          let a = value-there K v k (p .0) (from (p .0) (p .1)) in
+          let b = value-there L w l (p .0) (p .1) in
+          rw (p .2) (value-told K dK v (p .0) (a .0) (a .1) ∙ ap residueOr0 (e .equal (p .0) (a .0) (b .0) (a .1) (b .1)) ∙ sym (value-told L dL w (p .0) (b .0) (b .1)))
+
+      pub same-wiring : wiringUnder s K (residues (s .modulus) v) ≡ wiringUnder s L (residues (s .modulus) w)
+      unfolding wiringUnder
+      same-wiring = ap₂ (wiringOf (s .variables))
+          (interpolant-permuted (spaceUnder s) laws-under (pointsUnder s K) (pointsUnder s L) dK dL (carried K L to) (carried L K from) _
+          ∙ interpolant-agree (spaceUnder s) laws-under (pointsUnder s L) dL _ _ (λ X q. of (same-value X q)))
+          (ap (map (λ a. a .0)) (same-basis .0))
+
     pub same-standard : tablesOf s K .standard ≡ tablesOf s L .standard
     unfolding tablesOf
     same-standard = rw (same-basis .0)
@@ -120,6 +151,30 @@ module _ (s : Settings) (ok : Accepted s) where
     unfolding remainderOutcome remainderCases remainderIn told
     remainder-told A h t large =
         rw (not-short (written (tablesOf s A) t) (written-large s A t large), written-recognised s ok A h t, written-points s ok A h t)
+
+  -- The wiring call is told by how many points and values there are, by whether these are in range, and by the list.
+  module _ (fine : firstOf (settingsCases s) ≡ 0) (buffer : List ℕ) where
+    unfoldable pub wired : ℕ → ℕ → Bool → List ℕ → Listed
+    wired n count range names = listing (firstOf ((ltb (length buffer) 8, 6) ∷ (not (eqb count n), 7) ∷ (ltb 64 n, 8) ∷ (not range, 9) ∷ [])) names buffer
+
+    pub wiring-told : (v : List ℤ) (A : List (List ℕ)) → Points s A → (t : Tables) → Large t
+        → wiringOutcome s (length A) (rowCount s A) (written (tablesOf s A) t) v buffer ≡ wired (length A) (length v) (inRange (s .modulus) v) (wiringUnder s A (residues (s .modulus) v))
+    unfolding wiringOutcome valuesCases wired firstOf
+    wiring-told v A h t large =
+        rw (settings-pass s fine _, not-short (written (tablesOf s A) t) (written-large s A t large), written-recognised s ok A h t, written-points s ok A h t)
+
+    -- values that are not as many as the points are refused, whatever they are
+    pub same-wired : (n count : ℕ) (a b : Bool) (k l : List ℕ) → (count ≡ n → (a ≡ b) × (k ≡ l)) → wired n count a k ≡ wired n count b l
+    unfolding wired firstOf listing
+    same-wired n count a b k l h = go (ℕ-discrete count n)
+      where
+        alone : (c : Bool) → listing (cond c 6 7) k buffer ≡ listing (cond c 6 7) l buffer
+        alone true = refl
+        alone false = refl
+
+        go : Dec (count ≡ n) → wired n count a k ≡ wired n count b l
+        go (yes e) = ap₂ (wired n count) (h e .0) (h e .1)
+        go (no e) = rw (ne-eqb count n e) (alone (ltb (length buffer) 8))
 
   -- the sizes of the tables
   pub record Sized (t : Tables) : Type 0 where
@@ -165,7 +220,7 @@ module _ (s : Settings) (ok : Accepted s) where
         few : length levels / s .variables ≤ 64
         few = omega (arith, length-groups (s .variables) (length levels / s .variables) (residues (s .modulus) levels), as-many, hL .few)
 
-    -- and what is drawn up is what is held, with the same remainders
+    -- and what is drawn up is what is held, with the same remainders and wiring lists
     pub drawn-same : (start : Tables) → Large start → (h : Held) → h .n ≡ length L → h .r ≡ rowCount s L → h .tables ≡ written (tablesOf s L) start
         → (t : Tables) → tooShort t ≡ false → SameAs s h (drawOutcome s t levels)
     unfolding holding written
@@ -179,6 +234,11 @@ module _ (s : Settings) (ok : Accepted s) where
       remainder = λ terms exponents buffer. remainder-told terms exponents buffer K hK t (large-of t short)
           ∙ ap₂ (told terms exponents buffer) as-many (same-remainder L K dL dK to from (polynomialUnder s terms exponents))
           ∙ sym (rw (en, er, et) (remainder-told terms exponents buffer L hL start large));
+      wiring = λ v w buffer same. let e = rw (written-points s ok K hK t, en, et, written-points s ok L hL start) at same in
+          wiring-told fine buffer v K hK t (large-of t short)
+          ∙ ap₂ (λ (n k : ℕ). wired fine buffer n k (inRange (s .modulus) v) (wiringUnder s K (residues (s .modulus) v))) as-many (e .count)
+          ∙ same-wired fine buffer (length L) (length w) _ _ _ _ (λ l. let k : length v ≡ length K = e .count ∙ l ∙ sym as-many in (same-range s K L v w k l to from e, same-wiring L K dL dK to from v w k l e))
+          ∙ sym (rw (en, er, et) (wiring-told fine buffer w L hL start large));
     })
       where
         -- two tables of one layout agree in each byte of its size

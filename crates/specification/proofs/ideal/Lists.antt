@@ -1,14 +1,13 @@
 -- Members of a list by index and of a mapped list, and a list with one element put at its end.
-use mathlib.Core.Path.{_≡_, refl, sym, subst}
+use mathlib.Core.Path.{_≡_, refl, sym}
 use mathlib.Core.List.{List, [], _∷_, _++_, map}
 use mathlib.Core.Logic.{_⊎_, inl, inr}
-use Prim.Native.Nat.{ℕ, zero, suc, _<_}
+use Prim.Native.Nat.{ℕ, zero, suc, _<_, Ordering, Ordering·lt}
 use native.Mathlib.Omega.{arith}
 use lib.ListN.{length, getD}
 use Rattle.residue.specs.Lists.{Among}
 use Rattle.monomial.specs.Increasing.{Increasing}
 use Rattle.monomial.proofs.Orders.Increasing.{below-member, member-below}
-use Rattle.specification.specs.Space.{Space, Less}
 
 pub getD-among : {A : Type 0} (l : List A) (i : ℕ) (d : A) → i < length l → Among (getD l i d) l
 getD-among [] i d h = absurd (omega arith)
@@ -35,12 +34,11 @@ snoc-in (a ∷ l) c b (inl (inl e)) = inl e
 snoc-in (a ∷ l) c b (inl (inr mem)) = inr (snoc-in l c b (inl mem))
 snoc-in (a ∷ l) c b (inr e) = inr (snoc-in l c b (inr e))
 
-module _ (D : Space) where
-  open Space D using (Mono, cmp)
-
-  pub snoc-increasing : (l : List Mono) (c : Mono) → Increasing cmp l → ((a : Mono) → Among a l → Less D a c) → Increasing cmp (l ++ (c ∷ []))
+-- by any comparison
+module _ {A : Type 0} (cmp : A → A → Ordering) where
+  pub snoc-increasing : (l : List A) (c : A) → Increasing cmp l → ((a : A) → Among a l → cmp a c ≡ Ordering·lt) → Increasing cmp (l ++ (c ∷ []))
   snoc-increasing [] c i h = (tt, tt)
   snoc-increasing (a ∷ l) c i h = (member-below cmp a (l ++ (c ∷ [])) above, snoc-increasing l c (i .1) (λ b mem. h b (inr mem)))
     where
-      above : (b : Mono) → Among b (l ++ (c ∷ [])) → Less D a b
-      above b mem = elim (snoc-of l c b mem) [ inl z ↦ below-member cmp a l (i .0) b z | inr e ↦ subst (Less D a) (sym e) (h a (inl refl)) ]
+      above : (b : A) → Among b (l ++ (c ∷ [])) → cmp a b ≡ Ordering·lt
+      above b mem = elim (snoc-of l c b mem) [ inl z ↦ below-member cmp a l (i .0) b z | inr e ↦ rw e (h a (inl refl)) ]

@@ -10,10 +10,9 @@ use Rattle.residue.specs.Layout.{groups, fill, over}
 use Rattle.residue.proofs.Layouts.{length-fill}
 use Rattle.specification.specs.Refusal.{firstOf}
 use Rattle.specification.specs.Tables.{Tables, fourTables}
-use Rattle.specification.specs.Solving.{valuesCases, interpolantIn}
-use Rattle.basis.specs.Interpolants.{names}
-use Rattle.basis.proofs.Wiring.{names-are}
-use Rattle.basis.proofs.calls.Outcomes.{values-none, wiring-refused, wiring-accepted}
+use Rattle.specification.specs.Solving.{valuesCases, interpolantIn, wiringOf, wiringOutcome}
+use Rattle.basis.proofs.calls.Outcomes.{values-none}
+use Rattle.specification.proofs.Wiring.{list-refused, list-accepted}
 use Rattle.basis.proofs.calls.Known.{Sized, values-sized, values-names}
 use Rattle.basis.proofs.answers.wiring.Statement.{statement}
 use Rattle.basis.proofs.answers.wiring.Tie as tie
@@ -55,10 +54,10 @@ same-length : tie.Need-same-length
 same-length c = refl
 
 returns : tie.Need-returns
+unfolding wiringOutcome
 returns c =
     let d = c .before .before in
-    let s = start d in
-    wiring-refused (s .args .settings) (s .args .n) (s .args .r) (tables s) (s .args .values .now) (s .args .out .now) (d .interpolant .result) (d .interpolant .ensures .0) (c .if1 .taken)
+    list-refused _ (start d .args .out .now) _ (d .interpolant .result) (d .interpolant .ensures .0) (c .if1 .taken)
 
 slice-aggregate-put-names : tie.Need-slice-aggregate-put-names
 slice-aggregate-put-names c = sym (c .before .before .before .interpolant .kept .1 .1 .1 .1 .1 .1 .1 .1 .1 .1 .0)
@@ -87,14 +86,14 @@ same-length-2 : tie.Need-same-length-2
 same-length-2 c = c .before .before .copy .kept .1 .0
 
 returns-2 : tie.Need-returns-2
+unfolding wiringOutcome
 returns-2 c =
     let q = c .before .before .before .before .before .before in
     let e = q .before .before .before .before in
     let s = s e in
     let w = values-none 8 (s .args .settings) (s .args .n) (s .args .r) (tables s) (s .args .values .now) (s .args .out .now) (none e) in
-    let I : List ℕ = interpolantIn (s .args .settings) (s .args .n) (tables s) (s .args .values .now) in
-    let is = ap (λ (l : List ℕ). names (s .args .settings .variables) (take (s .args .n) l) (groups 8 (s .args .n) (take 512 (s .args .standard .now)))) (found e) ∙ values-names 8 (s .args .settings) (s .args .n) (s .args .r) (tables s) (s .args .values .now) (s .args .out .now) (w .0) (w .1 .0) (w .1 .1) in
-    wiring-accepted (s .args .settings) (s .args .n) (s .args .r) (tables s) (s .args .values .now) (s .args .out .now) (sym (none e)) _ (names-are I _ (s .args .settings .variables)) _ (q .put-names .ensures .0 ∙ ap length is) _
+    let is = ap (λ (l : List ℕ). wiringOf (s .args .settings .variables) (take (s .args .n) l) (groups 8 (s .args .n) (take 512 (s .args .standard .now)))) (found e) ∙ values-names 8 (s .args .settings) (s .args .n) (s .args .r) (tables s) (s .args .values .now) (s .args .out .now) (w .0) (w .1 .0) (w .1 .1) in
+    list-accepted _ (s .args .out .now) _ _ _ (sym (none e)) (q .put-names .ensures .0 ∙ ap length is)
     (c .before .before .copy .ensures ∙ ap (λ (l : List ℕ). over l (s .args .out .now)) (q .put-names .ensures .1 ∙ ap (fill 8) is))
 
 pub wiring-spec : {M : Type 1} → statement M

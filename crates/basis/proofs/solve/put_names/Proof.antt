@@ -7,14 +7,14 @@ use lib.ListN.{length, take, set, length-append}
 use mathlib.Core.Logic.{⊎-elim}
 use Rattle.residue.specs.Layout.{groups, fill}
 use Rattle.residue.proofs.Layouts.{fill-zeros, fill-put, length-fill}
-use Rattle.basis.specs.Interpolants.{names}
-use Rattle.basis.proofs.Wiring.{names-on, names-off, names-length}
+use Rattle.specification.proofs.Wiring.{names-on, names-off, names-length}
+use Rattle.specification.specs.Solving.{wiringOf}
 use Rattle.basis.proofs.solve.put_names.Statement.{statement}
 use Rattle.basis.proofs.solve.put_names.Tie as tie
 
 -- the names of the first k variables
 abbrev put : ℕ → List ℕ → List ℕ → ℕ → List ℕ
-put n coefficients standard k = names k (take n coefficients) (groups 8 n standard)
+put n coefficients standard k = wiringOf k (take n coefficients) (groups 8 n standard)
 
 abbrev Inv-loop : tie.InvT-loop
 Inv-loop m n coefficients standard out₀ count₀ k₀ out count k = (k ≤ m) × ((count ≡ length (put n coefficients standard k)) × (out ≡ fill 8 (put n coefficients standard k)))
@@ -37,7 +37,7 @@ module _ (l : tie.At-loop Inv-loop μ-loop) where
   long = ap length (l .loop .inv .1 .1) ∙ length-fill 8 so-far
 
 loop-holds : tie.Need-loop-holds Inv-loop μ-loop
-unfolding names
+unfolding wiringOf
 loop-holds c = (omega arith, (refl, c .before .before .before .pre .1 ∙ sym (fill-zeros 8)))
 
 occurs-requires : tie.Need-occurs-requires Inv-loop μ-loop

@@ -6,19 +6,19 @@ use Rattle.basis_test.proofs.answered.names.Statement.{statement}
 use Rattle.basis_test.proofs.answered.names.Tie as tie
 
 abbrev Inv-loop : tie.InvT-loop
-Inv-loop count list variables₀ i₀ variables i = Unit {0}
+Inv-loop count list variables₀ last₀ i₀ variables last i = Unit {0}
 
 abbrev μ-loop : tie.MeasureT-loop
-μ-loop count list variables₀ i₀ variables i = 8 - i
+μ-loop count list variables₀ last₀ i₀ variables last i = 8 - i
 
 loop-holds : tie.Need-loop-holds Inv-loop μ-loop
 loop-holds c = tt
 
-cast-strike : tie.Need-cast-strike Inv-loop μ-loop
-cast-strike c = search needs
+cast-name : tie.Need-cast-name Inv-loop μ-loop
+cast-name c = search needs
 
-element-copy-out-strike : tie.Need-element-copy-out-strike Inv-loop μ-loop
-element-copy-out-strike c = search needs
+element-copy-out-name : tie.Need-element-copy-out-name Inv-loop μ-loop
+element-copy-out-name c = search needs
 
 strike-requires : tie.Need-strike-requires Inv-loop μ-loop
 strike-requires c κs = search needs
@@ -45,8 +45,8 @@ names-spec =
     Inv-loop
     μ-loop
     loop-holds
-    cast-strike
-    element-copy-out-strike
+    cast-name
+    element-copy-out-name
     strike-requires
     returns
     add-i

@@ -9,7 +9,7 @@ use borrow.Author.Needs.{needs}
 use Rattle.residue.specs.Layout.{groups}
 use Rattle.residue.proofs.level.Moduli.{modulus-range}
 use Rattle.residue.proofs.Layouts.{length-fill}
-use Rattle.basis.proofs.Wiring.{names-length}
+use Rattle.specification.proofs.Wiring.{names-length}
 use Rattle.basis.proofs.calls.Given.{drawn-long}
 use Rattle.csv.proofs.Appended.{put-within}
 use Rattle.csv.proofs.Told.{few, inside, told-room, told}

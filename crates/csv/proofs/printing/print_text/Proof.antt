@@ -4,13 +4,13 @@ use native.Mathlib.Omega.{arith}
 use Rattle.csv.specs.Reading.{ended}
 use Rattle.csv.proofs.Appended.{put-within}
 use Rattle.csv.proofs.Lengths.{refusal-length}
-use Rattle.csv.proofs.Saying.{fit, printed-refusal, printed-basis}
+use Rattle.csv.proofs.Saying.{fit, printed-refusal, printed-basis, print-short, print-long}
 use borrow.Author.Needs.{needs}
 use Rattle.csv.proofs.printing.print_text.Statement.{statement}
 use Rattle.csv.proofs.printing.print_text.Tie as tie
 
 returns : tie.Need-returns
-returns c = (record { short = λ h. (refl, refl); printed = λ h. absurd (omega arith) }, (omega arith, refl))
+returns c = (print-short _ _ (omega arith), (omega arith, refl))
 
 slice-aggregate-read-text : tie.Need-slice-aggregate-read-text
 slice-aggregate-read-text c = search needs
@@ -34,13 +34,8 @@ returns-2 : tie.Need-returns-2
 returns-2 c =
     let r = c .before .before .before .before .before .before .before .read-text in
     let l = refusal-length (r .result .refusal) (r .result .at) (omega arith) (omega arith) in
-    let p = c .before .before .put-refusal .ensures in (
-      record {
-        short = λ h. absurd (omega arith);
-        printed = λ h. printed-refusal (r .ensures) (c .before .before .before .before .if2 .taken) p;
-      },
-      put-within p (omega arith),
-    )
+    let p = c .before .before .put-refusal .ensures in
+    (print-long _ _ (omega arith) (printed-refusal (r .ensures) (c .before .before .before .before .if2 .taken)) p, put-within p (omega arith))
 
 cast-n : tie.Need-cast-n
 cast-n c = search needs
@@ -73,13 +68,8 @@ same-length-2 c = search needs
 returns-3 : tie.Need-returns-3
 returns-3 c =
     let r = c .before .before .before .before .before .before .before .before .before .before .before .read-text in
-    let p = c .before .before .print-points .ensures in (
-      record {
-        short = λ h. absurd (omega arith);
-        printed = λ h. printed-basis (r .ensures) (omega arith) (p .0);
-      },
-      p .1,
-    )
+    let p = c .before .before .print-points .ensures in
+    (print-long _ _ (omega arith) (printed-basis (r .ensures) (omega arith)) (p .0), p .1)
 
 pub print-text-spec : {M : Type 1} → statement M
 print-text-spec =

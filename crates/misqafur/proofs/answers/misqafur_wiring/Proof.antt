@@ -1,6 +1,6 @@
 -- `answers::misqafur_wiring` meets its contract: the refusals on lengths first, then the call over the signed bytes.
 use borrow.Author.Needs.{needs}
-use mathlib.Core.Path.{_≡_, sym, _∙_}
+use mathlib.Core.Path.{_≡_, sym, ap, _∙_}
 use mathlib.Core.List.{List}
 use Prim.Native.Nat.{ℕ, _≤_}
 use native.Mathlib.Omega.{arith}
@@ -9,9 +9,10 @@ use lib.ListN.{length}
 use lib.Seq.{length-take-le}
 use Rattle.specification.specs.declared.settings.Settings.{Settings}
 use Rattle.specification.specs.Tables.{Tables, fourTables, tooShort}
+use Rattle.specification.specs.Solving.{wiringOutcome}
 use Rattle.misqafur.proofs.SignedBytes.{signed-part}
 use Rattle.misqafur.proofs.Sizes.{valuesBySize, values-few, wiring-alone}
-use Rattle.misqafur.proofs.Packed.{wiring-packed}
+use Rattle.misqafur.proofs.Packed.{packs-list}
 use Rattle.misqafur.proofs.answers.misqafur_wiring.Statement.{statement}
 use Rattle.misqafur.proofs.answers.misqafur_wiring.Tie as tie
 
@@ -83,9 +84,9 @@ same-length c = search needs
 
 returns-2 : tie.Need-returns-2
 returns-2 c =
-    let d = c .before .before .before .wiring in
     let w = c .before .before .before .before .before .before .before in
-    wiring-packed (settings (beginning w)) (beginning w .args .n) (beginning w .args .r) (tables (beginning w)) (beginning w .args .out .now) (signed-part (handed (beginning w)) _ (signed w) (w .put-signed .ensures)) (d .ensures) (c .pack-wired .ensures)
+    let s = beginning w in
+    packs-list (c .before .before .before .wiring .ensures ∙ ap (λ (z : List ℤ). wiringOutcome (settings s) (s .args .n) (s .args .r) (tables s) z (s .args .out .now)) (signed-part (handed s) _ (signed w) (w .put-signed .ensures))) (c .pack-wired .ensures)
 
 pub misqafur-wiring-spec : {M : Type 1} → statement M
 misqafur-wiring-spec =
