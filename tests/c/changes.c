@@ -199,11 +199,13 @@ static int block_holds(struct guard *guard, const struct block *b, uint64_t choi
     return 1;
 }
 
+/* Each block of a file; one without a block, or that ends inside one, has been cut. */
 static void read_file(const char *path, struct guard *guard, struct score *score)
 {
     static struct block block;
     char *line = NULL;
     size_t room = 0;
+    int whole = 0;
     FILE *file = fopen(path, "r");
     if (file == NULL) {
         perror(path);
@@ -216,7 +218,8 @@ static void read_file(const char *path, struct guard *guard, struct score *score
             *rest++ = 0;
         if (strcmp(line, "landed") == 0)
             continue;
-        if (strcmp(line, "end") != 0) {
+        whole = strcmp(line, "end") == 0;
+        if (!whole) {
             take(&block, line, rest);
             continue;
         }
@@ -226,6 +229,9 @@ static void read_file(const char *path, struct guard *guard, struct score *score
                     block.known ? "does not hold" : "is not known");
         count(score, holds);
     }
+    if (!whole)
+        fprintf(stderr, "%s: cut\n", path);
+    count(score, whole);
     free(line);
     fclose(file);
 }

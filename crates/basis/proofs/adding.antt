@@ -1,4 +1,5 @@
 -- Adding a point to the tables: the laws of its functions, and that the tables they leave are those of the points with the new one.
+pub mod KeptRows
 pub mod Searches
 pub mod Writes
 pub mod Growth

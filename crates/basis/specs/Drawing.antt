@@ -42,10 +42,14 @@ pub record Solves (s : Settings) (S : List (List ℕ)) (rows pivots : List ℕ) 
       → eliminated (s .modulus) rows pivots (length S) (fill 128 vs)
       ≡ fill 128 (replicate (length S) 0 ++ map (λ c. (s .modulus - c) % s .modulus) (interpolantOf (spaceUnder s) (pointsUnder s S) vs))
 
--- The row count, the three tables, and the pivot rows, of the points' basis.
-pub record DrawnUp (s : Settings) (S : List (List ℕ)) (r : ℕ) (standard leads coefficients rows pivots : List ℕ) : Type 0 where
+-- The row count and the three tables of the points' basis.
+pub record Tabled (s : Settings) (S : List (List ℕ)) (r : ℕ) (standard leads coefficients : List ℕ) : Type 0 where
   pub row-count : r ≡ rowCount s S
   pub standard-table : standard ≡ tablesOf s S .standard
   pub leads-table : leads ≡ tablesOf s S .leads
   pub coefficients-table : coefficients ≡ tablesOf s S .coefficients
+
+-- And the pivot rows.
+pub record DrawnUp (s : Settings) (S : List (List ℕ)) (r : ℕ) (standard leads coefficients rows pivots : List ℕ) : Type 0 where
+  pub tabled : Tabled s S r standard leads coefficients
   pub pivot-rows : Solves s S rows pivots

@@ -1,4 +1,4 @@
 -- The definitions of the crate basis.
 pub mod Drawing
-pub mod Interpolants
-pub mod Insertions
+pub mod Adding
+pub mod Answers

@@ -1,8 +1,12 @@
-// The public call that adds a point to tables. Every refusal is decided before a lent byte is written.
-use crate::add::add_accepted;
+// Adding a point to tables. Every refusal is decided before a lent byte is written.
+mod correcting;
+mod growing;
+mod products;
+
+use crate::adding::growing::add_accepted;
+use crate::checking::recognise;
 use crate::points;
-use crate::recognise::recognise;
-use crate::refusal;
+use crate::settings::add_sizes;
 use crate::settings::refused;
 use specification::settings::Answer;
 use specification::settings::Settings;
@@ -30,12 +34,13 @@ fn add_refusal(
     point: &mut [u8],
 ) -> u8
     requires { ⌜ (now points ≡ replicate 512 0) × (now rows ≡ replicate 8192 0) × (length (now pivots) ≡ 64) × (now point ≡ replicate 8 0) ⌝ }
-    ensures { λ k. ⌜ k ≡ addRefusal settings n r (fourTables (now (states .entry)) (now (standard .entry)) (now (leads .entry)) (now (coefficients .entry))) (now (levels .entry)) ⌝ }
+    ensures { λ k. ⌜ k ≡ addRefusal settings n r (fourTables (now (states .entry)) (now (standard .entry)) (now (leads .entry)) (now (coefficients .entry)))
+        (now (levels .entry)) ⌝ }
     ensures { λ k. ⌜ (k ≡ 0 → now (points .exit) ≡ fill 512 (inPlaces 8 (pointsIn settings n (now (states .entry))))) ⌝ }
     ensures { λ k. ⌜ (k ≡ 0 → Solves settings (pointsIn settings n (now (states .entry))) (now (rows .exit)) (now (pivots .exit))) ⌝ }
     ensures { λ k. ⌜ (k ≡ 0 → now (point .exit) ≡ fill 8 (residues (settings .modulus) (now (levels .entry)))) ⌝ }
 {
-    let refusal = refusal::add_sizes(
+    let refusal = add_sizes(
         settings,
         states.len(),
         standard.len(),
@@ -84,7 +89,9 @@ pub fn add_point(
     coefficients: &mut [u8],
     levels: &[i8],
 ) -> Answer
-    ensures { λ a. ⌜ ended a (now (states .exit)) (now (standard .exit)) (now (leads .exit)) (now (coefficients .exit)) ≡ addOutcome settings n r (fourTables (now (states .entry)) (now (standard .entry)) (now (leads .entry)) (now (coefficients .entry))) (now (levels .entry)) ⌝ }
+    ensures { λ a. ⌜ ended a (now (states .exit)) (now (standard .exit)) (now (leads .exit)) (now (coefficients .exit))
+        ≡ addOutcome settings n r (fourTables (now (states .entry)) (now (standard .entry)) (now (leads .entry)) (now (coefficients .entry)))
+        (now (levels .entry)) ⌝ }
 {
     let mut points = [0u8; 512];
     let mut rows = [0u16; 8192];

@@ -1,18 +1,21 @@
-// The public calls that answer from the basis of lent tables: interpolant, remainder, wiring list.
+// The calls that answer from the basis of lent tables: interpolant, remainder, wiring list.
+pub mod solving;
+
+use crate::checking::recognise;
 use crate::points;
-use crate::polynomial;
-use crate::recognise::recognise;
-use crate::refusal;
-use crate::solve;
+use crate::settings::remainder_sizes;
+use crate::settings::values_sizes;
 use residue::bytes;
 use specification::settings::Settings;
 use specification::settings::Wired;
 ghost use mathlib.Core.Path.{_≡_};
+ghost use Prim.Native.Nat.{_*_, _≤_};
 ghost use lib.ListN.{length, replicate};
-ghost use Rattle.residue.specs.Layout.{fill, inPlaces};
+ghost use Rattle.residue.specs.Layout.{fill, inPlaces, groups};
 ghost use Rattle.specification.specs.Refusal.{firstOf};
 ghost use Rattle.specification.specs.Tables.{fourTables, pointsIn};
-ghost use Rattle.specification.specs.Solving.{answering, valuesCases, interpolantIn, interpolateOutcome, remainderCases, remainderOutcome, listed, wiringOutcome};
+ghost use Rattle.specification.specs.Solving.{answering, valuesCases, interpolantIn, interpolateOutcome, listed, wiringOutcome};
+ghost use Rattle.specification.specs.Solving.{withinVariables, remainderCases, remainderOutcome};
 ghost use Rattle.basis.specs.Drawing.{Solves};
 
 // The refusal of a call that answers n values in an output of so many bytes, or 0; their interpolant is then left in 64 bytes.
@@ -30,10 +33,14 @@ fn interpolant(
     found: &mut [u8],
 ) -> u8
     requires { ⌜ length (now found) ≡ 64 ⌝ }
-    ensures { λ k. ⌜ k ≡ firstOf (valuesCases size settings n r (fourTables (now (states .entry)) (now (standard .entry)) (now (leads .entry)) (now (coefficients .entry))) (now (values .entry)) (now (out .entry))) ⌝ }
-    ensures { λ k. ⌜ (k ≡ 0 → now (found .exit) ≡ fill 64 (interpolantIn settings n (fourTables (now (states .entry)) (now (standard .entry)) (now (leads .entry)) (now (coefficients .entry))) (now (values .entry)))) ⌝ }
+    ensures { λ k. ⌜ k ≡ firstOf (valuesCases size settings n r
+        (fourTables (now (states .entry)) (now (standard .entry)) (now (leads .entry)) (now (coefficients .entry))) (now (values .entry))
+        (now (out .entry))) ⌝ }
+    ensures { λ k. ⌜ (k ≡ 0 → now (found .exit)
+        ≡ fill 64 (interpolantIn settings n (fourTables (now (states .entry)) (now (standard .entry)) (now (leads .entry)) (now (coefficients .entry)))
+        (now (values .entry)))) ⌝ }
 {
-    let refusal = refusal::values_sizes(
+    let refusal = values_sizes(
         settings,
         states.len(),
         standard.len(),
@@ -69,7 +76,7 @@ fn interpolant(
     ) {
         return 10;
     }
-    solve::solve_values(p as u16, count, values, &rows, &pivots, found);
+    solving::solve_values(p as u16, count, values, &rows, &pivots, found);
     0
 }
 
@@ -85,7 +92,9 @@ pub fn interpolate(
     values: &[i8],
     out: &mut [u8],
 ) -> u8
-    ensures { λ k. ⌜ answering k (now (out .exit)) ≡ interpolateOutcome settings n r (fourTables (now (states .entry)) (now (standard .entry)) (now (leads .entry)) (now (coefficients .entry))) (now (values .entry)) (now (out .entry)) ⌝ }
+    ensures { λ k. ⌜ answering k (now (out .exit))
+        ≡ interpolateOutcome settings n r (fourTables (now (states .entry)) (now (standard .entry)) (now (leads .entry)) (now (coefficients .entry)))
+        (now (values .entry)) (now (out .entry)) ⌝ }
 {
     let mut found = [0u8; 64];
     let refusal = interpolant(
@@ -120,7 +129,9 @@ pub fn wiring(
     values: &[i8],
     out: &mut [u8],
 ) -> Wired
-    ensures { λ a. ⌜ listed a (now (out .exit)) ≡ wiringOutcome settings n r (fourTables (now (states .entry)) (now (standard .entry)) (now (leads .entry)) (now (coefficients .entry))) (now (values .entry)) (now (out .entry)) ⌝ }
+    ensures { λ a. ⌜ listed a (now (out .exit))
+        ≡ wiringOutcome settings n r (fourTables (now (states .entry)) (now (standard .entry)) (now (leads .entry)) (now (coefficients .entry)))
+        (now (values .entry)) (now (out .entry)) ⌝ }
 {
     let mut found = [0u8; 64];
     let refusal = interpolant(
@@ -140,7 +151,7 @@ pub fn wiring(
         return Wired { refusal, count: 0 };
     }
     let mut names = [0u8; 8];
-    let count = solve::put_names(
+    let count = solving::put_names(
         settings.variables as usize,
         n as usize,
         &found,
@@ -149,6 +160,22 @@ pub fn wiring(
     );
     bytes::copy(&names, out);
     Wired { refusal: 0, count }
+}
+
+// Whether no variable above m has an exponent but 0 in the first k terms of a polynomial, 8 exponents each.
+fn within_variables(m: usize, k: usize, exponents: &[u8]) -> bool
+    requires { ⌜ m ≤ 8 ⌝ }
+    requires { ⌜ 8 * k ≤ length (now exponents) ⌝ }
+    ensures { λ r. ⌜ r ≡ withinVariables m (groups 8 k (now (exponents .entry))) ⌝ }
+{
+    for i in 0..k {
+        let place = 8 * i;
+        let term = &exponents[place..place + 8];
+        if !bytes::all_zero(&term[m..]) {
+            return false;
+        }
+    }
+    true
 }
 
 // The refusal of a remainder, or 0; then the points and their pivot rows are left in working arrays.
@@ -168,12 +195,14 @@ fn remainder_refusal(
     pivots: &mut [u8],
 ) -> u8
     requires { ⌜ (now points ≡ replicate 512 0) × (now rows ≡ replicate 8192 0) × (length (now pivots) ≡ 64) ⌝ }
-    ensures { λ k. ⌜ k ≡ firstOf (remainderCases settings n r (fourTables (now (states .entry)) (now (standard .entry)) (now (leads .entry)) (now (coefficients .entry))) (now («term_coefficients» .entry)) (now (exponents .entry)) (now (out .entry))) ⌝ }
+    ensures { λ k. ⌜ k ≡ firstOf (remainderCases settings n r
+        (fourTables (now (states .entry)) (now (standard .entry)) (now (leads .entry)) (now (coefficients .entry))) (now («term_coefficients» .entry))
+        (now (exponents .entry)) (now (out .entry))) ⌝ }
     ensures { λ k. ⌜ (k ≡ 0 → now (points .exit) ≡ fill 512 (inPlaces 8 (pointsIn settings n (now (states .entry))))) ⌝ }
     ensures { λ k. ⌜ (k ≡ 0 → Solves settings (pointsIn settings n (now (states .entry))) (now (rows .exit)) (now (pivots .exit))) ⌝ }
 {
     let terms = term_coefficients.len();
-    let refusal = refusal::remainder_sizes(
+    let refusal = remainder_sizes(
         settings,
         states.len(),
         standard.len(),
@@ -190,7 +219,7 @@ fn remainder_refusal(
     if !points::in_range(settings.modulus as u8, term_coefficients) {
         return 9;
     }
-    if !polynomial::within_variables(settings.variables as usize, terms, exponents) {
+    if !within_variables(settings.variables as usize, terms, exponents) {
         return 9;
     }
     if !recognise(
@@ -223,7 +252,9 @@ pub fn remainder(
     exponents: &[u8],
     out: &mut [u8],
 ) -> u8
-    ensures { λ k. ⌜ answering k (now (out .exit)) ≡ remainderOutcome settings n r (fourTables (now (states .entry)) (now (standard .entry)) (now (leads .entry)) (now (coefficients .entry))) (now («term_coefficients» .entry)) (now (exponents .entry)) (now (out .entry)) ⌝ }
+    ensures { λ k. ⌜ answering k (now (out .exit))
+        ≡ remainderOutcome settings n r (fourTables (now (states .entry)) (now (standard .entry)) (now (leads .entry)) (now (coefficients .entry)))
+        (now («term_coefficients» .entry)) (now (exponents .entry)) (now (out .entry)) ⌝ }
 {
     let mut points = [0u8; 512];
     let mut rows = [0u16; 8192];
@@ -246,7 +277,7 @@ pub fn remainder(
     if refusal != 0 {
         return refusal;
     }
-    solve::solve_terms(
+    solving::solve_terms(
         settings.modulus as u16,
         term_coefficients,
         exponents,

@@ -1,8 +1,12 @@
-// The answer of a refused call, and the refusals that look at the settings alone.
+// The refusals that look at the settings and at lengths and counts alone, 3 to 8, and the answer of a refused call.
 use residue::level;
 use specification::settings::Answer;
 use specification::settings::Settings;
 ghost use mathlib.Core.Path.{_≡_};
+ghost use mathlib.Core.Bool.{not, false, _||_};
+ghost use mathlib.Core.List.{[], _∷_, _++_};
+ghost use Prim.Native.Nat.{_*_, _/_, _%_};
+ghost use lib.Dec.{eqb, leb, ltb};
 ghost use Rattle.specification.specs.Refusal.{firstOf};
 ghost use Rattle.specification.specs.Settings.{settingsCases};
 
@@ -34,4 +38,164 @@ pub fn settings_refusal(settings: Settings) -> u8
         return 0;
     }
     3
+}
+
+// Whether one of four tables of these lengths is shorter than its size.
+fn too_short(states: usize, standard: usize, leads: usize, coefficients: usize) -> bool
+    ensures { λ b. ⌜ b ≡ (ltb states 512 || ltb standard 512 || ltb leads 3592 || ltb coefficients 28736) ⌝ }
+{
+    if states < 512 {
+        return true;
+    }
+    if standard < 512 {
+        return true;
+    }
+    if leads < 3592 {
+        return true;
+    }
+    coefficients < 28736
+}
+
+// A table or buffer is too short, a length is wrong, there are too many points or terms.
+fn by_sizes(settings: Settings, short: bool, wrong: bool, many: bool) -> u8
+    ensures { λ k. ⌜ k ≡ firstOf (settingsCases settings ++ ((short, 6) ∷ (wrong, 7) ∷ (many, 8) ∷ [])) ⌝ }
+{
+    let k = settings_refusal(settings);
+    if k != 0 {
+        return k;
+    }
+    if short {
+        return 6;
+    }
+    if wrong {
+        return 7;
+    }
+    if many {
+        return 8;
+    }
+    0
+}
+
+// Division as the definitions have it, by 0 too: lengths are judged before the settings are known to be good.
+fn quotient(k: usize, m: u64) -> usize
+    ensures { λ q. ⌜ q ≡ k / m ⌝ }
+{
+    if m == 0 {
+        return 0;
+    }
+    k / m as usize
+}
+
+fn rest(k: usize, m: u64) -> usize
+    ensures { λ r. ⌜ r ≡ k % m ⌝ }
+{
+    if m == 0 {
+        return k;
+    }
+    k % m as usize
+}
+
+// Adding one point of this many levels to n points.
+pub fn add_sizes(
+    settings: Settings,
+    states: usize,
+    standard: usize,
+    leads: usize,
+    coefficients: usize,
+    levels: usize,
+    n: u64,
+) -> u8
+    ensures { λ k. ⌜ k ≡ firstOf (settingsCases settings
+        ++ ((ltb states 512 || ltb standard 512 || ltb leads 3592 || ltb coefficients 28736, 6) ∷ (not (eqb levels (settings .variables)), 7) ∷ (leb 64 n, 8)
+        ∷ [])) ⌝ }
+{
+    let short = too_short(states, standard, leads, coefficients);
+    by_sizes(
+        settings,
+        short,
+        levels as u64 != settings.variables,
+        64 <= n,
+    )
+}
+
+// Drawing up from this many levels.
+pub fn draw_sizes(
+    settings: Settings,
+    states: usize,
+    standard: usize,
+    leads: usize,
+    coefficients: usize,
+    levels: usize,
+) -> u8
+    ensures { λ k. ⌜ k ≡ firstOf (settingsCases settings
+        ++ ((ltb states 512 || ltb standard 512 || ltb leads 3592 || ltb coefficients 28736, 6) ∷ (not (eqb (levels % settings .variables) 0), 7)
+        ∷ (ltb 64 (levels / settings .variables), 8) ∷ [])) ⌝ }
+{
+    let m = settings.variables;
+    let short = too_short(states, standard, leads, coefficients);
+    let left = rest(levels, m);
+    let points = quotient(levels, m);
+    by_sizes(settings, short, left != 0, 64 < points)
+}
+
+// Checking the tables of n points.
+pub fn check_sizes(
+    settings: Settings,
+    states: usize,
+    standard: usize,
+    leads: usize,
+    coefficients: usize,
+    n: u64,
+) -> u8
+    ensures { λ k. ⌜ k ≡ firstOf (settingsCases settings
+        ++ ((ltb states 512 || ltb standard 512 || ltb leads 3592 || ltb coefficients 28736, 6) ∷ (false, 7) ∷ (ltb 64 n, 8) ∷ [])) ⌝ }
+{
+    let short = too_short(states, standard, leads, coefficients);
+    by_sizes(settings, short, false, 64 < n)
+}
+
+// An answer of the given size, from this many values at n points.
+pub fn values_sizes(
+    settings: Settings,
+    states: usize,
+    standard: usize,
+    leads: usize,
+    coefficients: usize,
+    buffer: usize,
+    size: usize,
+    values: usize,
+    n: u64,
+) -> u8
+    ensures { λ k. ⌜ k ≡ firstOf (settingsCases settings
+        ++ ((ltb states 512 || ltb standard 512 || ltb leads 3592 || ltb coefficients 28736 || ltb buffer size, 6) ∷ (not (eqb values n), 7) ∷ (ltb 64 n, 8)
+        ∷ [])) ⌝ }
+{
+    let short = too_short(states, standard, leads, coefficients);
+    by_sizes(settings, short || buffer < size, values as u64 != n, 64 < n)
+}
+
+// The remainder of a polynomial of so many terms and exponents.
+pub fn remainder_sizes(
+    settings: Settings,
+    states: usize,
+    standard: usize,
+    leads: usize,
+    coefficients: usize,
+    buffer: usize,
+    terms: usize,
+    exponents: usize,
+    n: u64,
+) -> u8
+    ensures { λ k. ⌜ k ≡ firstOf (settingsCases settings
+        ++ ((ltb states 512 || ltb standard 512 || ltb leads 3592 || ltb coefficients 28736 || ltb buffer 64, 6) ∷ (not (eqb exponents (8 * terms)), 7)
+        ∷ (ltb 64 n || ltb 256 terms, 8) ∷ [])) ⌝ }
+{
+    let short = too_short(states, standard, leads, coefficients);
+    let whole = exponents / 8 == terms && exponents % 8 == 0;
+    by_sizes(
+        settings,
+        short || buffer < 64,
+        !whole,
+        64 < n || 256 < terms,
+    )
 }

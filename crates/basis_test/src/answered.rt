@@ -4,7 +4,7 @@ use crate::refused;
 use crate::stored::Head;
 use basis::adding;
 use basis::answers;
-use basis::calls;
+use basis::drawing;
 use specification::settings::Answer;
 
 fn is_due(got: Answer, head: Head) -> bool {
@@ -31,7 +31,7 @@ pub fn drawn(
     let mut new_leads = [170u8; 3600];
     let mut new_coefficients = [170u8; 28744];
     let settings = head.settings;
-    let got = calls::draw_up(
+    let got = drawing::draw_up(
         settings,
         &mut new_states,
         &mut new_standard,
@@ -73,7 +73,7 @@ fn add(
     coefficients: &mut [u8; 28744],
 ) -> bool {
     let settings = head.settings;
-    let before = calls::draw_up(
+    let before = drawing::draw_up(
         settings,
         states,
         standard,

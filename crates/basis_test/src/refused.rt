@@ -1,7 +1,7 @@
 // A list of points that is refused: the refusal comes alone and changes nothing.
 use crate::buffers;
 use crate::stored::Head;
-use basis::calls;
+use basis::drawing;
 use specification::settings::Answer;
 
 // A refusal has no counts.
@@ -21,7 +21,7 @@ pub fn drawn(head: Head, levels: &[i8]) -> bool {
     let mut leads = [170u8; 3600];
     let mut coefficients = [170u8; 28744];
     let settings = head.settings;
-    let got = calls::draw_up(
+    let got = drawing::draw_up(
         settings,
         &mut states,
         &mut standard,

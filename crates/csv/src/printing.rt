@@ -1,8 +1,8 @@
 // Printing into a lent buffer: each function writes from a place on, and answers the place behind what it wrote.
 use crate::reading::read_text;
-use basis::draw::draw;
-use basis::solve::put_names;
-use basis::solve::solve;
+use basis::answers::solving::put_names;
+use basis::answers::solving::solve;
+use basis::drawing::draw;
 use residue::bytes;
 ghost use mathlib.Core.Path.{_≡_};
 ghost use mathlib.Core.List.{[], _∷_};
@@ -12,7 +12,7 @@ ghost use Rattle.residue.specs.Vector.{Below};
 ghost use Rattle.residue.specs.Layout.{fill};
 ghost use Rattle.specification.specs.Tables.{pointsIn};
 ghost use Rattle.basis.specs.Drawing.{settingsOf, PointsGiven};
-ghost use Rattle.basis.specs.Interpolants.{solution};
+ghost use Rattle.basis.specs.Answers.{solution};
 ghost use Rattle.csv.specs.Printing.{decimal, spaced, numbers, labelled, line, firstLine, standardLines, rowLine, rowLines, basisLines, refusalLine, linesOf, printed, printOutcome, Within};
 ghost use Rattle.csv.specs.Appending.{Room, Put, inTable};
 

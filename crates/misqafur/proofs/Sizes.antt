@@ -17,8 +17,10 @@ use Rattle.specification.specs.Adding.{Outcome, refused, addOutcome, drawOutcom
 use Rattle.specification.specs.Solving.{valuesCases, remainderCases, wiringOutcome}
 use Rattle.basis.proofs.adding.Addition.{add-size}
 use Rattle.specification.proofs.Wiring.{list-refused}
-use Rattle.basis.proofs.calls.Refusing.{sizes, passed, when-refused}
-use Rattle.basis.proofs.calls.Outcomes.{draw-size, values-size, remainder-size}
+use Rattle.basis.proofs.settings.BySize.{sizes, passed}
+use Rattle.basis.proofs.settings.ByNumber.{when-refused}
+use Rattle.basis.proofs.drawing.Outcomes.{draw-size}
+use Rattle.basis.proofs.answers.Refusals.{values-size, remainder-size}
 use Rattle.misqafur.specs.Bytes.{signedBytes}
 use Rattle.misqafur.specs.Packing.{Left, packedOutcome, leftList, packedList}
 use Rattle.misqafur.proofs.Packed.{packs-list}

@@ -2,7 +2,8 @@
 use crate::packing::pack_wired;
 use crate::signed::put_signed;
 use basis::answers;
-use basis::refusal;
+use basis::settings::remainder_sizes;
+use basis::settings::values_sizes;
 use specification::settings::Settings;
 ghost use mathlib.Core.Path.{_≡_};
 ghost use Rattle.specification.specs.Tables.{fourTables};
@@ -33,7 +34,7 @@ pub extern "C" fn misqafur_interpolate(
         order,
     };
     let count = values.len();
-    let refusal = refusal::values_sizes(
+    let refusal = values_sizes(
         settings,
         states.len(),
         standard.len(),
@@ -86,7 +87,7 @@ pub extern "C" fn misqafur_remainder(
         order,
     };
     let count = term_coefficients.len();
-    let refusal = refusal::remainder_sizes(
+    let refusal = remainder_sizes(
         settings,
         states.len(),
         standard.len(),
@@ -139,7 +140,7 @@ pub extern "C" fn misqafur_wiring(
         order,
     };
     let count = values.len();
-    let refusal = refusal::values_sizes(
+    let refusal = values_sizes(
         settings,
         states.len(),
         standard.len(),

@@ -2,8 +2,10 @@
 use crate::packing::pack_answer;
 use crate::signed::put_signed;
 use basis::adding;
-use basis::calls;
-use basis::refusal;
+use basis::checking;
+use basis::drawing;
+use basis::settings::add_sizes;
+use basis::settings::draw_sizes;
 use specification::settings::Settings;
 ghost use mathlib.Core.Path.{_≡_};
 ghost use Rattle.specification.specs.Tables.{fourTables};
@@ -34,7 +36,7 @@ pub extern "C" fn misqafur_add_point(
         order,
     };
     let count = levels.len();
-    let refusal = refusal::add_sizes(
+    let refusal = add_sizes(
         settings,
         states.len(),
         standard.len(),
@@ -81,7 +83,7 @@ pub extern "C" fn misqafur_draw_up(
         order,
     };
     let count = levels.len();
-    let refusal = refusal::draw_sizes(
+    let refusal = draw_sizes(
         settings,
         states.len(),
         standard.len(),
@@ -94,7 +96,7 @@ pub extern "C" fn misqafur_draw_up(
     }
     let mut signed = [0i8; 512];
     put_signed(levels, &mut signed);
-    let a = calls::draw_up(
+    let a = drawing::draw_up(
         settings,
         states,
         standard,
@@ -125,5 +127,5 @@ pub extern "C" fn misqafur_check(
         variables,
         order,
     };
-    calls::check(settings, n, r, states, standard, leads, coefficients) as u32
+    checking::check(settings, n, r, states, standard, leads, coefficients) as u32
 }

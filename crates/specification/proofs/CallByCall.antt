@@ -10,29 +10,30 @@ use lib.ListN.{length, length-map}
 use lib.Dec.{T, ltb}
 use borrow.Author.Tests.{eqb-true, ltb-false, leb-false, not-false}
 use Rattle.residue.specs.Lists.{Among}
+use Rattle.residue.specs.Layout.{fill, over}
 use Rattle.residue.proofs.level.Moduli.{modulus-range}
 use Rattle.specification.specs.declared.settings.Settings.{Settings}
 use Rattle.specification.specs.Refusal.{firstOf}
 use Rattle.specification.specs.Levels.{inRange, residues, noRepeat}
 use Rattle.specification.specs.Polynomial.{Distinct}
 use Rattle.specification.specs.Basis.{IsBasis}
-use Rattle.specification.specs.BasisOf.{standardOf, leadsOf, rowsOf, remainderOf, interpolantOf, valueAt}
+use Rattle.specification.specs.BasisOf.{remainderOf, interpolantOf, valueAt}
 use Rattle.specification.specs.Instance.{pointOf}
-use Rattle.specification.specs.Tables.{Tables, spaceUnder, pointsUnder, rowCount, tablesOf, written, pointsIn, recognised}
+use Rattle.specification.specs.Tables.{Tables, spaceUnder, pointsUnder, standardUnder, leadsUnder, rowsUnder, rowCount, tablesOf, written, pointsIn, recognised}
 use Rattle.specification.specs.Adding.{holding, byRefusal, pointsOffered, addCases, addRefusal, addOutcome, drawCases, drawRefusal, drawOutcome}
-use Rattle.specification.specs.Solving.{checkRefusal, filling, valuesCases, interpolantIn, interpolateOutcome, polynomialUnder, remainderCases, remainderIn, remainderOutcome}
-use Rattle.specification.specs.Agreement.{Remains}
+use Rattle.specification.specs.Solving.{checkRefusal, filling, valuesCases, interpolantIn, interpolateOutcome, polynomialUnder, remainderCases, remainderIn, remainderOutcome, wiringUnder, Listed, listing, wiringOutcome}
+use Rattle.specification.specs.Agreement.{Remains, Wires}
 use Rattle.specification.specs.CallByCall.{HoldsBasis, Interpolates}
 use Rattle.residue.proofs.Tests.{of-true, neither}
 use Rattle.specification.proofs.Repeats.{is-among}
+use Rattle.specification.proofs.Wiring.{names-length, names-are, list-accepted}
 use Rattle.specification.proofs.ideal.Lists.{among-map}
 use Rattle.specification.proofs.ideal.Basis.{basis-is, interpolant-fits, interpolant-values, remainder-fits}
 use Rattle.specification.proofs.ideal.Division.{basis-reduced}
 use Rattle.specification.proofs.agreement.Points.{IsPoint, Points, no-points, point-same, length-residues, levels-point, of-once, points-more}
-use Rattle.specification.proofs.agreement.Refusals.{Accepted, accepted, written-recognised}
+use Rattle.specification.proofs.agreement.Refusals.{Accepted, accepted, over-begins, written-recognised}
 use Rattle.specification.proofs.agreement.Run.{number-of, same-tables}
 use Rattle.specification.proofs.agreement.Drawings.{laws-under, among-under, distinct-points, few-rows}
-use Rattle.specification.proofs.agreement.Claim.{over-begins, filled}
 use Rattle.specification.proofs.Recognised.{none-of, offered, length-read, is-read, read, Parts, recognised-parts}
 
 module _ (s : Settings) (ok : Accepted s) (S : List (List ℕ)) (h : Points s S) where
@@ -54,7 +55,7 @@ module _ (s : Settings) (ok : Accepted s) (S : List (List ℕ)) (h : Points s S)
     few-rows = few-rows s ok S h;
   }
     where
-      is : let D = spaceUnder s in let K = pointsUnder s S in IsBasis D K (standardOf D K) (leadsOf D K) (rowsOf D K)
+      is : IsBasis (spaceUnder s) (pointsUnder s S) (standardUnder s S) (leadsUnder s S) (rowsUnder s S)
       is = basis-is (spaceUnder s) (laws-under s ok) (pointsUnder s S) (distinct-points s ok S h)
 
   -- a call that writes tables
@@ -130,6 +131,11 @@ unfolding checkRefusal
 check-passes s n r t e = let z = none-of s _ tt e in
     known-basis s (accepted s (z .0)) n r t (ltb-false 64 n (z .1 .1 .0)) (not-false (recognised s n r t) (z .1 .1 .1 .0))
 
+-- a buffer that a call without a refusal has filled
+filled : (k : ℕ) (l buffer : List ℕ) → k ≡ 0 → filling k l buffer .buffer ≡ over l buffer
+unfolding filling
+filled k l buffer e = rw e
+
 -- The interpolant call leaves the interpolant of the values at the points of the tables.
 pub interpolate-leaves : (s : Settings) (n r : ℕ) (t : Tables) (values : List ℤ) (buffer : List ℕ) → interpolateOutcome s n r t values buffer .refusal ≡ 0
     → HoldsBasis s (pointsIn s n (t .states)) t n r t × Interpolates s (pointsIn s n (t .states)) values buffer (interpolateOutcome s n r t values buffer .buffer)
@@ -165,5 +171,28 @@ remainder-leaves s n r t terms exponents buffer e =
         coefficients = remainderOf (spaceUnder s) (pointsUnder s S) (polynomialUnder s terms exponents);
         held = filled (firstOf (remainderCases s n r t terms exponents buffer)) _ buffer e;
         fits = remainder-fits (spaceUnder s) (laws-under s ok) (pointsUnder s S) (b .distinct) (polynomialUnder s terms exponents);
+      },
+    )
+
+-- The wiring call leaves the list of the variables that occur in the interpolant of the values at the points of the tables.
+pub wiring-leaves : (s : Settings) (n r : ℕ) (t : Tables) (values : List ℤ) (buffer : List ℕ) → wiringOutcome s n r t values buffer .answer .refusal ≡ 0
+    → HoldsBasis s (pointsIn s n (t .states)) t n r t × Wires s (pointsIn s n (t .states)) values buffer (wiringOutcome s n r t values buffer)
+unfolding wiringOutcome wiringUnder valuesCases listing
+wiring-leaves s n r t values buffer e =
+    let S = pointsIn s n (t .states) in
+    let z = none-of s _ tt e in
+    let ok = accepted s (z .0) in
+    let b = known-basis s ok n r t (ltb-false 64 n (z .1 .1 .1 .0)) (not-false (recognised s n r t) (z .1 .1 .1 .1 .1 .0)) in
+    let names = wiringUnder s S (residues (s .modulus) values) in
+    let is = list-accepted names buffer (firstOf (valuesCases 8 s n r t values buffer)) (length names) (over (fill 8 names) buffer) (sym e) refl refl in (
+      b,
+      record {
+        coefficients = interpolantOf (spaceUnder s) (pointsUnder s S) (residues (s .modulus) values);
+        fits = interpolant-fits (spaceUnder s) (laws-under s ok) (pointsUnder s S) (b .distinct) (valueAt (spaceUnder s) (pointsUnder s S) (residues (s .modulus) values));
+        names = names;
+        named = names-are _ _ (s .variables);
+        few = omega (arith, names-length (interpolantOf (spaceUnder s) (pointsUnder s S) (residues (s .modulus) values)) (map (λ a. a .0) (standardUnder s S)) (s .variables), ok .few);
+        count = sym (ap (λ (o : Listed). o .answer .count) is);
+        held = sym (ap (λ (o : Listed). o .buffer) is);
       },
     )

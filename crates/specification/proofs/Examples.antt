@@ -2,9 +2,9 @@
 -- agreement, so that the examples of additions compute no tables.
 use mathlib.Core.Path.{_≡_, refl, sym, _∙_, ap, subst}
 use mathlib.Core.List.{List, [], _∷_, _++_, map}
-use mathlib.Core.Logic.{inl, inr, _↔_}
+use mathlib.Core.Logic.{inl, inr}
 use mathlib.Core.Bool.{Bool, true, false, _&&_, and-assoc, and-false}
-use Prim.Native.Nat.{ℕ, zero, suc, _+_, _-_, _%_, _≤_, _<_}
+use Prim.Native.Nat.{ℕ, suc, _+_, _-_, _%_, _≤_, _<_}
 use native.Mathlib.Omega.{arith}
 use lib.IntN.{ℤ, pos, negsuc}
 use lib.ListN.{length, replicate, length-replicate, length-append}
@@ -26,11 +26,11 @@ use Rattle.specification.specs.Refusal.{firstOf}
 use Rattle.specification.specs.Settings.{settingsCases}
 use Rattle.specification.specs.Levels.{isResidue, residueOr0, inRange, residues, isAmong}
 use Rattle.specification.specs.Extension.{slot, minus, without, divided, extended, gap, first, newton, grow}
-use Rattle.specification.specs.BasisOf.{basisOf, valueAt, standardOf, leadsOf, rowsOf}
+use Rattle.specification.specs.BasisOf.{basisOf, valueAt}
 use Rattle.specification.specs.Instance.{monomialOf, pointOf}
-use Rattle.specification.specs.Tables.{spaceUnder, pointsUnder}
+use Rattle.specification.specs.Tables.{standardUnder, leadsUnder, rowsUnder}
 use Rattle.specification.specs.Solving.{occurs, wiringOf, wiringUnder, polynomialOf}
-use Rattle.specification.specs.Reference.{addition, referenceAnswer, referenceAfter, numbers, fed, dueAt, due, Refuses}
+use Rattle.specification.specs.Reference.{referenceAnswer, pointsAfter, referenceAfter, addition, Held, heldAfter, numbers, fed, dueAt, due, RefusesAt, Refuses}
 use Rattle.specification.specs.Examples.{Example, Holds, Tabled, under, anyOrder, fresh, A, examples}
 use Rattle.residue.proofs.Tests.{true-of}
 use Rattle.specification.proofs.agreement.Claim.{agreement}
@@ -55,13 +55,13 @@ are-same (a ∷ k) (b ∷ l) h =
 module _ (s : Settings) (S standard leads rows : List (List ℕ)) where
   -- the three tables of the points, and one test of them all
   abbrev on-standard : Bool
-  on-standard = sameLists (map (λ a. a .0) (standardOf (spaceUnder s) (pointsUnder s S))) standard
+  on-standard = sameLists (map (λ a. a .0) (standardUnder s S)) standard
 
   abbrev on-leads : Bool
-  on-leads = sameLists (map (λ a. a .0) (leadsOf (spaceUnder s) (pointsUnder s S))) leads
+  on-leads = sameLists (map (λ a. a .0) (leadsUnder s S)) leads
 
   abbrev on-rows : Bool
-  on-rows = sameLists (rowsOf (spaceUnder s) (pointsUnder s S)) rows
+  on-rows = sameLists (rowsUnder s S) rows
 
   tested : Bool
   tested = on-standard && (on-leads && on-rows)
@@ -91,11 +91,16 @@ under-each p m (o ∷ orders) S standard leads rows t order (inr q) = under-each
 blank : (k : ℕ) → T (begins (fill k []) (replicate k 0))
 blank k = subst (λ (t : List ℕ). T (begins (fill k []) t)) (over-all (fill k []) (replicate k 0) (length-fill k [] ∙ sym (length-replicate k 0)) ∙ fill-zeros k) (begins-over (fill k []) (replicate k 0))
 
-added : (s : Settings) (offered : List (List ℤ)) → firstOf (settingsCases s) ≡ 0 → Refuses s fresh (map addition offered)
-    → numbers s fresh (map addition offered) ≡ due s [] fresh (map addition offered)
-added s offered fine refuses =
+-- additions alone: no call is interposed
+alone : (s : Settings) (h : Held) (offered : List (List ℤ)) → Refuses s h (map addition offered)
+unfolding Refuses RefusesAt
+alone s h [] = tt
+alone s h (levels ∷ offered) = (tt, alone s (heldAfter s h (addition levels)) offered)
+
+added : (s : Settings) (offered : List (List ℤ)) → firstOf (settingsCases s) ≡ 0 → numbers s fresh (map addition offered) ≡ due s [] fresh (map addition offered)
+added s offered fine =
     agreement s fine (record { states = replicate 512 0; standard = replicate 512 0; leads = replicate 3592 0; coefficients = replicate 28736 0 })
-    (record { states = blank 512; standard = blank 512; leads = blank 3592; coefficients = blank 28736 }) (map addition offered) refuses .answers
+    (record { states = blank 512; standard = blank 512; leads = blank 3592; coefficients = blank 28736 }) (map addition offered) (alone s fresh offered) .answers
 
 -- settings with one of the orders 0 to 2 are accepted
 known-order : (order : ℕ) → Among order anyOrder → order < 3
@@ -117,15 +122,15 @@ range-append p (z ∷ k) l = ap (λ (b : Bool). isResidue (residueOf p z) && b) 
 -- two additions, of which the second has a level out of range
 ranged : (p m order : ℕ) (k l : List ℤ) → firstOf (settingsCases (under p m order)) ≡ 0 → length k ≡ m → length l ≡ m → inRange p k ≡ true → inRange p l ≡ false
     → numbers (under p m order) fresh (addition k ∷ addition l ∷ []) ≡ 0 ∷ 9 ∷ []
-unfolding due dueAt fed referenceAnswer referenceAfter Refuses firstOf isAmong
-ranged p m order k l f ek el rk rl = added (under p m order) (k ∷ l ∷ []) f tt ∙ simp (eq-eqb (length k) m ek, eq-eqb (length l) m el, rk, rl)
+unfolding due dueAt fed referenceAnswer referenceAfter pointsAfter firstOf isAmong
+ranged p m order k l f ek el rk rl = added (under p m order) (k ∷ l ∷ []) f ∙ simp (eq-eqb (length k) m ek, eq-eqb (length l) m el, rk, rl)
 
 abbrev All : List Example → Type 0
 All [] = Unit {0}
 All (e ∷ l) = Holds e × All l
 
 all : All examples
-unfolding tested each-tested sameLists examples Holds primes isOneOf isModulus inverseBelow inverseOf residueOf orderOf cmp firstOf settingsCases isResidue residueOr0 inRange residues fill sameList isAmong slot minus without divided extended gap first newton grow basisOf valueAt monomialOf pointOf occurs wiringOf wiringUnder polynomialOf referenceAnswer referenceAfter fed dueAt due Refuses
+unfolding tested each-tested sameLists examples Holds primes isOneOf isModulus inverseBelow inverseOf residueOf orderOf cmp firstOf settingsCases isResidue residueOr0 inRange residues fill sameList isAmong slot minus without divided extended gap first newton grow basisOf valueAt monomialOf pointOf occurs wiringOf wiringUnder polynomialOf referenceAnswer referenceAfter pointsAfter fed dueAt due
 all = (under-each 5 2 (1 ∷ []) A _ _ _ tt, (under-each 5 2 (0 ∷ []) A _ _ _ tt, (under-each 3 2 (1 ∷ []) A _ _ _ tt, ((λ s. (record { standard-are = refl; leads-are = refl; rows-are = refl }, (λ values. refl), λ f. refl)), (single, (under-each 2 1 anyOrder _ _ _ _ tt, ((refl, refl), (refl, (lowest, (again, (ends, tt)))))))))))
   where
     -- each order, and each point (a, b) modulo 5
@@ -144,7 +149,7 @@ all = (under-each 5 2 (1 ∷ []) A _ _ _ tt, (under-each 5 2 (0 ∷ []) A _ _ _ 
     lowest e (inr (inr (inr q))) = absurd q
 
     again : (order : ℕ) → Among order anyOrder → numbers (under 5 1 order) fresh (map addition ((pos 4 ∷ []) ∷ (negsuc 0 ∷ []) ∷ [])) ≡ 0 ∷ 11 ∷ []
-    again order q = added (under 5 1 order) ((pos 4 ∷ []) ∷ (negsuc 0 ∷ []) ∷ []) (fine 5 1 order refl (omega arith) (omega arith) q) tt
+    again order q = added (under 5 1 order) ((pos 4 ∷ []) ∷ (negsuc 0 ∷ []) ∷ []) (fine 5 1 order refl (omega arith) (omega arith) q)
 
     ends : (m order : ℕ) (before behind : List ℤ) → m ≤ 8 → Among order anyOrder → length before + suc (length behind) ≡ m → T (inRange 5 before) → T (inRange 5 behind)
         → numbers (under 5 m order) fresh (addition (before ++ (negsuc 3 ∷ behind)) ∷ addition (before ++ (negsuc 4 ∷ behind)) ∷ []) ≡ 0 ∷ 9 ∷ []

@@ -1,4 +1,4 @@
--- What is claimed of every list of additions: docs/SCOPE.md, 'The two desks', as one statement. proofs/agreement has its proof.
+-- What is claimed of every list of operations: docs/SCOPE.md, 'The two desks', as one statement. proofs/agreement has its proof.
 use mathlib.Core.Path.{_≡_}
 use mathlib.Core.Bool.{false}
 use mathlib.Core.List.{List, [], map, zip}
@@ -10,13 +10,14 @@ use lib.Dec.{T}
 use Rattle.residue.specs.Lists.{Among}
 use Rattle.residue.specs.Layout.{fill, over, begins}
 use Rattle.specification.specs.declared.settings.Settings.{Settings}
+use Rattle.specification.specs.Refusal.{firstOf}
 use Rattle.specification.specs.Levels.{inRange, noRepeat, residues}
 use Rattle.specification.specs.Polynomial.{eval}
 use Rattle.specification.specs.Basis.{IsBasis, Fits}
-use Rattle.specification.specs.BasisOf.{standardOf, leadsOf, rowsOf, valueAt}
-use Rattle.specification.specs.Tables.{Tables, spaceUnder, pointsUnder, rowCount, tablesOf, written, tooShort, pointsIn}
+use Rattle.specification.specs.BasisOf.{valueAt}
+use Rattle.specification.specs.Tables.{Tables, spaceUnder, pointsUnder, standardUnder, leadsUnder, rowsUnder, rowCount, tablesOf, written, tooShort, pointsIn}
 use Rattle.specification.specs.Adding.{Outcome, pointsOffered, drawOutcome}
-use Rattle.specification.specs.Solving.{polynomialUnder, remainderOutcome, Names, Listed, wiringOutcome}
+use Rattle.specification.specs.Solving.{valuesCases, polynomialUnder, remainderCases, remainderOutcome, Names, Listed, wiringOutcome}
 use Rattle.specification.specs.Reference.{Event, Held, numbers, due}
 use Rattle.residue.specs.Level.{residueOf}
 
@@ -44,7 +45,7 @@ pub record SameValues (s : Settings) (K L : List (List ℕ)) (v w : List ℤ) : 
   pub count : length v ≡ length w
   pub equal : (P : List ℕ) (y z : ℤ) → Among (P, y) (zip K v) → Among (P, z) (zip L w) → residueOf (s .modulus) y ≡ residueOf (s .modulus) z
 
--- A drawing up agrees with what the additions hold: the number is 0, and n, r and the three tables are equal in each byte of their sizes. The remainder call,
+-- A drawing up agrees with what the list holds: the number is 0, and n, r and the three tables are equal in each byte of their sizes. The remainder call,
 -- handed the same terms, and the wiring call, handed values that are equal at each point, each desk's in the order of its own points, answer the same with
 -- either tables, and leave equal buffers where they were lent buffers of equal bytes.
 pub record SameAs (s : Settings) (h : Held) (o : Outcome) : Type 0 where
@@ -55,7 +56,8 @@ pub record SameAs (s : Settings) (h : Held) (o : Outcome) : Type 0 where
   pub leads : take 3592 (o .tables .leads) ≡ take 3592 (h .tables .leads)
   pub coefficients : take 28736 (o .tables .coefficients) ≡ take 28736 (h .tables .coefficients)
   pub remainder : (terms : List ℤ) (exponents buffer : List ℕ)
-      → remainderOutcome s (o .answer .n) (o .answer .r) (o .tables) terms exponents buffer ≡ remainderOutcome s (h .n) (h .r) (h .tables) terms exponents buffer
+      → remainderOutcome s (o .answer .n) (o .answer .r) (o .tables) terms exponents buffer
+      ≡ remainderOutcome s (h .n) (h .r) (h .tables) terms exponents buffer
   pub wiring : (v w : List ℤ) (buffer : List ℕ) → SameValues s (pointsIn s (o .answer .n) (o .tables .states)) (pointsIn s (h .n) (h .tables .states)) v w
       → wiringOutcome s (o .answer .n) (o .answer .r) (o .tables) v buffer ≡ wiringOutcome s (h .n) (h .r) (h .tables) w buffer
 
@@ -63,36 +65,42 @@ pub record SameAs (s : Settings) (h : Held) (o : Outcome) : Type 0 where
 pub record Remains (s : Settings) (L : List (List ℕ)) (terms : List ℤ) (exponents buffer end : List ℕ) : Type 0 where
   pub coefficients : List ℕ
   pub held : end ≡ over (fill 64 coefficients) buffer
-  pub fits : Fits (spaceUnder s) (pointsUnder s L) (standardOf (spaceUnder s) (pointsUnder s L)) (eval (spaceUnder s) (polynomialUnder s terms exponents)) coefficients
+  pub fits : Fits (spaceUnder s) (pointsUnder s L) (standardUnder s L) (eval (spaceUnder s) (polynomialUnder s terms exponents)) coefficients
 
 -- The buffer of a wiring call whose number is 0 holds the numbers of the variables that occur, increasing, in the one combination of standard monomials with
 -- these values at the points.
 pub record Wires (s : Settings) (L : List (List ℕ)) (values : List ℤ) (buffer : List ℕ) (end : Listed) : Type 0 where
   pub coefficients : List ℕ
-  pub fits : Fits (spaceUnder s) (pointsUnder s L) (standardOf (spaceUnder s) (pointsUnder s L))
+  pub fits : Fits (spaceUnder s) (pointsUnder s L) (standardUnder s L)
       (valueAt (spaceUnder s) (pointsUnder s L) (residues (s .modulus) values)) coefficients
   pub names : List ℕ
-  pub named : Names (s .variables) coefficients (map (λ a. a .0) (standardOf (spaceUnder s) (pointsUnder s L))) names
+  pub named : Names (s .variables) coefficients (map (λ a. a .0) (standardUnder s L)) names
   pub few : length names ≤ 8
   pub count : end .answer .count ≡ length names
   pub held : end .buffer ≡ over (fill 8 names) buffer
 
 -- After the list `es` from fresh tables `start`, with L the reference list then and h what is held.
 pub record Agrees (s : Settings) (start : Tables) (es : List Event) (L : List (List ℕ)) (h : Held) : Type 0 where
-  -- each addition has returned the reference list's answer, each interposed call its number of the list of refusals
+  -- each operation of the list has returned the reference list's answer, each interposed call its number of the list of refusals
   pub answers : numbers s (freshly start) es ≡ due s [] (freshly start) es
   -- n is its length; the tables are those of its points, in its order, and zeros in the rest of their sizes; bytes past the sizes are as they were
   pub count : h .n ≡ length L
   pub rows : h .r ≡ rowCount s L
   pub tables : h .tables ≡ written (tablesOf s L) start
-  -- these are the basis by definition, and nothing of it is cut off in the tables
-  pub basis : IsBasis (spaceUnder s) (pointsUnder s L) (standardOf (spaceUnder s) (pointsUnder s L)) (leadsOf (spaceUnder s) (pointsUnder s L)) (rowsOf (spaceUnder s) (pointsUnder s L))
+  -- these are the basis by definition, as many standard monomials as points; nothing of it is cut off in the tables
+  pub basis : IsBasis (spaceUnder s) (pointsUnder s L) (standardUnder s L) (leadsUnder s L) (rowsUnder s L)
+  pub as-many : length (standardUnder s L) ≡ length L
   pub few-points : length L ≤ 64
   pub few-rows : rowCount s L ≤ 449
   -- every drawing up of its points into tables none of which is shorter than its size
   pub drawn : (t : Tables) (levels : List ℤ) → tooShort t ≡ false → Rearranges s L levels → SameAs s h (drawOutcome s t levels)
-  -- remainders and wiring lists
+  -- remainders and wiring lists: the number is that of the list of refusals; where it is 0, the buffer holds what is due
+  pub remainder-numbers : (terms : List ℤ) (exponents buffer : List ℕ)
+      → remainderOutcome s (h .n) (h .r) (h .tables) terms exponents buffer .refusal
+      ≡ firstOf (remainderCases s (h .n) (h .r) (h .tables) terms exponents buffer)
   pub remainders : (terms : List ℤ) (exponents buffer : List ℕ) → remainderOutcome s (h .n) (h .r) (h .tables) terms exponents buffer .refusal ≡ 0
       → Remains s L terms exponents buffer (remainderOutcome s (h .n) (h .r) (h .tables) terms exponents buffer .buffer)
+  pub wiring-numbers : (values : List ℤ) (buffer : List ℕ)
+      → wiringOutcome s (h .n) (h .r) (h .tables) values buffer .answer .refusal ≡ firstOf (valuesCases 8 s (h .n) (h .r) (h .tables) values buffer)
   pub wirings : (values : List ℤ) (buffer : List ℕ) → wiringOutcome s (h .n) (h .r) (h .tables) values buffer .answer .refusal ≡ 0
       → Wires s L values buffer (wiringOutcome s (h .n) (h .r) (h .tables) values buffer)

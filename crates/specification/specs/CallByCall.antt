@@ -11,17 +11,17 @@ use Rattle.residue.specs.Layout.{fill, over}
 use Rattle.specification.specs.Polynomial.{eval, Distinct, terms}
 use Rattle.specification.specs.Basis.{IsBasis, Fits}
 use Rattle.specification.specs.Ideal.{rowPolynomials, ReducedGroebner}
-use Rattle.specification.specs.BasisOf.{standardOf, leadsOf, rowsOf, valueAt}
+use Rattle.specification.specs.BasisOf.{valueAt}
 use Rattle.specification.specs.Instance.{Point}
-use Rattle.specification.specs.Tables.{Tables, spaceUnder, pointsUnder, rowCount, tablesOf, written}
+use Rattle.specification.specs.Tables.{Tables, spaceUnder, pointsUnder, standardUnder, leadsUnder, rowsUnder, rowCount, tablesOf, written}
 
 -- n, r and the tables at exit are the basis of the points S by definition, laid out in the sizes of the lent tables.
 pub record HoldsBasis (s : Settings) (S : List (List ℕ)) (lent : Tables) (n r : ℕ) (end : Tables) : Type 0 where
   -- each point is m residues, and none stands twice
   pub points : map (λ P. P .0) (pointsUnder s S) ≡ S
   pub distinct : Distinct (spaceUnder s) (pointsUnder s S)
-  pub basis : let D = spaceUnder s in let K = pointsUnder s S in IsBasis D K (standardOf D K) (leadsOf D K) (rowsOf D K)
-  pub groebner : let D = spaceUnder s in let K = pointsUnder s S in ReducedGroebner D K (rowPolynomials D (standardOf D K) (leadsOf D K) (rowsOf D K))
+  pub basis : IsBasis (spaceUnder s) (pointsUnder s S) (standardUnder s S) (leadsUnder s S) (rowsUnder s S)
+  pub groebner : ReducedGroebner (spaceUnder s) (pointsUnder s S) (rowPolynomials (spaceUnder s) (standardUnder s S) (leadsUnder s S) (rowsUnder s S))
   -- its layout; nothing of it is cut off, and bytes past the sizes are as they were
   pub count : n ≡ length S
   pub rows : r ≡ rowCount s S
@@ -33,7 +33,8 @@ pub record HoldsBasis (s : Settings) (S : List (List ℕ)) (lent : Tables) (n r 
 pub record Interpolates (s : Settings) (S : List (List ℕ)) (values : List ℤ) (buffer end : List ℕ) : Type 0 where
   pub coefficients : List ℕ
   pub held : end ≡ over (fill 64 coefficients) buffer
-  pub fits : let D = spaceUnder s in let K = pointsUnder s S in Fits D K (standardOf D K) (valueAt D K (residues (s .modulus) values)) coefficients
+  pub fits : Fits (spaceUnder s) (pointsUnder s S) (standardUnder s S)
+      (valueAt (spaceUnder s) (pointsUnder s S) (residues (s .modulus) values)) coefficients
   pub values-at : (i : ℕ) (P : Point (suc (s .modulus - 1)) (s .variables)) → i < length S
-      → let D = spaceUnder s in let K = pointsUnder s S in
-      Mod (suc (s .modulus - 1)) (eval D (terms D coefficients (standardOf D K)) (getD K i P)) (getD (residues (s .modulus) values) i 0)
+      → Mod (suc (s .modulus - 1)) (eval (spaceUnder s) (terms (spaceUnder s) coefficients (standardUnder s S)) (getD (pointsUnder s S) i P))
+      (getD (residues (s .modulus) values) i 0)

@@ -11,8 +11,8 @@ use Rattle.residue.specs.declared.level.Level.the-variants.{Residue}
 use Rattle.specification.specs.declared.settings.Settings.{Settings}
 use Rattle.specification.specs.Levels.{inRange}
 use Rattle.specification.specs.Polynomial.{Polynomial}
-use Rattle.specification.specs.BasisOf.{standardOf, leadsOf, rowsOf, interpolantOf, remainderOf}
-use Rattle.specification.specs.Tables.{spaceUnder, pointsUnder}
+use Rattle.specification.specs.BasisOf.{interpolantOf, remainderOf}
+use Rattle.specification.specs.Tables.{spaceUnder, pointsUnder, standardUnder, leadsUnder, rowsUnder}
 use Rattle.specification.specs.Solving.{polynomialOf, wiringUnder}
 use Rattle.specification.specs.Reference.{addition, Held, numbers}
 use Rattle.specification.specs.Agreement.{freshly}
@@ -34,9 +34,9 @@ pub data Example : Type 0 where
   range : (p : ℕ) (taken outside : ℤ) → Example
 
 pub record Tabled (s : Settings) (S standard leads rows : List (List ℕ)) : Type 0 where
-  pub standard-are : map (λ a. a .0) (standardOf (spaceUnder s) (pointsUnder s S)) ≡ standard
-  pub leads-are : map (λ a. a .0) (leadsOf (spaceUnder s) (pointsUnder s S)) ≡ leads
-  pub rows-are : rowsOf (spaceUnder s) (pointsUnder s S) ≡ rows
+  pub standard-are : map (λ a. a .0) (standardUnder s S) ≡ standard
+  pub leads-are : map (λ a. a .0) (leadsUnder s S) ≡ leads
+  pub rows-are : rowsUnder s S ≡ rows
 
 abbrev pub under : ℕ → ℕ → ℕ → Settings
 under p m order = record { modulus = p; variables = m; order = order }

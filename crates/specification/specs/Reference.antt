@@ -1,47 +1,94 @@
--- Lists of additions: docs/SCOPE.md, 'The two desks'. The reference list is that section's book.
+-- Lists of operations on lent tables: docs/SCOPE.md, 'The two desks', whose words stand in quotes here. The reference list is document 01's book.
 use mathlib.Core.Logic.{_≢_}
 use mathlib.Core.Bool.{not, cond}
 use mathlib.Core.List.{List, [], _∷_, _++_}
 use Prim.Native.Nat.{ℕ}
 use lib.IntN.{ℤ}
-use lib.ListN.{length}
+use lib.ListN.{length, take, drop}
 use lib.Dec.{eqb, leb}
 use Rattle.specification.specs.declared.settings.Settings.{Settings}
 use Rattle.specification.specs.Refusal.{firstOf}
 use Rattle.specification.specs.Levels.{inRange, residues, isAmong}
-use Rattle.specification.specs.Tables.{Tables}
+use Rattle.specification.specs.Tables.{Tables, fourTables}
 use Rattle.specification.specs.Adding.{Outcome, addOutcome, addRefusal}
 
--- what the reference list answers to the levels of an addition
-unfoldable pub referenceAnswer : Settings → List (List ℕ) → List ℤ → ℕ
-referenceAnswer s L levels = firstOf
+-- An operation, with what it is handed beside settings, counts and tables: 'its levels may be anything, and of any number'.
+pub data Operation : Type 0 where
+  adding : (levels : List ℤ) → Operation
+
+-- its outcome, and its number of 'Refused, in this order of checking', whatever it is handed
+unfoldable pub outcomeOf : Operation → Settings → ℕ → ℕ → Tables → Outcome
+outcomeOf (adding levels) s n r t = addOutcome s n r t levels
+
+unfoldable pub refusalOf : Operation → Settings → ℕ → ℕ → Tables → ℕ
+refusalOf (adding levels) s n r t = addRefusal s n r t levels
+
+-- what the reference list answers to it: 'the first number here whose case holds'
+unfoldable pub referenceAnswer : Operation → Settings → List (List ℕ) → ℕ
+referenceAnswer (adding levels) s L = firstOf
     ((not (eqb (length levels) (s .variables)), 7)
     ∷ (leb 64 (length L), 8)
     ∷ (not (inRange (s .modulus) levels), 9)
     ∷ (isAmong (residues (s .modulus) levels) L, 11) ∷ [])
 
--- If no case holds the residues are written at its end; else it stays as it is.
-unfoldable pub referenceAfter : Settings → List (List ℕ) → List ℤ → List (List ℕ)
-referenceAfter s L levels = cond (eqb (referenceAnswer s L levels) 0) (L ++ (residues (s .modulus) levels ∷ [])) L
+-- the points after it, where the answer is 0: the list 'appends these residues'
+unfoldable pub pointsAfter : Operation → Settings → List (List ℕ) → List (List ℕ)
+pointsAfter (adding levels) s L = L ++ (residues (s .modulus) levels ∷ [])
 
--- A table lent to an interposed call: one of those that the additions work on, or any other.
+-- the reference list after it: with any other answer 'it does not change'
+unfoldable pub referenceAfter : Operation → Settings → List (List ℕ) → List (List ℕ)
+referenceAfter o s L = cond (eqb (referenceAnswer o s L) 0) (pointsAfter o s L) L
+
+-- One of the four tables that the list works on; the four with other bytes in one.
+pub data Table : Type 0 where
+  states : Table
+  standard : Table
+  leads : Table
+  coefficients : Table
+
+unfoldable pub tableIn : Table → Tables → List ℕ
+tableIn states t = t .states
+tableIn standard t = t .standard
+tableIn leads t = t .leads
+tableIn coefficients t = t .coefficients
+
+unfoldable pub withTable : Table → List ℕ → Tables → Tables
+withTable states u t = fourTables u (t .standard) (t .leads) (t .coefficients)
+withTable standard u t = fourTables (t .states) u (t .leads) (t .coefficients)
+withTable leads u t = fourTables (t .states) (t .standard) u (t .coefficients)
+withTable coefficients u t = fourTables (t .states) (t .standard) (t .leads) u
+
+-- What an interposed call, 'with other settings, counts or tables', is lent in the place of a table: `count` bytes of one of the list's tables, from the place
+-- `from` on, or any other bytes.
 pub data Lent : Type 0 where
-  own : Lent
-  other : List ℕ → Lent
+  part : (k : Table) (from count : ℕ) → Lent
+  other : (bytes : List ℕ) → Lent
 
-unfoldable pub lent : Lent → List ℕ → List ℕ
-lent own t = t
-lent (other u) t = u
+unfoldable pub lent : Lent → Tables → List ℕ
+lent (part k from count) t = take count (drop from (tableIn k t))
+lent (other bytes) t = bytes
 
--- the additions' table after the call, which left `end` in the lent one
-unfoldable pub after : Lent → List ℕ → List ℕ → List ℕ
-after own t end = end
-after (other u) t end = t
+-- the list's tables after a call that left `end` in what it was lent: a part stands in its place again
+unfoldable pub after : Lent → List ℕ → Tables → Tables
+after (part k from count) end t = withTable k (take from (tableIn k t) ++ (end ++ drop count (drop from (tableIn k t)))) t
+after (other bytes) end t = t
 
--- a call of adding in the list
+-- The tables that an interposed call is lent, and the list's tables after it. Their order is all one, as 'no call .. is lent a byte twice that it may write';
+-- where a call is refused, even if parts overlap (proofs/agreement/Run).
+unfoldable pub lentTables : Lent → Lent → Lent → Lent → Tables → Tables
+lentTables a b c d t = fourTables (lent a t) (lent b t) (lent c t) (lent d t)
+
+unfoldable pub tablesAfter : Lent → Lent → Lent → Lent → Tables → Tables → Tables
+tablesAfter a b c d end t = after a (end .states) (after b (end .standard) (after c (end .leads) (after d (end .coefficients) t)))
+
+-- A call of 'the list': one of its own operations, or an interposed one, which may be handed any settings, counts and tables.
 pub data Event : Type 0 where
-  addition : (levels : List ℤ) → Event
-  interposed : (s : Settings) (n r : ℕ) (states standard leads coefficients : Lent) (levels : List ℤ) → Event
+  own : (o : Operation) → Event
+  interposed : (s : Settings) (n r : ℕ) (states standard leads coefficients : Lent) (o : Operation) → Event
+
+-- an addition of the list
+abbrev pub addition : List ℤ → Event
+addition levels = own (adding levels)
 
 -- the n and r last returned, and the tables as last left
 pub record Held : Type 0 where
@@ -49,29 +96,20 @@ pub record Held : Type 0 where
   pub r : ℕ
   pub tables : Tables
 
--- the tables that an interposed call is lent, and the additions' tables after it
-unfoldable pub lentTables : Lent → Lent → Lent → Lent → Tables → Tables
-lentTables a b c d t = record { states = lent a (t .states); standard = lent b (t .standard); leads = lent c (t .leads); coefficients = lent d (t .coefficients) }
-
-unfoldable pub tablesAfter : Lent → Lent → Lent → Lent → Tables → Tables → Tables
-tablesAfter a b c d t end = record {
-  states = after a (t .states) (end .states);
-  standard = after b (t .standard) (end .standard);
-  leads = after c (t .leads) (end .leads);
-  coefficients = after d (t .coefficients) (end .coefficients);
-}
-
--- the outcome of one call of the list
+-- the outcome of one call
 unfoldable pub outcomeAt : Settings → Held → Event → Outcome
-outcomeAt s h (addition levels) = addOutcome s (h .n) (h .r) (h .tables) levels
-outcomeAt s h (interposed u n r a b c d levels) = addOutcome u n r (lentTables a b c d (h .tables)) levels
+outcomeAt s h (own o) = outcomeOf o s (h .n) (h .r) (h .tables)
+outcomeAt s h (interposed u n r a b c d o) = outcomeOf o u n r (lentTables a b c d (h .tables))
 
--- what is held after it: counts come only with the number 0
-unfoldable pub heldAfter : Settings → Held → Event → Held
-heldAfter s h (addition levels) = let o = addOutcome s (h .n) (h .r) (h .tables) levels in
+-- what is held after one of the list's own: 'the counts of the last answer that had them, and the tables'; counts come with the number 0 alone
+unfoldable pub keeping : Held → Outcome → Held
+keeping h o =
     cond (eqb (o .answer .refusal) 0) (record { n = o .answer .n; r = o .answer .r; tables = o .tables }) (record { n = h .n; r = h .r; tables = o .tables })
-heldAfter s h (interposed u n r a b c d levels) =
-    record { n = h .n; r = h .r; tables = tablesAfter a b c d (h .tables) (addOutcome u n r (lentTables a b c d (h .tables)) levels .tables) }
+
+unfoldable pub heldAfter : Settings → Held → Event → Held
+heldAfter s h (own o) = keeping h (outcomeAt s h (own o))
+heldAfter s h (interposed u n r a b c d o) =
+    record { n = h .n; r = h .r; tables = tablesAfter a b c d (outcomeAt s h (interposed u n r a b c d o) .tables) (h .tables) }
 
 -- the numbers that the calls of a list return, one after the other
 unfoldable pub numbers : Settings → Held → List Event → List ℕ
@@ -82,27 +120,29 @@ unfoldable pub heldAtEnd : Settings → Held → List Event → Held
 heldAtEnd s h [] = h
 heldAtEnd s h (e ∷ es) = heldAtEnd s (heldAfter s h e) es
 
--- The reference list is fed the additions alone.
+-- The reference list is told of the list's own operations; of an interposed call it 'is not told'.
 unfoldable pub fed : Settings → List (List ℕ) → Event → List (List ℕ)
-fed s L (addition levels) = referenceAfter s L levels
-fed s L (interposed u n r a b c d levels) = L
+fed s L (own o) = referenceAfter o s L
+fed s L (interposed u n r a b c d o) = L
 
 unfoldable pub referenceAtEnd : Settings → List (List ℕ) → List Event → List (List ℕ)
 referenceAtEnd s L [] = L
 referenceAtEnd s L (e ∷ es) = referenceAtEnd s (fed s L e) es
 
--- the numbers that are due: the reference list's answer to an addition, the number of the list of refusals to an interposed call
+-- the numbers that are due: the reference list's answer to an operation of the list; an interposed call returns 'its number of that section'
 unfoldable pub dueAt : Settings → List (List ℕ) → Held → Event → ℕ
-dueAt s L h (addition levels) = referenceAnswer s L levels
-dueAt s L h (interposed u n r a b c d levels) = addRefusal u n r (lentTables a b c d (h .tables)) levels
+dueAt s L h (own o) = referenceAnswer o s L
+dueAt s L h (interposed u n r a b c d o) = refusalOf o u n r (lentTables a b c d (h .tables))
 
 unfoldable pub due : Settings → List (List ℕ) → Held → List Event → List ℕ
 due s L h [] = []
 due s L h (e ∷ es) = dueAt s L h e ∷ due s (fed s L e) (heldAfter s h e) es
 
--- each interposed call is one that the list of refusals refuses
+-- calls 'may be interposed if 'Refused, in this order of checking' refuses them'
+unfoldable pub RefusesAt : Held → Event → Type 0
+RefusesAt h (own o) = Unit {0}
+RefusesAt h (interposed u n r a b c d o) = refusalOf o u n r (lentTables a b c d (h .tables)) ≢ 0
+
 unfoldable pub Refuses : Settings → Held → List Event → Type 0
 Refuses s h [] = Unit {0}
-Refuses s h (addition levels ∷ es) = Refuses s (heldAfter s h (addition levels)) es
-Refuses s h (interposed u n r a b c d levels ∷ es) =
-    (addRefusal u n r (lentTables a b c d (h .tables)) levels ≢ 0) × Refuses s (heldAfter s h (interposed u n r a b c d levels)) es
+Refuses s h (e ∷ es) = RefusesAt h e × Refuses s (heldAfter s h e) es

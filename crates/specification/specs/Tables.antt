@@ -10,7 +10,7 @@ use Rattle.specification.specs.declared.settings.Settings.{Settings}
 use Rattle.specification.specs.Levels.{noRepeat}
 use Rattle.specification.specs.Space.{Space}
 use Rattle.specification.specs.BasisOf.{standardOf, leadsOf, rowsOf}
-use Rattle.specification.specs.Instance.{Point, spaceOf, pointOf}
+use Rattle.specification.specs.Instance.{Monomial, Point, spaceOf, pointOf}
 
 -- The space under settings, and points under settings as lists of residues.
 abbrev pub spaceUnder : Settings → Space
@@ -18,6 +18,16 @@ spaceUnder s = spaceOf (s .modulus - 1) (s .variables) (orderOf (s .order))
 
 abbrev pub pointsUnder : (s : Settings) → List (List ℕ) → List (Point (suc (s .modulus - 1)) (s .variables))
 pointsUnder s S = map (pointOf (s .modulus - 1) (s .variables)) S
+
+-- their standard monomials, leading monomials and rows
+abbrev pub standardUnder : (s : Settings) → List (List ℕ) → List (Monomial (s .variables))
+standardUnder s S = standardOf (spaceUnder s) (pointsUnder s S)
+
+abbrev pub leadsUnder : (s : Settings) → List (List ℕ) → List (Monomial (s .variables))
+leadsUnder s S = leadsOf (spaceUnder s) (pointsUnder s S)
+
+abbrev pub rowsUnder : Settings → List (List ℕ) → List (List ℕ)
+rowsUnder s S = rowsOf (spaceUnder s) (pointsUnder s S)
 
 pub record Tables : Type 0 where
   pub states : List ℕ

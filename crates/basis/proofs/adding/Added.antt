@@ -34,10 +34,10 @@ use Rattle.specification.proofs.ideal.Lists.{getD-among, among-map}
 use Rattle.specification.proofs.ideal.Basis.{row-is}
 use Rattle.specification.proofs.ideal.Counts.{leads-length, standard-length}
 use Rattle.specification.proofs.ideal.Permutation.{basis-snoc}
-use Rattle.basis.specs.Drawing.{settingsOf, PointsGiven, DrawnUp}
-use Rattle.basis.specs.Insertions.{valueOfRow, firstFrom, Grown, grown, standardGrown, grownBy, NewPoint, Tabled}
-use Rattle.basis.proofs.PointTables.{length-points, points-in}
-use Rattle.basis.proofs.elimination.Grounds.{ground, places-below}
+use Rattle.basis.specs.Drawing.{settingsOf, PointsGiven, Tabled, DrawnUp}
+use Rattle.basis.specs.Adding.{valueOfRow, firstFrom, Grown, grown, standardGrown, grownBy, NewPoint}
+use Rattle.basis.proofs.drawing.Given.{given-count}
+use Rattle.basis.proofs.drawing.Grounds.{ground, places-below}
 use Rattle.basis.proofs.adding.Corrections.{valuesAt}
 use Rattle.basis.proofs.adding.LostRow.{lost, lost-one}
 use Rattle.basis.proofs.adding.NewTables.{table, read, few-standard, short, most, grown-are, standard-are}
@@ -109,13 +109,10 @@ module _ {p m o n r : ℕ} {points standard leads coefficients rows pivots point
   abbrev P : Point (suc q) m
   P = pointOf q m (take m point)
 
-  long : length point ≡ 8
-  long = ap length (new .filled) ∙ length-fill 8 _
-
   coordinates : P .0 ≡ take m point
   unfolding pointOf
   coordinates =
-      let e : length (take m point) ≡ m = length-take-le m point (omega (arith, long, given .few)) in
+      let e : length (take m point) ≡ m = length-take-le m point (omega (arith, ap length (new .filled), length-fill 8 (take m point), given .few)) in
       ap (reduced q) (fill-exact m (take m point) e)
       ∙ residues-kept q (take m point) (below-take (suc q) m point (subst (λ (z : ℕ). Below z point) raised (new .below)))
 
@@ -137,7 +134,7 @@ module _ {p m o n r : ℕ} {points standard leads coefficients rows pivots point
 
   rows-many : r ≡ length (leadsOf D S)
   unfolding rowCount
-  rows-many = drawn .row-count
+  rows-many = drawn .tabled .row-count
 
   fits : length (leadsOf D S) + m ≤ 450
   fits = bound (length (leadsOf D S)) (length S) m many (given .some) (given .few) (leads-length D L S d)
@@ -155,45 +152,27 @@ module _ {p m o n r : ℕ} {points standard leads coefficients rows pivots point
   -- the tables
   standard-is : standard ≡ table q m o (given .few) L 512 (standardOf D S)
   unfolding tablesOf
-  standard-is = drawn .standard-table
+  standard-is = drawn .tabled .standard-table
 
   leads-are : leads ≡ table q m o (given .few) L 3592 (leadsOf D S)
   unfolding tablesOf
-  leads-are = drawn .leads-table
+  leads-are = drawn .tabled .leads-table
 
   rows-are : coefficients ≡ fill 28736 (inPlaces 64 (rowsOf D S))
   unfolding tablesOf
-  rows-are = drawn .coefficients-table
+  rows-are = drawn .tabled .coefficients-table
 
   point-is : point ≡ fill 8 (P .0)
   point-is = new .filled ∙ ap (fill 8) (sym coordinates)
 
-  standard-long : length standard ≡ 512
-  standard-long = ap length standard-is ∙ length-fill 512 _
-
-  leads-long : length leads ≡ 3592
-  leads-long = ap length leads-are ∙ length-fill 3592 _
-
-  rows-long : length coefficients ≡ 28736
-  rows-long = ap length rows-are ∙ length-fill 28736 _
-
-  pivots-inside : (t : ℕ) → t < n → getD pivots t 0 < n
-  pivots-inside = subst (λ (k : ℕ). (t : ℕ) → t < k → getD pivots t 0 < k) (sym (length-map K (pointOf q m)) ∙ count) (drawn .pivot-rows .inside)
-
   -- coefficients are residues, and exponents small
-  rows-below : Below p coefficients
-  rows-below = λ i h. subst (λ (t : List ℕ). getD t i 0 < p) (sym rows-are) (table-small p 64 28736 (rowsOf D S) (omega (arith, raised)) row-below i)
-    where
-      row-below : (c : List ℕ) → Among c (rowsOf D S) → Below p c
-      row-below c mem i h = let w = among-map (rowOf D S) (leadsOf D S) c mem in
-          rw raised (row-is D L S d (w .0) .residues (getD c i 0) (subst (λ (z : List ℕ). Among (getD c i 0) z) (w .2) (getD-among c i 0 h)))
+  row-below : (c : List ℕ) → Among c (rowsOf D S) → Below p c
+  row-below c mem i h = let w = among-map (rowOf D S) (leadsOf D S) c mem in
+      rw raised (row-is D L S d (w .0) .residues (getD c i 0) (subst (λ (z : List ℕ). Among (getD c i 0) z) (w .2) (getD-among c i 0 h)))
 
-  leads-small : (i : ℕ) → getD leads i 0 < 255
-  leads-small i = subst (λ (t : List ℕ). getD t i 0 < 255) (sym leads-are) (table-small 255 8 3592 (map (λ (a : Monomial m). a .0) (leadsOf D S)) (omega arith) lead-below i)
-    where
-      lead-below : (a : List ℕ) → Among a (map (λ (a : Monomial m). a .0) (leadsOf D S)) → Below 255 a
-      lead-below a mem i h = let w = among-map (λ (a : Monomial m). a .0) (leadsOf D S) a mem in
-          rw (w .2) (omega (arith, lead-exponent q m (orderOf o) (ground given .prime) S d (w .0) (w .1) i, many))
+  lead-below : (a : List ℕ) → Among a (map (λ (a : Monomial m). a .0) (leadsOf D S)) → Below 255 a
+  lead-below a mem i h = let w = among-map (λ (a : Monomial m). a .0) (leadsOf D S) a mem in
+      rw (w .2) (omega (arith, lead-exponent q m (orderOf o) (ground given .prime) S d (w .0) (w .1) i, many))
 
   -- what the functions of the addition ask
   pub record Sound : Type 0 where
@@ -211,13 +190,14 @@ module _ {p m o n r : ℕ} {points standard leads coefficients rows pivots point
   sound = record {
     few = few-rows;
     most = most-rows;
-    standard-size = standard-long;
-    leads-size = leads-long;
-    rows-size = rows-long;
-    point-size = long;
-    residues = rows-below;
-    exponents = leads-small;
-    within = pivots-inside;
+    standard-size = ap length standard-is ∙ length-fill 512 _;
+    leads-size = ap length leads-are ∙ length-fill 3592 _;
+    rows-size = ap length rows-are ∙ length-fill 28736 _;
+    point-size = ap length (new .filled) ∙ length-fill 8 _;
+    residues = λ i h. subst (λ (t : List ℕ). getD t i 0 < p) (sym rows-are) (table-small p 64 28736 (rowsOf D S) (omega (arith, raised)) row-below i);
+    exponents = λ i. subst (λ (t : List ℕ). getD t i 0 < 255) (sym leads-are)
+        (table-small 255 8 3592 (map (λ (a : Monomial m). a .0) (leadsOf D S)) (omega arith) lead-below i);
+    within = subst (λ (k : ℕ). (t : ℕ) → t < k → getD pivots t 0 < k) (sym (length-map K (pointOf q m)) ∙ count) (drawn .pivot-rows .inside);
   }
 
   -- the values of the standard monomials
@@ -283,7 +263,7 @@ unfolding tablesOf inPlaces
 states-more s n {points} {point} given room new t ys k et ek ey =
     let K : List (List ℕ) = pointsIn s n points in
     let P : List ℕ = take (s .variables) point in
-    let count : length K ≡ n = ap length (sym (points-in s n points)) ∙ length-points (s .modulus) (s .variables) n points in
+    let count : length K ≡ n = given-count given in
     let long : length point ≡ 8 = ap length (new .filled) ∙ length-fill 8 P in
     let same : fill 8 point ≡ fill 8 P = fill-exact 8 point long ∙ new .filled in
     place-more 8 512 K point t ys (8 * n) k (et ∙ given .table) (ap (λ (j : ℕ). 8 * j) (sym count)) ek (omega arith) (omega arith) ey

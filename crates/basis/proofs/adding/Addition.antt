@@ -25,12 +25,14 @@ use Rattle.specification.proofs.agreement.Points.{IsPoint, Points, length-resid
 use Rattle.specification.proofs.agreement.Refusals.{Accepted, accepted, Large, large-of}
 use Rattle.specification.proofs.agreement.Drawings.{few-rows}
 use Rattle.basis.specs.Drawing.{PointsGiven, Solves, DrawnUp}
-use Rattle.basis.specs.Insertions.{NewPoint}
-use Rattle.basis.proofs.calls.Given.{table-points, given, drawn-of}
-use Rattle.basis.proofs.calls.Refusing.{sizes, none-of, by-size, by-rest, when-accepted}
-use Rattle.basis.proofs.calls.Answers.{residues-below}
-use Rattle.basis.proofs.calls.Outcomes.{all-written}
-use Rattle.basis.proofs.calls.Known.{count, parts, points, standard-there, leads-there, coefficients-there}
+use Rattle.basis.specs.Adding.{NewPoint}
+use Rattle.basis.proofs.drawing.Given.{table-points, given, drawn-of}
+use Rattle.basis.proofs.settings.BySize.{sizes, by-size, by-rest}
+use Rattle.specification.proofs.Recognised.{none-of}
+use Rattle.basis.proofs.settings.ByNumber.{when-accepted}
+use Rattle.basis.proofs.points.LevelLists.{residues-below}
+use Rattle.basis.proofs.drawing.Outcomes.{all-written}
+use Rattle.basis.proofs.checking.Recognised.{count, parts, points, standard-there, leads-there, coefficients-there}
 
 module _ (s : Settings) (n r : ℕ) (t : Tables) (levels : List ℤ) where
   abbrev pub old : List (List ℕ)
@@ -163,10 +165,12 @@ module _ (s : Settings) (n r : ℕ) (t : Tables) (levels : List ℤ) where
       large = o .large;
       given = subst (λ (k : ℕ). PointsGiven s k table) is (subst (PointsGiven s (length old)) (sym et) (given s (o .settings) old of-old));
       drawn = drawn-of (sym back) (record {
-        row-count = parts s (o .settings) n r t few (o .known) .rows;
-        standard-table = standard-there s (o .settings) n r t few (o .known);
-        leads-table = leads-there s (o .settings) n r t few (o .known);
-        coefficients-table = coefficients-there s (o .settings) n r t few (o .known);
+        tabled = record {
+          row-count = parts s (o .settings) n r t few (o .known) .rows;
+          standard-table = standard-there s (o .settings) n r t few (o .known);
+          leads-table = leads-there s (o .settings) n r t few (o .known);
+          coefficients-table = coefficients-there s (o .settings) n r t few (o .known);
+        };
         pivot-rows = solves;
       });
       room = o .room;

@@ -23,8 +23,8 @@ use Rattle.specification.specs.Extension.{minus}
 use Rattle.specification.specs.Instance.{Monomial, Point, spaceOf}
 use Rattle.specification.proofs.ideal.Laws.{Laws}
 use Rattle.specification.proofs.ideal.Columns.{minus-length}
-use Rattle.basis.specs.Insertions.{rowValueAt, factorOf, correctedBy, correctedRow}
-use Rattle.basis.proofs.elimination.Adding.{rowValue, ratio, kept}
+use Rattle.basis.specs.Adding.{rowValueAt, factorOf, correctedBy, correctedRow}
+use Rattle.basis.proofs.adding.KeptRows.{rowValue, ratio, kept}
 use Rattle.basis.proofs.adding.Insertion.{slot-at}
 
 -- put in before it is filled up or after

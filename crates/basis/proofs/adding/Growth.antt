@@ -14,7 +14,7 @@ use Rattle.monomial.specs.Monomial.{timesVariable}
 use Rattle.monomial.specs.Order.{orderOf, cmp}
 use Rattle.monomial.specs.Insert.{placeOf, dividedBy, withRowAt}
 use Rattle.monomial.proofs.insert.Searches.{place-within}
-use Rattle.basis.specs.Insertions.{Grown, grown, rowValueAt, othersOf, othersCorrected, grownBy, correctedRow, reducedRow, putWithRow, productPut, productsPut}
+use Rattle.basis.specs.Adding.{Grown, grown, rowValueAt, othersOf, othersCorrected, grownBy, correctedRow, reducedRow, putWithRow, productPut, productsPut}
 use Rattle.basis.proofs.adding.Writes.{length-row}
 
 -- the tables keep their sizes, and v products are at most v leads more

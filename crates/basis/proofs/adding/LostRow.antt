@@ -22,8 +22,8 @@ use Rattle.specification.specs.Instance.{Monomial, Point, spaceOf}
 use Rattle.specification.proofs.ideal.Laws.{Laws}
 use Rattle.specification.proofs.ideal.Counts.{standard-length}
 use Rattle.specification.proofs.ideal.Basis.{rows-at, row-is}
-use Rattle.basis.specs.Insertions.{rowValueAt, valueOfRow, firstFrom}
-use Rattle.basis.proofs.elimination.Adding.{rowValue, valueOf, zero-set}
+use Rattle.basis.specs.Adding.{rowValueAt, valueOfRow, firstFrom}
+use Rattle.basis.proofs.adding.KeptRows.{rowValue, valueOf, zero-set}
 use Rattle.basis.proofs.adding.Searches.{first-found}
 use Rattle.basis.proofs.adding.Corrections.{valuesAt, row-value-is}
 

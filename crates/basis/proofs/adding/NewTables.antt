@@ -32,8 +32,8 @@ use Rattle.specification.proofs.ideal.Lists.{getD-among}
 use Rattle.specification.proofs.ideal.Increasing.{divided-told}
 use Rattle.specification.proofs.ideal.Leads.{Divided, extended-of, extended-length-le}
 use Rattle.specification.proofs.ideal.Basis.{staircase, row-is}
-use Rattle.basis.specs.Insertions.{rowValueAt, correctedRow, correctedRows, Grown, grown, putWithRow, productPut, productsPut, othersOf, rowsLeft, othersCorrected, standardGrown, grownBy, reducedRow}
-use Rattle.basis.proofs.elimination.Adding.{kept, grow-at, row-grown}
+use Rattle.basis.specs.Adding.{rowValueAt, correctedRow, correctedRows, Grown, grown, putWithRow, productPut, productsPut, othersOf, rowsLeft, othersCorrected, standardGrown, grownBy, reducedRow}
+use Rattle.basis.proofs.adding.KeptRows.{kept, grow-at, row-grown}
 use Rattle.basis.proofs.adding.Growth.{product-passed, product-put, grown-by}
 use Rattle.basis.proofs.adding.Insertion.{inserted-at, without-at, divided-map}
 use Rattle.basis.proofs.adding.Corrections.{valuesAt, inverseAt, row-value-filled, corrected-is}

@@ -7,7 +7,7 @@ use native.Mathlib.Omega.{arith}
 use native.Mathlib.Decide.{ℕ-discrete}
 use lib.Dec.{eqb}
 use borrow.Author.Tests.{eq-eqb, ne-eqb}
-use Rattle.basis.specs.Insertions.{firstFrom}
+use Rattle.basis.specs.Adding.{firstFrom}
 
 -- The first number that is not 0.
 module _ (f : ℕ → ℕ) where

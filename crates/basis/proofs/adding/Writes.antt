@@ -12,7 +12,7 @@ use Rattle.residue.specs.Layout.{fill, inPlaces, over, rowAt}
 use Rattle.residue.proofs.vector.Vectors.{below-append, below-take, below-drop, below-zeros}
 use Rattle.residue.proofs.Layouts.{fill-append, over-all, fill-cut, length-fill}
 use Rattle.monomial.specs.Insert.{insertedAt, takenOut}
-use Rattle.basis.specs.Insertions.{rowValueAt, correctedBy, correctedRow, correctedRows, rowsLeft}
+use Rattle.basis.specs.Adding.{rowValueAt, correctedBy, correctedRow, correctedRows, rowsLeft}
 
 -- a row of numbers was written with f put in before a place
 pub put-corrected : (place f k : ℕ) (S row one two ys : List ℕ) → place < 64 → length S ≡ 64 → length row ≡ 64 → k ≡ length two - (place + 1)

@@ -1,10 +1,9 @@
--- THE claim over any list of additions (docs/SCOPE.md, 'The two desks').
-use mathlib.Core.Path.{_≡_, refl, sym, _∙_, ap}
-use mathlib.Core.List.{List, [], _∷_, _++_, map, append-nil}
+-- THE claim over any list of operations (docs/SCOPE.md, 'The two desks').
+use mathlib.Core.Path.{_≡_, refl, sym, _∙_, ap, subst}
+use mathlib.Core.List.{List, [], _∷_, _++_, append-nil}
 use Prim.Native.Nat.{ℕ, zero, suc, _≤_}
 use native.Mathlib.Omega.{arith}
-use lib.IntN.{ℤ}
-use lib.ListN.{length, take, drop, replicate, length-take, take-append-drop}
+use lib.ListN.{length, take, replicate, length-take}
 use lib.Dec.{T}
 use Rattle.residue.specs.Layout.{fill, inPlaces, over, begins}
 use Rattle.residue.proofs.bytes.Equality.{same-is}
@@ -13,24 +12,17 @@ use Rattle.specification.specs.declared.settings.Settings.{Settings}
 use Rattle.specification.specs.Refusal.{firstOf}
 use Rattle.specification.specs.Settings.{settingsCases}
 use Rattle.specification.specs.Polynomial.{Distinct}
-use Rattle.specification.specs.BasisOf.{basisOf, remainderOf, standardOf, interpolantOf}
-use Rattle.specification.specs.Tables.{Tables, spaceUnder, pointsUnder, rowCount, tablesOf, written}
-use Rattle.specification.specs.Solving.{filling, polynomialUnder, remainderIn, remainderCases, remainderOutcome, valuesCases, wiringUnder, Listed, listed, listing, wiringOutcome}
+use Rattle.specification.specs.BasisOf.{basisOf}
+use Rattle.specification.specs.Tables.{Tables, spaceUnder, pointsUnder, rowCount, tablesOf, written, pointsIn}
+use Rattle.specification.specs.Solving.{filling, remainderOutcome, listing, wiringOutcome}
 use Rattle.specification.specs.Reference.{Event, Held, numbers, heldAtEnd, referenceAtEnd, due, Refuses}
 use Rattle.specification.specs.Agreement.{Fresh, freshly, Remains, Agrees, Wires}
-use Rattle.specification.proofs.ideal.Laws.{Laws}
-use Rattle.specification.proofs.ideal.Basis.{basis-is, remainder-fits, interpolant-fits}
+use Rattle.specification.proofs.ideal.Basis.{basis-is}
 use Rattle.specification.proofs.agreement.Points.{no-points}
-use Rattle.specification.proofs.agreement.Refusals.{Accepted, accepted, Large}
+use Rattle.specification.proofs.agreement.Refusals.{Accepted, accepted, Large, over-begins}
 use Rattle.specification.proofs.agreement.Run.{same-tables, At, held-points, run}
-use Rattle.specification.proofs.agreement.Drawings.{laws-under, distinct-points, few-rows, drawn-same}
-use Rattle.specification.specs.Levels.{residues}
-use Rattle.specification.proofs.Wiring.{names-length, names-are, list-accepted}
-
--- the front of a list is what it begins with
-pub over-begins : (a t : List ℕ) → T (begins a t) → over a t ≡ t
-unfolding begins over
-over-begins a t h = ap (λ (z : List ℕ). z ++ drop (length a) t) (same-is a (take (length a) t) h) ∙ take-append-drop (length a) t
+use Rattle.specification.proofs.agreement.Drawings.{laws-under, distinct-points, standard-count, few-rows, drawn-same}
+use Rattle.specification.proofs.CallByCall.{remainder-leaves, wiring-leaves}
 
 -- zeros filled up are zeros
 blank : (k j : ℕ) → fill k (replicate j 0) ≡ fill k []
@@ -65,26 +57,26 @@ module _ (s : Settings) (fine : firstOf (settingsCases s) ≡ 0) (start : Tables
         (nothing 3592 8 (s .variables) (start .leads) (fresh .leads)) (nothing 28736 64 0 (start .coefficients) (fresh .coefficients)));
   }
 
--- a buffer that a call without a refusal has filled
-pub filled : (k : ℕ) (l buffer : List ℕ) → k ≡ 0 → filling k l buffer .buffer ≡ over l buffer
-unfolding filling
-filled k l buffer e = rw e
-
--- For all settings that adding does not refuse, all fresh tables, and every list of additions with refused calls between them.
+-- For all settings that adding does not refuse, all fresh tables, and every list of operations with refused calls between them.
 pub agreement : (s : Settings) → firstOf (settingsCases s) ≡ 0 → (start : Tables) → Fresh start → (es : List Event) → Refuses s (freshly start) es
     → Agrees s start es (referenceAtEnd s [] es) (heldAtEnd s (freshly start) es)
-unfolding remainderOutcome remainderIn filling wiringOutcome wiringUnder listing
+unfolding remainderOutcome filling wiringOutcome listing
 agreement s fine start fresh es refuses = record {
   answers = end .0;
   count = at .count;
   rows = at .rows;
   tables = at .tables;
-  basis = basis-is (spaceUnder s) laws (pointsUnder s L) distinct;
+  basis = basis-is (spaceUnder s) (laws-under s good) (pointsUnder s L) distinct;
+  as-many = standard-count s good L distinct;
   few-points = at .points .few;
   few-rows = few-rows s good L (at .points);
   drawn = λ t levels short a. drawn-same s good fine L (at .points) levels a start big h (at .count) (at .rows) (at .tables) t short;
-  remainders = remains;
-  wirings = wires;
+  remainder-numbers = λ terms exponents buffer. refl;
+  remainders = λ terms exponents buffer e. subst (λ (S : List (List ℕ)). Remains s S terms exponents buffer (remainderOutcome s (h .n) (h .r) (h .tables) terms exponents buffer .buffer)) points
+      (remainder-leaves s (h .n) (h .r) (h .tables) terms exponents buffer e .1);
+  wiring-numbers = λ values buffer. refl;
+  wirings = λ values buffer e. subst (λ (S : List (List ℕ)). Wires s S values buffer (wiringOutcome s (h .n) (h .r) (h .tables) values buffer)) points
+      (wiring-leaves s (h .n) (h .r) (h .tables) values buffer e .1);
 }
   where
     good : Accepted s
@@ -105,36 +97,8 @@ agreement s fine start fresh es refuses = record {
     at : At s fine start big h L
     at = end .1
 
-    laws : Laws (spaceUnder s)
-    laws = laws-under s good
-
     distinct : Distinct (spaceUnder s) (pointsUnder s L)
     distinct = distinct-points s good L (at .points)
 
-    remains : (terms : List ℤ) (exponents buffer : List ℕ) → remainderOutcome s (h .n) (h .r) (h .tables) terms exponents buffer .refusal ≡ 0
-        → Remains s L terms exponents buffer (remainderOutcome s (h .n) (h .r) (h .tables) terms exponents buffer .buffer)
-    remains terms exponents buffer e = record {
-      coefficients = remainderOf (spaceUnder s) (pointsUnder s L) (polynomialUnder s terms exponents);
-      held = filled (firstOf (remainderCases s (h .n) (h .r) (h .tables) terms exponents buffer)) _ buffer e
-          ∙ ap (λ (S : List (List ℕ)). over (fill 64 (remainderOf (spaceUnder s) (pointsUnder s S) (polynomialUnder s terms exponents))) buffer) (held-points s fine start big h L at);
-      fits = remainder-fits (spaceUnder s) laws (pointsUnder s L) distinct (polynomialUnder s terms exponents);
-    }
-
-    wires : (values : List ℤ) (buffer : List ℕ) → wiringOutcome s (h .n) (h .r) (h .tables) values buffer .answer .refusal ≡ 0
-        → Wires s L values buffer (wiringOutcome s (h .n) (h .r) (h .tables) values buffer)
-    wires values buffer e = record {
-      coefficients = interpolantOf (spaceUnder s) (pointsUnder s L) (residues (s .modulus) values);
-      fits = interpolant-fits (spaceUnder s) laws (pointsUnder s L) distinct _;
-      names = wiringUnder s L (residues (s .modulus) values);
-      named = names-are _ _ (s .variables);
-      few = omega (arith, names-length (interpolantOf (spaceUnder s) (pointsUnder s L) (residues (s .modulus) values)) (map (λ a. a .0) (standardOf (spaceUnder s) (pointsUnder s L))) (s .variables), good .few);
-      count = ap (λ (o : Listed). o .answer .count) is;
-      held = ap (λ (o : Listed). o .buffer) is;
-    }
-      where
-        names : List ℕ
-        names = wiringUnder s L (residues (s .modulus) values)
-
-        is : wiringOutcome s (h .n) (h .r) (h .tables) values buffer ≡ listed (record { refusal = 0; count = length names }) (over (fill 8 names) buffer)
-        is = ap (λ (S : List (List ℕ)). listing (firstOf (valuesCases 8 s (h .n) (h .r) (h .tables) values buffer)) (wiringUnder s S (residues (s .modulus) values)) buffer) (held-points s fine start big h L at)
-            ∙ sym (list-accepted names buffer _ (length names) _ (sym e) refl refl)
+    points : pointsIn s (h .n) (h .tables .states) ≡ L
+    points = held-points s fine start big h L at

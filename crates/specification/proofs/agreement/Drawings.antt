@@ -25,9 +25,9 @@ use Rattle.specification.specs.Refusal.{firstOf}
 use Rattle.specification.specs.Settings.{settingsCases}
 use Rattle.specification.specs.Levels.{inRange, residues, noRepeat, residueOr0}
 use Rattle.specification.specs.Polynomial.{Polynomial, Distinct}
-use Rattle.specification.specs.BasisOf.{standardOf, leadsOf, rowsOf, valueAt, remainderOf}
+use Rattle.specification.specs.BasisOf.{valueAt, remainderOf}
 use Rattle.specification.specs.Instance.{Point, pointOf}
-use Rattle.specification.specs.Tables.{Tables, spaceUnder, pointsUnder, rowCount, tablesOf, written, tooShort}
+use Rattle.specification.specs.Tables.{Tables, spaceUnder, pointsUnder, standardUnder, leadsUnder, rowsUnder, rowCount, tablesOf, written, tooShort}
 use Rattle.specification.specs.Adding.{holding, byRefusal, pointsOffered, drawCases, drawRefusal, drawOutcome}
 use Rattle.specification.specs.Solving.{Filled, filling, withinVariables, polynomialUnder, remainderIn, remainderCases, remainderOutcome, valuesCases, wiringOf, wiringUnder, Listed, listing, wiringOutcome}
 use Rattle.specification.specs.Reference.{Held}
@@ -79,11 +79,15 @@ module _ (s : Settings) (ok : Accepted s) where
   value-told (Q ∷ K) d (x ∷ v) P y (inr q) =
       cond-not (point-told (spaceUnder s) laws-under (pt P) (pt Q)) (λ e. d .0 (pt P) (among-under K P (point-of K v P y q)) (sym e)) _ _ ∙ value-told K (d .1) v P y q
 
+  -- as many standard monomials as points
+  pub standard-count : (K : List (List ℕ)) → Distinct (spaceUnder s) (pointsUnder s K) → length (standardUnder s K) ≡ length K
+  standard-count K d = standard-length (spaceUnder s) laws-under (pointsUnder s K) d ∙ length-map K pt
+
   -- at most 1 + n(m-1) rows, so at most 449
   pub few-rows : (K : List (List ℕ)) → Points s K → rowCount s K ≤ 449
   unfolding rowCount
-  few-rows K h = bound (length (leadsOf (spaceUnder s) (pointsUnder s K))) (length K) (s .variables) (h .few) (ok .few)
-      (subst (λ (n : ℕ). length (leadsOf (spaceUnder s) (pointsUnder s K)) + n ≤ 1 + n * s .variables) (length-map K pt) (leads-length (spaceUnder s) laws-under (pointsUnder s K) (distinct-points K h)))
+  few-rows K h = bound (length (leadsUnder s K)) (length K) (s .variables) (h .few) (ok .few)
+      (subst (λ (n : ℕ). length (leadsUnder s K) + n ≤ 1 + n * s .variables) (length-map K pt) (leads-length (spaceUnder s) laws-under (pointsUnder s K) (distinct-points K h)))
     where
       bound : (r n m : ℕ) → n ≤ 64 → m ≤ 8 → r + n ≤ 1 + n * m → r ≤ 449
       bound r n m a b c = let k : n * m ≤ n * 8 = mul-le-mul-left n b in omega arith
@@ -93,8 +97,7 @@ module _ (s : Settings) (ok : Accepted s) where
     carried : (A B : List (List ℕ)) → ((P : List ℕ) → Among P A → Among P B) → (X : Point (suc (s .modulus - 1)) (s .variables)) → Among X (pointsUnder s A) → Among X (pointsUnder s B)
     carried A B f X q = let w = among-map pt A X q in subst (λ (Z : Point (suc (s .modulus - 1)) (s .variables)). Among Z (pointsUnder s B)) (sym (w .2)) (among-under B (w .0) (f (w .0) (w .1)))
 
-    same-basis : (standardOf (spaceUnder s) (pointsUnder s K) ≡ standardOf (spaceUnder s) (pointsUnder s L))
-        × (leadsOf (spaceUnder s) (pointsUnder s K) ≡ leadsOf (spaceUnder s) (pointsUnder s L)) × (rowsOf (spaceUnder s) (pointsUnder s K) ≡ rowsOf (spaceUnder s) (pointsUnder s L))
+    same-basis : (standardUnder s K ≡ standardUnder s L) × (leadsUnder s K ≡ leadsUnder s L) × (rowsUnder s K ≡ rowsUnder s L)
     same-basis = basis-permuted (spaceUnder s) laws-under (pointsUnder s K) (pointsUnder s L) dK dL (carried K L to) (carried L K from)
 
     pub same-rows : rowCount s K ≡ rowCount s L
@@ -102,10 +105,7 @@ module _ (s : Settings) (ok : Accepted s) where
     same-rows = ap length (same-basis .1)
 
     pub same-length : length K ≡ length L
-    same-length = sym (count K dK) ∙ ap length (same-basis .0) ∙ count L dL
-      where
-        count : (A : List (List ℕ)) → Distinct (spaceUnder s) (pointsUnder s A) → length (standardOf (spaceUnder s) (pointsUnder s A)) ≡ length A
-        count A d = standard-length (spaceUnder s) laws-under (pointsUnder s A) d ∙ length-map A pt
+    same-length = sym (standard-count K dK) ∙ ap length (same-basis .0) ∙ standard-count L dL
 
     pub same-remainder : (f : Polynomial (spaceUnder s)) → remainderOf (spaceUnder s) (pointsUnder s K) f ≡ remainderOf (spaceUnder s) (pointsUnder s L) f
     same-remainder = remainder-permuted (spaceUnder s) laws-under (pointsUnder s K) (pointsUnder s L) dK dL (carried K L to) (carried L K from)

@@ -1,14 +1,15 @@
 -- Which refusals are left for tables that hold the basis of their points, under settings that no call refuses.
-use mathlib.Core.Path.{_≡_, sym}
+use mathlib.Core.Path.{_≡_, sym, _∙_, ap}
 use mathlib.Core.Bool.{true, false, _&&_, _||_}
 use mathlib.Core.List.{List, _++_}
 use Prim.Native.Nat.{ℕ, _≤_}
 use native.Mathlib.Omega.{arith}
-use lib.ListN.{length}
-use lib.Dec.{eqb, leb, ltb, leb→le, eqb-refl}
+use lib.ListN.{length, take, drop, take-append-drop}
+use lib.Dec.{T, eqb, leb, ltb, leb→le, eqb-refl}
 use borrow.Author.Tests.{le-ltb, ltb-false, not-false}
 use Rattle.residue.specs.Modulus.{isModulus}
 use Rattle.residue.specs.Layout.{fill, over, begins}
+use Rattle.residue.proofs.bytes.Equality.{same-is}
 use Rattle.residue.proofs.Tests.{true-of, of-true, neither, and-left, and-right}
 use Rattle.residue.proofs.Layouts.{length-over, begins-over, length-fill}
 use Rattle.specification.specs.declared.settings.Settings.{Settings}
@@ -66,6 +67,11 @@ large-of t e =
       leads = ltb-false (length (t .leads)) 3592 (b .1);
       coefficients = ltb-false (length (t .coefficients)) 28736 (a .1);
     }
+
+-- the front of a list is what it begins with
+pub over-begins : (a t : List ℕ) → T (begins a t) → over a t ≡ t
+unfolding begins over
+over-begins a t h = ap (λ (z : List ℕ). z ++ drop (length a) t) (same-is a (take (length a) t) h) ∙ take-append-drop (length a) t
 
 -- writing keeps the lengths
 kept : (k : ℕ) (l t : List ℕ) → k ≤ length t → k ≤ length (over (fill k l) t)

@@ -1,30 +1,25 @@
--- The run of a list of additions, with refused calls between them: each call's number, and what is held at the end.
+-- The run of a list of operations, with refused calls between them: each call's number, and what is held at the end. One induction, over the laws of each
+-- operation.
 use mathlib.Core.Path.{_≡_, refl, sym, _∙_, ap, ap₂, subst}
-use mathlib.Core.Bool.{Bool, true, false, not, cond}
+use mathlib.Core.Bool.{Bool, true, false, cond}
 use mathlib.Core.List.{List, [], _∷_, _++_}
-use mathlib.Core.Logic.{_≢_}
-use Prim.Native.Nat.{ℕ, _<_}
+use Prim.Native.Nat.{ℕ}
 use native.Mathlib.Omega.{arith}
-use lib.IntN.{ℤ}
-use lib.ListN.{length}
-use lib.Dec.{T, eqb, leb}
-use borrow.Author.Tests.{eqb-true, ne-eqb, leb-false}
-use Rattle.residue.specs.Lists.{Among}
+use lib.ListN.{length, take, drop, take-append-drop}
+use lib.Dec.{eqb}
+use borrow.Author.Tests.{eqb-true, ne-eqb}
 use Rattle.residue.specs.Layout.{fill, over}
-use Rattle.residue.proofs.level.Moduli.{modulus-range}
-use Rattle.residue.proofs.Tests.{of-true}
 use Rattle.residue.proofs.Layouts.{over-over, length-fill}
 use Rattle.specification.specs.declared.settings.Settings.{Settings}
 use Rattle.specification.specs.Refusal.{firstOf}
 use Rattle.specification.specs.Settings.{settingsCases}
-use Rattle.specification.specs.Levels.{inRange, residues, isAmong}
 use Rattle.specification.specs.Tables.{Tables, rowCount, tablesOf, written, tooShort, pointsIn, recognised}
-use Rattle.specification.specs.Adding.{Outcome, refused, holding, byRefusal, addCases, addRefusal, addOutcome}
+use Rattle.specification.specs.Adding.{Outcome, refused, holding, byRefusal}
 use Rattle.specification.specs.Reference
-use Rattle.specification.specs.Reference.{referenceAnswer, referenceAfter, Lent, own, other, Event, addition, interposed, Held, lentTables, tablesAfter, outcomeAt, heldAfter, numbers, heldAtEnd, fed, referenceAtEnd, dueAt, due, Refuses}
-use Rattle.specification.proofs.Repeats.{is-among}
-use Rattle.specification.proofs.agreement.Points.{Points, levels-point, points-more}
-use Rattle.specification.proofs.agreement.Refusals.{Accepted, accepted, settings-pass, Large, not-short, written-large, written-points, written-recognised}
+use Rattle.specification.specs.Reference.{Operation, outcomeOf, refusalOf, referenceAnswer, pointsAfter, referenceAfter, Table, states, standard, leads, coefficients, tableIn, withTable, Lent, part, other, Event, own, interposed, Held, lentTables, tablesAfter, outcomeAt, keeping, heldAfter, numbers, heldAtEnd, fed, referenceAtEnd, dueAt, due, RefusesAt, Refuses}
+use Rattle.specification.proofs.agreement.Points.{Points}
+use Rattle.specification.proofs.agreement.Refusals.{Accepted, accepted, Large, not-short, written-large, written-points, written-recognised}
+use Rattle.specification.proofs.agreement.Operations.{lawful}
 
 -- the number of an outcome is that of its refusal
 pub number-of : (k : ℕ) (t : Tables) (s : Settings) (S : List (List ℕ)) → byRefusal k t (holding s S t) .answer .refusal ≡ k
@@ -42,46 +37,31 @@ same-tables {t} {u} a b c d =
     ∙ ap₂ (λ (y z : List ℕ). record { states = u .states; standard = u .standard; leads = y; coefficients = z }) c d
 
 -- tables written twice are those of the second time
-pub written-twice : (s : Settings) (L L′ : List (List ℕ)) (t : Tables) → written (tablesOf s L′) (written (tablesOf s L) t) ≡ written (tablesOf s L′) t
+written-twice : (s : Settings) (L L′ : List (List ℕ)) (t : Tables) → written (tablesOf s L′) (written (tablesOf s L) t) ≡ written (tablesOf s L′) t
 unfolding written tablesOf
 written-twice s L L′ t = same-tables (twice 512 _ _ (t .states)) (twice 512 _ _ (t .standard)) (twice 3592 _ _ (t .leads)) (twice 28736 _ _ (t .coefficients))
   where
     twice : (k : ℕ) (l l′ u : List ℕ) → over (fill k l′) (over (fill k l) u) ≡ over (fill k l′) u
     twice k l l′ u = over-over (fill k l′) (fill k l) u (length-fill k l′ ∙ sym (length-fill k l))
 
--- What a reference list that takes a point has found.
-pub record Takes (s : Settings) (L : List (List ℕ)) (levels : List ℤ) : Type 0 where
-  pub long : length levels ≡ s .variables
-  pub room : length L < 64
-  pub range : T (inRange (s .modulus) levels)
-  pub fresh : ¬ Among (residues (s .modulus) levels) L
+-- a call that leaves what it was lent leaves the list's tables
+put-back : (k : Table) (t : Tables) → withTable k (tableIn k t) t ≡ t
+unfolding withTable tableIn
+put-back states t = refl
+put-back standard t = refl
+put-back leads t = refl
+put-back coefficients t = refl
 
-pub takes : (s : Settings) (L : List (List ℕ)) (levels : List ℤ) → referenceAnswer s L levels ≡ 0 → Takes s L levels
-unfolding referenceAnswer firstOf
-takes s L levels e = go (eqb (length levels) (s .variables)) refl (leb 64 (length L)) refl (inRange (s .modulus) levels) refl (isAmong (residues (s .modulus) levels) L) refl e
-  where
-    go : (a : Bool) → eqb (length levels) (s .variables) ≡ a → (b : Bool) → leb 64 (length L) ≡ b → (c : Bool) → inRange (s .modulus) levels ≡ c → (d : Bool) → isAmong (residues (s .modulus) levels) L ≡ d
-        → firstOf ((not a, 7) ∷ (b, 8) ∷ (not c, 9) ∷ (d, 11) ∷ []) ≡ 0 → Takes s L levels
-    go false _ b _ c _ d _ z = absurd (omega arith)
-    go true _ true _ c _ d _ z = absurd (omega arith)
-    go true _ false _ false _ d _ z = absurd (omega arith)
-    go true _ false _ true _ true _ z = absurd (omega arith)
-    go true ea false eb true ec false ed z = record {
-      long = eqb-true (length levels) (s .variables) ea;
-      room = leb-false 64 (length L) eb;
-      range = of-true ec;
-      fresh = λ q. subst T ed (is-among (residues (s .modulus) levels) L q);
-    }
-
--- an interposed call that leaves what it was lent leaves the additions' tables
-unlent : (a : Lent) (t : List ℕ) → Reference.after a t (Reference.lent a t) ≡ t
+unlent : (a : Lent) (t : Tables) → Reference.after a (Reference.lent a t) t ≡ t
 unfolding Reference.after Reference.lent
-unlent own t = refl
-unlent (other u) t = refl
+unlent (part k from count) t =
+    ap (λ (u : List ℕ). withTable k u t) (ap (λ (u : List ℕ). take from (tableIn k t) ++ u) (take-append-drop count (drop from (tableIn k t))) ∙ take-append-drop from (tableIn k t))
+    ∙ put-back k t
+unlent (other bytes) t = refl
 
-untouched : (a b c d : Lent) (t : Tables) → tablesAfter a b c d t (lentTables a b c d t) ≡ t
+untouched : (a b c d : Lent) (t : Tables) → tablesAfter a b c d (lentTables a b c d t) t ≡ t
 unfolding tablesAfter lentTables
-untouched a b c d t = same-tables (unlent a (t .states)) (unlent b (t .standard)) (unlent c (t .leads)) (unlent d (t .coefficients))
+untouched a b c d t = rw (unlent d t, unlent c t, unlent b t, unlent a t)
 
 module _ (s : Settings) (fine : firstOf (settingsCases s) ≡ 0) (start : Tables) (large : Large start) where
   ok : Accepted s
@@ -98,51 +78,53 @@ module _ (s : Settings) (fine : firstOf (settingsCases s) ≡ 0) (start : Tables
     not-too-short : tooShort (h .tables) ≡ false
     not-too-short = not-short (h .tables) (subst Large (sym (a .tables)) (written-large s L start large))
 
-    pub held-recognised : recognised s (h .n) (h .r) (h .tables) ≡ true
+    held-recognised : recognised s (h .n) (h .r) (h .tables) ≡ true
     held-recognised = rw (a .count, a .rows, a .tables) (written-recognised s ok L (a .points) start)
 
     pub held-points : pointsIn s (h .n) (h .tables .states) ≡ L
     held-points = rw (a .count, a .tables) (written-points s ok L (a .points) start)
 
-    -- adding answers as the reference list does
-    pub add-number : (levels : List ℤ) → addRefusal s (h .n) (h .r) (h .tables) levels ≡ referenceAnswer s L levels
-    unfolding addRefusal addCases referenceAnswer firstOf
-    add-number levels = settings-pass s fine _ ∙ rw (not-too-short, held-recognised, held-points, a .count)
+    module _ (o : Operation) where
+      -- an operation answers as the reference list does
+      number : refusalOf o s (h .n) (h .r) (h .tables) ≡ referenceAnswer o s L
+      number = lawful o .number s fine (h .n) (h .r) (h .tables) (omega (arith, a .count, a .points .few)) not-too-short held-recognised ∙ ap (referenceAnswer o s) held-points
 
-    -- and what is held afterwards is the basis of the reference list then
-    pub add-held : (levels : List ℤ) → At (heldAfter s h (addition levels)) (referenceAfter s L levels)
-    unfolding heldAfter addOutcome referenceAfter byRefusal holding refused
-    add-held levels = rw (add-number levels, held-points) (pick (eqb (referenceAnswer s L levels) 0) refl)
-      where
-        S : List (List ℕ)
-        S = L ++ (residues (s .modulus) levels ∷ [])
+      abbrev due-outcome : Outcome
+      due-outcome = byRefusal (referenceAnswer o s L) (h .tables) (holding s (pointsAfter o s L) (h .tables))
 
-        positive : 0 < s .modulus
-        positive = omega (arith, modulus-range (s .modulus) (ok .modulus))
+      outcome : outcomeOf o s (h .n) (h .r) (h .tables) ≡ due-outcome
+      outcome = lawful o .outcome s (h .n) (h .r) (h .tables)
+          ∙ ap₂ (λ (k : ℕ) (S : List (List ℕ)). byRefusal k (h .tables) (holding s (pointsAfter o s S) (h .tables))) number held-points
 
-        held : Outcome → Held
-        held o = cond (eqb (o .answer .refusal) 0) (record { n = o .answer .n; r = o .answer .r; tables = o .tables }) (record { n = h .n; r = h .r; tables = o .tables })
+      -- and what is held afterwards is the basis of the reference list then
+      own-held : At (keeping h due-outcome) (referenceAfter o s L)
+      unfolding keeping referenceAfter byRefusal holding refused
+      own-held = pick (eqb (referenceAnswer o s L) 0) refl
+        where
+          pick : (b : Bool) → eqb (referenceAnswer o s L) 0 ≡ b
+              → At (keeping h (cond b (holding s (pointsAfter o s L) (h .tables)) (refused (referenceAnswer o s L) (h .tables)))) (cond b (pointsAfter o s L) L)
+          pick true e = record {
+            points = lawful o .points s ok L (a .points) (eqb-true (referenceAnswer o s L) 0 e);
+            count = refl;
+            rows = refl;
+            tables = ap (written (tablesOf s (pointsAfter o s L))) (a .tables) ∙ written-twice s L (pointsAfter o s L) start;
+          }
+          pick false e = rw e a
 
-        pick : (b : Bool) → eqb (referenceAnswer s L levels) 0 ≡ b → At (held (cond b (holding s S (h .tables)) (refused (referenceAnswer s L levels) (h .tables)))) (cond b S L)
-        pick true e = let t = takes s L levels (eqb-true (referenceAnswer s L levels) 0 e) in record {
-          points = points-more s L (residues (s .modulus) levels) (a .points) (levels-point s levels positive (t .long) (t .range)) (t .fresh) (t .room);
-          count = refl;
-          rows = refl;
-          tables = ap (written (tablesOf s S)) (a .tables) ∙ written-twice s L S start;
-        }
-        pick false e = rw e (record { points = a .points; count = a .count; rows = a .rows; tables = a .tables })
-
-    -- an interposed call that is refused leaves what is held
-    interposed-held : (u : Settings) (n r : ℕ) (b c d e : Lent) (levels : List ℤ) → addRefusal u n r (lentTables b c d e (h .tables)) levels ≢ 0 → At (heldAfter s h (interposed u n r b c d e levels)) L
-    unfolding heldAfter addOutcome byRefusal refused
-    interposed-held u n r b c d e levels ne =
-        record { points = a .points; count = a .count; rows = a .rows; tables = rw (ne-eqb (addRefusal u n r (lentTables b c d e (h .tables)) levels) 0 ne) (untouched b c d e (h .tables) ∙ a .tables) }
+    -- one call: its number, and what is held after it
+    step : (e : Event) → RefusesAt h e → (outcomeAt s h e .answer .refusal ≡ dueAt s L h e) × At (heldAfter s h e) (fed s L e)
+    unfolding outcomeAt heldAfter fed dueAt RefusesAt byRefusal refused
+    step (own o) t = (ap (λ (w : Outcome). w .answer .refusal) (outcome o) ∙ number-of (referenceAnswer o s L) (h .tables) s _, rw (outcome o) (own-held o))
+    step (interposed u n r b c d e o) t =
+        let k = refusalOf o u n r (lentTables b c d e (h .tables)) in
+        let is : outcomeOf o u n r (lentTables b c d e (h .tables)) ≡ refused k (lentTables b c d e (h .tables)) = lawful o .outcome u n r _ ∙ rw (ne-eqb k 0 t) in
+        (ap (λ (w : Outcome). w .answer .refusal) is, rw (is, untouched b c d e (h .tables)) a)
 
   -- Every list of calls, from tables that hold the basis of a list of points.
   pub run : (es : List Event) (h : Held) (L : List (List ℕ)) → At h L → Refuses s h es → (numbers s h es ≡ due s L h es) × At (heldAtEnd s h es) (referenceAtEnd s L es)
-  unfolding numbers due heldAtEnd referenceAtEnd Refuses outcomeAt dueAt fed addOutcome
+  unfolding numbers due heldAtEnd referenceAtEnd Refuses
   run [] h L a t = (refl, a)
-  run (addition levels ∷ es) h L a t = let w = run es (heldAfter s h (addition levels)) (referenceAfter s L levels) (add-held h L a levels) t in
-      (ap₂ (λ (k : ℕ) (l : List ℕ). k ∷ l) (number-of (addRefusal s (h .n) (h .r) (h .tables) levels) (h .tables) s _ ∙ add-number h L a levels) (w .0), w .1)
-  run (interposed u n r b c d e levels ∷ es) h L a t = let w = run es (heldAfter s h (interposed u n r b c d e levels)) L (interposed-held h L a u n r b c d e levels (t .0)) (t .1) in
-      (ap₂ (λ (k : ℕ) (l : List ℕ). k ∷ l) (number-of (addRefusal u n r (lentTables b c d e (h .tables)) levels) (lentTables b c d e (h .tables)) u _) (w .0), w .1)
+  run (e ∷ es) h L a t =
+      let w = step h L a e (t .0) in
+      let v = run es (heldAfter s h e) (fed s L e) (w .1) (t .1) in
+      (ap₂ (λ (k : ℕ) (l : List ℕ). k ∷ l) (w .0) (v .0), v .1)

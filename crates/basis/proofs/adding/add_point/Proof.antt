@@ -6,7 +6,7 @@ use Prim.Native.Nat.{ℕ}
 use native.Mathlib.Omega.{arith}
 use Rattle.specification.specs.Tables.{Tables, fourTables}
 use Rattle.specification.specs.Adding.{addRefusal, addOutcome}
-use Rattle.basis.proofs.calls.Refusing.{alone, when-refused}
+use Rattle.basis.proofs.settings.ByNumber.{alone, when-refused}
 use Rattle.basis.proofs.adding.Addition.{Ready, ready, added}
 use Rattle.basis.proofs.adding.add_point.Statement.{statement}
 use Rattle.basis.proofs.adding.add_point.Tie as tie

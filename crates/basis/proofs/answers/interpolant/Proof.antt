@@ -12,8 +12,9 @@ use Rattle.specification.specs.Levels.{inRange}
 use Rattle.specification.specs.Tables.{Tables, fourTables, tooShort, pointsIn, recognised}
 use Rattle.specification.specs.Solving.{interpolantIn}
 use Rattle.basis.specs.Drawing.{Solves}
-use Rattle.basis.proofs.calls.Outcomes.{valuesSizes, values-size, values-range, values-not, values-good}
-use Rattle.basis.proofs.calls.Known.{rows-long, rows-inside, Sized, values-sized, values-count, values-below, values-answer}
+use Rattle.basis.proofs.answers.Refusals.{valuesSizes, values-size, values-range, values-not, values-good}
+use Rattle.basis.proofs.checking.Recognised.{rows-long, rows-inside}
+use Rattle.basis.proofs.answers.Answered.{Sized, values-sized, values-count, values-below, values-answer}
 use Rattle.basis.proofs.answers.interpolant.Statement.{statement}
 use Rattle.basis.proofs.answers.interpolant.Tie as tie
 

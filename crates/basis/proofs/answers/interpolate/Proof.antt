@@ -9,9 +9,9 @@ use Rattle.residue.proofs.Layouts.{length-fill}
 use Rattle.specification.specs.Refusal.{firstOf}
 use Rattle.specification.specs.Tables.{Tables, fourTables}
 use Rattle.specification.specs.Solving.{valuesCases, interpolantIn, interpolateOutcome}
-use Rattle.basis.proofs.calls.Refusing.{fill-refused, fill-accepted}
-use Rattle.basis.proofs.calls.Outcomes.{values-none}
-use Rattle.basis.proofs.calls.Known.{Sized, values-sized}
+use Rattle.basis.proofs.settings.ByNumber.{fill-refused, fill-accepted}
+use Rattle.basis.proofs.answers.Refusals.{values-none}
+use Rattle.basis.proofs.answers.Answered.{Sized, values-sized}
 use Rattle.basis.proofs.answers.interpolate.Statement.{statement}
 use Rattle.basis.proofs.answers.interpolate.Tie as tie
 

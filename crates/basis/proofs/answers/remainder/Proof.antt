@@ -13,11 +13,12 @@ use Rattle.specification.specs.Refusal.{firstOf}
 use Rattle.specification.specs.Levels.{residues}
 use Rattle.specification.specs.Tables.{Tables, fourTables, pointsIn}
 use Rattle.specification.specs.Solving.{remainderCases, remainderOutcome}
-use Rattle.basis.specs.Interpolants.{solution}
+use Rattle.basis.specs.Answers.{solution}
 use Rattle.basis.specs.Drawing.{Solves}
-use Rattle.basis.proofs.calls.Refusing.{fill-refused, fill-accepted}
-use Rattle.basis.proofs.calls.Outcomes.{remainder-none}
-use Rattle.basis.proofs.calls.Known.{table-below, rows-long, rows-inside, Sized, terms-sized, terms-count, terms-most, coefficients-below, terms-answer}
+use Rattle.basis.proofs.settings.ByNumber.{fill-refused, fill-accepted}
+use Rattle.basis.proofs.answers.Refusals.{remainder-none}
+use Rattle.basis.proofs.checking.Recognised.{table-below, rows-long, rows-inside}
+use Rattle.basis.proofs.answers.Answered.{Sized, terms-sized, terms-count, terms-most, coefficients-below, terms-answer}
 use Rattle.basis.proofs.answers.remainder.Statement.{statement}
 use Rattle.basis.proofs.answers.remainder.Tie as tie
 

@@ -10,8 +10,8 @@ use Rattle.residue.proofs.level.Moduli.{modulus-range}
 use Rattle.specification.specs.Levels.{inRange}
 use Rattle.specification.specs.Tables.{Tables, fourTables, tooShort}
 use Rattle.specification.specs.Solving.{withinVariables}
-use Rattle.basis.proofs.calls.Outcomes.{remainderSizes, remainder-size, remainder-range, remainder-variable, remainder-not, remainder-good}
-use Rattle.basis.proofs.calls.Known.{Sized, terms-sized, terms-count}
+use Rattle.basis.proofs.answers.Refusals.{remainderSizes, remainder-size, remainder-range, remainder-variable, remainder-not, remainder-good}
+use Rattle.basis.proofs.answers.Answered.{Sized, terms-sized, terms-count}
 use Rattle.basis.proofs.answers.remainder_refusal.Statement.{statement}
 use Rattle.basis.proofs.answers.remainder_refusal.Tie as tie
 

@@ -11,9 +11,9 @@ use Rattle.residue.proofs.Layouts.{length-fill}
 use Rattle.specification.specs.Refusal.{firstOf}
 use Rattle.specification.specs.Tables.{Tables, fourTables}
 use Rattle.specification.specs.Solving.{valuesCases, interpolantIn, wiringOf, wiringOutcome}
-use Rattle.basis.proofs.calls.Outcomes.{values-none}
+use Rattle.basis.proofs.answers.Refusals.{values-none}
 use Rattle.specification.proofs.Wiring.{list-refused, list-accepted}
-use Rattle.basis.proofs.calls.Known.{Sized, values-sized, values-names}
+use Rattle.basis.proofs.answers.Answered.{Sized, values-sized, values-names}
 use Rattle.basis.proofs.answers.wiring.Statement.{statement}
 use Rattle.basis.proofs.answers.wiring.Tie as tie
 

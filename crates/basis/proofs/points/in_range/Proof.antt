@@ -7,7 +7,7 @@ use lib.IntN.{ℤ, pos}
 use lib.ListN.{length, drop, getD}
 use Rattle.residue.specs.Level.{residueOf}
 use Rattle.specification.specs.Levels.{inRange}
-use Rattle.basis.proofs.LevelLists.{handed, range-on, range-stop, range-end}
+use Rattle.basis.proofs.points.LevelLists.{handed, range-on, range-stop, range-end}
 use Rattle.basis.proofs.points.in_range.Statement.{statement}
 use Rattle.basis.proofs.points.in_range.Tie as tie
 

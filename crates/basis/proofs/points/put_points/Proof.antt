@@ -10,7 +10,7 @@ use Rattle.residue.specs.Layout.{groups, fill, inPlaces, over}
 use Rattle.residue.proofs.Places.{length-groups, groups-more, place-more, part-fits, no-places}
 use Rattle.residue.proofs.Layouts.{length-fill}
 use Rattle.specification.specs.Levels.{residues}
-use Rattle.basis.proofs.PointTables.{residues-part}
+use Rattle.basis.proofs.points.PointTables.{residues-part}
 use Rattle.basis.proofs.points.put_points.Statement.{statement}
 use Rattle.basis.proofs.points.put_points.Tie as tie
 

@@ -8,7 +8,7 @@ use Rattle.residue.specs.Level.{residueOf}
 use Rattle.residue.proofs.vector.Filled.{filled, filled-none, kept-length, filled-more}
 use Rattle.residue.proofs.bytes.Copies.{mapped}
 use Rattle.specification.specs.Levels.{residueOr0, residues}
-use Rattle.basis.proofs.LevelLists.{handed}
+use Rattle.basis.proofs.points.LevelLists.{handed}
 use Rattle.basis.proofs.points.put_residues.Statement.{statement}
 use Rattle.basis.proofs.points.put_residues.Tie as tie
 

@@ -7,7 +7,7 @@ use lib.ListN.{length, take, drop, length-drop, length-take, length-map}
 use Rattle.residue.specs.Layout.{fill, inPlaces, over, groups}
 use Rattle.residue.proofs.Places.{place-more, part-fits, no-places}
 use Rattle.residue.proofs.Layouts.{length-fill}
-use Rattle.basis.proofs.PointTables.{pointsAs, length-points, points-more, point-read, points-in}
+use Rattle.basis.proofs.points.PointTables.{pointsAs, length-points, points-more, point-read, points-in}
 use Rattle.basis.proofs.points.read_points.Statement.{statement}
 use Rattle.basis.proofs.points.read_points.Tie as tie
 

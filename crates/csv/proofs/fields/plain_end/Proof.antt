@@ -5,7 +5,7 @@ use native.Mathlib.Omega.{arith}
 use lib.ListN.{length, drop}
 use borrow.Author.Tests.{not-true, not-false}
 use Rattle.csv.specs.Fields.{isPlain, front}
-use Rattle.csv.proofs.Searches.{front-on, front-stop, front-end}
+use Rattle.csv.proofs.fields.Searches.{front-on, front-stop, front-end}
 use Rattle.csv.proofs.fields.plain_end.Statement.{statement}
 use Rattle.csv.proofs.fields.plain_end.Tie as tie
 

@@ -4,7 +4,7 @@ use Prim.Native.Nat.{_+_, _-_, _≤_}
 use native.Mathlib.Omega.{arith}
 use lib.ListN.{length, drop}
 use Rattle.csv.specs.Spans.{closing}
-use Rattle.csv.proofs.Searches.{closing-on, closing-last, closing-here, closing-pair, closing-end}
+use Rattle.csv.proofs.fields.Searches.{closing-on, closing-last, closing-here, closing-pair, closing-end}
 use Rattle.csv.proofs.fields.quote_end.Statement.{statement}
 use Rattle.csv.proofs.fields.quote_end.Tie as tie
 

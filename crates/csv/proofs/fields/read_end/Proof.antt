@@ -3,7 +3,7 @@ use borrow.Author.Needs.{needs}
 use mathlib.Core.Path.{sym}
 use native.Mathlib.Omega.{arith}
 use Rattle.csv.specs.Spans.{endedBy}
-use Rattle.csv.proofs.Endings.{end-text, end-comma, end-lf, end-other, end-cr, end-cr-other, end-crlf}
+use Rattle.csv.proofs.fields.FieldEnds.{end-text, end-comma, end-lf, end-other, end-cr, end-cr-other, end-crlf}
 use Rattle.csv.proofs.fields.read_end.Statement.{statement}
 use Rattle.csv.proofs.fields.read_end.Tie as tie
 

@@ -8,7 +8,7 @@ use native.Mathlib.Omega.{arith}
 use lib.ListN.{length, take, drop, length-drop}
 use Rattle.csv.specs.Fields.{isPlain, fieldOf}
 use Rattle.csv.specs.Spans.{undoubled, endedBy, EndWithin, spanned}
-use Rattle.csv.proofs.Spanning.{front-le, span-plain, field-quoted, field-plain}
+use Rattle.csv.proofs.fields.FieldSpans.{front-le, span-plain, field-quoted, field-plain}
 use Rattle.csv.proofs.fields.read_field.Statement.{statement}
 use Rattle.csv.proofs.fields.read_field.Tie as tie
 

@@ -7,7 +7,7 @@ use native.Mathlib.Omega.{arith}
 use lib.ListN.{length, take, drop, length-drop}
 use Rattle.csv.specs.Fields.{quoted}
 use Rattle.csv.specs.Spans.{closing, undoubled, endedBy, EndWithin, spanned}
-use Rattle.csv.proofs.Spanning.{closing-le, quoted-open, span-quoted}
+use Rattle.csv.proofs.fields.FieldSpans.{closing-le, quoted-open, span-quoted}
 use Rattle.csv.proofs.fields.read_quoted.Statement.{statement}
 use Rattle.csv.proofs.fields.read_quoted.Tie as tie
 

@@ -7,7 +7,7 @@ use lib.ListN.{length, drop}
 use borrow.Author.Tests.{not-true, not-false}
 use Rattle.csv.specs.Fields.{front}
 use Rattle.csv.specs.Forms.{isDigit}
-use Rattle.csv.proofs.Searches.{front-on, front-stop, front-end}
+use Rattle.csv.proofs.fields.Searches.{front-on, front-stop, front-end}
 use Rattle.csv.proofs.forms.digit_end.Statement.{statement}
 use Rattle.csv.proofs.forms.digit_end.Tie as tie
 

@@ -4,7 +4,7 @@ use mathlib.Core.Path.{sym, _∙_}
 use borrow.Author.Tests.{not-true, not-false}
 use lib.Seq.{length-take-le}
 use Rattle.csv.specs.Said.{lastSaid}
-use Rattle.csv.proofs.Headers.{last-short, last-other, last-mod}
+use Rattle.csv.proofs.forms.LastField.{last-short, last-other, last-mod}
 use Rattle.csv.proofs.forms.read_last.Statement.{statement}
 use Rattle.csv.proofs.forms.read_last.Tie as tie
 

@@ -8,7 +8,7 @@ use lib.IntN.{pos}
 use Rattle.csv.specs.Forms.{negative, levelOf}
 use Rattle.csv.specs.Said.{numberSaid, signedOf, levelSaid}
 use Rattle.csv.specs.declared.forms.Number.{Number}
-use Rattle.csv.proofs.Numbers.{level-minus, level-plus}
+use Rattle.csv.proofs.forms.NumberForms.{level-minus, level-plus}
 use Rattle.csv.proofs.forms.read_level.Statement.{statement}
 use Rattle.csv.proofs.forms.read_level.Tie as tie
 

@@ -7,7 +7,7 @@ use lib.ListN.{getD, drop}
 use borrow.Author.Tests.{not-true, not-false}
 use Rattle.csv.specs.Forms.{isDigit, digitsFrom, numberOf}
 use Rattle.csv.specs.Said.{numberSaid}
-use Rattle.csv.proofs.Numbers.{tens, hundred, digit-range, digits-end, digits-stop, digits-on, number-none, number-long, number-few}
+use Rattle.csv.proofs.forms.NumberForms.{tens, hundred, digit-range, digits-end, digits-stop, digits-on, number-none, number-long, number-few}
 use Rattle.csv.proofs.forms.read_number.Statement.{statement}
 use Rattle.csv.proofs.forms.read_number.Tie as tie
 

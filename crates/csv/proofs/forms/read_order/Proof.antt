@@ -2,7 +2,7 @@
 use borrow.Author.Needs.{needs}
 use mathlib.Core.Path.{sym, _∙_}
 use Rattle.csv.specs.Said.{orderSaid}
-use Rattle.csv.proofs.Headers.{word-none, word-lex, word-grlex, word-grevlex, word-other}
+use Rattle.csv.proofs.forms.LastField.{word-none, word-lex, word-grlex, word-grevlex, word-other}
 use Rattle.csv.proofs.forms.read_order.Statement.{statement}
 use Rattle.csv.proofs.forms.read_order.Tie as tie
 

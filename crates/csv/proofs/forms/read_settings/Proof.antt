@@ -6,8 +6,8 @@ use native.Mathlib.Omega.{arith}
 use lib.ListN.{length}
 use lib.Seq.{length-take-le}
 use Rattle.csv.specs.Forms.{isDigit}
-use Rattle.csv.proofs.Spanning.{front-le}
-use Rattle.csv.proofs.Headers.{no-digits, no-word, all-read}
+use Rattle.csv.proofs.fields.FieldSpans.{front-le}
+use Rattle.csv.proofs.forms.LastField.{no-digits, no-word, all-read}
 use Rattle.csv.proofs.forms.read_settings.Statement.{statement}
 use Rattle.csv.proofs.forms.read_settings.Tie as tie
 

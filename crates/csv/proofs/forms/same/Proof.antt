@@ -4,7 +4,7 @@ use Prim.Native.Nat.{_-_, _≤_}
 use native.Mathlib.Omega.{arith}
 use lib.ListN.{length, drop}
 use Rattle.residue.specs.Lists.{sameList}
-use Rattle.csv.proofs.Sameness.{same-length, same-end, same-stop, same-on}
+use Rattle.csv.proofs.forms.SameFrom.{same-length, same-end, same-stop, same-on}
 use Rattle.csv.proofs.forms.same.Statement.{statement}
 use Rattle.csv.proofs.forms.same.Tie as tie
 

@@ -6,7 +6,7 @@ use native.Mathlib.Omega.{arith}
 use lib.ListN.{length, drop, length-take, length-drop}
 use Rattle.residue.proofs.Layouts.{length-fill}
 use Rattle.csv.specs.Points.{levelsAt}
-use Rattle.csv.proofs.Gathering.{Gathered, begun, counted-all, points-length, values-length, entry-there, gather, gathered}
+use Rattle.csv.proofs.points.EntriesFilled.{Gathered, begun, counted-all, points-length, values-length, entry-there, gather, gathered}
 use Rattle.csv.proofs.points.fill_entries.Statement.{statement}
 use Rattle.csv.proofs.points.fill_entries.Tie as tie
 

@@ -3,7 +3,7 @@ use Prim.Native.Nat.{_-_}
 use native.Mathlib.Omega.{arith}
 use lib.ListN.{drop}
 use Rattle.csv.specs.Records.{entryPart}
-use Rattle.csv.proofs.Filling.{SoFar, start, level-there, value-there, step, done}
+use Rattle.csv.proofs.points.EntryFilled.{SoFar, start, level-there, value-there, step, done}
 use Rattle.csv.proofs.points.fill_entry.Statement.{statement}
 use Rattle.csv.proofs.points.fill_entry.Tie as tie
 

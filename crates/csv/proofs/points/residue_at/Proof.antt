@@ -7,7 +7,7 @@ use lib.ListN.{length, drop}
 use Rattle.csv.specs.Fields.{field}
 use Rattle.csv.specs.Said.{signedOf}
 use Rattle.csv.specs.Records.{levelField, levelAtSaid, LevelWithin}
-use Rattle.csv.proofs.Placing.{placed-out, placed-in}
+use Rattle.csv.proofs.points.LevelResidues.{placed-out, placed-in}
 use Rattle.csv.proofs.points.residue_at.Statement.{statement}
 use Rattle.csv.proofs.points.residue_at.Tie as tie
 

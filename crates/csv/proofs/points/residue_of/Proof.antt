@@ -4,7 +4,7 @@ use mathlib.Core.Path.{_≡_}
 use mathlib.Core.Logic.{⊎-elim}
 use Prim.Native.Nat.{ℕ}
 use native.Mathlib.Omega.{arith}
-use Rattle.csv.proofs.Placing.{outside, below-zero, as-it-is}
+use Rattle.csv.proofs.points.LevelResidues.{outside, below-zero, as-it-is}
 use Rattle.csv.proofs.points.residue_of.Statement.{statement}
 use Rattle.csv.proofs.points.residue_of.Tie as tie
 

@@ -5,8 +5,8 @@ use mathlib.Core.List.{List, [], _∷_}
 use native.Mathlib.Omega.{arith}
 use lib.ListN.{length}
 use Rattle.csv.specs.Printing.{decimal}
-use Rattle.csv.proofs.Appended.{first-room, put-room, put-more}
-use Rattle.csv.proofs.Decimals.{decimal-digit, decimal-more}
+use Rattle.csv.proofs.printing.Appends.{first-room, put-room, put-more}
+use Rattle.csv.proofs.printing.DecimalDigits.{decimal-digit, decimal-more}
 use Prim.Native.Nat.{ℕ, _+_, _/_, _%_, _<_}
 use borrow.Fn.Kinds.{In}
 use borrow.Fn.PlainCycle.{Measures, is, falls, and}

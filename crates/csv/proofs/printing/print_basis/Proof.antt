@@ -4,8 +4,8 @@ use mathlib.Core.List.{List, _++_}
 use Prim.Native.Nat.{ℕ}
 use Rattle.csv.specs.Printing.{interpolant-word, wiring-word, line, firstLine, standardLines, rowLines, basisLines}
 use Rattle.csv.specs.Appending.{Room, inTable}
-use Rattle.csv.proofs.Appended.{first-room, put-room, put-front, put-more}
-use Rattle.csv.proofs.Printed.{length-table}
+use Rattle.csv.proofs.printing.Appends.{first-room, put-room, put-front, put-more}
+use Rattle.csv.proofs.printing.TableLines.{length-table}
 use borrow.Author.Needs.{needs}
 use Rattle.csv.proofs.printing.print_basis.Statement.{statement}
 use Rattle.csv.proofs.printing.print_basis.Tie as tie

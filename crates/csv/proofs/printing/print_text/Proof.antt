@@ -2,9 +2,9 @@
 use mathlib.Core.Path.{refl, sym}
 use native.Mathlib.Omega.{arith}
 use Rattle.csv.specs.Reading.{ended}
-use Rattle.csv.proofs.Appended.{put-within}
-use Rattle.csv.proofs.Lengths.{refusal-length}
-use Rattle.csv.proofs.Saying.{fit, printed-refusal, printed-basis, print-short, print-long}
+use Rattle.csv.proofs.printing.Appends.{put-within}
+use Rattle.csv.proofs.printing.LongestPrint.{refusal-length}
+use Rattle.csv.proofs.printing.AcceptedText.{fit, printed-refusal, printed-basis, print-short, print-long}
 use borrow.Author.Needs.{needs}
 use Rattle.csv.proofs.printing.print_text.Statement.{statement}
 use Rattle.csv.proofs.printing.print_text.Tie as tie

@@ -1,7 +1,7 @@
 -- `printing::put_byte` meets its contract.
 use borrow.Author.Needs.{needs}
 use native.Mathlib.Omega.{arith}
-use Rattle.csv.proofs.Appended.{put-set}
+use Rattle.csv.proofs.printing.Appends.{put-set}
 use Rattle.csv.proofs.printing.put_byte.Statement.{statement}
 use Rattle.csv.proofs.printing.put_byte.Tie as tie
 

@@ -2,7 +2,7 @@
 use mathlib.Core.List.{List, _∷_, _++_}
 use Prim.Native.Nat.{ℕ}
 use Rattle.csv.specs.Printing.{points-word, standard-word, rows-word, lineEnd, labelled, firstLine}
-use Rattle.csv.proofs.Appended.{first-room, put-room, put-front, put-more}
+use Rattle.csv.proofs.printing.Appends.{first-room, put-room, put-front, put-more}
 use borrow.Author.Needs.{needs}
 use Rattle.csv.proofs.printing.put_first.Statement.{statement}
 use Rattle.csv.proofs.printing.put_first.Tie as tie

@@ -1,7 +1,7 @@
 -- `printing::put_labelled` meets its contract.
 use borrow.Author.Needs.{needs}
 use Rattle.csv.specs.Printing.{spaced, labelled}
-use Rattle.csv.proofs.Appended.{first-room, put-room, put-more}
+use Rattle.csv.proofs.printing.Appends.{first-room, put-room, put-more}
 use Rattle.csv.proofs.printing.put_labelled.Statement.{statement}
 use Rattle.csv.proofs.printing.put_labelled.Tie as tie
 

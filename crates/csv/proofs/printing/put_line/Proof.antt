@@ -1,7 +1,7 @@
 -- `printing::put_line` meets its contract.
 use mathlib.Core.List.{_++_}
 use Rattle.csv.specs.Printing.{lineEnd, numbers, line}
-use Rattle.csv.proofs.Appended.{first-room, put-room, put-front, put-more}
+use Rattle.csv.proofs.printing.Appends.{first-room, put-room, put-front, put-more}
 use borrow.Author.Needs.{needs}
 use Rattle.csv.proofs.printing.put_line.Statement.{statement}
 use Rattle.csv.proofs.printing.put_line.Tie as tie

@@ -2,7 +2,7 @@
 use borrow.Author.Needs.{needs}
 use mathlib.Core.List.{[], _∷_}
 use Rattle.csv.specs.Printing.{decimal, spaced}
-use Rattle.csv.proofs.Appended.{first-room, put-room, put-more}
+use Rattle.csv.proofs.printing.Appends.{first-room, put-room, put-more}
 use Rattle.csv.proofs.printing.put_number.Statement.{statement}
 use Rattle.csv.proofs.printing.put_number.Tie as tie
 

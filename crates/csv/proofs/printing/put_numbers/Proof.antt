@@ -7,7 +7,7 @@ use lib.ListN.{length, getD, take, length-map}
 use Rattle.residue.proofs.vector.Vectors.{map-at}
 use Rattle.csv.specs.Printing.{spaced, numbers}
 use Rattle.csv.specs.Appending.{Put}
-use Rattle.csv.proofs.Appended.{put-nothing, turn-room, turn, turns-all, turn-length}
+use Rattle.csv.proofs.printing.Appends.{put-nothing, turn-room, turn, turns-all, turn-length}
 use Rattle.csv.proofs.printing.put_numbers.Statement.{statement}
 use Rattle.csv.proofs.printing.put_numbers.Tie as tie
 

@@ -1,7 +1,7 @@
 -- `printing::put_refusal` meets its contract.
 use mathlib.Core.List.{_++_}
 use Rattle.csv.specs.Printing.{refused-word, lineEnd, spaced, labelled, refusalLine}
-use Rattle.csv.proofs.Appended.{first-room, put-room, put-front, put-more}
+use Rattle.csv.proofs.printing.Appends.{first-room, put-room, put-front, put-more}
 use borrow.Author.Needs.{needs}
 use Rattle.csv.proofs.printing.put_refusal.Statement.{statement}
 use Rattle.csv.proofs.printing.put_refusal.Tie as tie

@@ -1,7 +1,7 @@
 -- `printing::put_row` meets its contract.
 use mathlib.Core.List.{_++_}
 use Rattle.csv.specs.Printing.{row-word, colon, numbers, line, rowLine}
-use Rattle.csv.proofs.Appended.{first-room, put-room, put-front, put-more}
+use Rattle.csv.proofs.printing.Appends.{first-room, put-room, put-front, put-more}
 use borrow.Author.Needs.{needs}
 use Rattle.csv.proofs.printing.put_row.Statement.{statement}
 use Rattle.csv.proofs.printing.put_row.Tie as tie

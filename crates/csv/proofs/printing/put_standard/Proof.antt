@@ -5,8 +5,8 @@ use native.Mathlib.Omega.{arith}
 use lib.ListN.{take}
 use Rattle.csv.specs.Printing.{standard-word, line, standardLines}
 use Rattle.csv.specs.Appending.{Put, inTable}
-use Rattle.csv.proofs.Appended.{put-nothing, turn-room, turn, turns-all, turn-length}
-use Rattle.csv.proofs.Printed.{lines-length, lines-at}
+use Rattle.csv.proofs.printing.Appends.{put-nothing, turn-room, turn, turns-all, turn-length}
+use Rattle.csv.proofs.printing.TableLines.{lines-length, lines-at}
 use Rattle.csv.proofs.printing.put_standard.Statement.{statement}
 use Rattle.csv.proofs.printing.put_standard.Tie as tie
 

@@ -1,6 +1,6 @@
 -- `printing::put_word` meets its contract.
 use native.Mathlib.Omega.{arith}
-use Rattle.csv.proofs.Appended.{put-part}
+use Rattle.csv.proofs.printing.Appends.{put-part}
 use borrow.Author.Needs.{needs}
 use Rattle.csv.proofs.printing.put_word.Statement.{statement}
 use Rattle.csv.proofs.printing.put_word.Tie as tie

@@ -12,8 +12,8 @@ use Rattle.residue.proofs.Layouts.{fill-zeros, length-fill}
 use Rattle.csv.specs.Reading.{Case, Entries, pointOf, valueOf, isOutside, pointsOf, firstOutside, firstRepeat, entriesCases, settingsCases, firstCase, ended, refused}
 use Rattle.csv.specs.Points.{levelsAt, saying}
 use Rattle.csv.specs.declared.reading.Read.{Read}
-use Rattle.csv.proofs.Refusing.{Room, room, first-of-both, refuse-9, refuse-11, entries-pass, settings-over, when-refused, when-accepted, fault-le, repeat-le}
-use Rattle.csv.proofs.Concluding.{entries-count, points-repeat, assembled}
+use Rattle.csv.proofs.reading.FirstCase.{Room, room, first-of-both, refuse-9, refuse-11, entries-pass, settings-over, when-refused, when-accepted, fault-le, repeat-le}
+use Rattle.csv.proofs.reading.RepeatedPoints.{entries-count, points-repeat, assembled}
 use Rattle.csv.proofs.reading.read_entries.Statement.{statement}
 use Rattle.csv.proofs.reading.read_entries.Tie as tie
 

@@ -10,7 +10,7 @@ use Rattle.csv.specs.Forms.{Header}
 use Rattle.csv.specs.Reading.{ended, refused}
 use Rattle.csv.specs.Records.{headerPart, headerSaid, HeaderWithin}
 use Rattle.csv.specs.declared.reading.Read.{Read}
-use Rattle.csv.proofs.Whole.{too-long, header-broken, entry-broken, form-right, record-small}
+use Rattle.csv.proofs.reading.WholeText.{too-long, header-broken, entry-broken, form-right, record-small}
 use Rattle.csv.proofs.reading.read_text.Statement.{statement}
 use Rattle.csv.proofs.reading.read_text.Tie as tie
 

@@ -6,7 +6,7 @@ use Prim.Native.Nat.{ℕ, _+_, _-_, _<_, _≤_}
 use native.Mathlib.Omega.{arith}
 use lib.ListN.{length, drop}
 use Rattle.csv.specs.Records.{entriesAt, entrySaid, EntryWithin, counted}
-use Rattle.csv.proofs.Checking.{next-entry, no-entry, no-more}
+use Rattle.csv.proofs.records.EntriesChecked.{next-entry, no-entry, no-more}
 use Rattle.csv.proofs.records.check_entries.Statement.{statement}
 use Rattle.csv.proofs.records.check_entries.Tie as tie
 

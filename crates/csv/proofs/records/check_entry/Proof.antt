@@ -9,7 +9,7 @@ use borrow.Author.Tests.{not-true, not-false}
 use Rattle.csv.specs.Fields.{field}
 use Rattle.csv.specs.Said.{signedOf}
 use Rattle.csv.specs.Records.{levelField, entryPart, levelAtSaid, LevelWithin, checked, entrySaid}
-use Rattle.csv.proofs.Checking.{check-broken, check-long, check-last, check-short, check-more}
+use Rattle.csv.proofs.records.EntriesChecked.{check-broken, check-long, check-last, check-short, check-more}
 use Rattle.csv.proofs.records.check_entry.Statement.{statement}
 use Rattle.csv.proofs.records.check_entry.Tie as tie
 

@@ -9,7 +9,7 @@ use Rattle.csv.specs.Spans.{spanned, SpanWithin}
 use Rattle.csv.specs.Said.{levelSaid}
 use Rattle.csv.specs.Records.{held, reading, levelField, levelAtSaid}
 use Rattle.csv.specs.declared.forms.Signed.{Signed}
-use Rattle.csv.proofs.Checking.{level-is}
+use Rattle.csv.proofs.records.EntriesChecked.{level-is}
 use Rattle.csv.proofs.records.level_at.Statement.{statement}
 use Rattle.csv.proofs.records.level_at.Tie as tie
 

@@ -13,7 +13,7 @@ use Rattle.csv.specs.Spans.{undoubled, spanned, SpanWithin}
 use Rattle.csv.specs.Said.{lastSaid}
 use Rattle.csv.specs.Records.{kept, headerPart, headerSaid}
 use Rattle.csv.specs.declared.forms.Last.{Last}
-use Rattle.csv.proofs.Heading.{headed, head-broken, head-more, head-last, field-shorter}
+use Rattle.csv.proofs.records.HeaderFields.{headed, head-broken, head-more, head-last, field-shorter}
 use Rattle.csv.proofs.records.read_header.Statement.{statement}
 use Rattle.csv.proofs.records.read_header.Tie as tie
 

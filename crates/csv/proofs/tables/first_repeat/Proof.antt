@@ -5,7 +5,7 @@ use Prim.Native.Nat.{_-_, _≤_}
 use native.Mathlib.Omega.{arith}
 use Rattle.residue.specs.Layout.{groups}
 use Rattle.csv.specs.Reading.{firstRepeat}
-use Rattle.csv.proofs.Repeating.{repeatsFrom, repeats-start, repeats-end, repeats-here, repeats-on}
+use Rattle.csv.proofs.tables.RepeatedRows.{repeatsFrom, repeats-start, repeats-end, repeats-here, repeats-on}
 use Rattle.csv.proofs.tables.first_repeat.Statement.{statement}
 use Rattle.csv.proofs.tables.first_repeat.Tie as tie
 

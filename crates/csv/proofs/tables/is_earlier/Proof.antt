@@ -8,7 +8,7 @@ use Rattle.residue.specs.Lists.{sameList}
 use Rattle.residue.specs.Layout.{rowAt}
 use Rattle.specification.specs.Levels.{isAmong}
 use Rattle.csv.specs.Points.{earlier}
-use Rattle.csv.proofs.Repeating.{among-here, among-on, among-end}
+use Rattle.csv.proofs.tables.RepeatedRows.{among-here, among-on, among-end}
 use Rattle.csv.proofs.tables.is_earlier.Statement.{statement}
 use Rattle.csv.proofs.tables.is_earlier.Tie as tie
 

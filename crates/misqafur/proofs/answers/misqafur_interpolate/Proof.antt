@@ -11,7 +11,7 @@ use Rattle.specification.specs.declared.settings.Settings.{Settings}
 use Rattle.specification.specs.Tables.{Tables, fourTables, tooShort}
 use Rattle.specification.specs.Solving.{interpolateOutcome}
 use Rattle.misqafur.proofs.SignedBytes.{signed-part}
-use Rattle.basis.proofs.calls.Refusing.{fill-refused}
+use Rattle.basis.proofs.settings.ByNumber.{fill-refused}
 use Rattle.misqafur.proofs.Sizes.{valuesBySize, values-refused, values-few}
 use Rattle.misqafur.proofs.answers.misqafur_interpolate.Statement.{statement}
 use Rattle.misqafur.proofs.answers.misqafur_interpolate.Tie as tie

@@ -1,0 +1,258 @@
+-- `adding::growing::grow` meets its contract.
+use mathlib.Core.Path.{_≡_, sym, ap, ap₂, subst, _∙_, refl}
+use mathlib.Core.List.{List}
+use Prim.Native.Nat.{ℕ, _+_, _*_, _-_, _<_, _≤_}
+use native.Mathlib.Omega.{arith}
+use lib.ListN.{length, take, drop, replicate, length-drop}
+use lib.Seq.{length-take-le}
+use Rattle.residue.specs.Vector.{Below}
+use Rattle.residue.specs.Inverse.{inverseOf}
+use Rattle.residue.specs.Layout.{groups, over, rowAt}
+use Rattle.residue.proofs.vector.Vectors.{below-take, below-drop, part-small}
+use Rattle.residue.proofs.inverse.Inverses.{inverse-below}
+use Rattle.residue.proofs.Layouts.{over-all}
+use Rattle.residue.proofs.Replaced.{zeros-long}
+use Rattle.monomial.specs.Order.{orderOf, cmp}
+use Rattle.monomial.specs.Insert.{placeOf, withRowAt}
+use Rattle.monomial.proofs.insert.Searches.{place-within}
+use Rattle.basis.specs.Adding.{rowValueAt, standardGrown}
+use Rattle.basis.proofs.adding.Writes.{value-below}
+use Rattle.basis.proofs.adding.Growth.{grown-by}
+use Rattle.basis.proofs.adding.growing.grow.Statement.{statement}
+use Rattle.basis.proofs.adding.growing.grow.Tie as tie
+
+-- the calls, one from the next
+abbrev start : tie.After-widen → tie.Start
+start d = d .before .before .before .before .before .before .before .before .before .before .before .before .before .before .before
+
+abbrev widened : tie.After-put-in → tie.After-widen
+widened d = d .before .before .before .before .before .before .before .before .before .before
+
+abbrev inverted : tie.After-put-in → tie.After-inverse
+inverted d = d .before .before .before .before .before .before
+
+abbrev copied : tie.After-put-in → tie.After-copy
+copied d = d .before .before .before .before
+
+abbrev placed : tie.After-keep-others → tie.After-put-in
+placed d = d .before .before .before .before .before .before
+
+-- the lead of row j, and its coefficients
+module _ (s : tie.Start) where
+  abbrev lead : List ℕ
+  lead = take (8 * s .args .j + 8 - 8 * s .args .j) (drop (8 * s .args .j) (s .args .leads .now))
+
+  lead-is : lead ≡ rowAt 8 (s .args .j) (s .args .leads .now)
+  lead-is = let e : 8 * s .args .j + 8 - 8 * s .args .j ≡ 8 = omega arith in ap (λ (k : ℕ). take k (drop (8 * s .args .j) (s .args .leads .now))) e
+
+  lead-long : length lead ≡ 8
+  lead-long = ap length lead-is ∙ length-take-le 8 (drop (8 * s .args .j) (s .args .leads .now)) (simp length-drop (omega (arith, s .pre .1 .0, s .pre .1 .1 .0)))
+
+  row-long : length (rowAt 64 (s .args .j) (s .args .coefficients .now)) ≡ 64
+  row-long = length-take-le 64 (drop (64 * s .args .j) (s .args .coefficients .now)) (simp length-drop (omega (arith, s .pre .1 .0, s .pre .1 .1 .0)))
+
+module _ (w : tie.After-widen) where
+  abbrev s : tie.Start
+  s = start w
+
+  abbrev gone : List ℕ
+  gone = w .widen .last .1 .0
+
+  gone-is : gone ≡ rowAt 64 (s .args .j) (s .args .coefficients .now)
+  gone-is =
+      let d : 64 * s .args .j + 64 - 64 * s .args .j ≡ 64 = omega arith in
+      w .widen .ensures ∙ ap (λ (k : ℕ). over (take k (drop (64 * s .args .j) (s .args .coefficients .now))) (replicate 64 0)) d
+      ∙ over-all (rowAt 64 (s .args .j) (s .args .coefficients .now)) (replicate 64 0) (row-long s)
+
+  gone-long : length gone ≡ 64
+  gone-long = ap length gone-is ∙ row-long s
+
+  gone-below : Below (s .args .p) gone
+  gone-below = subst (Below (s .args .p)) (sym gone-is) (below-take (s .args .p) 64 (drop (64 * s .args .j) (s .args .coefficients .now)) (below-drop (s .args .p) (64 * s .args .j) (s .args .coefficients .now) (s .pre .1 .1 .1 .0 .1)))
+
+-- the inverse of its value, and its place among the standard monomials
+module _ (d : tie.After-put-in) where
+  abbrev o : tie.Start
+  o = start (widened d)
+
+  abbrev value : ℕ
+  value = rowValueAt (o .args .p) (o .args .point .now) (o .args .values .now) (lead o) (gone (widened d))
+
+  inverse-is : inverted d .inverse .result ≡ inverseOf (o .args .p) value
+  inverse-is = inverted d .inverse .ensures ∙ ap (inverseOf (o .args .p)) (inverted d .before .row-value .ensures)
+
+  below : inverted d .inverse .result < o .args .p
+  below = omega (arith, inverse-is, inverse-below (o .args .p) value (o .pre .0 .4) (value-below _ _ _ _ _ (omega (arith, o .pre .0))))
+
+  old : copied d .copy .last .1 .0 ≡ o .args .standard .now
+  old = copied d .copy .ensures ∙ over-all (o .args .standard .now) (o .args .new-standard .now) (o .pre .1 .1 .0 .0 ∙ sym (zeros-long _ 512 (o .pre .1 .1 .1 .1 .1 .1 .0)))
+
+  place-is : d .put-in .result ≡ placeOf (cmp (orderOf (o .args .order))) (lead o) (groups 8 (o .args .n) (o .args .standard .now))
+  place-is = d .put-in .ensures .0 ∙ ap (λ (t : List ℕ). placeOf (cmp (orderOf (o .args .order))) (lead o) (groups 8 (o .args .n) t)) old
+
+  within : d .put-in .result ≤ o .args .n
+  within = omega (arith, place-is, place-within (cmp (orderOf (o .args .order))) (lead o) (o .args .standard .now) (o .args .n))
+
+-- the tables of the other leads and their rows keep their sizes
+module _ (k : tie.After-keep-others) where
+  leads-long : length (k .keep-others .last .1 .1 .1 .1 .1 .1 .1 .1 .1 .1 .0) ≡ 3592
+  leads-long = k .keep-others .kept .1 .1 .1 .1 .1 .1 .1 .1 .1 .1 .0 ∙ zeros-long _ 3592 (o (placed k) .pre .1 .1 .1 .1 .1 .1 .1)
+
+  rows-long : length (k .keep-others .last .1 .1 .1 .1 .1 .1 .1 .1 .1 .1 .1 .0) ≡ 28736
+  rows-long = k .keep-others .kept .1 .1 .1 .1 .1 .1 .1 .1 .1 .1 .1 .0 ∙ zeros-long _ 28736 (o (placed k) .pre .1 .1 .1 .1 .1 .1 .2)
+
+mul-lead : tie.Need-mul-lead
+mul-lead c = omega arith
+
+mul-lead-2 : tie.Need-mul-lead-2
+mul-lead-2 c = omega arith
+
+add-lead : tie.Need-add-lead
+add-lead c = omega arith
+
+sub-lead : tie.Need-sub-lead
+sub-lead c = omega arith
+
+part-lead-start : tie.Need-part-lead-start
+part-lead-start c = omega arith
+
+part-lead-end : tie.Need-part-lead-end
+part-lead-end c = let s = c .before .before .before .before .before .before .before .before .before .before .before in omega (arith, s .pre .1 .0, s .pre .1 .1 .0)
+
+mul-widen : tie.Need-mul-widen
+mul-widen c = omega arith
+
+mul-widen-2 : tie.Need-mul-widen-2
+mul-widen-2 c = omega arith
+
+add-widen : tie.Need-add-widen
+add-widen c = omega arith
+
+sub-widen : tie.Need-sub-widen
+sub-widen c = omega arith
+
+part-widen-start : tie.Need-part-widen-start
+part-widen-start c = omega arith
+
+part-widen-end : tie.Need-part-widen-end
+part-widen-end c = let s = c .before .before .before .before .before .before .before .before .before .before .before .before in omega (arith, s .pre .1 .0, s .pre .1 .1 .0)
+
+slice-aggregate-widen : tie.Need-slice-aggregate-widen
+slice-aggregate-widen c = refl
+
+widen-requires : tie.Need-widen-requires
+widen-requires c κs = omega arith
+
+slice-aggregate-row-value : tie.Need-slice-aggregate-row-value
+slice-aggregate-row-value c = sym (c .before .before .widen .kept .1 .0)
+
+row-value-requires : tie.Need-row-value-requires
+row-value-requires c κs =
+    let w = c .before .before in
+    let s = start w in
+    ((s .pre .0 .0, s .pre .0 .1), ((s .pre .1 .1 .0 .3, lead-long s), ((gone-long w ∙ sym (s .pre .1 .1 .0 .4), omega (arith, gone-long w)), (s .pre .1 .1 .1 .0 .3, (s .pre .1 .1 .1 .0 .4, gone-below w)))))
+
+inverse-requires : tie.Need-inverse-requires
+inverse-requires c κs = tt
+
+copy-requires : tie.Need-copy-requires
+copy-requires c κs = let s = start (c .before .before .before .before .before) in omega (arith, s .pre .1 .1 .0 .0, zeros-long _ 512 (s .pre .1 .1 .1 .1 .1 .1 .0))
+
+put-in-requires : tie.Need-put-in-requires
+put-in-requires c κs =
+    let s = start (c .before .before .before .before .before .before .before .before .before) in
+    ((omega (arith, s .pre .0 .3, c .before .before .before .copy .kept .1 .0, zeros-long _ 512 (s .pre .1 .1 .1 .1 .1 .1 .0)), omega (arith, s .pre .0 .3)), lead-long s)
+
+slice-aggregate-keep-others : tie.Need-slice-aggregate-keep-others
+slice-aggregate-keep-others c = sym (gone-long (widened (c .before .before .before)))
+
+keep-others-requires : tie.Need-keep-others-requires
+keep-others-requires c κs =
+    let d = c .before .before .before .before .before in
+    let w = widened d in
+    let s = start w in (
+      (s .pre .0 .0, s .pre .0 .1, omega (arith, s .pre .0 .3, within d), below d),
+      (
+        (gone-long w, s .pre .1 .1 .0 .3, s .pre .1 .1 .0 .4),
+        ((s .pre .1 .0 .0, s .pre .1 .0 .1, s .pre .1 .1 .0 .1, s .pre .1 .1 .0 .2), ((gone-below w, s .pre .1 .1 .1 .0 .3, s .pre .1 .1 .1 .0 .4, s .pre .1 .1 .1 .0 .1), (s .pre .1 .1 .1 .1 .1 .1 .1, s .pre .1 .1 .1 .1 .1 .1 .2))),
+      ),
+    )
+
+slice-aggregate-add-products : tie.Need-slice-aggregate-add-products
+slice-aggregate-add-products c = sym (gone-long (widened (placed (c .before .before .before .before .before))))
+
+sub-add-products : tie.Need-sub-add-products
+sub-add-products c = omega (arith, o (placed (c .before .before .before .before .before)) .pre .1 .0)
+
+add-products-requires : tie.Need-add-products-requires
+add-products-requires c κs =
+    let k = c .before .before .before .before .before .before .before in
+    let d = placed k in
+    let w = widened d in
+    let s = start w in (
+      (s .pre .0 .0, s .pre .0 .1, s .pre .0 .3, omega (arith, s .pre .0 .3, within d), below d),
+      (
+        (s .pre .1 .0 .3, s .pre .1 .0 .4, s .pre .1 .1 .1 .1 .0 .0),
+        (
+          (gone-long w, s .pre .1 .1 .0 .3, s .pre .1 .1 .0 .4, lead-long s),
+          (
+            (s .pre .0 .2, omega (arith, s .pre .1 .0), leads-long k, rows-long k),
+            ((s .pre .1 .1 .1 .0 .0, s .pre .1 .1 .1 .0 .2, gone-below w, s .pre .1 .1 .1 .0 .3, s .pre .1 .1 .1 .0 .4), (s .pre .1 .1 .1 .1 .0 .1, part-small 255 (8 * s .args .j + 8 - 8 * s .args .j) (8 * s .args .j) (s .args .leads .now) (omega arith) (s .pre .1 .1 .1 .1 .1 .0))),
+          ),
+        ),
+      ),
+    )
+
+same-length : tie.Need-same-length
+same-length c = let d = placed (c .before .before .before .before .before .before .before .before .before .before .before .before) in d .put-in .kept .1 .1 .0 ∙ copied d .copy .kept .1 .0
+
+same-length-2 : tie.Need-same-length-2
+same-length-2 c = c .before .before .before .before .add-products .kept .1 .1 .1 .1 .1 .1 .1 .1 .1 .1 .1 .1 .1 .1 .0 ∙ c .before .before .before .before .before .before .before .before .before .before .before .before .keep-others .kept .1 .1 .1 .1 .1 .1 .1 .1 .1 .1 .0
+
+same-length-3 : tie.Need-same-length-3
+same-length-3 c = c .before .before .before .before .add-products .kept .1 .1 .1 .1 .1 .1 .1 .1 .1 .1 .1 .1 .1 .1 .1 .0 ∙ c .before .before .before .before .before .before .before .before .before .before .before .before .keep-others .kept .1 .1 .1 .1 .1 .1 .1 .1 .1 .1 .1 .0
+
+returns : tie.Need-returns
+unfolding standardGrown
+returns c =
+    let k = c .before .before .before .before .before .before .before .before .before .before .before .before in
+    let d = placed k in
+    let s = o d in (
+      d .put-in .ensures .1 ∙ ap₂ (λ (i : ℕ) (t : List ℕ). withRowAt 8 (s .args .n) i (lead s) t) (place-is d) (old d) ∙ ap (standardGrown (s .args .order) (s .args .n) (s .args .standard .now)) (lead-is s),
+      c .before .before .before .before .add-products .ensures
+          ∙ grown-by (s .args .p) (s .args .m) (s .args .order) (s .args .n) (s .args .r) (s .args .points .now) (s .args .standard .now) (s .args .leads .now) (s .args .coefficients .now) (s .args .rows .now) (s .args .pivots .now) (s .args .point .now) (s .args .values .now) (s .args .j)
+          _ _ _ _ _ _ (lead-is s) (gone-is (widened d)) (place-is d) (inverse-is d) (k .keep-others .ensures .0) (k .keep-others .ensures .1),
+    )
+
+pub grow-spec : {M : Type 1} → statement M
+grow-spec =
+    tie.close
+    (tie.spec
+    mul-lead
+    mul-lead-2
+    add-lead
+    sub-lead
+    part-lead-start
+    part-lead-end
+    mul-widen
+    mul-widen-2
+    add-widen
+    sub-widen
+    part-widen-start
+    part-widen-end
+    slice-aggregate-widen
+    widen-requires
+    slice-aggregate-row-value
+    row-value-requires
+    inverse-requires
+    copy-requires
+    put-in-requires
+    slice-aggregate-keep-others
+    keep-others-requires
+    slice-aggregate-add-products
+    sub-add-products
+    add-products-requires
+    same-length
+    same-length-2
+    same-length-3
+    returns)

@@ -1,0 +1,170 @@
+-- `adding::products::put_row` meets its contract.
+use mathlib.Core.Path.{_≡_, sym, ap, subst, _∙_, refl}
+use mathlib.Core.List.{List, [], _∷_, map}
+use Prim.Native.Nat.{ℕ, zero, suc, _+_, _*_, _-_, _%_, _<_, _≤_}
+use native.Mathlib.Omega.{arith}
+use lib.ListN.{getD, take, drop, replicate, length-drop}
+use lib.Seq.{length-take-le}
+use Rattle.residue.specs.Vector.{Below}
+use Rattle.residue.specs.Elimination.{eliminated}
+use Rattle.residue.specs.Layout.{groups, over}
+use Rattle.residue.proofs.vector.Vectors.{below-take, below-drop}
+use Rattle.residue.proofs.elimination.Eliminated.{eliminated-below}
+use Rattle.residue.proofs.Layouts.{remainders-below}
+use Rattle.monomial.specs.Monomial.{valueAt}
+use Rattle.monomial.proofs.insert.Writes.{row-in}
+use Rattle.basis.specs.Adding.{correctedRow, reducedRow}
+use Rattle.basis.proofs.adding.NewRows.{one-term}
+use Rattle.basis.proofs.adding.products.put_row.Statement.{statement}
+use Rattle.basis.proofs.adding.products.put_row.Tie as tie
+
+-- 1 is a residue
+one : {p : ℕ} (i : ℕ) → i < 1 → 2 ≤ p → getD (1 ∷ []) i 0 < p
+one zero h k = omega arith
+one (suc i) h k = absurd (omega arith)
+
+-- the values are those of the monomial, zeros behind: residues
+abbrev start : tie.After-put-term-values → tie.Start
+start d = d .before .before .before .before .before .before .before .before .before .before .before
+
+module _ (d : tie.After-put-term-values) where
+  abbrev s : tie.Start
+  s = start d
+
+  abbrev work : List ℕ
+  work = d .put-term-values .last .1 .1 .1 .1 .1 .0
+
+  loaded : work ≡ over (map (λ point. valueAt point (s .args .a .now) % s .args .p) (groups 8 (s .args .n) (s .args .points .now))) (replicate 128 0)
+  loaded = d .put-term-values .ensures ∙ ap (λ (l : List ℕ). over l (replicate 128 0)) (one-term (s .args .p) (s .args .n) (s .args .a .now) (s .args .points .now) (s .pre .1 .1 .0 .3))
+
+  below : Below (s .args .p) work
+  below = subst (Below (s .args .p)) (sym loaded) (remainders-below (s .args .p) (λ point. valueAt point (s .args .a .now)) (groups 8 (s .args .n) (s .args .points .now)) 128 (omega (arith, s .pre .0)))
+
+slice-aggregate-put-term-values : tie.Need-slice-aggregate-put-term-values
+slice-aggregate-put-term-values c = refl
+
+slice-aggregate-put-term-values-2 : tie.Need-slice-aggregate-put-term-values-2
+slice-aggregate-put-term-values-2 c = refl
+
+put-term-values-requires : tie.Need-put-term-values-requires
+put-term-values-requires c κs =
+    let s = c .before .before .before .before .before .before .before .before .before .before in
+    ((s .pre .0 .0, s .pre .0 .1), ((λ i h. one i h (s .pre .0 .0)), (s .pre .1 .1 .0 .3, ((omega arith, (s .pre .1 .0 .0, s .pre .1 .1 .1 .1 .0 .0)), refl))))
+
+slice-aggregate-eliminate : tie.Need-slice-aggregate-eliminate
+slice-aggregate-eliminate c = sym (c .before .before .put-term-values .kept .1 .1 .1 .1 .1 .0)
+
+eliminate-requires : tie.Need-eliminate-requires
+eliminate-requires c κs =
+    let d = c .before .before in
+    let s = start d in
+    ((s .pre .0 .0, s .pre .0 .1, omega arith), (λ t j h l m. absurd (omega arith), (d .put-term-values .kept .1 .1 .1 .1 .1 .0, ((omega arith, omega arith), ((s .pre .1 .1 .1 .1 .0 .1, below d), λ t h. omega (arith, s .pre .1 .1 .1 .1 .1 t h))))))
+
+mul-from : tie.Need-mul-from
+mul-from c = omega arith
+
+mul-move-on : tie.Need-mul-move-on
+mul-move-on c = omega arith
+
+move-on-requires : tie.Need-move-on-requires
+move-on-requires c κs = omega arith
+
+add-correct : tie.Need-add-correct
+add-correct c = omega arith
+
+mul-work : tie.Need-mul-work
+mul-work c = omega arith
+
+sub-correct : tie.Need-sub-correct
+sub-correct c = omega arith
+
+part-work-start : tie.Need-part-work-start
+part-work-start c = omega arith
+
+part-work-end : tie.Need-part-work-end
+part-work-end c = omega arith
+
+add-correct-2 : tie.Need-add-correct-2
+add-correct-2 c = omega (arith, c .before .before .before .before .before .before .before .before .before .before .before .before .before .before .before .before .before .before .before .before .pre .1 .1 .1 .0)
+
+sub-correct-2 : tie.Need-sub-correct-2
+sub-correct-2 c = omega arith
+
+part-correct-start : tie.Need-part-correct-start
+part-correct-start c = omega arith
+
+part-correct-end : tie.Need-part-correct-end
+part-correct-end c = omega (arith, c .before .before .before .before .before .before .before .before .before .before .before .before .before .before .before .before .before .before .before .before .pre .1 .1 .1 .0)
+
+correct-requires : tie.Need-correct-requires
+correct-requires c κs =
+    let d = c .before .before .before .before .before .before .before .before .before .before in
+    let s = start d in
+    let n : ℕ = s .args .n in
+    let i : ℕ = s .args .i in
+    let moved = c .before .before .before .before .move-on .last .1 .1 .1 .0 in
+    let long = c .before .before .before .before .move-on .kept .1 .1 .1 .0 in
+    let e : n + 64 - n ≡ 64 = omega arith in
+    let r = length-take-le (64 * i + 64 - 64 * i) (drop (64 * i) moved) (simp length-drop (omega arith)) in
+    let w = c .before .before .before .before .before .before .before .eliminate .last .1 .1 .1 .1 .1 .0 in
+    let h = c .before .before .before .before .before .before .before .eliminate .kept .1 .1 .1 .1 .1 .0 in
+    let l = d .put-term-values .kept .1 .1 .1 .1 .1 .0 in
+    let z = length-take-le (n + 64 - n) (drop n w) (simp length-drop (omega arith)) in (
+      (s .pre .0 .0, s .pre .0 .1, s .pre .0 .3, s .pre .0 .4),
+      (
+        (s .pre .1 .1 .0 .1, s .pre .1 .1 .0 .3, s .pre .1 .1 .0 .2),
+        (
+          (s .pre .1 .1 .0 .0, omega arith, omega arith),
+          (
+            (s .pre .1 .1 .1 .1 .0 .3, s .pre .1 .1 .1 .1 .0 .4),
+            (
+              s .pre .1 .1 .1 .1 .0 .2,
+              below-take (s .args .p) (n + 64 - n) (drop n w) (below-drop (s .args .p) n w (subst (Below (s .args .p)) (sym (c .before .before .before .before .before .before .before .eliminate .ensures))
+                  (eliminated-below (s .args .p) (s .args .rows .now) (s .args .pivots .now) _ l (omega arith) (below d) n (omega arith)))),
+            ),
+          ),
+        ),
+      ),
+    )
+
+same-length : tie.Need-same-length
+same-length c = omega arith
+
+returns : tie.Need-returns
+unfolding reducedRow
+returns c =
+    let d = c .before .before .before .before .before .before .before .before .before .before .before .before .before .before in
+    let s = start d in
+    let n : ℕ = s .args .n in
+    let i : ℕ = s .args .i in
+    let e : n + 64 - n ≡ 64 = omega arith in
+    let cs : take (n + 64 - n) (drop n (c .before .before .before .before .before .before .before .before .before .before .before .eliminate .last .1 .1 .1 .1 .1 .0)) ≡ reducedRow (s .args .p) n (s .args .points .now) (s .args .rows .now) (s .args .pivots .now) (s .args .a .now) =
+    ap (λ (k : ℕ). take k (drop n (c .before .before .before .before .before .before .before .before .before .before .before .eliminate .last .1 .1 .1 .1 .1 .0))) e
+    ∙ ap (λ (z : List ℕ). take 64 (drop n z)) (c .before .before .before .before .before .before .before .before .before .before .before .eliminate .ensures ∙ ap (eliminated (s .args .p) (s .args .rows .now) (s .args .pivots .now) n) (loaded d)) in
+    row-in 64 (s .args .k) i (64 * i + 64 - 64 * i) _ (s .args .table .now) (c .before .before .before .before .before .before .before .before .move-on .last .1 .1 .1 .0) (c .before .before .before .correct .last .1 .1 .1 .1 .1 .1 .1 .1 .0) (omega arith) (omega arith) (omega arith) (c .before .before .before .before .before .before .before .before .move-on .ensures)
+    (c .before .before .before .correct .ensures .1 ∙ ap (correctedRow (s .args .p) (s .args .place) (s .args .inverse) (s .args .gone .now) (s .args .point .now) (s .args .values .now) (s .args .a .now)) cs)
+
+pub put-row-spec : {M : Type 1} → statement M
+put-row-spec =
+    tie.close
+    (tie.spec
+    slice-aggregate-put-term-values
+    slice-aggregate-put-term-values-2
+    put-term-values-requires
+    slice-aggregate-eliminate
+    eliminate-requires
+    mul-from
+    mul-move-on
+    move-on-requires
+    add-correct
+    mul-work
+    sub-correct
+    part-work-start
+    part-work-end
+    add-correct-2
+    sub-correct-2
+    part-correct-start
+    part-correct-end
+    correct-requires
+    same-length
+    returns)

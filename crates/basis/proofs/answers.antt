@@ -1,0 +1,5 @@
+-- The calls that answer from recognised tables: their refusals and their answers.
+pub mod Terms
+pub mod Refusals
+pub mod Interpolants
+pub mod Answered

@@ -1,0 +1,120 @@
+-- `answers::solving::put_names` meets its contract: the names of the first k variables have been put.
+use mathlib.Core.Path.{_≡_, refl, sym, ap, ap₂, _∙_}
+use mathlib.Core.List.{List, [], _∷_}
+use Prim.Native.Nat.{ℕ, _+_, _-_, _≤_}
+use native.Mathlib.Omega.{arith}
+use lib.ListN.{length, take, set, length-append}
+use mathlib.Core.Logic.{⊎-elim}
+use Rattle.residue.specs.Layout.{groups, fill}
+use Rattle.residue.proofs.Layouts.{fill-zeros, fill-put, length-fill}
+use Rattle.specification.proofs.Wiring.{names-on, names-off, names-length}
+use Rattle.specification.specs.Solving.{wiringOf}
+use Rattle.basis.proofs.answers.solving.put_names.Statement.{statement}
+use Rattle.basis.proofs.answers.solving.put_names.Tie as tie
+
+-- the names of the first k variables
+abbrev put : ℕ → List ℕ → List ℕ → ℕ → List ℕ
+put n coefficients standard k = wiringOf k (take n coefficients) (groups 8 n standard)
+
+abbrev Inv-loop : tie.InvT-loop
+Inv-loop m n coefficients standard out₀ count₀ k₀ out count k = (k ≤ m) × ((count ≡ length (put n coefficients standard k)) × (out ≡ fill 8 (put n coefficients standard k)))
+
+abbrev μ-loop : tie.MeasureT-loop
+μ-loop m n coefficients standard out₀ count₀ k₀ out count k = m - k
+
+-- at the loop's head
+module _ (l : tie.At-loop Inv-loop μ-loop) where
+  abbrev start : tie.Start Inv-loop μ-loop
+  start = l .before .before .before .before
+
+  abbrev so-far : List ℕ
+  so-far = put (start .args .n) (start .args .coefficients .now) (start .args .standard .now) (l .loop .k)
+
+  few : l .loop .count ≤ l .loop .k
+  few = rw (l .loop .inv .1 .0) (names-length (take (start .args .n) (start .args .coefficients .now)) (groups 8 (start .args .n) (start .args .standard .now)) (l .loop .k))
+
+  long : length (l .loop .out) ≡ 8
+  long = ap length (l .loop .inv .1 .1) ∙ length-fill 8 so-far
+
+loop-holds : tie.Need-loop-holds Inv-loop μ-loop
+unfolding wiringOf
+loop-holds c = (omega arith, (refl, c .before .before .before .pre .1 ∙ sym (fill-zeros 8)))
+
+occurs-requires : tie.Need-occurs-requires Inv-loop μ-loop
+occurs-requires c κs = let l = c .before in let s = start l in (omega arith, s .pre .0 .1, s .pre .0 .2)
+
+add-out : tie.Need-add-out Inv-loop μ-loop
+add-out c = omega arith
+
+cast-out : tie.Need-cast-out Inv-loop μ-loop
+cast-out c = omega (arith, few (c .before .before .before))
+
+cast-out-2 : tie.Need-cast-out-2 Inv-loop μ-loop
+cast-out-2 c = omega (arith, few (c .before .before .before))
+
+slice-write-out : tie.Need-slice-write-out Inv-loop μ-loop
+slice-write-out c = omega (arith, few (c .before .before .before), long (c .before .before .before))
+
+add-count : tie.Need-add-count Inv-loop μ-loop
+add-count c = omega (arith, few (c .before .before .before))
+
+add-k : tie.Need-add-k Inv-loop μ-loop
+add-k c = omega arith
+
+loop-less : tie.Need-loop-less Inv-loop μ-loop
+loop-less c = omega arith
+
+loop-again : tie.Need-loop-again Inv-loop μ-loop
+loop-again c =
+    let l = c .before .before .before in
+    let cs : List ℕ = take (start l .args .n) (start l .args .coefficients .now) in
+    let t : List (List ℕ) = groups 8 (start l .args .n) (start l .args .standard .now) in
+    let k : ℕ = l .loop .k in
+    let r = sym (c .before .occurs .ensures) in
+    ⊎-elim
+    (λ w.
+    let e = names-on cs t k (r ∙ w .0 .taken) in
+    let n = length-append (so-far l) ((k + 1) ∷ []) in
+    let f = few l in (
+      omega arith,
+      (
+        w .2 ∙ omega (arith, l .loop .inv .1 .0) ∙ sym (ap length e),
+        w .1
+            ∙ ap₂ (λ (o : List ℕ) (j : ℕ). set o j (k + 1)) (l .loop .inv .1 .1) (l .loop .inv .1 .0)
+            ∙ fill-put 8 (so-far l) (k + 1) (omega (arith, l .loop .inv .1 .0))
+            ∙ ap (fill 8) (sym e),
+      ),
+    ))
+    (λ w.
+    let e = sym (names-off cs t k (r ∙ w .0 .left)) in
+    (omega arith, (w .2 ∙ l .loop .inv .1 .0 ∙ ap length e, w .1 ∙ l .loop .inv .1 .1 ∙ ap (fill 8) e)))
+    (c .if1 .came)
+
+same-length : tie.Need-same-length Inv-loop μ-loop
+same-length c = long (c .before) ∙ sym (ap length (start (c .before) .pre .1))
+
+returns : tie.Need-returns Inv-loop μ-loop
+returns c =
+    let l = c .before in
+    let e : l .loop .k ≡ start l .args .m = omega arith in
+    let f = ap (put (start l .args .n) (start l .args .coefficients .now) (start l .args .standard .now)) e in
+    (l .loop .inv .1 .0 ∙ ap length f, l .loop .inv .1 .1 ∙ ap (fill 8) f)
+
+pub put-names-spec : {M : Type 1} → statement M
+put-names-spec =
+    tie.close
+    (tie.spec
+    Inv-loop
+    μ-loop
+    loop-holds
+    occurs-requires
+    add-out
+    cast-out
+    cast-out-2
+    slice-write-out
+    add-count
+    add-k
+    loop-less
+    loop-again
+    same-length
+    returns)

@@ -1,0 +1,3 @@
+-- Checking lent tables, and what recognised tables hold.
+pub mod Tests
+pub mod Recognised

@@ -1,0 +1,51 @@
+-- Refusal 10 test by test, and the number of a check.
+use mathlib.Core.Path.{_≡_, refl, sym, _∙_}
+use mathlib.Core.Bool.{Bool, true, false, _&&_, and-assoc, not}
+use mathlib.Core.List.{List, [], _∷_, _++_}
+use Prim.Native.Nat.{ℕ}
+use lib.Dec.{eqb, ltb}
+use borrow.Author.Tests.{eq-eqb, ne-eqb}
+use Rattle.residue.specs.Layout.{begins}
+use Rattle.specification.specs.declared.settings.Settings.{Settings}
+use Rattle.specification.specs.Refusal.{firstOf}
+use Rattle.specification.specs.Settings.{settingsCases}
+use Rattle.specification.specs.Levels.{noRepeat}
+use Rattle.specification.specs.Tables.{Tables, fourTables, rowCount, tablesOf, recognised, tooShort}
+use Rattle.specification.specs.Solving.{checkRefusal}
+use Rattle.specification.proofs.Recognised.{readIn}
+use Rattle.basis.proofs.settings.BySize.{sizes, by-size, by-rest}
+
+-- Refusal 10, test by test: the points, the row count, the four tables.
+module _ (s : Settings) (n r : ℕ) (t : Tables) where
+  abbrev pub sameTables : Tables → Bool
+  sameTables new = begins (new .states) (t .states) && (begins (new .standard) (t .standard) && (begins (new .leads) (t .leads) && begins (new .coefficients) (t .coefficients)))
+
+  pub recognised-is : recognised s n r t ≡ (noRepeat (readIn s n r t) && (eqb r (rowCount s (readIn s n r t)) && sameTables (tablesOf s (readIn s n r t))))
+  unfolding recognised
+  recognised-is = simp and-assoc
+
+  pub not-once : noRepeat (readIn s n r t) ≡ false → false ≡ recognised s n r t
+  not-once e = sym (recognised-is ∙ simp e)
+
+  pub not-count : noRepeat (readIn s n r t) ≡ true → (r ≡ rowCount s (readIn s n r t) → ⊥) → false ≡ recognised s n r t
+  not-count e f = sym (recognised-is ∙ simp (e, ne-eqb r (rowCount s (readIn s n r t)) f))
+
+  pub by-tables : noRepeat (readIn s n r t) ≡ true → r ≡ rowCount s (readIn s n r t) → (a b c d : List ℕ) → a ≡ tablesOf s (readIn s n r t) .states → b ≡ tablesOf s (readIn s n r t) .standard
+      → c ≡ tablesOf s (readIn s n r t) .leads → d ≡ tablesOf s (readIn s n r t) .coefficients → sameTables (fourTables a b c d) ≡ recognised s n r t
+  by-tables e f a b c d g h i j = rw (g, h, i, j) (sym (recognised-is ∙ simp (e, eq-eqb r (rowCount s (readIn s n r t)) f)))
+
+-- Checking.
+module _ (s : Settings) (n r : ℕ) (t : Tables) where
+  abbrev pub checkSizes : ℕ
+  checkSizes = firstOf (settingsCases s ++ sizes s (tooShort t) false (ltb 64 n))
+
+  -- a case that never holds is none
+  whole : firstOf (settingsCases s ++ (sizes s (tooShort t) false (ltb 64 n) ++ ((not (recognised s n r t), 10) ∷ []))) ≡ checkRefusal s n r t
+  unfolding firstOf settingsCases checkRefusal
+  whole = refl
+
+  pub check-size : (k : ℕ) → k ≡ checkSizes → (k ≡ 0 → ⊥) → k ≡ checkRefusal s n r t
+  check-size k e z = by-size s (tooShort t) false (ltb 64 n) _ k e z ∙ whole
+
+  pub check-told : checkSizes ≡ 0 → (k : ℕ) → k ≡ firstOf ((not (recognised s n r t), 10) ∷ []) → k ≡ checkRefusal s n r t
+  check-told e k f = f ∙ by-rest s (tooShort t) false (ltb 64 n) _ e ∙ whole

@@ -1,0 +1,61 @@
+-- `checking::agree` meets its contract: at each return the tests that led there decide it.
+use native.Mathlib.Omega.{arith}
+use borrow.Author.Tests.{not-true, not-false}
+use mathlib.Core.Path.{sym, _∙_}
+use Rattle.basis.proofs.checking.agree.Statement.{statement}
+use Rattle.basis.proofs.checking.agree.Tie as tie
+
+begins-requires : tie.Need-begins-requires
+begins-requires c κs = omega arith
+
+returns : tie.Need-returns
+returns c = simp (sym (c .before .begins .ensures) ∙ not-true _ (c .if1 .taken))
+
+begins-requires-2 : tie.Need-begins-requires-2
+begins-requires-2 c κs = omega arith
+
+returns-2 : tie.Need-returns-2
+returns-2 c =
+    let a = c .before .before in
+    simp (sym (a .before .begins .ensures) ∙ not-false _ (a .if1 .left), sym (c .before .begins2 .ensures) ∙ not-true _ (c .if2 .taken))
+
+begins-requires-3 : tie.Need-begins-requires-3
+begins-requires-3 c κs = omega arith
+
+returns-3 : tie.Need-returns-3
+returns-3 c =
+    let b = c .before .before in
+    let a = b .before .before in
+    simp (
+      sym (a .before .begins .ensures) ∙ not-false _ (a .if1 .left),
+      sym (b .before .begins2 .ensures) ∙ not-false _ (b .if2 .left),
+      sym (c .before .begins3 .ensures) ∙ not-true _ (c .if3 .taken),
+    )
+
+begins-requires-4 : tie.Need-begins-requires-4
+begins-requires-4 c κs = omega arith
+
+returns-4 : tie.Need-returns-4
+returns-4 c =
+    let d = c .before in
+    let b = d .before .before in
+    let a = b .before .before in
+    c .begins4 .ensures
+    ∙ simp (
+      sym (a .before .begins .ensures) ∙ not-false _ (a .if1 .left),
+      sym (b .before .begins2 .ensures) ∙ not-false _ (b .if2 .left),
+      sym (d .before .begins3 .ensures) ∙ not-false _ (d .if3 .left),
+    )
+
+pub agree-spec : {M : Type 1} → statement M
+agree-spec =
+    tie.close
+    (tie.spec
+    begins-requires
+    returns
+    begins-requires-2
+    returns-2
+    begins-requires-3
+    returns-3
+    begins-requires-4
+    returns-4)

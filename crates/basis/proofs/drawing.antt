@@ -1,0 +1,17 @@
+-- Drawing up from all points by elimination over value columns: what it is handed, its loop, and its outcome.
+pub mod Pivots
+pub mod Span
+pub mod UpTo
+pub mod Positions
+pub mod ReducedRows
+pub mod Candidates
+pub mod Matrix
+pub mod FoundRows
+pub mod ProductValues
+pub mod Held
+pub mod Decisions
+pub mod Hands
+pub mod Grounds
+pub mod Loop
+pub mod Given
+pub mod Outcomes

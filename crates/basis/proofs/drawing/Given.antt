@@ -1,0 +1,61 @@
+-- The points of a call, in a table, as drawing up is handed them; and what it leaves.
+use mathlib.Core.Path.{_≡_, refl, sym, _∙_, ap, subst}
+use mathlib.Core.List.{List}
+use Prim.Native.Nat.{ℕ, _≤_}
+use native.Mathlib.Omega.{arith}
+use lib.ListN.{length}
+use lib.Dec.{T}
+use Rattle.residue.specs.Lists.{Among}
+use Rattle.residue.specs.Layout.{groups, fill, inPlaces}
+use Rattle.residue.proofs.Layouts.{over-all, length-fill}
+use Rattle.residue.proofs.Places.{table-groups}
+use Rattle.specification.specs.declared.settings.Settings.{Settings}
+use Rattle.specification.specs.Levels.{noRepeat}
+use Rattle.specification.specs.Tables.{tablesOf, pointsIn}
+use Rattle.specification.proofs.Repeats.{repeat-filled}
+use Rattle.specification.proofs.agreement.Points.{IsPoint, Points, points-back}
+use Rattle.specification.proofs.agreement.Refusals.{Accepted}
+use Rattle.specification.proofs.Recognised.{length-read}
+use Rattle.basis.specs.Drawing.{PointsGiven, DrawnUp}
+
+-- its settings, and how many points there are
+pub settings-given : {s : Settings} {n : ℕ} {points : List ℕ} → PointsGiven s n points → Accepted s
+settings-given g = record { modulus = g .modulus; some = g .some; few = g .few; order = g .order }
+
+pub given-count : {s : Settings} {n : ℕ} {points : List ℕ} → PointsGiven s n points → length (pointsIn s n points) ≡ n
+given-count {s} {n} {points} g = length-read s (settings-given g) n points
+
+module _ (s : Settings) (ok : Accepted s) where
+  -- A table of points.
+  module _ (L : List (List ℕ)) (h : (P : List ℕ) → Among P L → IsPoint s P) (few : length L ≤ 64) where
+    pub table-repeat : noRepeat (groups 8 (length L) (fill 512 (inPlaces 8 L))) ≡ noRepeat L
+    table-repeat = ap noRepeat (table-groups 8 512 L (omega arith)) ∙ repeat-filled 8 (s .variables) (ok .few) L (λ P w. h P w .long)
+
+  module _ (L : List (List ℕ)) (h : Points s L) where
+    pub table-points : pointsIn s (length L) (fill 512 (inPlaces 8 L)) ≡ L
+    table-points =
+        let t : List ℕ = fill 512 (inPlaces 8 L) in
+        ap (pointsIn s (length L)) (sym (over-all t t refl)) ∙ points-back s (ok .few) L h t
+
+    pub given : PointsGiven s (length L) (fill 512 (inPlaces 8 L))
+    given = record {
+      modulus = ok .modulus;
+      some = ok .some;
+      few = ok .few;
+      order = ok .order;
+      most = h .few;
+      table = ap (λ (S : List (List ℕ)). fill 512 (inPlaces 8 S)) (sym table-points);
+      once = subst (λ (S : List (List ℕ)). T (noRepeat S)) (sym table-points) (h .once);
+    }
+
+-- the sizes of the tables drawn up
+pub drawn-long : (s : Settings) (S : List (List ℕ)) (r : ℕ) (standard leads coefficients rows pivots : List ℕ) → DrawnUp s S r standard leads coefficients rows pivots
+    → (length standard ≡ 512) × ((length leads ≡ 3592) × (length coefficients ≡ 28736))
+unfolding tablesOf
+drawn-long s S r standard leads coefficients rows pivots h =
+    (ap length (h .tabled .standard-table) ∙ length-fill 512 _, (ap length (h .tabled .leads-table) ∙ length-fill 3592 _, ap length (h .tabled .coefficients-table) ∙ length-fill 28736 _))
+
+-- of the same points
+pub drawn-of : {s : Settings} {S K : List (List ℕ)} {r : ℕ} {standard leads coefficients rows pivots : List ℕ} → S ≡ K → DrawnUp s S r standard leads coefficients rows pivots
+    → DrawnUp s K r standard leads coefficients rows pivots
+drawn-of {s} {S} {K} {r} {standard} {leads} {coefficients} {rows} {pivots} e h = subst (λ (Z : List (List ℕ)). DrawnUp s Z r standard leads coefficients rows pivots) e h

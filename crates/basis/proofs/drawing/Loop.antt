@@ -1,0 +1,251 @@
+-- The loop of drawing up, over the lists that the code holds: its head, each turn, and its end.
+use mathlib.Core.Path.{_≡_, refl, sym, ap, ap₂, subst, _∙_}
+use mathlib.Core.List.{List, [], _∷_, _++_}
+use Prim.Native.Nat.{ℕ, suc, _+_, _-_, _*_, _<_, _≤_}
+use native.Mathlib.Omega.{arith}
+use lib.ListN.{length, getD, set, take, drop, replicate, length-append}
+use Rattle.residue.specs.Inverse.{inverseOf}
+use Rattle.residue.specs.Vector.{Below}
+use Rattle.residue.specs.Elimination.{eliminated, ZeroBehind}
+use Rattle.residue.specs.Layout.{fill, withPlace}
+use Rattle.residue.specs.Rows.{firstNonzero, pivotRow, withRow}
+use Rattle.residue.proofs.Layouts.{length-fill}
+use Rattle.monomial.specs.Monomial.{timesVariable}
+use Rattle.monomial.specs.Order.{Order, orderOf}
+use Rattle.monomial.specs.declared.candidate.Candidate.{Candidate}
+use Rattle.monomial.specs.declared.candidate.Candidate.the-variants as Candidate
+use Rattle.monomial.specs.Rank.{stepsOf, rankBound}
+use Rattle.monomial.specs.Columns.{columnOf}
+use Rattle.monomial.specs.Candidate.{searchEnds, nextOf}
+use Rattle.specification.specs.declared.settings.Settings.{Settings}
+use Rattle.specification.specs.BasisOf.{standardOf}
+use Rattle.specification.specs.Instance.{Monomial, Point}
+use Rattle.specification.specs.Tables.{spaceUnder, pointsUnder, pointsIn}
+use Rattle.basis.specs.Drawing.{productValues, settingsOf, PointsGiven, DrawnUp}
+use Rattle.basis.proofs.drawing.Positions.{productAt}
+use Rattle.basis.proofs.drawing.Candidates.{Outcome, Found, next-candidate}
+use Rattle.basis.proofs.drawing.FoundRows.{longer}
+use Rattle.basis.proofs.drawing.Held.{Ground, Held, InHand, Decided}
+use Rattle.basis.proofs.drawing.Decisions.{few-standard, few-leads, work-long, work-below, lead-room, lead-decided, lead-held, standard-more, standard-decided, standard-held}
+use Rattle.basis.proofs.drawing.Hands.{start-held, start-hand, few-found, exponent-small, next-hand}
+use Rattle.basis.proofs.drawing.Grounds.{ground, coordinate, drawn-up}
+
+-- What the code's calls ask of the tables.
+pub record Sized (p n found : ℕ) (standard leads coefficients rows pivots values ranks : List ℕ) : Type 0 where
+  pub found-room : found ≤ n
+  pub standard-long : length standard ≡ 512
+  pub leads-long : length leads ≡ 3592
+  pub coefficients-long : length coefficients ≡ 28736
+  pub rows-long : length rows ≡ 8192
+  pub pivots-long : length pivots ≡ 64
+  pub values-long : length values ≡ 4096
+  pub ranks-long : length ranks ≡ 64
+  pub rows-below : Below p rows
+  pub values-below : Below p values
+  pub ranks-below : Below rankBound ranks
+  pub pivots-inside : (t : ℕ) → t < found → getD pivots t 0 < n
+  pub rows-zero : ZeroBehind n found rows
+
+-- the points under the settings
+abbrev pub pointsOf : (p m order n : ℕ) → List ℕ → List (Point (suc (p - 1)) m)
+pointsOf p m order n points = pointsUnder (settingsOf p m order) (pointsIn (settingsOf p m order) n points)
+
+module _ (p m order n : ℕ) (points : List ℕ) where
+  -- A monomial is in hand.
+  pub record Head (found r : ℕ) (standard leads coefficients rows pivots values ranks steps at exponents : List ℕ) (rank : ℕ) (own : List ℕ) : Type 0 where
+    pub std : List (Monomial m)
+    pub lds : List (Monomial m)
+    pub css : List (List ℕ)
+    pub hand : Monomial m
+    pub found-is : found ≡ length std
+    pub r-is : r ≡ length lds
+    pub held : Held (p - 1) m n (orderOf order) (pointsOf p m order n points) std lds css standard leads coefficients rows pivots values ranks steps
+    pub in-hand : InHand (p - 1) m n (orderOf order) (pointsOf p m order n points) std lds hand at exponents rank own
+
+  -- It is kept.
+  pub record Kept (found r : ℕ) (standard leads coefficients rows pivots values ranks steps at : List ℕ) : Type 0 where
+    pub std : List (Monomial m)
+    pub lds : List (Monomial m)
+    pub css : List (List ℕ)
+    pub found-is : found ≡ length std
+    pub r-is : r ≡ length lds
+    pub held : Held (p - 1) m n (orderOf order) (pointsOf p m order n points) std lds css standard leads coefficients rows pivots values ranks steps
+    pub decided : Decided (p - 1) m n (orderOf order) (pointsOf p m order n points) std lds at
+
+module _ {p m order n : ℕ} {points : List ℕ} where
+  -- the same lists, by their equations
+  pub kept-as : {found found′ r r′ : ℕ} {standard standard′ leads leads′ coefficients coefficients′ rows rows′ pivots pivots′ values values′ ranks ranks′ steps at : List ℕ}
+      → found ≡ found′ → r ≡ r′ → standard ≡ standard′ → leads ≡ leads′ → coefficients ≡ coefficients′ → rows ≡ rows′ → pivots ≡ pivots′ → values ≡ values′ → ranks ≡ ranks′
+      → Kept p m order n points found′ r′ standard′ leads′ coefficients′ rows′ pivots′ values′ ranks′ steps at → Kept p m order n points found r standard leads coefficients rows pivots values ranks steps at
+  kept-as a b c d e f g h i k = rw (a, b, c, d, e, f, g, h, i) k
+
+  module _ (given : PointsGiven (settingsOf p m order) n points) where
+    abbrev s : Settings
+    s = settingsOf p m order
+
+    abbrev S : List (Point (suc (p - 1)) m)
+    S = pointsOf p m order n points
+
+    abbrev o : Order
+    o = orderOf order
+
+    G : Ground (p - 1) m n o S p
+    G = ground given
+
+    pub residues-of : (l : List ℕ) → Below (suc (p - 1)) l → Below p l
+    residues-of l b = subst (λ (z : ℕ). Below z l) (sym (G .modulus)) b
+
+    pub head-start : {standard leads coefficients rows pivots steps : List ℕ} → standard ≡ replicate 512 0 → leads ≡ replicate 3592 0 → coefficients ≡ replicate 28736 0
+        → rows ≡ replicate 8192 0 → length pivots ≡ 64 → steps ≡ stepsOf o
+        → Head p m order n points 0 0 standard leads coefficients rows pivots (replicate 4096 0) (replicate 64 0) steps (replicate 8 0) (replicate 8 0) 0 (replicate 64 1)
+    head-start {standard} {leads} {coefficients} {rows} {pivots} a b c d e f = record {
+      std = [];
+      lds = [];
+      css = [];
+      hand = spaceUnder s .one;
+      found-is = refl;
+      r-is = refl;
+      held = rw f (start-held G a b c d e);
+      in-hand = start-hand G;
+    }
+
+    module _ {found : ℕ} {standard leads coefficients rows pivots values ranks steps : List ℕ} where
+      -- the tables' sizes, from what they hold
+      sized : {std lds : List (Monomial m)} {css : List (List ℕ)} → found ≡ length std → Held (p - 1) m n o S std lds css standard leads coefficients rows pivots values ranks steps
+          → Sized p n found standard leads coefficients rows pivots values ranks
+      sized e H = record {
+        found-room = omega (arith, H .pivot-rows .room);
+        standard-long = ap length (H .standard-table) ∙ length-fill 512 _;
+        leads-long = ap length (H .leads-table) ∙ length-fill 3592 _;
+        coefficients-long = ap length (H .coefficients-table) ∙ length-fill 28736 _;
+        rows-long = H .pivot-rows .long-rows;
+        pivots-long = H .pivot-rows .long-pivots;
+        values-long = H .values-long;
+        ranks-long = H .ranks-long;
+        rows-below = residues-of rows (H .pivot-rows .below);
+        values-below = residues-of values (H .values-below);
+        ranks-below = H .ranks-below;
+        pivots-inside = λ t h. H .pivot-rows .pivot t (omega arith);
+        rows-zero = λ t j h. H .pivot-rows .beyond t j (omega arith);
+      }
+
+      module _ {r : ℕ} {at exponents : List ℕ} {rank : ℕ} {own : List ℕ} (h : Head p m order n points found r standard leads coefficients rows pivots values ranks steps at exponents rank own) where
+        pub head-sized : Sized p n found standard leads coefficients rows pivots values ranks
+        head-sized = sized (h .found-is) (h .held)
+
+        pub exponents-long : length exponents ≡ 8
+        exponents-long = ap length (h .in-hand .exponents-are) ∙ length-fill 8 _
+
+        pub own-below : Below p own
+        own-below = residues-of own (h .in-hand .own-below)
+
+        module _ {work : List ℕ} (left : work ≡ eliminated p rows pivots found (fill 128 (take n own))) where
+          left′ : work ≡ eliminated p rows pivots (length (h .std)) (fill 128 (take n own))
+          left′ = left ∙ ap (λ (z : ℕ). eliminated p rows pivots z (fill 128 (take n own))) (h .found-is)
+
+          pub worked-long : length work ≡ 128
+          worked-long = work-long G (h .held) (h .in-hand) left′
+
+          pub worked-below : Below p work
+          worked-below = work-below G (h .held) (h .in-hand) left′
+
+          pub room-lead : firstNonzero n work ≡ n → r < 449
+          room-lead z =
+              rw (h .r-is) (lead-room G (h .held) (h .in-hand) left′ z)
+
+          pub keeps-lead : {leads′ coefficients′ : List ℕ} → firstNonzero n work ≡ n → leads′ ≡ withPlace 8 r exponents leads
+              → coefficients′ ≡ withPlace 64 r (take found (drop n work)) coefficients → Kept p m order n points found (r + 1) standard leads′ coefficients′ rows pivots values ranks steps at
+          keeps-lead {leads′} {coefficients′} z e f = record {
+            std = h .std;
+            lds = h .lds ++ (h .hand ∷ []);
+            css = h .css ++ (take (length (h .std)) (drop n work) ∷ []);
+            found-is = h .found-is;
+            r-is = omega (arith, h .r-is, length-append (h .lds) (h .hand ∷ []));
+            held =
+                rw (e ∙ ap (λ (k : ℕ). withPlace 8 k exponents leads) (h .r-is), f ∙ ap₂ (λ (k j : ℕ). withPlace 64 k (take j (drop n work)) coefficients) (h .r-is) (h .found-is))
+                (lead-held G (h .held) (h .in-hand) left′ z);
+            decided =
+                lead-decided G (h .held) (h .in-hand) left′ z;
+          }
+
+          pub room-standard : firstNonzero n work < n → found < n
+          room-standard z =
+              rw (h .found-is) (standard-more G (h .held) (h .in-hand) left′ z)
+
+          pub keeps-standard : {q : ℕ} {standard′ ranks′ values′ rows′ pivots′ : List ℕ} → q ≡ firstNonzero n work → q < n → standard′ ≡ withPlace 8 found exponents standard
+              → ranks′ ≡ set ranks found rank → values′ ≡ withPlace 64 found own values
+              → rows′ ≡ withRow found (pivotRow p (n + found) (inverseOf p (getD work q 0)) work) rows → pivots′ ≡ set pivots found q
+              → Kept p m order n points (found + 1) r standard′ leads coefficients rows′ pivots′ values′ ranks′ steps at
+          keeps-standard {q} {standard′} {ranks′} {values′} {rows′} {pivots′} e z a b c d f = record {
+            std = h .std ++ (h .hand ∷ []);
+            lds = h .lds;
+            css = longer (h .css);
+            found-is = omega (arith, h .found-is, length-append (h .std) (h .hand ∷ []));
+            r-is = h .r-is;
+            held =
+                rw (
+                  a ∙ ap (λ (k : ℕ). withPlace 8 k exponents standard) (h .found-is),
+                  b ∙ ap (λ (k : ℕ). set ranks k rank) (h .found-is),
+                  c ∙ ap (λ (k : ℕ). withPlace 64 k own values) (h .found-is),
+                  d ∙ ap₂ (λ (k j : ℕ). withRow k (pivotRow p (n + k) (inverseOf p (getD work j 0)) work) rows) (h .found-is) e,
+                  f ∙ ap₂ (λ (k j : ℕ). set pivots k j) (h .found-is) e,
+                )
+                (standard-held G (h .held) (h .in-hand) left′ (rw e at z));
+            decided =
+                standard-decided G (h .held) (h .in-hand) left′ (rw e at z);
+          }
+
+      module _ {r : ℕ} {at : List ℕ} (h : Kept p m order n points found r standard leads coefficients rows pivots values ranks steps at) where
+        pub kept-sized : Sized p n found standard leads coefficients rows pivots values ranks
+        kept-sized = sized (h .found-is) (h .held)
+
+        pub kept-few : found + r ≤ 513
+        kept-few =
+            omega (
+              arith,
+              few-standard G (h .decided .drawn),
+              few-leads G (h .decided .drawn),
+              h .found-is,
+              h .r-is,
+              G .most,
+            )
+
+        outcome : (a : Candidate) (at′ : List ℕ) → searchEnds a at′ ≡ nextOf m found standard ranks steps at → Outcome (p - 1) m o S (h .std) (h .lds) a at′
+        outcome a at′ e =
+            next-candidate (p - 1) m o (G .prime) (G .few) S (G .distinct) (omega (arith, G .count, G .most)) (h .std) (h .lds) (h .decided .last) (h .decided .drawn) ranks steps (h .held .ranked) at
+            (h .decided .long) (h .decided .positions) a at′ (e ∙ ap₂ (λ (k : ℕ) (t : List ℕ). nextOf m k t ranks steps at) (h .found-is) (h .held .standard-table))
+
+        -- nothing is left
+        pub ends : {a : Candidate} {at′ : List ℕ} → a ≡ Candidate.Nothing → searchEnds a at′ ≡ nextOf m found standard ranks steps at
+            → DrawnUp s (pointsIn s n points) r standard leads coefficients rows pivots
+        ends {a} {at′} z e =
+            let t : Outcome (p - 1) m o S (h .std) (h .lds) Candidate.Nothing at′ = subst (λ (c : Candidate). Outcome (p - 1) m o S (h .std) (h .lds) c at′) z (outcome a at′ e) in
+            drawn-up given
+            (subst (λ (l : List (Monomial m)). Held (p - 1) m n o S (standardOf (spaceUnder s) S) l (h .css) standard leads coefficients rows pivots values ranks steps) (t .1)
+            (subst (λ (l : List (Monomial m)). Held (p - 1) m n o S l (h .lds) (h .css) standard leads coefficients rows pivots values ranks steps) (t .0) (h .held)))
+            (h .r-is ∙ ap length (t .1))
+
+        -- the next monomial
+        module _ {a : Candidate} {at′ : List ℕ} {k t l : ℕ} (z : a ≡ Candidate.Of k t l) (e : searchEnds a at′ ≡ nextOf m found standard ranks steps at) where
+          F : Found (p - 1) m o S (h .std) (h .lds) k t l at′
+          F = subst (λ (c : Candidate). Outcome (p - 1) m o S (h .std) (h .lds) c at′) z (outcome a at′ e)
+
+          pub next-small : (k < 8) × (t < 64)
+          next-small = few-found G (h .held) F
+
+          pub next-exponent : getD standard (8 * t + k) 0 < 255
+          next-exponent = exponent-small G (h .held) F
+
+          pub goes-on : {exponents own : List ℕ} → exponents ≡ timesVariable k (take 8 (drop (8 * t) standard)) → own ≡ productValues p n (columnOf k n points) (take 64 (drop (64 * t) values))
+              → Head p m order n points found r standard leads coefficients rows pivots values ranks steps at′ exponents l own
+          goes-on {exponents} {own} x y = record {
+            std = h .std;
+            lds = h .lds;
+            css = h .css;
+            hand = productAt (spaceUnder s) (h .std) k t;
+            found-is = h .found-is;
+            r-is = h .r-is;
+            held = h .held;
+            in-hand =
+                next-hand G (h .held) F points (coordinate given k (F .variable)) x y;
+          }

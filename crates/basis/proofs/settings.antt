@@ -1,0 +1,3 @@
+-- The number of a call, and its outcome by the number.
+pub mod BySize
+pub mod ByNumber

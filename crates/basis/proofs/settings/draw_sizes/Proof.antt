@@ -1,0 +1,34 @@
+-- `settings::draw_sizes` meets its contract.
+use mathlib.Core.Path.{ap, _∙_}
+use mathlib.Core.Bool.{not}
+use Prim.Native.Nat.{ℕ}
+use lib.Dec.{eqb, ltb}
+use Rattle.specification.proofs.Cases.{sizes-are}
+use Rattle.specification.specs.Settings.{settingsCases}
+use Rattle.basis.proofs.settings.draw_sizes.Statement.{statement}
+use Rattle.basis.proofs.settings.draw_sizes.Tie as tie
+
+too-short-requires : tie.Need-too-short-requires
+too-short-requires c κs = tt
+
+rest-requires : tie.Need-rest-requires
+rest-requires c κs = tt
+
+quotient-requires : tie.Need-quotient-requires
+quotient-requires c κs = tt
+
+by-sizes-requires : tie.Need-by-sizes-requires
+by-sizes-requires c κs = tt
+
+returns : tie.Need-returns
+returns c =
+    let q = c .before in
+    let r = q .before in
+    let t = r .before in
+    let s = t .before in
+    c .by-sizes .ensures ∙ sizes-are (settingsCases (s .args .settings)) (t .too-short .ensures) (ap (λ (x : ℕ). not (eqb x 0)) (r .rest .ensures)) (ap (λ (x : ℕ). ltb 64 x) (q .quotient .ensures))
+
+pub draw-sizes-spec : {M : Type 1} → statement M
+draw-sizes-spec =
+    tie.close
+    (tie.spec too-short-requires rest-requires quotient-requires by-sizes-requires returns)

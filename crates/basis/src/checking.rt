@@ -1,0 +1,146 @@
+// Checking lent tables: whether they are the basis of their points.
+use crate::drawing::draw;
+use crate::points;
+use crate::settings::check_sizes;
+use residue::bytes;
+use specification::settings::Settings;
+ghost use mathlib.Core.Path.{_≡_};
+ghost use mathlib.Core.Bool.{true, _&&_};
+ghost use Prim.Native.Nat.{_≤_};
+ghost use lib.ListN.{length, replicate};
+ghost use Rattle.residue.specs.Layout.{fill, inPlaces, begins};
+ghost use Rattle.specification.specs.Refusal.{firstOf};
+ghost use Rattle.specification.specs.Settings.{settingsCases};
+ghost use Rattle.specification.specs.Tables.{fourTables, pointsIn, recognised};
+ghost use Rattle.specification.specs.Solving.{checkRefusal};
+ghost use Rattle.basis.specs.Drawing.{Solves};
+
+// Whether the lent tables begin with these.
+fn agree(
+    new_states: &[u8],
+    new_standard: &[u8],
+    new_leads: &[u8],
+    new_coefficients: &[u8],
+    states: &[u8],
+    standard: &[u8],
+    leads: &[u8],
+    coefficients: &[u8],
+) -> bool
+    requires { ⌜ (length (now «new_states») ≡ 512)
+        × ((length (now «new_standard») ≡ 512) × ((length (now «new_leads») ≡ 3592) × (length (now «new_coefficients») ≡ 28736))) ⌝ }
+    requires { ⌜ (512 ≤ length (now states)) × ((512 ≤ length (now standard)) × ((3592 ≤ length (now leads)) × (28736 ≤ length (now coefficients)))) ⌝ }
+    ensures { λ r. ⌜ r ≡ (begins (now («new_states» .entry)) (now (states .entry))
+        && (begins (now («new_standard» .entry)) (now (standard .entry))
+        && (begins (now («new_leads» .entry)) (now (leads .entry)) && begins (now («new_coefficients» .entry)) (now (coefficients .entry))))) ⌝ }
+{
+    if !bytes::begins(new_states, states) {
+        return false;
+    }
+    if !bytes::begins(new_standard, standard) {
+        return false;
+    }
+    if !bytes::begins(new_leads, leads) {
+        return false;
+    }
+    bytes::begins(new_coefficients, coefficients)
+}
+
+// Whether lent tables are the basis of their points. The points are left as a table, and where the tables are recognised the pivot rows of the points.
+pub(crate) fn recognise(
+    settings: Settings,
+    n: usize,
+    r: u64,
+    states: &[u8],
+    standard: &[u8],
+    leads: &[u8],
+    coefficients: &[u8],
+    points: &mut [u8],
+    rows: &mut [u16],
+    pivots: &mut [u8],
+) -> bool
+    requires { ⌜ (firstOf (settingsCases settings) ≡ 0) × (n ≤ 64) ⌝ }
+    requires { ⌜ (512 ≤ length (now states)) × ((512 ≤ length (now standard)) × ((3592 ≤ length (now leads)) × (28736 ≤ length (now coefficients)))) ⌝ }
+    requires { ⌜ (now points ≡ replicate 512 0) × ((now rows ≡ replicate 8192 0) × (length (now pivots) ≡ 64)) ⌝ }
+    ensures { λ b. ⌜ b ≡ recognised settings n r
+        (fourTables (now (states .entry)) (now (standard .entry)) (now (leads .entry)) (now (coefficients .entry))) ⌝ }
+    ensures { λ b. ⌜ now (points .exit) ≡ fill 512 (inPlaces 8 (pointsIn settings n (now (states .entry)))) ⌝ }
+    ensures { λ b. ⌜ (b ≡ true → Solves settings (pointsIn settings n (now (states .entry))) (now (rows .exit)) (now (pivots .exit))) ⌝ }
+{
+    points::read_points(settings, n, states, points);
+    if !points::no_repeat(n, points) {
+        return false;
+    }
+    let mut new_standard = [0u8; 512];
+    let mut new_leads = [0u8; 3592];
+    let mut new_coefficients = [0u8; 28736];
+    let drawn = draw(
+        settings.modulus as u16,
+        settings.variables as usize,
+        settings.order as u8,
+        n,
+        points,
+        &mut new_standard,
+        &mut new_leads,
+        &mut new_coefficients,
+        rows,
+        pivots,
+    );
+    if drawn as u64 != r {
+        return false;
+    }
+    agree(
+        points,
+        &new_standard,
+        &new_leads,
+        &new_coefficients,
+        states,
+        standard,
+        leads,
+        coefficients,
+    )
+}
+
+// Checking lent tables.
+pub fn check(
+    settings: Settings,
+    n: u64,
+    r: u64,
+    states: &[u8],
+    standard: &[u8],
+    leads: &[u8],
+    coefficients: &[u8],
+) -> u8
+    ensures { λ k. ⌜ k ≡ checkRefusal settings n r
+        (fourTables (now (states .entry)) (now (standard .entry)) (now (leads .entry)) (now (coefficients .entry))) ⌝ }
+{
+    let refusal = check_sizes(
+        settings,
+        states.len(),
+        standard.len(),
+        leads.len(),
+        coefficients.len(),
+        n,
+    );
+    if refusal != 0 {
+        return refusal;
+    }
+    let mut points = [0u8; 512];
+    let mut rows = [0u16; 8192];
+    let mut pivots = [0u8; 64];
+    let known = recognise(
+        settings,
+        n as usize,
+        r,
+        states,
+        standard,
+        leads,
+        coefficients,
+        &mut points,
+        &mut rows,
+        &mut pivots,
+    );
+    if known {
+        return 0;
+    }
+    10
+}

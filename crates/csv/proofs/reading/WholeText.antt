@@ -1,0 +1,187 @@
+-- The whole text: what its header and its entries say of the outcome.
+use mathlib.Core.Path.{_≡_, refl, sym, ap, ap₂, _∙_}
+use mathlib.Core.List.{List, [], _∷_, _++_, map}
+use mathlib.Core.Option.{Option, some, none, Option·getD}
+use Prim.Native.Nat.{ℕ, zero, suc, _+_, _<_, _≤_}
+use native.Mathlib.Omega.{arith}
+use lib.IntN.{ℤ}
+use lib.ListN.{length, drop, length-map}
+use borrow.Author.Tests.{lt-ltb, le-ltb, eq-eqb, ne-eqb}
+use Rattle.residue.specs.Lists.{sameList}
+use Rattle.csv.specs.Fields.{Part, part, faulty, front, ending, unquoted, fieldOf, behindField, recordFrom, recordOf, behindRecord, recordsFrom, recordsOf}
+use Rattle.csv.specs.Forms.{Header, lastField, headerFrom, headerOf}
+use Rattle.csv.specs.Reading.{Entries, Outcome, further, firstFault, isNone, headerIn, entryIn, entriesIn, formFault, entriesOf, settingsCases, entriesCases, readCases, firstCase, accepted, refused, decided, readOutcome}
+use Rattle.csv.specs.Records.{kept, reads, headerPart, entriesAt, counted}
+use Rattle.csv.specs.Points.{levelsAt, saying}
+use Rattle.csv.specs.declared.reading.Refusal.{Refusal}
+use Rattle.csv.specs.declared.records.Entries.the-variants as N
+use Rattle.csv.proofs.fields.EnoughTurns.{records-unroll}
+use Rattle.csv.proofs.reading.RepeatedPoints.{entries-count}
+use Rattle.csv.proofs.reading.FirstCase.{when-refused, fault-le}
+
+-- the header is the first record
+first-none : (p : Part (List (List ℕ))) → reads headerOf p ≡ faulty → headerIn (behindRecord recordsOf p) ≡ none
+unfolding reads kept behindRecord headerIn
+first-none faulty e = refl
+first-none (part fields rest) e = go (headerOf fields) e
+  where
+    go : (o : Option Header) → kept o rest ≡ faulty → o ≡ none
+    go none h = refl
+    go (some a) h = let z : _≡_ {A = ℕ} 0 1 = cc in absurd (omega arith)
+
+pub no-header : (t : List ℕ) → headerPart t ≡ faulty → headerIn (recordsOf t) ≡ none
+unfolding headerPart recordsOf recordsFrom headerIn
+no-header [] e = refl
+no-header (b ∷ l) e = ap headerIn (records-unroll (b ∷ l) (omega arith)) ∙ first-none (recordOf (b ∷ l)) e
+
+empty : headerPart [] ≡ faulty
+unfolding headerPart reads kept recordOf recordFrom behindField fieldOf unquoted ending front headerOf headerFrom lastField sameList
+empty = refl
+
+module _ (h : Header) (rest : List ℕ) where
+  first-some : (p : Part (List (List ℕ))) → reads headerOf p ≡ part h rest
+      → (headerIn (behindRecord recordsOf p) ≡ some h) × (drop 1 (behindRecord recordsOf p) ≡ recordsOf rest)
+  unfolding reads kept behindRecord headerIn
+  first-some faulty e = let z : _≡_ {A = ℕ} 0 1 = cc in absurd (omega arith)
+  first-some (part fields r) e = go (headerOf fields) e
+    where
+      go : (o : Option Header) → kept o r ≡ part h rest → (o ≡ some h) × (recordsOf r ≡ recordsOf rest)
+      go none k = let z : _≡_ {A = ℕ} 0 1 = cc in absurd (omega arith)
+      go (some a) k =
+          let q : a ≡ h = cc in
+          let s : r ≡ rest = cc in
+          (ap some q, ap recordsOf s)
+
+  pub some-header : (t : List ℕ) → headerPart t ≡ part h rest → (headerIn (recordsOf t) ≡ some h) × (drop 1 (recordsOf t) ≡ recordsOf rest)
+  unfolding headerPart
+  some-header [] e = let f = sym empty ∙ e in let z : _≡_ {A = ℕ} 0 1 = cc in absurd (omega arith)
+  some-header (b ∷ l) e =
+      let f = first-some (recordOf (b ∷ l)) e in
+      let u = records-unroll (b ∷ l) (omega arith) in
+      (ap headerIn u ∙ f .0, ap (drop 1) u ∙ f .1)
+
+further-some : (k : ℕ) → (k ≡ 0 → ⊥) → further k ≡ suc k
+unfolding further
+further-some k n = rw (ne-eqb k 0 n)
+
+-- the count of the entries, or the first that is none
+pub record Fault (j k a : ℕ) (es : List (Option (List ℤ))) : Type 0 where
+  pub refusal : k ≡ 2
+  pub at : a ≡ j + suc (firstFault isNone es)
+  pub found : firstFault isNone es ≡ 0 → ⊥
+
+pub counted-refused : (j k a : ℕ) (es : List (Option (List ℤ))) → N.Refused k a ≡ counted j es → Fault j k a es
+unfolding counted firstFault isNone further
+counted-refused j k a [] e = let z : _≡_ {A = ℕ} 0 1 = cc in absurd (omega arith)
+counted-refused j k a (none ∷ es) e =
+    let p : k ≡ 2 = cc in
+    let q : a ≡ j + 2 = cc in
+    record { refusal = p; at = q; found = λ z. omega arith }
+counted-refused j k a (some zs ∷ es) e =
+    let r = counted-refused (suc j) k a es e in
+    let g = further-some (firstFault isNone es) (r .found) in
+    let q = r .at in
+    record { refusal = r .refusal; at = omega (arith, g, q); found = λ z. omega (arith, g) }
+
+pub counted-none : (j n : ℕ) (es : List (Option (List ℤ))) → N.Count n ≡ counted j es → firstFault isNone es ≡ 0
+unfolding counted firstFault isNone further
+counted-none j n [] e = refl
+counted-none j n (none ∷ es) e = let z : _≡_ {A = ℕ} 0 1 = cc in absurd (omega arith)
+counted-none j n (some zs ∷ es) e = rw (counted-none (suc j) n es e)
+
+-- there are no more records than bytes
+records-few : (k : ℕ) (l : List ℕ) → length (recordsFrom k l) ≤ k
+unfolding recordsFrom behindRecord
+records-few zero l = omega arith
+records-few (suc k) [] = omega arith
+records-few (suc k) (b ∷ l) = go (recordOf (b ∷ l)) (λ r. records-few k r)
+  where
+    go : (p : Part (List (List ℕ))) → ((r : List ℕ) → length (recordsFrom k r) ≤ k) → length (behindRecord (recordsFrom k) p) ≤ suc k
+    go faulty f = omega arith
+    go (part s r) f = omega (arith, f r)
+
+pub entries-few : (m : ℕ) (l : List ℕ) → length (entriesAt m l) ≤ length l
+unfolding entriesAt recordsOf
+entries-few m l = let e = length-map (recordsOf l) (entryIn m) in omega (arith, records-few (length l) l)
+
+-- the first two cases
+module _ (t : List ℕ) (f : ℕ) (e : Entries) (a b : ℕ) where
+  refuse-1 : 16384 < length t → _≡_ {A = Refusal} (record { refusal = 1; at = 0 }) (firstCase (readCases t f e a b))
+  unfolding firstCase readCases
+  refuse-1 h = simp (lt-ltb 16384 (length t) h)
+
+  module _ (h : length t ≤ 16384) where
+    refuse-2 : (f ≡ 0 → ⊥) → _≡_ {A = Refusal} (record { refusal = 2; at = f }) (firstCase (readCases t f e a b))
+    unfolding firstCase readCases
+    refuse-2 n = simp (le-ltb 16384 (length t) h, ne-eqb f 0 n)
+
+    form-pass : f ≡ 0 → firstCase (readCases t f e a b) ≡ firstCase (settingsCases (e .header .modulus) (e .header .variables) (length (e .entries)) a b ++ entriesCases e)
+    unfolding firstCase readCases
+    form-pass z = simp (le-ltb 16384 (length t) h, eq-eqb f 0 z)
+
+-- The outcome, case by case.
+module _ (t s v : List ℕ) where
+  pub too-long : 16384 < length t → refused (record { refusal = 1; at = 0 }) s v ≡ readOutcome t s v
+  unfolding readOutcome
+  too-long h = when-refused _ _ s v _ (refuse-1 t _ _ (length s) (length v) h) (λ z. omega arith)
+
+  module _ (h : length t ≤ 16384) where
+    pub header-broken : headerPart t ≡ faulty → refused (record { refusal = 2; at = 1 }) s v ≡ readOutcome t s v
+    unfolding readOutcome formFault
+    header-broken e =
+        let r = recordsOf t in
+        let k = Option·getD (headerIn r) (record { variables = 0; modulus = 0; order = 0 }) in
+        when-refused _ _ s v (record { refusal = 2; at = 1 })
+        (refuse-2 t 1 (entriesOf k r) (length s) (length v) h (λ z. omega arith)
+        ∙ ap (λ (o : Option Header). firstCase (readCases t (formFault o r) (entriesOf k r) (length s) (length v))) (sym (no-header t e)))
+        (λ z. omega arith)
+
+    module _ (k : Header) (rest : List ℕ) (e : headerPart t ≡ part k rest) where
+      says : Entries
+      says = saying (k .modulus) (k .variables) (k .order) rest
+
+      behind : entriesIn (k .variables) (recordsOf t) ≡ entriesAt (k .variables) rest
+      unfolding entriesIn entriesAt
+      behind = ap (map (entryIn (k .variables))) (some-header k rest t e .1)
+
+      outcome : readOutcome t s v ≡ decided (firstCase (readCases t (further (firstFault isNone (entriesAt (k .variables) rest))) says (length s) (length v))) (accepted says s v) s v
+      unfolding readOutcome formFault entriesOf says saying levelsAt
+      outcome =
+          ap (λ (o : Option Header). of-header o) (some-header k rest t e .0) ∙ ap of-entries behind
+        where
+          of-header : Option Header → Outcome
+          of-header o = let f = entriesOf (Option·getD o (record { variables = 0; modulus = 0; order = 0 })) (recordsOf t) in
+              decided (firstCase (readCases t (formFault o (recordsOf t)) f (length s) (length v))) (accepted f s v) s v
+
+          of-entries : List (Option (List ℤ)) → Outcome
+          of-entries es = let f : Entries = record { header = k; entries = map (λ x. Option·getD x []) es } in
+              decided (firstCase (readCases t (further (firstFault isNone es)) f (length s) (length v))) (accepted f s v) s v
+
+      pub entry-broken : (r a : ℕ) → N.Refused r a ≡ counted 0 (entriesAt (k .variables) rest) → refused (record { refusal = r; at = a }) s v ≡ readOutcome t s v
+      entry-broken r a c =
+          let f = counted-refused 0 r a (entriesAt (k .variables) rest) c in
+          let g = further-some (firstFault isNone (entriesAt (k .variables) rest)) (f .found) in
+          let q = f .at in
+          let i : further (firstFault isNone (entriesAt (k .variables) rest)) ≡ a = omega arith in
+          ap₂ (λ (x y : ℕ). refused (record { refusal = x; at = y }) s v) (f .refusal) (sym i)
+          ∙ when-refused _ _ s v _ (refuse-2 t (further (firstFault isNone (entriesAt (k .variables) rest))) says (length s) (length v) h (λ z. omega arith)) (λ z. omega arith)
+          ∙ sym outcome
+
+      pub form-right : (n : ℕ) → N.Count n ≡ counted 0 (entriesAt (k .variables) rest)
+          → decided (firstCase (settingsCases (k .modulus) (k .variables) n (length s) (length v) ++ entriesCases (saying (k .modulus) (k .variables) (k .order) rest)))
+          (accepted (saying (k .modulus) (k .variables) (k .order) rest) s v) s v
+          ≡ readOutcome t s v
+      unfolding says saying further
+      form-right n c =
+          let z = counted-none 0 n (entriesAt (k .variables) rest) c in
+          let m = entries-count (k .modulus) (k .variables) n rest (sym c) in
+          ap (λ (x : Refusal). decided x (accepted says s v) s v)
+          (ap (λ (j : ℕ). firstCase (settingsCases (k .modulus) (k .variables) j (length s) (length v) ++ entriesCases says)) (sym m)
+          ∙ sym (form-pass t (further (firstFault isNone (entriesAt (k .variables) rest))) says (length s) (length v) h (ap further z)))
+          ∙ sym outcome
+
+-- the record of a refused entry, within its type
+pub record-small : (m k a : ℕ) (l : List ℕ) → length l ≤ 16384 → N.Refused k a ≡ counted 0 (entriesAt m l) → a ≤ 16385
+record-small m k a l h c =
+    let f = counted-refused 0 k a (entriesAt m l) c .at in
+    omega (arith, fault-le isNone (entriesAt m l), entries-few m l)

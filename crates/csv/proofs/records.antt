@@ -1,0 +1,4 @@
+-- The header and the entries, field by field.
+pub mod EntryLevels
+pub mod EntriesChecked
+pub mod HeaderFields

@@ -1,0 +1,2 @@
+-- Points that repeat, by the rows of a table.
+pub mod RepeatedRows

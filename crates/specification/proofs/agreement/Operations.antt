@@ -1,0 +1,55 @@
+-- What the run of a list stands on, of each operation: record and proofs. A further operation is one more clause of `lawful`.
+use mathlib.Core.Path.{_≡_, refl, _∙_, subst}
+use mathlib.Core.Bool.{true, false}
+use mathlib.Core.List.{List}
+use Prim.Native.Nat.{ℕ, _≤_}
+use native.Mathlib.Omega.{arith}
+use lib.IntN.{ℤ}
+use lib.ListN.{length}
+use lib.Dec.{T}
+use borrow.Author.Tests.{eqb-true, leb-false, not-false}
+use Rattle.residue.proofs.level.Moduli.{modulus-range}
+use Rattle.residue.proofs.Tests.{of-true}
+use Rattle.specification.specs.declared.settings.Settings.{Settings}
+use Rattle.specification.specs.Refusal.{firstOf}
+use Rattle.specification.specs.Settings.{settingsCases}
+use Rattle.specification.specs.Levels.{inRange, residues}
+use Rattle.specification.specs.Tables.{Tables, tooShort, pointsIn, recognised}
+use Rattle.specification.specs.Adding.{holding, byRefusal, addCases, addRefusal, addOutcome}
+use Rattle.specification.specs.Reference.{Operation, adding, outcomeOf, refusalOf, referenceAnswer, pointsAfter}
+use Rattle.specification.proofs.Cases.{none-holds}
+use Rattle.specification.proofs.Repeats.{is-among}
+use Rattle.specification.proofs.Recognised.{length-read}
+use Rattle.specification.proofs.agreement.Points.{Points, levels-point, points-more}
+use Rattle.specification.proofs.agreement.Refusals.{Accepted, accepted, settings-pass}
+
+pub record Lawful (o : Operation) : Type 0 where
+  -- it is refused, or the tables are now those of the points after it
+  pub outcome : (s : Settings) (n r : ℕ) (t : Tables)
+      → outcomeOf o s n r t ≡ byRefusal (refusalOf o s n r t) t (holding s (pointsAfter o s (pointsIn s n (t .states))) t)
+  -- handed the basis of at most 64 points, its number is what the reference list of these answers
+  pub number : (s : Settings) → firstOf (settingsCases s) ≡ 0 → (n r : ℕ) (t : Tables) → n ≤ 64 → tooShort t ≡ false → recognised s n r t ≡ true
+      → refusalOf o s n r t ≡ referenceAnswer o s (pointsIn s n (t .states))
+  -- and what it makes of distinct points are distinct points
+  pub points : (s : Settings) → Accepted s → (L : List (List ℕ)) → Points s L → referenceAnswer o s L ≡ 0 → Points s (pointsAfter o s L)
+
+-- Adding: a point that the reference list takes is m residues, is not among its points, and finds room.
+adding-points : (levels : List ℤ) (s : Settings) → Accepted s → (L : List (List ℕ)) → Points s L → referenceAnswer (adding levels) s L ≡ 0 → Points s (pointsAfter (adding levels) s L)
+unfolding referenceAnswer pointsAfter
+adding-points levels s ok L h e =
+    let n = none-holds _ tt e in
+    let P = residues (s .modulus) levels in
+    let range = of-true (not-false (inRange (s .modulus) levels) (n .1 .1 .0)) in
+    let point = levels-point s levels (omega (arith, modulus-range (s .modulus) (ok .modulus))) (eqb-true (length levels) (s .variables) (not-false _ (n .0))) range in
+    points-more s L P h point (λ q. subst T (n .1 .1 .1 .0) (is-among P L q)) (leb-false 64 (length L) (n .1 .0))
+
+adding-lawful : (levels : List ℤ) → Lawful (adding levels)
+unfolding outcomeOf refusalOf referenceAnswer pointsAfter addOutcome addRefusal addCases firstOf
+adding-lawful levels = record {
+  outcome = λ s n r t. refl;
+  number = λ s fine n r t few large known. settings-pass s fine _ ∙ rw (large, known, length-read s (accepted s fine) n (t .states));
+  points = adding-points levels;
+}
+
+pub lawful : (o : Operation) → Lawful o
+lawful (adding levels) = adding-lawful levels
