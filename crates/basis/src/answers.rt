@@ -33,7 +33,7 @@ fn interpolant(
     found: &mut [u8],
 ) -> u8
     requires { ⌜ length (now found) ≡ 64 ⌝ }
-    ensures { λ k. ⌜ k ≡ firstOf (valuesCases size settings n r
+    ensures { λ k. ⌜ k ≡ firstOf 0 (valuesCases size settings n r
         (fourTables (now (states .entry)) (now (standard .entry)) (now (leads .entry)) (now (coefficients .entry))) (now (values .entry))
         (now (out .entry))) ⌝ }
     ensures { λ k. ⌜ (k ≡ 0 → now (found .exit)
@@ -195,7 +195,7 @@ fn remainder_refusal(
     pivots: &mut [u8],
 ) -> u8
     requires { ⌜ (now points ≡ replicate 512 0) × (now rows ≡ replicate 8192 0) × (length (now pivots) ≡ 64) ⌝ }
-    ensures { λ k. ⌜ k ≡ firstOf (remainderCases settings n r
+    ensures { λ k. ⌜ k ≡ firstOf 0 (remainderCases settings n r
         (fourTables (now (states .entry)) (now (standard .entry)) (now (leads .entry)) (now (coefficients .entry))) (now («term_coefficients» .entry))
         (now (exponents .entry)) (now (out .entry))) ⌝ }
     ensures { λ k. ⌜ (k ≡ 0 → now (points .exit) ≡ fill 512 (inPlaces 8 (pointsIn settings n (now (states .entry))))) ⌝ }

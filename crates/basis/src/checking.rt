@@ -58,7 +58,7 @@ pub(crate) fn recognise(
     rows: &mut [u16],
     pivots: &mut [u8],
 ) -> bool
-    requires { ⌜ (firstOf (settingsCases settings) ≡ 0) × (n ≤ 64) ⌝ }
+    requires { ⌜ (firstOf 0 (settingsCases settings) ≡ 0) × (n ≤ 64) ⌝ }
     requires { ⌜ (512 ≤ length (now states)) × ((512 ≤ length (now standard)) × ((3592 ≤ length (now leads)) × (28736 ≤ length (now coefficients)))) ⌝ }
     requires { ⌜ (now points ≡ replicate 512 0) × ((now rows ≡ replicate 8192 0) × (length (now pivots) ≡ 64)) ⌝ }
     ensures { λ b. ⌜ b ≡ recognised settings n r

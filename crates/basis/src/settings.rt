@@ -23,7 +23,7 @@ pub fn refused(refusal: u8) -> Answer
 
 // The refusals that look at the settings alone.
 pub fn settings_refusal(settings: Settings) -> u8
-    ensures { λ k. ⌜ k ≡ firstOf (settingsCases settings) ⌝ }
+    ensures { λ k. ⌜ k ≡ firstOf 0 (settingsCases settings) ⌝ }
 {
     if level::is_modulus(settings.modulus) {
         if settings.variables < 1 {
@@ -58,7 +58,7 @@ fn too_short(states: usize, standard: usize, leads: usize, coefficients: usize) 
 
 // A table or buffer is too short, a length is wrong, there are too many points or terms.
 fn by_sizes(settings: Settings, short: bool, wrong: bool, many: bool) -> u8
-    ensures { λ k. ⌜ k ≡ firstOf (settingsCases settings ++ ((short, 6) ∷ (wrong, 7) ∷ (many, 8) ∷ [])) ⌝ }
+    ensures { λ k. ⌜ k ≡ firstOf 0 (settingsCases settings ++ ((short, 6) ∷ (wrong, 7) ∷ (many, 8) ∷ [])) ⌝ }
 {
     let k = settings_refusal(settings);
     if k != 0 {
@@ -105,7 +105,7 @@ pub fn add_sizes(
     levels: usize,
     n: u64,
 ) -> u8
-    ensures { λ k. ⌜ k ≡ firstOf (settingsCases settings
+    ensures { λ k. ⌜ k ≡ firstOf 0 (settingsCases settings
         ++ ((ltb states 512 || ltb standard 512 || ltb leads 3592 || ltb coefficients 28736, 6) ∷ (not (eqb levels (settings .variables)), 7) ∷ (leb 64 n, 8)
         ∷ [])) ⌝ }
 {
@@ -127,7 +127,7 @@ pub fn draw_sizes(
     coefficients: usize,
     levels: usize,
 ) -> u8
-    ensures { λ k. ⌜ k ≡ firstOf (settingsCases settings
+    ensures { λ k. ⌜ k ≡ firstOf 0 (settingsCases settings
         ++ ((ltb states 512 || ltb standard 512 || ltb leads 3592 || ltb coefficients 28736, 6) ∷ (not (eqb (levels % settings .variables) 0), 7)
         ∷ (ltb 64 (levels / settings .variables), 8) ∷ [])) ⌝ }
 {
@@ -147,7 +147,7 @@ pub fn check_sizes(
     coefficients: usize,
     n: u64,
 ) -> u8
-    ensures { λ k. ⌜ k ≡ firstOf (settingsCases settings
+    ensures { λ k. ⌜ k ≡ firstOf 0 (settingsCases settings
         ++ ((ltb states 512 || ltb standard 512 || ltb leads 3592 || ltb coefficients 28736, 6) ∷ (false, 7) ∷ (ltb 64 n, 8) ∷ [])) ⌝ }
 {
     let short = too_short(states, standard, leads, coefficients);
@@ -166,7 +166,7 @@ pub fn values_sizes(
     values: usize,
     n: u64,
 ) -> u8
-    ensures { λ k. ⌜ k ≡ firstOf (settingsCases settings
+    ensures { λ k. ⌜ k ≡ firstOf 0 (settingsCases settings
         ++ ((ltb states 512 || ltb standard 512 || ltb leads 3592 || ltb coefficients 28736 || ltb buffer size, 6) ∷ (not (eqb values n), 7) ∷ (ltb 64 n, 8)
         ∷ [])) ⌝ }
 {
@@ -186,7 +186,7 @@ pub fn remainder_sizes(
     exponents: usize,
     n: u64,
 ) -> u8
-    ensures { λ k. ⌜ k ≡ firstOf (settingsCases settings
+    ensures { λ k. ⌜ k ≡ firstOf 0 (settingsCases settings
         ++ ((ltb states 512 || ltb standard 512 || ltb leads 3592 || ltb coefficients 28736 || ltb buffer 64, 6) ∷ (not (eqb exponents (8 * terms)), 7)
         ∷ (ltb 64 n || ltb 256 terms, 8) ∷ [])) ⌝ }
 {

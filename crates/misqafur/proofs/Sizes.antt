@@ -35,7 +35,7 @@ alone k t o e =
 
 -- Adding a point.
 abbrev pub addBySize : Settings → ℕ → Tables → ℕ → ℕ
-addBySize s n t count = firstOf (settingsCases s ++ sizes s (tooShort t) (not (eqb count (s .variables))) (leb 64 n))
+addBySize s n t count = firstOf 0 (settingsCases s ++ sizes s (tooShort t) (not (eqb count (s .variables))) (leb 64 n))
 
 module _ (s : Settings) (n r : ℕ) (t : Tables) (levels : List ℕ) where
   pub add-refused : (k : ℕ) → k ≡ addBySize s n t (length levels) → (k ≡ 0 → ⊥) → _≡_ {A = Left} (record { number = k; tables = t }) (packedOutcome (addOutcome s n r t (signedBytes levels)))
@@ -49,7 +49,7 @@ module _ (s : Settings) (n r : ℕ) (t : Tables) (levels : List ℕ) where
 
 -- Drawing up.
 abbrev pub drawBySize : Settings → Tables → ℕ → ℕ
-drawBySize s t count = firstOf (settingsCases s ++ sizes s (tooShort t) (not (eqb (count % s .variables) 0)) (ltb 64 (count / s .variables)))
+drawBySize s t count = firstOf 0 (settingsCases s ++ sizes s (tooShort t) (not (eqb (count % s .variables) 0)) (ltb 64 (count / s .variables)))
 
 module _ (s : Settings) (t : Tables) (levels : List ℕ) where
   pub draw-refused : (k : ℕ) → k ≡ drawBySize s t (length levels) → (k ≡ 0 → ⊥) → _≡_ {A = Left} (record { number = k; tables = t }) (packedOutcome (drawOutcome s t (signedBytes levels)))
@@ -64,10 +64,10 @@ module _ (s : Settings) (t : Tables) (levels : List ℕ) where
 
 -- Values at the points.
 abbrev pub valuesBySize : ℕ → Settings → ℕ → Tables → List ℕ → ℕ → ℕ
-valuesBySize size s n t buffer count = firstOf (settingsCases s ++ sizes s (tooShort t || ltb (length buffer) size) (not (eqb count n)) (ltb 64 n))
+valuesBySize size s n t buffer count = firstOf 0 (settingsCases s ++ sizes s (tooShort t || ltb (length buffer) size) (not (eqb count n)) (ltb 64 n))
 
 module _ (size : ℕ) (s : Settings) (n r : ℕ) (t : Tables) (values buffer : List ℕ) where
-  pub values-refused : (k : ℕ) → k ≡ valuesBySize size s n t buffer (length values) → (k ≡ 0 → ⊥) → k ≡ firstOf (valuesCases size s n r t (signedBytes values) buffer)
+  pub values-refused : (k : ℕ) → k ≡ valuesBySize size s n t buffer (length values) → (k ≡ 0 → ⊥) → k ≡ firstOf 0 (valuesCases size s n r t (signedBytes values) buffer)
   values-refused k e z = values-size size s n r t (signedBytes values) buffer k (e ∙ ap (valuesBySize size s n t buffer) (sym (length-signed values))) z
 
   pub values-few : valuesBySize size s n t buffer (length values) ≡ 0 → length values ≤ 64
@@ -82,11 +82,11 @@ module _ (s : Settings) (n r : ℕ) (t : Tables) (values buffer : List ℕ) wher
 
 -- A polynomial.
 abbrev pub termsBySize : Settings → ℕ → Tables → List ℕ → List ℕ → ℕ → ℕ
-termsBySize s n t exponents buffer count = firstOf (settingsCases s ++ sizes s (tooShort t || ltb (length buffer) 64) (not (eqb (length exponents) (8 * count))) (ltb 64 n || ltb 256 count))
+termsBySize s n t exponents buffer count = firstOf 0 (settingsCases s ++ sizes s (tooShort t || ltb (length buffer) 64) (not (eqb (length exponents) (8 * count))) (ltb 64 n || ltb 256 count))
 
 module _ (s : Settings) (n r : ℕ) (t : Tables) (coefficients exponents buffer : List ℕ) where
   pub terms-refused : (k : ℕ) → k ≡ termsBySize s n t exponents buffer (length coefficients) → (k ≡ 0 → ⊥)
-      → k ≡ firstOf (remainderCases s n r t (signedBytes coefficients) exponents buffer)
+      → k ≡ firstOf 0 (remainderCases s n r t (signedBytes coefficients) exponents buffer)
   terms-refused k e z = remainder-size s n r t (signedBytes coefficients) exponents buffer k (e ∙ ap (termsBySize s n t exponents buffer) (sym (length-signed coefficients))) z
 
   pub terms-few : termsBySize s n t exponents buffer (length coefficients) ≡ 0 → length coefficients ≤ 256

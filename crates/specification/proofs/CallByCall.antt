@@ -150,7 +150,7 @@ interpolate-leaves s n r t values buffer e =
       b,
       record {
         coefficients = interpolantOf (spaceUnder s) (pointsUnder s S) (residues (s .modulus) values);
-        held = filled (firstOf (valuesCases 64 s n r t values buffer)) _ buffer e;
+        held = filled (firstOf 0 (valuesCases 64 s n r t values buffer)) _ buffer e;
         fits = interpolant-fits (spaceUnder s) (laws-under s ok) (pointsUnder s S) (b .distinct) (valueAt (spaceUnder s) (pointsUnder s S) (residues (s .modulus) values));
         values-at = λ i P h. interpolant-values (spaceUnder s) (laws-under s ok) (pointsUnder s S) (b .distinct) (residues (s .modulus) values) i P
             (omega (arith, as-many)) (omega (arith, length-residues (s .modulus) values, b .count));
@@ -169,7 +169,7 @@ remainder-leaves s n r t terms exponents buffer e =
       b,
       record {
         coefficients = remainderOf (spaceUnder s) (pointsUnder s S) (polynomialUnder s terms exponents);
-        held = filled (firstOf (remainderCases s n r t terms exponents buffer)) _ buffer e;
+        held = filled (firstOf 0 (remainderCases s n r t terms exponents buffer)) _ buffer e;
         fits = remainder-fits (spaceUnder s) (laws-under s ok) (pointsUnder s S) (b .distinct) (polynomialUnder s terms exponents);
       },
     )
@@ -184,7 +184,7 @@ wiring-leaves s n r t values buffer e =
     let ok = accepted s (z .0) in
     let b = known-basis s ok n r t (ltb-false 64 n (z .1 .1 .1 .0)) (not-false (recognised s n r t) (z .1 .1 .1 .1 .1 .0)) in
     let names = wiringUnder s S (residues (s .modulus) values) in
-    let is = list-accepted names buffer (firstOf (valuesCases 8 s n r t values buffer)) (length names) (over (fill 8 names) buffer) (sym e) refl refl in (
+    let is = list-accepted names buffer (firstOf 0 (valuesCases 8 s n r t values buffer)) (length names) (over (fill 8 names) buffer) (sym e) refl refl in (
       b,
       record {
         coefficients = interpolantOf (spaceUnder s) (pointsUnder s S) (residues (s .modulus) values);

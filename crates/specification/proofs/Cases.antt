@@ -21,20 +21,20 @@ None [] = Unit {0}
 None (c ∷ l) = (c .0 ≡ false) × None l
 
 -- the first part has a case that holds
-pub first-stop : (l r : List Case) → (firstOf l ≡ 0 → ⊥) → firstOf l ≡ firstOf (l ++ r)
+pub first-stop : (l r : List Case) → (firstOf 0 l ≡ 0 → ⊥) → firstOf 0 l ≡ firstOf 0 (l ++ r)
 unfolding firstOf
 first-stop [] r h = absurd (h refl)
 first-stop ((true, k) ∷ l) r h = refl
 first-stop ((false, k) ∷ l) r h = first-stop l r h
 
 -- it has none
-pub none-holds : (l : List Case) → T (numbered l) → firstOf l ≡ 0 → None l
+pub none-holds : (l : List Case) → T (numbered l) → firstOf 0 l ≡ 0 → None l
 unfolding firstOf
 none-holds [] t e = tt
 none-holds ((true, k) ∷ l) t e = absurd (rw (eq-eqb k 0 e) at (and-left (not (eqb k 0)) (numbered l) t))
 none-holds ((false, k) ∷ l) t e = (refl, none-holds l (and-right (not (eqb k 0)) (numbered l) t) e)
 
-pub first-on : (l r : List Case) → None l → firstOf r ≡ firstOf (l ++ r)
+pub first-on : (l r : List Case) → None l → firstOf 0 r ≡ firstOf 0 (l ++ r)
 unfolding firstOf
 first-on [] r n = refl
 first-on ((true, k) ∷ l) r n = absurd (let z : _≡_ {A = ℕ} 0 1 = cc in omega arith)
@@ -42,7 +42,7 @@ first-on ((false, k) ∷ l) r n = first-on l r (n .1)
 
 -- the refusals on numbers, each test by what it comes to
 pub sizes-are : (l : List Case) {a b c a′ b′ c′ : Bool} → a ≡ a′ → b ≡ b′ → c ≡ c′
-    → firstOf (l ++ ((a, 6) ∷ (b, 7) ∷ (c, 8) ∷ [])) ≡ firstOf (l ++ ((a′, 6) ∷ (b′, 7) ∷ (c′, 8) ∷ []))
+    → firstOf 0 (l ++ ((a, 6) ∷ (b, 7) ∷ (c, 8) ∷ [])) ≡ firstOf 0 (l ++ ((a′, 6) ∷ (b′, 7) ∷ (c′, 8) ∷ []))
 sizes-are l e f g = rw (e, f, g)
 
 -- a length that is 8 times another

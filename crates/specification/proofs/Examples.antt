@@ -97,7 +97,7 @@ unfolding Refuses RefusesAt
 alone s h [] = tt
 alone s h (levels ∷ offered) = (tt, alone s (heldAfter s h (addition levels)) offered)
 
-added : (s : Settings) (offered : List (List ℤ)) → firstOf (settingsCases s) ≡ 0 → numbers s fresh (map addition offered) ≡ due s [] fresh (map addition offered)
+added : (s : Settings) (offered : List (List ℤ)) → firstOf 0 (settingsCases s) ≡ 0 → numbers s fresh (map addition offered) ≡ due s [] fresh (map addition offered)
 added s offered fine =
     agreement s fine (record { states = replicate 512 0; standard = replicate 512 0; leads = replicate 3592 0; coefficients = replicate 28736 0 })
     (record { states = blank 512; standard = blank 512; leads = blank 3592; coefficients = blank 28736 }) (map addition offered) (alone s fresh offered) .answers
@@ -109,7 +109,7 @@ known-order o (inr (inl e)) = omega arith
 known-order o (inr (inr (inl e))) = omega arith
 known-order o (inr (inr (inr q))) = absurd q
 
-fine : (p m order : ℕ) → isModulus p ≡ true → 1 ≤ m → m ≤ 8 → Among order anyOrder → firstOf (settingsCases (under p m order)) ≡ 0
+fine : (p m order : ℕ) → isModulus p ≡ true → 1 ≤ m → m ≤ 8 → Among order anyOrder → firstOf 0 (settingsCases (under p m order)) ≡ 0
 unfolding settingsCases firstOf
 fine p m order h low high q = simp (h, le-leb 1 m low, le-leb m 8 high, le-ltb 2 order (omega (arith, known-order order q)))
 
@@ -120,7 +120,7 @@ range-append p [] l = refl
 range-append p (z ∷ k) l = ap (λ (b : Bool). isResidue (residueOf p z) && b) (range-append p k l) ∙ sym (and-assoc (isResidue (residueOf p z)) (inRange p k) (inRange p l))
 
 -- two additions, of which the second has a level out of range
-ranged : (p m order : ℕ) (k l : List ℤ) → firstOf (settingsCases (under p m order)) ≡ 0 → length k ≡ m → length l ≡ m → inRange p k ≡ true → inRange p l ≡ false
+ranged : (p m order : ℕ) (k l : List ℤ) → firstOf 0 (settingsCases (under p m order)) ≡ 0 → length k ≡ m → length l ≡ m → inRange p k ≡ true → inRange p l ≡ false
     → numbers (under p m order) fresh (addition k ∷ addition l ∷ []) ≡ 0 ∷ 9 ∷ []
 unfolding due dueAt fed referenceAnswer referenceAfter pointsAfter firstOf isAmong
 ranged p m order k l f ek el rk rl = added (under p m order) (k ∷ l ∷ []) f ∙ simp (eq-eqb (length k) m ek, eq-eqb (length l) m el, rk, rl)

@@ -33,10 +33,10 @@ use Rattle.specification.proofs.agreement.Points.{IsPoint, Points, resi
 use Rattle.specification.proofs.agreement.Refusals.{Accepted, settings-pass}
 
 -- no case of the settings holds, and none of those behind them
-pub none-of : (s : Settings) (l : List Case) → T (numbered l) → firstOf (settingsCases s ++ l) ≡ 0 → (firstOf (settingsCases s) ≡ 0) × None l
-none-of s l t e = go (ℕ-discrete (firstOf (settingsCases s)) 0)
+pub none-of : (s : Settings) (l : List Case) → T (numbered l) → firstOf 0 (settingsCases s ++ l) ≡ 0 → (firstOf 0 (settingsCases s) ≡ 0) × None l
+none-of s l t e = go (ℕ-discrete (firstOf 0 (settingsCases s)) 0)
   where
-    go : Dec (firstOf (settingsCases s) ≡ 0) → (firstOf (settingsCases s) ≡ 0) × None l
+    go : Dec (firstOf 0 (settingsCases s) ≡ 0) → (firstOf 0 (settingsCases s) ≡ 0) × None l
     go (yes z) = (z, none-holds l t (sym (settings-pass s z l) ∙ e))
     go (no z) = absurd (z (first-stop (settingsCases s) l z ∙ e))
 

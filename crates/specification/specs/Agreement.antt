@@ -97,10 +97,10 @@ pub record Agrees (s : Settings) (start : Tables) (es : List Event) (L : List (L
   -- remainders and wiring lists: the number is that of the list of refusals; where it is 0, the buffer holds what is due
   pub remainder-numbers : (terms : List ℤ) (exponents buffer : List ℕ)
       → remainderOutcome s (h .n) (h .r) (h .tables) terms exponents buffer .refusal
-      ≡ firstOf (remainderCases s (h .n) (h .r) (h .tables) terms exponents buffer)
+      ≡ firstOf 0 (remainderCases s (h .n) (h .r) (h .tables) terms exponents buffer)
   pub remainders : (terms : List ℤ) (exponents buffer : List ℕ) → remainderOutcome s (h .n) (h .r) (h .tables) terms exponents buffer .refusal ≡ 0
       → Remains s L terms exponents buffer (remainderOutcome s (h .n) (h .r) (h .tables) terms exponents buffer .buffer)
   pub wiring-numbers : (values : List ℤ) (buffer : List ℕ)
-      → wiringOutcome s (h .n) (h .r) (h .tables) values buffer .answer .refusal ≡ firstOf (valuesCases 8 s (h .n) (h .r) (h .tables) values buffer)
+      → wiringOutcome s (h .n) (h .r) (h .tables) values buffer .answer .refusal ≡ firstOf 0 (valuesCases 8 s (h .n) (h .r) (h .tables) values buffer)
   pub wirings : (values : List ℤ) (buffer : List ℕ) → wiringOutcome s (h .n) (h .r) (h .tables) values buffer .answer .refusal ≡ 0
       → Wires s L values buffer (wiringOutcome s (h .n) (h .r) (h .tables) values buffer)

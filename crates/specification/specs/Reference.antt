@@ -25,7 +25,7 @@ refusalOf (adding levels) s n r t = addRefusal s n r t levels
 
 -- what the reference list answers to it: 'the first number here whose case holds'
 unfoldable pub referenceAnswer : Operation → Settings → List (List ℕ) → ℕ
-referenceAnswer (adding levels) s L = firstOf
+referenceAnswer (adding levels) s L = firstOf 0
     ((not (eqb (length levels) (s .variables)), 7)
     ∷ (leb 64 (length L), 8)
     ∷ (not (inRange (s .modulus) levels), 9)

@@ -7,7 +7,7 @@ use Prim.Native.Nat.{ℕ}
 abbrev pub Case : Type 0
 Case = Bool × ℕ
 
--- the number of the first case that holds, in the order of checking; 0 where none does
-unfoldable pub firstOf : List Case → ℕ
-firstOf [] = 0
-firstOf (c ∷ l) = cond (c .0) (c .1) (firstOf l)
+-- the answer of the first case that holds, in the order of checking; `none` where no case does
+unfoldable pub firstOf : {A : Type 0} → A → List (Bool × A) → A
+firstOf none [] = none
+firstOf none (c ∷ l) = cond (c .0) (c .1) (firstOf none l)

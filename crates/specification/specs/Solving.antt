@@ -21,7 +21,7 @@ use Rattle.monomial.specs.Increasing.{Increasing}
 
 -- Checking lent tables.
 unfoldable pub checkRefusal : Settings → ℕ → ℕ → Tables → ℕ
-checkRefusal s n r t = firstOf (settingsCases s ++ ((tooShort t, 6) ∷ (ltb 64 n, 8) ∷ (not (recognised s n r t), 10) ∷ []))
+checkRefusal s n r t = firstOf 0 (settingsCases s ++ ((tooShort t, 6) ∷ (ltb 64 n, 8) ∷ (not (recognised s n r t), 10) ∷ []))
 
 -- The answer of a call that fills a buffer: the refusal, and the buffer at exit.
 pub record Filled : Type 0 where
@@ -48,7 +48,7 @@ interpolantIn s n t values = interpolantOf (spaceUnder s) (pointsUnder s (points
 
 unfoldable pub interpolateOutcome : Settings → ℕ → ℕ → Tables → List ℤ → List ℕ → Filled
 interpolateOutcome s n r t values buffer =
-    filling (firstOf (valuesCases 64 s n r t values buffer)) (fill 64 (interpolantIn s n t values)) buffer
+    filling (firstOf 0 (valuesCases 64 s n r t values buffer)) (fill 64 (interpolantIn s n t values)) buffer
 
 -- The wiring list (docs/SCOPE.md, 'The sheet'). Variable k+1 occurs in a combination of standard monomials with a coefficient that is not 0.
 unfoldable pub occurs : ℕ → List ℕ → List (List ℕ) → Bool
@@ -88,7 +88,7 @@ listing k names buffer = record {
 
 unfoldable pub wiringOutcome : Settings → ℕ → ℕ → Tables → List ℤ → List ℕ → Listed
 wiringOutcome s n r t values buffer =
-    listing (firstOf (valuesCases 8 s n r t values buffer)) (wiringUnder s (pointsIn s n (t .states)) (residues (s .modulus) values)) buffer
+    listing (firstOf 0 (valuesCases 8 s n r t values buffer)) (wiringUnder s (pointsIn s n (t .states)) (residues (s .modulus) values)) buffer
 
 -- The remainder of a polynomial, term after term a coefficient and 8 exponents: 64 bytes.
 
@@ -120,4 +120,4 @@ remainderIn s n t coefficients exponents =
 
 unfoldable pub remainderOutcome : Settings → ℕ → ℕ → Tables → List ℤ → List ℕ → List ℕ → Filled
 remainderOutcome s n r t coefficients exponents buffer =
-    filling (firstOf (remainderCases s n r t coefficients exponents buffer)) (fill 64 (remainderIn s n t coefficients exponents)) buffer
+    filling (firstOf 0 (remainderCases s n r t coefficients exponents buffer)) (fill 64 (remainderIn s n t coefficients exponents)) buffer

@@ -43,12 +43,12 @@ module _ (s : Settings) (n r : ℕ) (t : Tables) (levels : List ℤ) where
 
   -- the refusals on numbers
   abbrev pub addSizes : ℕ
-  addSizes = firstOf (settingsCases s ++ sizes s (tooShort t) (not (eqb (length levels) (s .variables))) (leb 64 n))
+  addSizes = firstOf 0 (settingsCases s ++ sizes s (tooShort t) (not (eqb (length levels) (s .variables))) (leb 64 n))
 
   abbrev tests : List Case
   tests = (not (inRange (s .modulus) levels), 9) ∷ (not (recognised s n r t), 10) ∷ (isAmong new old, 11) ∷ []
 
-  behind : addSizes ≡ 0 → firstOf tests ≡ addRefusal s n r t levels
+  behind : addSizes ≡ 0 → firstOf 0 tests ≡ addRefusal s n r t levels
   unfolding addRefusal addCases
   behind e = by-rest s (tooShort t) (not (eqb (length levels) (s .variables))) (leb 64 n) tests e
 

@@ -55,7 +55,7 @@ module _ (s : Settings) (ok : Accepted s) (n r : ℕ) (t : Tables) (few : n ≤ 
 
 -- What the calls that fill a buffer stand on where the sizes are right.
 pub record Sized (size : ℕ) (s : Settings) (n : ℕ) (t : Tables) (buffer : List ℕ) : Type 0 where
-  pub none : firstOf (settingsCases s) ≡ 0
+  pub none : firstOf 0 (settingsCases s) ≡ 0
   pub settings : Accepted s
   pub large : Large t
   pub room : size ≤ length buffer

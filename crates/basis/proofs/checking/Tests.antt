@@ -37,15 +37,15 @@ module _ (s : Settings) (n r : ℕ) (t : Tables) where
 -- Checking.
 module _ (s : Settings) (n r : ℕ) (t : Tables) where
   abbrev pub checkSizes : ℕ
-  checkSizes = firstOf (settingsCases s ++ sizes s (tooShort t) false (ltb 64 n))
+  checkSizes = firstOf 0 (settingsCases s ++ sizes s (tooShort t) false (ltb 64 n))
 
   -- a case that never holds is none
-  whole : firstOf (settingsCases s ++ (sizes s (tooShort t) false (ltb 64 n) ++ ((not (recognised s n r t), 10) ∷ []))) ≡ checkRefusal s n r t
+  whole : firstOf 0 (settingsCases s ++ (sizes s (tooShort t) false (ltb 64 n) ++ ((not (recognised s n r t), 10) ∷ []))) ≡ checkRefusal s n r t
   unfolding firstOf settingsCases checkRefusal
   whole = refl
 
   pub check-size : (k : ℕ) → k ≡ checkSizes → (k ≡ 0 → ⊥) → k ≡ checkRefusal s n r t
   check-size k e z = by-size s (tooShort t) false (ltb 64 n) _ k e z ∙ whole
 
-  pub check-told : checkSizes ≡ 0 → (k : ℕ) → k ≡ firstOf ((not (recognised s n r t), 10) ∷ []) → k ≡ checkRefusal s n r t
+  pub check-told : checkSizes ≡ 0 → (k : ℕ) → k ≡ firstOf 0 ((not (recognised s n r t), 10) ∷ []) → k ≡ checkRefusal s n r t
   check-told e k f = f ∙ by-rest s (tooShort t) false (ltb 64 n) _ e ∙ whole

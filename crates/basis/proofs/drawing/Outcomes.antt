@@ -28,12 +28,12 @@ all-written s S t n r a b c d e f g h i j = rw (e, f, g, h, i, j)
 module _ (s : Settings) (t : Tables) (levels : List ℤ) where
   -- the refusals on numbers
   abbrev pub drawSizes : ℕ
-  drawSizes = firstOf (settingsCases s ++ sizes s (tooShort t) (not (eqb (length levels % s .variables) 0)) (ltb 64 (length levels / s .variables)))
+  drawSizes = firstOf 0 (settingsCases s ++ sizes s (tooShort t) (not (eqb (length levels % s .variables) 0)) (ltb 64 (length levels / s .variables)))
 
   abbrev tests : List Case
   tests = two 9 (inRange (s .modulus) levels) 11 (noRepeat (pointsOffered s levels))
 
-  behind : drawSizes ≡ 0 → firstOf tests ≡ drawRefusal s t levels
+  behind : drawSizes ≡ 0 → firstOf 0 tests ≡ drawRefusal s t levels
   unfolding drawRefusal drawCases two
   behind e = by-rest s (tooShort t) (not (eqb (length levels % s .variables) 0)) (ltb 64 (length levels / s .variables)) tests e
 

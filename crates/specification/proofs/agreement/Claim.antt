@@ -35,7 +35,7 @@ blank (suc k) (suc j) = ap (λ (z : List ℕ). 0 ∷ z) (blank k j)
 nothing : (k w j : ℕ) (t : List ℕ) → T (begins (fill k []) t) → over (fill k (fill w (replicate j 0) ++ [])) t ≡ t
 nothing k w j t h = ap (λ (z : List ℕ). over z t) (ap (fill k) (append-nil (fill w (replicate j 0)) ∙ blank w j ∙ fill-zeros w) ∙ blank k w) ∙ over-begins (fill k []) t h
 
-module _ (s : Settings) (fine : firstOf (settingsCases s) ≡ 0) (start : Tables) (fresh : Fresh start) where
+module _ (s : Settings) (fine : firstOf 0 (settingsCases s) ≡ 0) (start : Tables) (fresh : Fresh start) where
   -- long enough for what they begin with
   long : (k : ℕ) (t : List ℕ) → T (begins (fill k []) t) → k ≤ length t
   unfolding begins
@@ -58,7 +58,7 @@ module _ (s : Settings) (fine : firstOf (settingsCases s) ≡ 0) (start : Tables
   }
 
 -- For all settings that adding does not refuse, all fresh tables, and every list of operations with refused calls between them.
-pub agreement : (s : Settings) → firstOf (settingsCases s) ≡ 0 → (start : Tables) → Fresh start → (es : List Event) → Refuses s (freshly start) es
+pub agreement : (s : Settings) → firstOf 0 (settingsCases s) ≡ 0 → (start : Tables) → Fresh start → (es : List Event) → Refuses s (freshly start) es
     → Agrees s start es (referenceAtEnd s [] es) (heldAtEnd s (freshly start) es)
 unfolding remainderOutcome filling wiringOutcome listing
 agreement s fine start fresh es refuses = record {

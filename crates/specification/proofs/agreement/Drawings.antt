@@ -142,7 +142,7 @@ module _ (s : Settings) (ok : Accepted s) where
   -- The remainder call, handed the basis of A, is told by how many points there are and by the remainder.
   module _ (terms : List ℤ) (exponents buffer : List ℕ) where
     unfoldable pub told : ℕ → List ℕ → Filled
-    told n l = filling (firstOf (settingsCases s
+    told n l = filling (firstOf 0 (settingsCases s
         ++ ((false || ltb (length buffer) 64, 6) ∷ (not (eqb (length exponents) (8 * length terms)), 7) ∷ (ltb 64 n || ltb 256 (length terms), 8)
         ∷ (not (inRange (s .modulus) terms && withinVariables (s .variables) (groups 8 (length terms) exponents)), 9) ∷ (false, 10) ∷ []))) (fill 64 l) buffer
 
@@ -153,9 +153,9 @@ module _ (s : Settings) (ok : Accepted s) where
         rw (not-short (written (tablesOf s A) t) (written-large s A t large), written-recognised s ok A h t, written-points s ok A h t)
 
   -- The wiring call is told by how many points and values there are, by whether these are in range, and by the list.
-  module _ (fine : firstOf (settingsCases s) ≡ 0) (buffer : List ℕ) where
+  module _ (fine : firstOf 0 (settingsCases s) ≡ 0) (buffer : List ℕ) where
     unfoldable pub wired : ℕ → ℕ → Bool → List ℕ → Listed
-    wired n count range names = listing (firstOf ((ltb (length buffer) 8, 6) ∷ (not (eqb count n), 7) ∷ (ltb 64 n, 8) ∷ (not range, 9) ∷ [])) names buffer
+    wired n count range names = listing (firstOf 0 ((ltb (length buffer) 8, 6) ∷ (not (eqb count n), 7) ∷ (ltb 64 n, 8) ∷ (not range, 9) ∷ [])) names buffer
 
     pub wiring-told : (v : List ℤ) (A : List (List ℕ)) → Points s A → (t : Tables) → Large t
         → wiringOutcome s (length A) (rowCount s A) (written (tablesOf s A) t) v buffer ≡ wired (length A) (length v) (inRange (s .modulus) v) (wiringUnder s A (residues (s .modulus) v))
@@ -187,7 +187,7 @@ module _ (s : Settings) (ok : Accepted s) where
   sizes A = record { standard = length-fill 512 _; leads = length-fill 3592 _; coefficients = length-fill 28736 _ }
 
   -- Every drawing up of the points of L, in any order.
-  module _ (fine : firstOf (settingsCases s) ≡ 0) (L : List (List ℕ)) (hL : Points s L) (levels : List ℤ) (a : Rearranges s L levels) where
+  module _ (fine : firstOf 0 (settingsCases s) ≡ 0) (L : List (List ℕ)) (hL : Points s L) (levels : List ℤ) (a : Rearranges s L levels) where
     abbrev K : List (List ℕ)
     K = pointsOffered s levels
 

@@ -28,7 +28,7 @@ pub record Lawful (o : Operation) : Type 0 where
   pub outcome : (s : Settings) (n r : ℕ) (t : Tables)
       → outcomeOf o s n r t ≡ byRefusal (refusalOf o s n r t) t (holding s (pointsAfter o s (pointsIn s n (t .states))) t)
   -- handed the basis of at most 64 points, its number is what the reference list of these answers
-  pub number : (s : Settings) → firstOf (settingsCases s) ≡ 0 → (n r : ℕ) (t : Tables) → n ≤ 64 → tooShort t ≡ false → recognised s n r t ≡ true
+  pub number : (s : Settings) → firstOf 0 (settingsCases s) ≡ 0 → (n r : ℕ) (t : Tables) → n ≤ 64 → tooShort t ≡ false → recognised s n r t ≡ true
       → refusalOf o s n r t ≡ referenceAnswer o s (pointsIn s n (t .states))
   -- and what it makes of distinct points are distinct points
   pub points : (s : Settings) → Accepted s → (L : List (List ℕ)) → Points s L → referenceAnswer o s L ≡ 0 → Points s (pointsAfter o s L)

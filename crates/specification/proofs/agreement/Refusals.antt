@@ -27,7 +27,7 @@ pub record Accepted (s : Settings) : Type 0 where
   pub few : s .variables ≤ 8
   pub order : s .order ≤ 2
 
-pub accepted : (s : Settings) → firstOf (settingsCases s) ≡ 0 → Accepted s
+pub accepted : (s : Settings) → firstOf 0 (settingsCases s) ≡ 0 → Accepted s
 unfolding settingsCases
 accepted s e =
     let n = none-holds (settingsCases s) tt e in
@@ -40,7 +40,7 @@ accepted s e =
     }
 
 -- the cases behind those of the settings decide
-pub settings-pass : (s : Settings) → firstOf (settingsCases s) ≡ 0 → (l : List Case) → firstOf (settingsCases s ++ l) ≡ firstOf l
+pub settings-pass : (s : Settings) → firstOf 0 (settingsCases s) ≡ 0 → (l : List Case) → firstOf 0 (settingsCases s ++ l) ≡ firstOf 0 l
 unfolding settingsCases
 settings-pass s e l = sym (first-on (settingsCases s) l (none-holds (settingsCases s) tt e))
 

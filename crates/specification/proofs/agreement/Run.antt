@@ -63,7 +63,7 @@ untouched : (a b c d : Lent) (t : Tables) → tablesAfter a b c d (lentTables a 
 unfolding tablesAfter lentTables
 untouched a b c d t = rw (unlent d t, unlent c t, unlent b t, unlent a t)
 
-module _ (s : Settings) (fine : firstOf (settingsCases s) ≡ 0) (start : Tables) (large : Large start) where
+module _ (s : Settings) (fine : firstOf 0 (settingsCases s) ≡ 0) (start : Tables) (large : Large start) where
   ok : Accepted s
   ok = accepted s fine
 

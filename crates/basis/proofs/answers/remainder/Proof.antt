@@ -37,7 +37,7 @@ module _ (e : tie.Else1) where
   abbrev s : tie.Start
   s = start d
 
-  none : firstOf (remainderCases (s .args .settings) (s .args .n) (s .args .r) (tables s) (s .args .term-coefficients .now) (s .args .exponents .now) (s .args .out .now)) ≡ 0
+  none : firstOf 0 (remainderCases (s .args .settings) (s .args .n) (s .args .r) (tables s) (s .args .term-coefficients .now) (s .args .exponents .now) (s .args .out .now)) ≡ 0
   none = sym (d .remainder-refusal .ensures .0) ∙ e .if1 .left
 
   sized : Sized 64 (s .args .settings) (s .args .n) (tables s) (s .args .out .now)

@@ -32,7 +32,7 @@ module _ (e : tie.Else1) where
   abbrev s : tie.Start
   s = start d
 
-  none : firstOf (valuesCases 8 (s .args .settings) (s .args .n) (s .args .r) (tables s) (s .args .values .now) (s .args .out .now)) ≡ 0
+  none : firstOf 0 (valuesCases 8 (s .args .settings) (s .args .n) (s .args .r) (tables s) (s .args .values .now) (s .args .out .now)) ≡ 0
   none = sym (d .interpolant .ensures .0) ∙ e .if1 .left
 
   sized : Sized 8 (s .args .settings) (s .args .n) (tables s) (s .args .out .now)

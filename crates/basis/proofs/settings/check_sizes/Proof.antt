@@ -17,7 +17,7 @@ by-sizes-requires c κs = tt
 returns : tie.Need-returns
 returns c =
     let s = c .before .before in
-    c .by-sizes .ensures ∙ ap (λ (b : Bool). firstOf (settingsCases (s .args .settings) ++ ((b, 6) ∷ (false, 7) ∷ (ltb 64 (s .args .n), 8) ∷ []))) (c .before .too-short .ensures)
+    c .by-sizes .ensures ∙ ap (λ (b : Bool). firstOf 0 (settingsCases (s .args .settings) ++ ((b, 6) ∷ (false, 7) ∷ (ltb 64 (s .args .n), 8) ∷ []))) (c .before .too-short .ensures)
 
 pub check-sizes-spec : {M : Type 1} → statement M
 check-sizes-spec = tie.close (tie.spec too-short-requires by-sizes-requires returns)
