@@ -188,7 +188,7 @@ pub fn draw(
 }
 
 // The basis of the n points of a table, written to lent tables: the row count.
-fn draw_points(
+pub(crate) fn draw_points(
     settings: Settings,
     n: usize,
     points: &[u8],

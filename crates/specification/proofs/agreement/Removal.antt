@@ -1,7 +1,7 @@
 -- Points without one of them.
 use mathlib.Core.Path.{_≡_, refl, ap}
 use mathlib.Core.Logic.{inl, inr}
-use mathlib.Core.Bool.{Bool, true, false, cond}
+use mathlib.Core.Bool.{Bool, true, false, cond, _||_}
 use mathlib.Core.List.{List, [], _∷_, _++_}
 use Prim.Native.Nat.{ℕ, suc, _≤_}
 use native.Mathlib.Omega.{arith}
@@ -10,7 +10,7 @@ use lib.Dec.{T}
 use Rattle.residue.specs.Lists.{Among, sameList}
 use Rattle.residue.proofs.bytes.Equality.{same-is, same-self}
 use Rattle.specification.specs.declared.settings.Settings.{Settings}
-use Rattle.specification.specs.Levels.{noRepeat}
+use Rattle.specification.specs.Levels.{isAmong, noRepeat}
 use Rattle.specification.specs.Withdrawing.{without}
 use Rattle.specification.proofs.agreement.Points.{Points, once-of, of-once}
 
@@ -48,6 +48,16 @@ points-left s P S h = record {
   once = left-once P S (h .once);
   few = omega (arith, left-length P S, h .few);
 }
+
+-- one point fewer, where it is among them
+pub left-one : (P : List ℕ) (S : List (List ℕ)) → isAmong P S ≡ true → suc (length (without P S)) ≡ length S
+unfolding without isAmong
+left-one P [] e = absurd (let z : _≡_ {A = ℕ} 0 1 = cc in omega arith)
+left-one P (R ∷ S) e = go (sameList P R) e (λ k. left-one P S k)
+  where
+    go : (b : Bool) → (b || isAmong P S) ≡ true → (isAmong P S ≡ true → suc (length (without P S)) ≡ length S) → suc (length (cond b S (R ∷ without P S))) ≡ suc (length S)
+    go true e f = refl
+    go false e f = ap suc (f e)
 
 -- the last point is the one that goes where it stands there alone
 pub without-last : (P : List ℕ) (S : List (List ℕ)) → ¬ Among P S → without P (S ++ (P ∷ [])) ≡ S
