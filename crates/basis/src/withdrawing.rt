@@ -17,7 +17,7 @@ ghost use Rattle.specification.specs.Settings.{settingsCases};
 ghost use Rattle.specification.specs.Levels.{residues, isAmong};
 ghost use Rattle.specification.specs.Tables.{fourTables, pointsIn};
 ghost use Rattle.specification.specs.Adding.{ended};
-ghost use Rattle.specification.specs.Withdrawing.{without, withdrawRefusal, withdrawOutcome};
+ghost use Rattle.specification.specs.Withdrawing.{remaining, withdrawRefusal, withdrawOutcome};
 
 // The points of a table without the named one, left in a second table, and 0; or 12, where it is not among them.
 fn put_others(settings: Settings, n: usize, states: &[u8], levels: &[i8], left: &mut [u8]) -> u8
@@ -25,7 +25,7 @@ fn put_others(settings: Settings, n: usize, states: &[u8], levels: &[i8], left: 
     requires { ⌜ (512 ≤ length (now states)) × (length (now levels) ≡ settings .variables) × (now left ≡ replicate 512 0) ⌝ }
     ensures { λ k. ⌜ k ≡ cond (isAmong (residues (settings .modulus) (now (levels .entry))) (pointsIn settings n (now (states .entry)))) 0 12 ⌝ }
     ensures { λ k. ⌜ (k ≡ 0 → now (left .exit)
-        ≡ fill 512 (inPlaces 8 (without (residues (settings .modulus) (now (levels .entry))) (pointsIn settings n (now (states .entry)))))) ⌝ }
+        ≡ fill 512 (inPlaces 8 (remaining (residues (settings .modulus) (now (levels .entry))) (pointsIn settings n (now (states .entry)))))) ⌝ }
 {
     let mut points = [0u8; 512];
     points::read_points(settings, n, states, &mut points);
@@ -55,7 +55,7 @@ fn withdraw_refusal(
     ensures { λ k. ⌜ k ≡ withdrawRefusal settings n r
         (fourTables (now (states .entry)) (now (standard .entry)) (now (leads .entry)) (now (coefficients .entry))) (now (levels .entry)) ⌝ }
     ensures { λ k. ⌜ (k ≡ 0 → now (left .exit)
-        ≡ fill 512 (inPlaces 8 (without (residues (settings .modulus) (now (levels .entry))) (pointsIn settings n (now (states .entry)))))) ⌝ }
+        ≡ fill 512 (inPlaces 8 (remaining (residues (settings .modulus) (now (levels .entry))) (pointsIn settings n (now (states .entry)))))) ⌝ }
 {
     let refusal = withdraw_sizes(
         settings,

@@ -21,7 +21,7 @@ use Rattle.specification.specs.BasisOf.{remainderOf, interpolantOf, valu
 use Rattle.specification.specs.Instance.{pointOf}
 use Rattle.specification.specs.Tables.{Tables, spaceUnder, pointsUnder, standardUnder, leadsUnder, rowsUnder, rowCount, tablesOf, written, pointsIn, recognised}
 use Rattle.specification.specs.Adding.{Outcome, holding, byRefusal, pointsOffered, addOutcome, drawCases, drawRefusal, drawOutcome}
-use Rattle.specification.specs.Withdrawing.{without, withdrawOutcome}
+use Rattle.specification.specs.Withdrawing.{remaining, withdrawOutcome}
 use Rattle.specification.specs.Reference.{Operation, adding, withdrawing, outcomeOf, refusalOf, referenceAnswer, pointsAfter}
 use Rattle.specification.specs.Solving.{checkRefusal, filling, valuesCases, interpolantIn, interpolateOutcome, polynomialUnder, remainderCases, remainderIn, remainderOutcome, wiringUnder, Listed, listing, wiringOutcome}
 use Rattle.specification.specs.Agreement.{Remains, Wires}
@@ -133,7 +133,7 @@ unfolding outcomeOf pointsAfter
 add-leaves s n r t levels e = operation-leaves (adding levels) s n r t e
 
 pub withdraw-leaves : (s : Settings) (n r : ℕ) (t : Tables) (levels : List ℤ) → let o = withdrawOutcome s n r t levels in o .answer .refusal ≡ 0
-    → HoldsBasis s (without (residues (s .modulus) levels) (pointsIn s n (t .states))) t (o .answer .n) (o .answer .r) (o .tables)
+    → HoldsBasis s (remaining (residues (s .modulus) levels) (pointsIn s n (t .states))) t (o .answer .n) (o .answer .r) (o .tables)
 unfolding outcomeOf pointsAfter
 withdraw-leaves s n r t levels e = operation-leaves (withdrawing levels) s n r t e
 

@@ -15,7 +15,7 @@ use Rattle.specification.specs.Refusal.{firstOf}
 use Rattle.specification.specs.Levels.{inRange, residues, isAmong}
 use Rattle.specification.specs.Tables.{Tables, rowCount, tablesOf, written, tooShort, pointsIn, recognised}
 use Rattle.specification.specs.Adding.{Outcome, holding, byRefusal, addRefusal, addOutcome}
-use Rattle.specification.specs.Withdrawing.{without, withdrawOutcome}
+use Rattle.specification.specs.Withdrawing.{remaining, withdrawOutcome}
 use Rattle.specification.specs.Reference.{adding, withdrawing, outcomeOf, refusalOf, referenceAnswer, pointsAfter}
 use Rattle.specification.proofs.Cases.{none-holds}
 use Rattle.specification.proofs.Repeats.{is-among}
@@ -23,7 +23,7 @@ use Rattle.specification.proofs.Recognised.{length-read, recognised-par
 use Rattle.specification.proofs.CallByCall.{known-points, known-tables}
 use Rattle.specification.proofs.agreement.Points.{Points}
 use Rattle.specification.proofs.agreement.Refusals.{Accepted, accepted, not-short, large-of, written-large, written-points, written-recognised}
-use Rattle.specification.proofs.agreement.Removal.{without-last}
+use Rattle.specification.proofs.agreement.Removal.{remaining-last}
 use Rattle.specification.proofs.agreement.Operations.{Passed, lawful}
 use Rattle.specification.proofs.agreement.Run.{number-of, written-twice}
 
@@ -66,8 +66,8 @@ module _ (s : Settings) (n r : ℕ) (t : Tables) (levels : List ℤ) (taken : re
   unfolding referenceAnswer firstOf
   taken-back = rw (judged .0, judged .1, true-of (isAmong P after) (is-among P after (among-last P before)))
 
-  left : without P after ≡ before
-  left = without-last P before (λ q. subst T (judged .2) (is-among P before q))
+  left : remaining P after ≡ before
+  left = remaining-last P before (λ q. subst T (judged .2) (is-among P before q))
 
   same : pointsIn s (length after) (grown .states) ≡ after
   same = written-points s ok after points t
@@ -90,7 +90,7 @@ module _ (s : Settings) (n r : ℕ) (t : Tables) (levels : List ℤ) (taken : re
   unfolding outcomeOf pointsAfter byRefusal
   given-back =
       lawful (withdrawing levels) .outcome s (length after) (rowCount s after) grown
-      ∙ ap₂ (λ (k : ℕ) (S : List (List ℕ)). byRefusal k grown (holding s S grown)) withdrawn (ap (without P) same ∙ left)
+      ∙ ap₂ (λ (k : ℕ) (S : List (List ℕ)). byRefusal k grown (holding s S grown)) withdrawn (ap (remaining P) same ∙ left)
       ∙ back
 
   added : addOutcome s n r t levels ≡ holding s after t

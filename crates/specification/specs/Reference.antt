@@ -11,7 +11,7 @@ use Rattle.specification.specs.Refusal.{firstOf}
 use Rattle.specification.specs.Levels.{inRange, residues, isAmong}
 use Rattle.specification.specs.Tables.{Tables, fourTables}
 use Rattle.specification.specs.Adding.{Outcome, addOutcome, addRefusal}
-use Rattle.specification.specs.Withdrawing.{without, withdrawRefusal, withdrawOutcome}
+use Rattle.specification.specs.Withdrawing.{remaining, withdrawRefusal, withdrawOutcome}
 
 -- An operation, with what it is handed beside settings, counts and tables: 'its levels may be anything, and of any number'.
 pub data Operation : Type 0 where
@@ -42,7 +42,7 @@ referenceAnswer (withdrawing levels) s L = firstOf 0
 -- the points after it, where the answer is 0: the list 'appends these residues', or takes the point out
 unfoldable pub pointsAfter : Operation → Settings → List (List ℕ) → List (List ℕ)
 pointsAfter (adding levels) s L = L ++ (residues (s .modulus) levels ∷ [])
-pointsAfter (withdrawing levels) s L = without (residues (s .modulus) levels) L
+pointsAfter (withdrawing levels) s L = remaining (residues (s .modulus) levels) L
 
 -- the reference list after it: with any other answer 'it does not change'
 unfoldable pub referenceAfter : Operation → Settings → List (List ℕ) → List (List ℕ)

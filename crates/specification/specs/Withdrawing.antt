@@ -14,9 +14,9 @@ use Rattle.specification.specs.Tables.{Tables, tooShort, pointsIn, recog
 use Rattle.specification.specs.Adding.{Outcome, holding, byRefusal}
 
 -- the points but the first that equals P; later ones move up one place
-unfoldable pub without : List ℕ → List (List ℕ) → List (List ℕ)
-without P [] = []
-without P (Q ∷ S) = cond (sameList P Q) S (Q ∷ without P S)
+unfoldable pub remaining : List ℕ → List (List ℕ) → List (List ℕ)
+remaining P [] = []
+remaining P (Q ∷ S) = cond (sameList P Q) S (Q ∷ remaining P S)
 
 -- A full basis gives up a point: 8 is for a claimed n that no tables have.
 unfoldable pub withdrawCases : Settings → ℕ → ℕ → Tables → List ℤ → List Case
@@ -33,4 +33,4 @@ withdrawRefusal s n r t levels = firstOf 0 (withdrawCases s n r t levels)
 
 unfoldable pub withdrawOutcome : Settings → ℕ → ℕ → Tables → List ℤ → Outcome
 withdrawOutcome s n r t levels =
-    byRefusal (withdrawRefusal s n r t levels) t (holding s (without (residues (s .modulus) levels) (pointsIn s n (t .states))) t)
+    byRefusal (withdrawRefusal s n r t levels) t (holding s (remaining (residues (s .modulus) levels) (pointsIn s n (t .states))) t)

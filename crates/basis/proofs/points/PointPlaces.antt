@@ -14,7 +14,7 @@ use Rattle.residue.proofs.bytes.Equality.{same-filled}
 use Rattle.residue.proofs.Places.{groups-step, groups-end}
 use Rattle.monomial.specs.Insert.{removedAt}
 use Rattle.specification.specs.Levels.{isAmong}
-use Rattle.specification.specs.Withdrawing.{without}
+use Rattle.specification.specs.Withdrawing.{remaining}
 use Rattle.basis.specs.Points.{placeIn}
 
 pub place-start : (P t : List ℕ) (n : ℕ) → 0 + placeIn P (groups 8 (n - 0) (drop (8 * 0) t)) ≡ placeIn P (groups 8 n t)
@@ -66,11 +66,11 @@ among-place P (Q ∷ S) = go (sameList P Q) (among-place P S)
     go false e = step (ltb (placeIn P S) (length S)) refl ∙ e
 
 -- the points without the one at its place
-pub place-out : (P : List ℕ) (S : List (List ℕ)) → placeIn P S < length S → removedAt (placeIn P S) S ≡ without P S
-unfolding placeIn removedAt without
+pub place-out : (P : List ℕ) (S : List (List ℕ)) → placeIn P S < length S → removedAt (placeIn P S) S ≡ remaining P S
+unfolding placeIn removedAt remaining
 place-out P (Q ∷ S) h = go (sameList P Q) (λ k. place-out P S k) h
   where
-    go : (b : Bool) → (placeIn P S < length S → take (placeIn P S) S ++ drop (suc (placeIn P S)) S ≡ without P S) → cond b 0 (suc (placeIn P S)) < suc (length S)
-        → take (cond b 0 (suc (placeIn P S))) (Q ∷ S) ++ drop (suc (cond b 0 (suc (placeIn P S)))) (Q ∷ S) ≡ cond b S (Q ∷ without P S)
+    go : (b : Bool) → (placeIn P S < length S → take (placeIn P S) S ++ drop (suc (placeIn P S)) S ≡ remaining P S) → cond b 0 (suc (placeIn P S)) < suc (length S)
+        → take (cond b 0 (suc (placeIn P S))) (Q ∷ S) ++ drop (suc (cond b 0 (suc (placeIn P S)))) (Q ∷ S) ≡ cond b S (Q ∷ remaining P S)
     go true f h = refl
     go false f h = ap (λ (l : List (List ℕ)). Q ∷ l) (f (omega arith))

@@ -18,7 +18,7 @@ use Rattle.specification.specs.Settings.{settingsCases}
 use Rattle.specification.specs.Levels.{inRange, residues, isAmong}
 use Rattle.specification.specs.Tables.{Tables, tooShort, pointsIn, recognised}
 use Rattle.specification.specs.Solving.{checkRefusal}
-use Rattle.specification.specs.Withdrawing.{without, withdrawCases, withdrawRefusal}
+use Rattle.specification.specs.Withdrawing.{remaining, withdrawCases, withdrawRefusal}
 use Rattle.specification.proofs.Recognised.{length-read, read-each, none-of}
 use Rattle.specification.proofs.CallByCall.{known-points}
 use Rattle.specification.proofs.agreement.Points.{Points, length-residues}
@@ -57,7 +57,7 @@ module _ (s : Settings) (ok : Accepted s) (n : ℕ) (few : n ≤ 64) (states : L
   present h = sym (ap (λ (b : Bool). cond {A = ℕ} b 0 12) (among ∙ lt-ltb (placeIn P S) n h))
 
   pub left-is : (table : List ℕ) → table ≡ fill 512 (inPlaces 8 S) → placeIn P S < n
-      → over (takenOut 8 n (placeIn P S) table) (replicate 512 0) ≡ fill 512 (inPlaces 8 (without P S))
+      → over (takenOut 8 n (placeIn P S) table) (replicate 512 0) ≡ fill 512 (inPlaces 8 (remaining P S))
   left-is table et h =
       ap₂ (λ (k : ℕ) (l : List ℕ). over (takenOut 8 k (placeIn P S) l) (replicate 512 0)) (sym count) et
       ∙ table-out 8 512 S (placeIn P S) 512 (omega (arith, h, count)) (omega (arith, count)) (omega (arith, count))
@@ -130,8 +130,8 @@ module _ (s : Settings) (n r : ℕ) (t : Tables) (levels : List ℤ) where
   pub record Open : Type 0 where
     pub settings : Accepted s
     pub large : Large t
-    pub left : Points s (without new old)
-    pub count : length (without new old) ≡ n - 1
+    pub left : Points s (remaining new old)
+    pub count : length (remaining new old) ≡ n - 1
     pub some : 0 < n
     pub few : n ≤ 64
 
