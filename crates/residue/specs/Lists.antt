@@ -1,6 +1,6 @@
 -- Lists of numbers: members, sums, tests and the number that bytes spell. The whole repository uses this one membership relation.
 use mathlib.Core.Path.{_≡_}
-use mathlib.Core.Bool.{Bool, true, false, _&&_}
+use mathlib.Core.Bool.{Bool, true, false, _&&_, _||_}
 use mathlib.Core.Logic.{_⊎_}
 use mathlib.Core.List.{List, [], _∷_}
 use Prim.Native.Nat.{ℕ, _+_, zero, suc, _*_}
@@ -17,6 +17,15 @@ abbrev pub sumOver : {A : Type 0} → (A → ℕ) → List A → ℕ
 sumOver f [] = 0
 sumOver f (a ∷ l) = f a + sumOver f l
 
+-- each of the list passes the test; one of it does. The library's `all` and `any` do not compute in a statement, and these do.
+abbrev pub every : {A : Type 0} → (A → Bool) → List A → Bool
+every f [] = true
+every f (a ∷ l) = f a && every f l
+
+abbrev pub some : {A : Type 0} → (A → Bool) → List A → Bool
+some f [] = false
+some f (a ∷ l) = f a || some f l
+
 -- two lists of numbers are equal
 unfoldable pub sameList : List ℕ → List ℕ → Bool
 sameList [] [] = true
@@ -31,5 +40,4 @@ keyOf (suc k) l = 256 * keyOf k l + getD l k 0
 
 -- each number is 0
 unfoldable pub allZero : List ℕ → Bool
-allZero [] = true
-allZero (a ∷ l) = eqb a 0 && allZero l
+allZero l = every (λ a. eqb a 0) l

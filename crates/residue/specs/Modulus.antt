@@ -1,8 +1,9 @@
 -- The moduli.
 use Prim.Native.Nat.{ℕ}
-use mathlib.Core.Bool.{Bool, false, _||_}
-use mathlib.Core.List.{List, [], _∷_, foldr}
+use mathlib.Core.Bool.{Bool}
+use mathlib.Core.List.{List, [], _∷_}
 use lib.Dec.{eqb}
+use Rattle.residue.specs.Lists.{some}
 
 -- the 18 primes (docs/SCOPE.md, 'What the desk does')
 unfoldable pub primes : List ℕ
@@ -10,7 +11,7 @@ primes = 2 ∷ 3 ∷ 5 ∷ 7 ∷ 11 ∷ 13 ∷ 17 ∷ 19 ∷ 23 ∷ 29 ∷ 31 �
 
 -- p stands in the list
 unfoldable pub isOneOf : List ℕ → ℕ → Bool
-isOneOf qs p = foldr (λ q rest. eqb p q || rest) false qs
+isOneOf qs p = some (eqb p) qs
 
 -- p is one of the 18; any other modulus is refusal 3
 unfoldable pub isModulus : ℕ → Bool

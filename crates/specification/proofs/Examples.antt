@@ -28,7 +28,7 @@ use Rattle.specification.specs.Levels.{isResidue, residueOr0, inRange, r
 use Rattle.specification.specs.Extension.{slot, minus, without, divided, extended, gap, first, newton, grow}
 use Rattle.specification.specs.BasisOf.{basisOf, valueAt}
 use Rattle.specification.specs.Instance.{monomialOf, pointOf}
-use Rattle.specification.specs.Tables.{standardUnder, leadsUnder, rowsUnder}
+use Rattle.specification.specs.Tables.{standardUnder, leadsUnder, rowsUnder, statesSize, standardSize, leadsSize, coefficientsSize}
 use Rattle.specification.specs.Solving.{occurs, wiringOf, wiringUnder, polynomialOf}
 use Rattle.specification.specs.Reference.{referenceAnswer, pointsAfter, referenceAfter, addition, Held, heldAfter, numbers, fed, dueAt, due, RefusesAt, Refuses}
 use Rattle.specification.specs.Examples.{Example, Holds, Tabled, under, anyOrder, fresh, A, examples}
@@ -99,8 +99,8 @@ alone s h (levels ∷ offered) = (tt, alone s (heldAfter s h (addition levels)) 
 
 added : (s : Settings) (offered : List (List ℤ)) → firstOf 0 (settingsCases s) ≡ 0 → numbers s fresh (map addition offered) ≡ due s [] fresh (map addition offered)
 added s offered fine =
-    agreement s fine (record { states = replicate 512 0; standard = replicate 512 0; leads = replicate 3592 0; coefficients = replicate 28736 0 })
-    (record { states = blank 512; standard = blank 512; leads = blank 3592; coefficients = blank 28736 }) (map addition offered) (alone s fresh offered) .answers
+    agreement s fine (record { states = replicate statesSize 0; standard = replicate standardSize 0; leads = replicate leadsSize 0; coefficients = replicate coefficientsSize 0 })
+    (record { states = blank statesSize; standard = blank standardSize; leads = blank leadsSize; coefficients = blank coefficientsSize }) (map addition offered) (alone s fresh offered) .answers
 
 -- settings with one of the orders 0 to 2 are accepted
 known-order : (order : ℕ) → Among order anyOrder → order < 3

@@ -1,5 +1,5 @@
 -- A point among others, and points of which none repeats.
-use mathlib.Core.Path.{_≡_, refl, ap₂}
+use mathlib.Core.Path.{_≡_, refl, sym, ap₂, subst}
 use mathlib.Core.Bool.{Bool, true, false, _||_, not, _&&_}
 use mathlib.Core.Logic.{inl, inr}
 use mathlib.Core.List.{List, [], _∷_, map}
@@ -9,31 +9,18 @@ use lib.ListN.{take, drop, length}
 use lib.Dec.{T}
 use Rattle.residue.specs.Lists.{Among, sameList}
 use Rattle.residue.specs.Layout.{groups, fill}
+use Rattle.residue.proofs.Searches.{one-of, of-one}
 use Rattle.residue.proofs.bytes.Equality.{same-is, same-self, same-filled}
 use Rattle.residue.proofs.Places.{groups-step, groups-end}
 use Rattle.specification.specs.Levels.{isAmong, noRepeat}
 
 pub among-is : (P : List ℕ) (S : List (List ℕ)) → T (isAmong P S) → Among P S
 unfolding isAmong
-among-is P [] h = h
-among-is P (Q ∷ S) h = go (sameList P Q) refl h (λ k. among-is P S k)
-  where
-    go : (b : Bool) → sameList P Q ≡ b → T (b || isAmong P S) → (T (isAmong P S) → Among P S) → Among P (Q ∷ S)
-    go true e k f = inl (same-is P Q (rw e tt))
-    go false e k f = inr (f k)
+among-is P S h = let w = one-of (sameList P) S h in subst (λ (Q : List ℕ). Among Q S) (sym (same-is P (w .0) (w .1 .1))) (w .1 .0)
 
 pub is-among : (P : List ℕ) (S : List (List ℕ)) → Among P S → T (isAmong P S)
 unfolding isAmong
-is-among P (Q ∷ S) (inl e) = rw e (first (sameList Q Q) (isAmong Q S) (same-self Q))
-  where
-    first : (a b : Bool) → T a → T (a || b)
-    first true b h = tt
-    first false b h = absurd h
-is-among P (Q ∷ S) (inr q) = later (sameList P Q) (isAmong P S) (is-among P S q)
-  where
-    later : (a b : Bool) → T b → T (a || b)
-    later true b h = tt
-    later false b h = h
+is-among P S q = of-one (sameList P) S P q (same-self P)
 
 -- A search for a point along the places.
 module _ (P t : List ℕ) (n i : ℕ) (h : i < n) where

@@ -15,7 +15,7 @@ use Rattle.specification.specs.Levels.{inRange, noRepeat, residues}
 use Rattle.specification.specs.Polynomial.{eval}
 use Rattle.specification.specs.Basis.{IsBasis, Fits}
 use Rattle.specification.specs.BasisOf.{valueAt}
-use Rattle.specification.specs.Tables.{Tables, spaceUnder, pointsUnder, standardUnder, leadsUnder, rowsUnder, rowCount, tablesOf, written, tooShort, pointsIn}
+use Rattle.specification.specs.Tables.{Tables, spaceUnder, pointsUnder, standardUnder, leadsUnder, rowsUnder, rowCount, tablesOf, written, tooShort, pointsIn, statesSize, standardSize, leadsSize, coefficientsSize}
 use Rattle.specification.specs.Adding.{Outcome, pointsOffered, drawOutcome}
 use Rattle.specification.specs.Solving.{valuesCases, polynomialUnder, remainderCases, remainderOutcome, Names, Listed, wiringOutcome}
 use Rattle.specification.specs.Reference.{Event, Held, numbers, due}
@@ -23,10 +23,10 @@ use Rattle.residue.specs.Level.{residueOf}
 
 -- Fresh tables: none is shorter than its size, and every byte of the sizes is 0.
 pub record Fresh (t : Tables) : Type 0 where
-  pub states : T (begins (fill 512 []) (t .states))
-  pub standard : T (begins (fill 512 []) (t .standard))
-  pub leads : T (begins (fill 3592 []) (t .leads))
-  pub coefficients : T (begins (fill 28736 []) (t .coefficients))
+  pub states : T (begins (fill statesSize []) (t .states))
+  pub standard : T (begins (fill standardSize []) (t .standard))
+  pub leads : T (begins (fill leadsSize []) (t .leads))
+  pub coefficients : T (begins (fill coefficientsSize []) (t .coefficients))
 
 -- n = 0, r = 1
 unfoldable pub freshly : Tables → Held
@@ -52,9 +52,9 @@ pub record SameAs (s : Settings) (h : Held) (o : Outcome) : Type 0 where
   pub number : o .answer .refusal ≡ 0
   pub count : o .answer .n ≡ h .n
   pub rows : o .answer .r ≡ h .r
-  pub standard : take 512 (o .tables .standard) ≡ take 512 (h .tables .standard)
-  pub leads : take 3592 (o .tables .leads) ≡ take 3592 (h .tables .leads)
-  pub coefficients : take 28736 (o .tables .coefficients) ≡ take 28736 (h .tables .coefficients)
+  pub standard : take standardSize (o .tables .standard) ≡ take standardSize (h .tables .standard)
+  pub leads : take leadsSize (o .tables .leads) ≡ take leadsSize (h .tables .leads)
+  pub coefficients : take coefficientsSize (o .tables .coefficients) ≡ take coefficientsSize (h .tables .coefficients)
   pub remainder : (terms : List ℤ) (exponents buffer : List ℕ)
       → remainderOutcome s (o .answer .n) (o .answer .r) (o .tables) terms exponents buffer
       ≡ remainderOutcome s (h .n) (h .r) (h .tables) terms exponents buffer

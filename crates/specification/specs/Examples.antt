@@ -12,7 +12,7 @@ use Rattle.specification.specs.declared.settings.Settings.{Settings}
 use Rattle.specification.specs.Levels.{inRange}
 use Rattle.specification.specs.Polynomial.{Polynomial}
 use Rattle.specification.specs.BasisOf.{interpolantOf, remainderOf}
-use Rattle.specification.specs.Tables.{spaceUnder, pointsUnder, standardUnder, leadsUnder, rowsUnder}
+use Rattle.specification.specs.Tables.{spaceUnder, pointsUnder, standardUnder, leadsUnder, rowsUnder, statesSize, standardSize, leadsSize, coefficientsSize}
 use Rattle.specification.specs.Solving.{polynomialOf, wiringUnder}
 use Rattle.specification.specs.Reference.{addition, Held, numbers}
 use Rattle.specification.specs.Agreement.{freshly}
@@ -46,7 +46,7 @@ abbrev pub anyOrder : List ℕ
 anyOrder = 0 ∷ 1 ∷ 2 ∷ []
 
 abbrev pub fresh : Held
-fresh = freshly (record { states = replicate 512 0; standard = replicate 512 0; leads = replicate 3592 0; coefficients = replicate 28736 0 })
+fresh = freshly (record { states = replicate statesSize 0; standard = replicate standardSize 0; leads = replicate leadsSize 0; coefficients = replicate coefficientsSize 0 })
 
 unfoldable pub Holds : Example → Type 0
 Holds (basis p m orders S standard leads rows) = (order : ℕ) → Among order orders → Tabled (under p m order) S standard leads rows

@@ -1,8 +1,9 @@
 -- One point more (docs/SCOPE.md, 'The sheet': adding follows Lemma 2), computed. The interpolants are Newton's.
 use mathlib.Core.List.{List, [], _∷_}
-use mathlib.Core.Bool.{Bool, false, cond, _||_}
+use mathlib.Core.Bool.{Bool, cond}
 use Prim.Native.Nat.{ℕ, zero, suc, _+_, _*_, _%_}
 use lib.Dec.{eqb}
+use Rattle.residue.specs.Lists.{some}
 use Rattle.monomial.specs.Increasing.{placed, inserted}
 use Rattle.specification.specs.Space.{Space, same}
 use Rattle.specification.specs.Polynomial.{eval, terms}
@@ -29,8 +30,7 @@ module _ (D : Space) where
 
   -- some monomial of the list divides a
   unfoldable pub divided : List Mono → Mono → Bool
-  divided [] a = false
-  divided (b ∷ l) a = divides b a || divided l a
+  divided l a = some (λ b. divides b a) l
 
   -- The leads when a has become standard: the others, and for each variable k below j the product x k a if none of those divides it.
   unfoldable pub extended : List Mono → Mono → ℕ → List Mono

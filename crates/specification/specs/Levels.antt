@@ -1,13 +1,13 @@
 -- Levels and their residues: docs/SCOPE.md, 'What the desk does'. A level that is out of range has no residue; 0 stands in its place, and no accepted call
 -- has one.
-use mathlib.Core.Bool.{Bool, true, false, not, _&&_, _||_}
+use mathlib.Core.Bool.{Bool, true, false, not, _&&_}
 use mathlib.Core.List.{List, [], _∷_, map}
 use Prim.Native.Nat.{ℕ}
 use lib.IntN.{ℤ}
 use Rattle.residue.specs.Level.{residueOf}
 use Rattle.residue.specs.declared.level.Level.{Level}
 use Rattle.residue.specs.declared.level.Level.the-variants.{Residue, Outside}
-use Rattle.residue.specs.Lists.{sameList}
+use Rattle.residue.specs.Lists.{every, some, sameList}
 
 unfoldable pub isResidue : Level → Bool
 isResidue (Residue x) = true
@@ -19,16 +19,14 @@ residueOr0 Outside = 0
 
 -- each level is from -(p-1) to p-1
 unfoldable pub inRange : ℕ → List ℤ → Bool
-inRange p [] = true
-inRange p (z ∷ zs) = isResidue (residueOf p z) && inRange p zs
+inRange p zs = every (λ z. isResidue (residueOf p z)) zs
 
 unfoldable pub residues : ℕ → List ℤ → List ℕ
 residues p zs = map (λ z. residueOr0 (residueOf p z)) zs
 
 -- a point stands in a list of points: points are equal when their residues are
 unfoldable pub isAmong : List ℕ → List (List ℕ) → Bool
-isAmong P [] = false
-isAmong P (Q ∷ S) = sameList P Q || isAmong P S
+isAmong P S = some (sameList P) S
 
 -- no point equals an earlier one
 unfoldable pub noRepeat : List (List ℕ) → Bool

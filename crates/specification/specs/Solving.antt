@@ -7,7 +7,7 @@ use Prim.Native.Nat.{ℕ, zero, suc, _*_, _<_, compare}
 use lib.IntN.{ℤ}
 use lib.ListN.{length, getD, drop}
 use lib.Dec.{T, eqb, ltb}
-use Rattle.residue.specs.Lists.{Among, allZero}
+use Rattle.residue.specs.Lists.{Among, every, allZero}
 use Rattle.residue.specs.Layout.{groups, fill, over}
 use Rattle.specification.specs.declared.settings.Settings.{Settings}
 use Rattle.specification.specs.declared.settings.Wired.{Wired}
@@ -94,8 +94,7 @@ wiringOutcome s n r t values buffer =
 
 -- no exponent of a variable above m but 0
 unfoldable pub withinVariables : ℕ → List (List ℕ) → Bool
-withinVariables m [] = true
-withinVariables m (e ∷ es) = allZero (drop m e) && withinVariables m es
+withinVariables m es = every (λ e. allZero (drop m e)) es
 
 unfoldable pub remainderCases : Settings → ℕ → ℕ → Tables → List ℤ → List ℕ → List ℕ → List Case
 remainderCases s n r t coefficients exponents buffer = settingsCases s

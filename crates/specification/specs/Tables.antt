@@ -29,6 +29,19 @@ leadsUnder s S = leadsOf (spaceUnder s) (pointsUnder s S)
 abbrev pub rowsUnder : Settings → List (List ℕ) → List (List ℕ)
 rowsUnder s S = rowsOf (spaceUnder s) (pointsUnder s S)
 
+-- The sizes of the lent tables in bytes: 64 points and as many standard monomials, 449 leading monomials, 449 rows.
+abbrev pub statesSize : ℕ
+statesSize = 512
+
+abbrev pub standardSize : ℕ
+standardSize = 512
+
+abbrev pub leadsSize : ℕ
+leadsSize = 3592
+
+abbrev pub coefficientsSize : ℕ
+coefficientsSize = 28736
+
 pub record Tables : Type 0 where
   pub states : List ℕ
   pub standard : List ℕ
@@ -45,10 +58,10 @@ rowCount s S = length (leadsOf (spaceUnder s) (pointsUnder s S))
 -- 8 bytes for a point, a standard monomial and a leading monomial, 64 for a row of coefficients; each byte of the sizes that is not so described is 0.
 unfoldable pub tablesOf : Settings → List (List ℕ) → Tables
 tablesOf s S = record {
-  states = fill 512 (inPlaces 8 S);
-  standard = fill 512 (inPlaces 8 (map (λ a. a .0) (standardOf (spaceUnder s) (pointsUnder s S))));
-  leads = fill 3592 (inPlaces 8 (map (λ a. a .0) (leadsOf (spaceUnder s) (pointsUnder s S))));
-  coefficients = fill 28736 (inPlaces 64 (rowsOf (spaceUnder s) (pointsUnder s S)));
+  states = fill statesSize (inPlaces 8 S);
+  standard = fill standardSize (inPlaces 8 (map (λ a. a .0) (standardOf (spaceUnder s) (pointsUnder s S))));
+  leads = fill leadsSize (inPlaces 8 (map (λ a. a .0) (leadsOf (spaceUnder s) (pointsUnder s S))));
+  coefficients = fill coefficientsSize (inPlaces 64 (rowsOf (spaceUnder s) (pointsUnder s S)));
 }
 
 -- the lent tables with these in their sizes
@@ -62,7 +75,7 @@ written new old = record {
 
 -- a lent table is shorter than its size
 unfoldable pub tooShort : Tables → Bool
-tooShort t = ltb (length (t .states)) 512 || ltb (length (t .standard)) 512 || ltb (length (t .leads)) 3592 || ltb (length (t .coefficients)) 28736
+tooShort t = ltb (length (t .states)) statesSize || ltb (length (t .standard)) standardSize || ltb (length (t .leads)) leadsSize || ltb (length (t .coefficients)) coefficientsSize
 
 -- the first n points of a table of points
 unfoldable pub pointsIn : Settings → ℕ → List ℕ → List (List ℕ)

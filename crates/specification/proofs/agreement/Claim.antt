@@ -13,7 +13,7 @@ use Rattle.specification.specs.Refusal.{firstOf}
 use Rattle.specification.specs.Settings.{settingsCases}
 use Rattle.specification.specs.Polynomial.{Distinct}
 use Rattle.specification.specs.BasisOf.{basisOf}
-use Rattle.specification.specs.Tables.{Tables, spaceUnder, pointsUnder, rowCount, tablesOf, written, pointsIn}
+use Rattle.specification.specs.Tables.{Tables, spaceUnder, pointsUnder, rowCount, tablesOf, written, pointsIn, statesSize, standardSize, leadsSize, coefficientsSize}
 use Rattle.specification.specs.Solving.{filling, remainderOutcome, listing, wiringOutcome}
 use Rattle.specification.specs.Reference.{Event, Held, numbers, heldAtEnd, referenceAtEnd, due, Refuses}
 use Rattle.specification.specs.Agreement.{Fresh, freshly, Remains, Agrees, Wires}
@@ -42,7 +42,7 @@ module _ (s : Settings) (fine : firstOf 0 (settingsCases s) ≡ 0) (start : Tabl
   long k t h = omega (arith, length-fill k [], ap length (same-is (fill k []) (take (length (fill k [])) t) h), length-take (length (fill k [])) t)
 
   large : Large start
-  large = record { states = long 512 (start .states) (fresh .states); standard = long 512 (start .standard) (fresh .standard); leads = long 3592 (start .leads) (fresh .leads); coefficients = long 28736 (start .coefficients) (fresh .coefficients) }
+  large = record { states = long statesSize (start .states) (fresh .states); standard = long standardSize (start .standard) (fresh .standard); leads = long leadsSize (start .leads) (fresh .leads); coefficients = long coefficientsSize (start .coefficients) (fresh .coefficients) }
 
   -- fresh tables are those of no points: one row, the monomial 1
   at-start : At s fine start large (freshly start) []
@@ -53,8 +53,8 @@ module _ (s : Settings) (fine : firstOf 0 (settingsCases s) ≡ 0) (start : Tabl
     rows = refl;
     tables =
         sym
-        (same-tables (over-begins (fill 512 []) (start .states) (fresh .states)) (over-begins (fill 512 []) (start .standard) (fresh .standard))
-        (nothing 3592 8 (s .variables) (start .leads) (fresh .leads)) (nothing 28736 64 0 (start .coefficients) (fresh .coefficients)));
+        (same-tables (over-begins (fill statesSize []) (start .states) (fresh .states)) (over-begins (fill standardSize []) (start .standard) (fresh .standard))
+        (nothing leadsSize 8 (s .variables) (start .leads) (fresh .leads)) (nothing coefficientsSize 64 0 (start .coefficients) (fresh .coefficients)));
   }
 
 -- For all settings that adding does not refuse, all fresh tables, and every list of operations with refused calls between them.

@@ -27,7 +27,7 @@ use Rattle.specification.specs.Levels.{inRange, residues, noRepeat, resi
 use Rattle.specification.specs.Polynomial.{Polynomial, Distinct}
 use Rattle.specification.specs.BasisOf.{valueAt, remainderOf}
 use Rattle.specification.specs.Instance.{Point, pointOf}
-use Rattle.specification.specs.Tables.{Tables, spaceUnder, pointsUnder, standardUnder, leadsUnder, rowsUnder, rowCount, tablesOf, written, tooShort}
+use Rattle.specification.specs.Tables.{Tables, spaceUnder, pointsUnder, standardUnder, leadsUnder, rowsUnder, rowCount, tablesOf, written, tooShort, standardSize, leadsSize, coefficientsSize}
 use Rattle.specification.specs.Adding.{holding, byRefusal, pointsOffered, drawCases, drawRefusal, drawOutcome}
 use Rattle.specification.specs.Solving.{Filled, filling, withinVariables, polynomialUnder, remainderIn, remainderCases, remainderOutcome, valuesCases, wiringOf, wiringUnder, Listed, listing, wiringOutcome}
 use Rattle.specification.specs.Reference.{Held}
@@ -178,13 +178,13 @@ module _ (s : Settings) (ok : Accepted s) where
 
   -- the sizes of the tables
   pub record Sized (t : Tables) : Type 0 where
-    pub standard : length (t .standard) ≡ 512
-    pub leads : length (t .leads) ≡ 3592
-    pub coefficients : length (t .coefficients) ≡ 28736
+    pub standard : length (t .standard) ≡ standardSize
+    pub leads : length (t .leads) ≡ leadsSize
+    pub coefficients : length (t .coefficients) ≡ coefficientsSize
 
   sizes : (A : List (List ℕ)) → Sized (tablesOf s A)
   unfolding tablesOf
-  sizes A = record { standard = length-fill 512 _; leads = length-fill 3592 _; coefficients = length-fill 28736 _ }
+  sizes A = record { standard = length-fill standardSize _; leads = length-fill leadsSize _; coefficients = length-fill coefficientsSize _ }
 
   -- Every drawing up of the points of L, in any order.
   module _ (fine : firstOf 0 (settingsCases s) ≡ 0) (L : List (List ℕ)) (hL : Points s L) (levels : List ℤ) (a : Rearranges s L levels) where
@@ -228,9 +228,9 @@ module _ (s : Settings) (ok : Accepted s) where
       number = refl;
       count = as-many ∙ sym en;
       rows = same-rows L K dL dK to from ∙ sym er;
-      standard = sized 512 (tablesOf s K .standard) (tablesOf s L .standard) (same-standard L K dL dK to from) (t .standard) (start .standard) (sizes K .standard) ∙ ap (λ (u : Tables). take 512 (u .standard)) (sym et);
-      leads = sized 3592 (tablesOf s K .leads) (tablesOf s L .leads) (same-leads L K dL dK to from) (t .leads) (start .leads) (sizes K .leads) ∙ ap (λ (u : Tables). take 3592 (u .leads)) (sym et);
-      coefficients = sized 28736 (tablesOf s K .coefficients) (tablesOf s L .coefficients) (same-coefficients L K dL dK to from) (t .coefficients) (start .coefficients) (sizes K .coefficients) ∙ ap (λ (u : Tables). take 28736 (u .coefficients)) (sym et);
+      standard = sized standardSize (tablesOf s K .standard) (tablesOf s L .standard) (same-standard L K dL dK to from) (t .standard) (start .standard) (sizes K .standard) ∙ ap (λ (u : Tables). take standardSize (u .standard)) (sym et);
+      leads = sized leadsSize (tablesOf s K .leads) (tablesOf s L .leads) (same-leads L K dL dK to from) (t .leads) (start .leads) (sizes K .leads) ∙ ap (λ (u : Tables). take leadsSize (u .leads)) (sym et);
+      coefficients = sized coefficientsSize (tablesOf s K .coefficients) (tablesOf s L .coefficients) (same-coefficients L K dL dK to from) (t .coefficients) (start .coefficients) (sizes K .coefficients) ∙ ap (λ (u : Tables). take coefficientsSize (u .coefficients)) (sym et);
       remainder = λ terms exponents buffer. remainder-told terms exponents buffer K hK t (large-of t short)
           ∙ ap₂ (told terms exponents buffer) as-many (same-remainder L K dL dK to from (polynomialUnder s terms exponents))
           ∙ sym (rw (en, er, et) (remainder-told terms exponents buffer L hL start large));

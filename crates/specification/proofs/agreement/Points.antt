@@ -20,7 +20,7 @@ use Rattle.residue.proofs.Layouts.{fill-exact, fill-twice, places-back, table-s
 use Rattle.specification.specs.declared.settings.Settings.{Settings}
 use Rattle.specification.specs.Levels.{isResidue, residueOr0, inRange, residues, isAmong, noRepeat}
 use Rattle.specification.specs.Instance.{reduced, pointOf}
-use Rattle.specification.specs.Tables.{pointsUnder, pointsIn}
+use Rattle.specification.specs.Tables.{pointsUnder, pointsIn, statesSize}
 use Rattle.specification.proofs.Repeats.{among-is, is-among}
 use Rattle.specification.proofs.ideal.Lists.{snoc-of}
 
@@ -58,24 +58,24 @@ module _ (s : Settings) (small : s .variables ≤ 8) where
       ap₂ (λ (a : List ℕ) (l : List (List ℕ)). a ∷ l) (place-same P (h P (inl refl))) (all-same L (λ Q q. h Q (inr q)))
 
   -- The points of a table of points.
-  pub points-back : (L : List (List ℕ)) → Points s L → (t : List ℕ) → pointsIn s (length L) (over (fill 512 (inPlaces 8 L)) t) ≡ L
+  pub points-back : (L : List (List ℕ)) → Points s L → (t : List ℕ) → pointsIn s (length L) (over (fill statesSize (inPlaces 8 L)) t) ≡ L
   unfolding pointsIn over
   points-back L h t = ap (λ (z : List (List ℕ)). map (λ P. P .0) (pointsUnder s z)) (ap (groups 8 (length L)) front ∙ places-back 8 L rest) ∙ all-same L (h .points)
     where
-      size : 8 * length L + (512 - 8 * length L) ≡ 512
+      size : 8 * length L + (statesSize - 8 * length L) ≡ statesSize
       size = omega (arith, h .few)
 
-      table : fill 512 (inPlaces 8 L) ≡ inPlaces 8 L ++ replicate (512 - 8 * length L) 0
-      table = ap (λ (k : ℕ). fill k (inPlaces 8 L)) (sym size) ∙ table-split 8 L (512 - 8 * length L)
+      table : fill statesSize (inPlaces 8 L) ≡ inPlaces 8 L ++ replicate (statesSize - 8 * length L) 0
+      table = ap (λ (k : ℕ). fill k (inPlaces 8 L)) (sym size) ∙ table-split 8 L (statesSize - 8 * length L)
 
       behind : List ℕ
-      behind = drop (length (fill 512 (inPlaces 8 L))) t
+      behind = drop (length (fill statesSize (inPlaces 8 L))) t
 
       rest : List ℕ
-      rest = replicate (512 - 8 * length L) 0 ++ behind
+      rest = replicate (statesSize - 8 * length L) 0 ++ behind
 
-      front : fill 512 (inPlaces 8 L) ++ behind ≡ inPlaces 8 L ++ rest
-      front = ap (λ (z : List ℕ). z ++ behind) table ∙ append-assoc (inPlaces 8 L) (replicate (512 - 8 * length L) 0) behind
+      front : fill statesSize (inPlaces 8 L) ++ behind ≡ inPlaces 8 L ++ rest
+      front = ap (λ (z : List ℕ). z ++ behind) table ∙ append-assoc (inPlaces 8 L) (replicate (statesSize - 8 * length L) 0) behind
 
 -- the residues of levels in range are below p
 residue-small : (p : ℕ) (z : ℤ) → T (isResidue (residueOf p z)) → residueOr0 (residueOf p z) < p

@@ -16,7 +16,7 @@ use Rattle.specification.specs.declared.settings.Settings.{Settings}
 use Rattle.specification.specs.Refusal.{Case, firstOf}
 use Rattle.specification.specs.Settings.{settingsCases}
 use Rattle.specification.specs.Levels.{noRepeat}
-use Rattle.specification.specs.Tables.{Tables, rowCount, tablesOf, written, tooShort, pointsIn, recognised}
+use Rattle.specification.specs.Tables.{Tables, rowCount, tablesOf, written, tooShort, pointsIn, recognised, statesSize, standardSize, leadsSize, coefficientsSize}
 use Rattle.specification.proofs.Cases.{none-holds, first-on}
 use Rattle.specification.proofs.agreement.Points.{Points, points-back}
 
@@ -46,26 +46,26 @@ settings-pass s e l = sym (first-on (settingsCases s) l (none-holds (settingsCas
 
 -- No table is shorter than its size.
 pub record Large (t : Tables) : Type 0 where
-  pub states : 512 ≤ length (t .states)
-  pub standard : 512 ≤ length (t .standard)
-  pub leads : 3592 ≤ length (t .leads)
-  pub coefficients : 28736 ≤ length (t .coefficients)
+  pub states : statesSize ≤ length (t .states)
+  pub standard : standardSize ≤ length (t .standard)
+  pub leads : leadsSize ≤ length (t .leads)
+  pub coefficients : coefficientsSize ≤ length (t .coefficients)
 
 pub not-short : (t : Tables) → Large t → tooShort t ≡ false
 unfolding tooShort
-not-short t h = simp (le-ltb (length (t .states)) 512 (h .states), le-ltb (length (t .standard)) 512 (h .standard), le-ltb (length (t .leads)) 3592 (h .leads), le-ltb (length (t .coefficients)) 28736 (h .coefficients))
+not-short t h = simp (le-ltb (length (t .states)) statesSize (h .states), le-ltb (length (t .standard)) standardSize (h .standard), le-ltb (length (t .leads)) leadsSize (h .leads), le-ltb (length (t .coefficients)) coefficientsSize (h .coefficients))
 
 pub large-of : (t : Tables) → tooShort t ≡ false → Large t
 unfolding tooShort
 large-of t e =
-    let a = neither (ltb (length (t .states)) 512 || ltb (length (t .standard)) 512 || ltb (length (t .leads)) 3592) (ltb (length (t .coefficients)) 28736) e in
-    let b = neither (ltb (length (t .states)) 512 || ltb (length (t .standard)) 512) (ltb (length (t .leads)) 3592) (a .0) in
-    let c = neither (ltb (length (t .states)) 512) (ltb (length (t .standard)) 512) (b .0) in
+    let a = neither (ltb (length (t .states)) statesSize || ltb (length (t .standard)) standardSize || ltb (length (t .leads)) leadsSize) (ltb (length (t .coefficients)) coefficientsSize) e in
+    let b = neither (ltb (length (t .states)) statesSize || ltb (length (t .standard)) standardSize) (ltb (length (t .leads)) leadsSize) (a .0) in
+    let c = neither (ltb (length (t .states)) statesSize) (ltb (length (t .standard)) standardSize) (b .0) in
     record {
-      states = ltb-false (length (t .states)) 512 (c .0);
-      standard = ltb-false (length (t .standard)) 512 (c .1);
-      leads = ltb-false (length (t .leads)) 3592 (b .1);
-      coefficients = ltb-false (length (t .coefficients)) 28736 (a .1);
+      states = ltb-false (length (t .states)) statesSize (c .0);
+      standard = ltb-false (length (t .standard)) standardSize (c .1);
+      leads = ltb-false (length (t .leads)) leadsSize (b .1);
+      coefficients = ltb-false (length (t .coefficients)) coefficientsSize (a .1);
     }
 
 -- the front of a list is what it begins with
@@ -79,7 +79,7 @@ kept k l t h = omega (arith, length-over (fill k l) t (omega (arith, length-fill
 
 pub written-large : (s : Settings) (L : List (List ℕ)) (t : Tables) → Large t → Large (written (tablesOf s L) t)
 unfolding written tablesOf
-written-large s L t h = record { states = kept 512 _ (t .states) (h .states); standard = kept 512 _ (t .standard) (h .standard); leads = kept 3592 _ (t .leads) (h .leads); coefficients = kept 28736 _ (t .coefficients) (h .coefficients) }
+written-large s L t h = record { states = kept statesSize _ (t .states) (h .states); standard = kept standardSize _ (t .standard) (h .standard); leads = kept leadsSize _ (t .leads) (h .leads); coefficients = kept coefficientsSize _ (t .coefficients) (h .coefficients) }
 
 module _ (s : Settings) (ok : Accepted s) (L : List (List ℕ)) (h : Points s L) (t : Tables) where
   -- the points of the tables of L are L

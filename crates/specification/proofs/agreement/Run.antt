@@ -13,7 +13,7 @@ use Rattle.residue.proofs.Layouts.{over-over, length-fill}
 use Rattle.specification.specs.declared.settings.Settings.{Settings}
 use Rattle.specification.specs.Refusal.{firstOf}
 use Rattle.specification.specs.Settings.{settingsCases}
-use Rattle.specification.specs.Tables.{Tables, rowCount, tablesOf, written, tooShort, pointsIn, recognised}
+use Rattle.specification.specs.Tables.{Tables, rowCount, tablesOf, written, tooShort, pointsIn, recognised, statesSize, standardSize, leadsSize, coefficientsSize}
 use Rattle.specification.specs.Adding.{Outcome, refused, holding, byRefusal}
 use Rattle.specification.specs.Reference
 use Rattle.specification.specs.Reference.{Operation, outcomeOf, refusalOf, referenceAnswer, pointsAfter, referenceAfter, Table, states, standard, leads, coefficients, tableIn, withTable, Lent, part, other, Event, own, interposed, Held, lentTables, tablesAfter, outcomeAt, keeping, heldAfter, numbers, heldAtEnd, fed, referenceAtEnd, dueAt, due, RefusesAt, Refuses}
@@ -39,7 +39,7 @@ same-tables {t} {u} a b c d =
 -- tables written twice are those of the second time
 pub written-twice : (s : Settings) (L L′ : List (List ℕ)) (t : Tables) → written (tablesOf s L′) (written (tablesOf s L) t) ≡ written (tablesOf s L′) t
 unfolding written tablesOf
-written-twice s L L′ t = same-tables (twice 512 _ _ (t .states)) (twice 512 _ _ (t .standard)) (twice 3592 _ _ (t .leads)) (twice 28736 _ _ (t .coefficients))
+written-twice s L L′ t = same-tables (twice statesSize _ _ (t .states)) (twice standardSize _ _ (t .standard)) (twice leadsSize _ _ (t .leads)) (twice coefficientsSize _ _ (t .coefficients))
   where
     twice : (k : ℕ) (l l′ u : List ℕ) → over (fill k l′) (over (fill k l) u) ≡ over (fill k l′) u
     twice k l l′ u = over-over (fill k l′) (fill k l) u (length-fill k l′ ∙ sym (length-fill k l))
