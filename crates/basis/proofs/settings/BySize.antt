@@ -34,7 +34,7 @@ module _ (s : Settings) (short wrong many : Bool) where
 
     -- one of them holds
     pub by-size : (k : ℕ) → k ≡ firstOf 0 (settingsCases s ++ sizes) → (k ≡ 0 → ⊥) → k ≡ firstOf 0 (settingsCases s ++ (sizes ++ rest))
-    by-size k e n = e ∙ first-stop (settingsCases s ++ sizes) rest (λ z. n (e ∙ z)) ∙ ap firstOf 0 together
+    by-size k e n = e ∙ first-stop (settingsCases s ++ sizes) rest (λ z. n (e ∙ z)) ∙ ap (firstOf 0) together
 
     -- none does: the call's own tests decide
     pub by-rest : firstOf 0 (settingsCases s ++ sizes) ≡ 0 → firstOf 0 rest ≡ firstOf 0 (settingsCases s ++ (sizes ++ rest))
