@@ -109,19 +109,13 @@ pub fn withdraw_point(
     if refusal != 0 {
         return refused(refusal);
     }
-    let count = n as usize - 1;
-    let k = draw_points(
+    draw_points(
         settings,
-        count,
+        n as usize - 1,
         &left,
         states,
         standard,
         leads,
         coefficients,
-    );
-    Answer {
-        refusal: 0,
-        n: count as u8,
-        r: k as u16,
-    }
+    )
 }

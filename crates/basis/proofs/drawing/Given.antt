@@ -11,19 +11,25 @@ use Rattle.residue.proofs.Layouts.{over-all, length-fill}
 use Rattle.residue.proofs.Places.{table-groups}
 use Rattle.specification.specs.declared.settings.Settings.{Settings}
 use Rattle.specification.specs.Levels.{noRepeat}
-use Rattle.specification.specs.Tables.{tablesOf, pointsIn}
+use Rattle.specification.specs.Tables.{rowCount, tablesOf, pointsIn}
 use Rattle.specification.proofs.Repeats.{repeat-filled}
 use Rattle.specification.proofs.agreement.Points.{IsPoint, Points, points-back}
 use Rattle.specification.proofs.agreement.Refusals.{Accepted}
-use Rattle.specification.proofs.Recognised.{length-read}
+use Rattle.specification.proofs.agreement.Drawings.{few-rows}
+use Rattle.specification.proofs.Recognised.{length-read, read}
 use Rattle.basis.specs.Drawing.{PointsGiven, DrawnUp}
 
--- its settings, and how many points there are
-pub settings-given : {s : Settings} {n : ℕ} {points : List ℕ} → PointsGiven s n points → Accepted s
-settings-given g = record { modulus = g .modulus; some = g .some; few = g .few; order = g .order }
-
+-- how many points there are
 pub given-count : {s : Settings} {n : ℕ} {points : List ℕ} → PointsGiven s n points → length (pointsIn s n points) ≡ n
-given-count {s} {n} {points} g = length-read s (settings-given g) n points
+given-count {s} {n} {points} g = length-read s (g .settings) n points
+
+-- its points, and that they have few rows
+module _ {s : Settings} {n : ℕ} {points : List ℕ} (g : PointsGiven s n points) where
+  given-points : Points s (pointsIn s n points)
+  given-points = read s (g .settings) n points (g .most) (g .once)
+
+  pub few-drawn : rowCount s (pointsIn s n points) ≤ 449
+  few-drawn = few-rows s (g .settings) (pointsIn s n points) given-points
 
 module _ (s : Settings) (ok : Accepted s) where
   -- A table of points.
@@ -39,10 +45,7 @@ module _ (s : Settings) (ok : Accepted s) where
 
     pub given : PointsGiven s (length L) (fill 512 (inPlaces 8 L))
     given = record {
-      modulus = ok .modulus;
-      some = ok .some;
-      few = ok .few;
-      order = ok .order;
+      settings = ok;
       most = h .few;
       table = ap (λ (S : List (List ℕ)). fill 512 (inPlaces 8 S)) (sym table-points);
       once = subst (λ (S : List (List ℕ)). T (noRepeat S)) (sym table-points) (h .once);

@@ -92,7 +92,7 @@ copy-requires-2 c κs =
     omega (arith, eight s)
 
 cast-add-to : tie.Need-cast-add-to
-cast-add-to c = let s = o (c .before .before) in omega (arith, modulus-range (s .args .settings .modulus) (s .pre .0 .modulus))
+cast-add-to c = let s = o (c .before .before) in omega (arith, modulus-range (s .args .settings .modulus) (s .pre .0 .settings .modulus))
 
 cast-add-to-2 : tie.Need-cast-add-to-2
 cast-add-to-2 c = omega arith

@@ -24,10 +24,10 @@ module _ (s : tie.Start) where
   fine = sound (s .pre .0) (s .pre .1 .0) (s .pre .1 .1 .0) (s .pre .1 .1 .1 .0)
 
   low : 2 ≤ s .args .p
-  low = omega (arith, modulus-range (s .args .p) (s .pre .0 .modulus))
+  low = omega (arith, modulus-range (s .args .p) (s .pre .0 .settings .modulus))
 
   high : s .args .p ≤ 61
-  high = omega (arith, modulus-range (s .args .p) (s .pre .0 .modulus))
+  high = omega (arith, modulus-range (s .args .p) (s .pre .0 .settings .modulus))
 
 -- the values are residues
 small : (d : tie.After-values-at) → Below (start d .args .p) (d .values-at .last .1 .1 .1 .1 .0)
@@ -68,7 +68,7 @@ grow-requires c κs =
     let d = valued r in
     let s = start d in
     let h = fine s in (
-      (low s, high s, s .pre .0 .few, s .pre .1 .1 .0, s .pre .0 .modulus),
+      (low s, high s, s .pre .0 .settings .few, s .pre .1 .1 .0, s .pre .0 .settings .modulus),
       (
         (inside (s .pre .0) (s .pre .1 .0) (s .pre .1 .1 .0) (s .pre .1 .1 .1 .0) _ (d .values-at .ensures) _ (r .first-row .ensures), h .most, h .few, points-long (s .pre .0), s .pre .1 .0 .pivot-rows .long-rows),
         (
