@@ -68,15 +68,18 @@ static uint8_t bad_level(uint32_t variant)
     return (uint8_t)levels[variant % 4];
 }
 
-/* The point (3, 4), or (1, 2) again. */
-static void set_new_point(struct made *made, uint32_t faults, uint32_t variant)
+/* The point (3, 4), which is not there, or (1, 2), which is. It is to be added, or withdrawn: one point more may then be
+ * claimed. */
+static void set_point(struct made *made, uint32_t faults, uint32_t variant)
 {
-    made->bytes[GIVEN][0] = has_fault(faults, 11) ? (uint8_t)-10 : 3;
-    made->bytes[GIVEN][1] = has_fault(faults, 11) ? 2 : 4;
+    int withdrawn = made->call.kind == WITHDRAW_POINT;
+    int there = withdrawn ? !has_fault(faults, 12) : has_fault(faults, 11);
+    made->bytes[GIVEN][0] = there ? (uint8_t)-10 : 3;
+    made->bytes[GIVEN][1] = there ? 2 : 4;
     if (has_fault(faults, 9))
         made->bytes[GIVEN][variant % 2] = bad_level(variant);
     if (has_fault(faults, 8))
-        made->call.n = 64 + variant % 8;
+        made->call.n = 64 + (uint32_t)withdrawn + variant % 8;
     set_length(made, GIVEN, 2, faults, variant);
 }
 
@@ -136,8 +139,8 @@ void make_faulty_call(struct made *made, enum kind kind, uint32_t faults, uint32
     set_settings(&made->call, faults, variant);
     set_tables(made, faults, variant);
     set_faulty_sizes(made, faults, variant);
-    if (kind == ADD_POINT)
-        set_new_point(made, faults, variant);
+    if (kind == ADD_POINT || kind == WITHDRAW_POINT)
+        set_point(made, faults, variant);
     else if (kind == DRAW_UP)
         set_all_points(made, faults, variant);
     else if (kind == REMAINDER)

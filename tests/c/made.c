@@ -103,13 +103,11 @@ static void set_tables(struct made *made, const uint8_t *levels, size_t count)
     call->r = misqafur_elements(answer);
 }
 
-/* Levels of the points, in either sign. */
-static size_t levels_of(struct made *made, const uint8_t *points, size_t n, uint8_t *levels)
+size_t random_levels(struct chance *c, int p, size_t m, const uint8_t *points, size_t n, uint8_t *levels)
 {
-    size_t m = made->call.variables;
     for (size_t i = 0; i < n; i++)
         for (size_t k = 0; k < m; k++)
-            levels[m * i + k] = random_level(&made->chance, (int)made->call.modulus, points[8 * i + k]);
+            levels[m * i + k] = random_level(c, p, points[8 * i + k]);
     return m * n;
 }
 
@@ -133,6 +131,13 @@ static void set_terms(struct made *made)
     set_length(made, EXPONENTS, 8 * count);
 }
 
+/* The levels of one of the points. */
+static void name_point(struct made *made)
+{
+    const uint8_t *point = made->bytes[STATES] + 8 * below(&made->chance, made->call.n);
+    random_levels(&made->chance, (int)made->call.modulus, made->call.variables, point, 1, made->bytes[GIVEN]);
+}
+
 /* What a call is handed beside settings, counts and tables. */
 static void set_given(struct made *made)
 {
@@ -141,8 +146,10 @@ static void set_given(struct made *made)
         set_levels_in_range(made, made->call.n);
     if (kind == REMAINDER)
         set_terms(made);
-    if (kind == ADD_POINT)
+    if (kind == ADD_POINT || kind == WITHDRAW_POINT)
         set_levels_in_range(made, made->call.variables);
+    if (kind == WITHDRAW_POINT && made->call.n > 0 && !once_in(&made->chance, 4))
+        name_point(made);
     size_t size = buffer_size(kind, OUT);
     if (size > 0) {
         fill(made, OUT, 400);
@@ -157,7 +164,7 @@ void make_call(struct made *made, enum kind kind)
     random_settings(made);
     int p = (int)made->call.modulus, m = (int)made->call.variables;
     size_t n = random_points(&made->chance, p, m, random_count(&made->chance), points);
-    size_t count = levels_of(made, points, n, levels);
+    size_t count = random_levels(&made->chance, p, (size_t)m, points, n, levels);
     if (kind == DRAW_UP) {
         memcpy(made->bytes[GIVEN], levels, count);
         set_length(made, GIVEN, count);
