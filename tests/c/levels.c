@@ -10,11 +10,6 @@
 #include <stdlib.h>
 #include <string.h>
 
-static void lend(struct made *made, enum buffer which, size_t length)
-{
-    made->call.buffer[which] = (struct bytes){made->bytes[which], length};
-}
-
 /* The residue of a number in range, 0 for any other. */
 static int residue_of(int p, int number)
 {

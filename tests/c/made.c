@@ -62,8 +62,7 @@ static void random_settings(struct made *made)
     made->call.order = below(c, 3);
 }
 
-/* A buffer of so many bytes. */
-static void set_length(struct made *made, enum buffer which, size_t length)
+void lend(struct made *made, enum buffer which, size_t length)
 {
     made->call.buffer[which] = (struct bytes){made->bytes[which], length};
 }
@@ -91,7 +90,7 @@ static void set_tables(struct made *made, const uint8_t *levels, size_t count)
         fill(made, (enum buffer)t, 304);
         memcpy(made->bytes[t] + table_sizes[t], made->bytes[t], 304);
         memset(made->bytes[t], 170, table_sizes[t]);
-        set_length(made, (enum buffer)t, table_sizes[t] + surplus(&made->chance));
+        lend(made, (enum buffer)t, table_sizes[t] + surplus(&made->chance));
     }
     if (call->kind == DRAW_UP)
         return;
@@ -116,7 +115,7 @@ static void set_levels_in_range(struct made *made, size_t count)
     uint64_t p = made->call.modulus;
     for (size_t i = 0; i < count; i++)
         made->bytes[GIVEN][i] = random_level(&made->chance, (int)p, (uint8_t)below(&made->chance, p));
-    set_length(made, GIVEN, count);
+    lend(made, GIVEN, count);
 }
 
 /* Mostly few terms of small degree, now and then many or great ones. */
@@ -128,7 +127,7 @@ static void set_terms(struct made *made)
     set_levels_in_range(made, count);
     for (size_t i = 0; i < 8 * count; i++)
         made->bytes[EXPONENTS][i] = i % 8 < made->call.variables ? (uint8_t)below(c, limit) : 0;
-    set_length(made, EXPONENTS, 8 * count);
+    lend(made, EXPONENTS, 8 * count);
 }
 
 /* The levels of one of the points. */
@@ -153,7 +152,7 @@ static void set_given(struct made *made)
     size_t size = buffer_size(kind, OUT);
     if (size > 0) {
         fill(made, OUT, 400);
-        set_length(made, OUT, size + surplus(&made->chance));
+        lend(made, OUT, size + surplus(&made->chance));
     }
 }
 
@@ -167,7 +166,7 @@ void make_call(struct made *made, enum kind kind)
     size_t count = random_levels(&made->chance, p, (size_t)m, points, n, levels);
     if (kind == DRAW_UP) {
         memcpy(made->bytes[GIVEN], levels, count);
-        set_length(made, GIVEN, count);
+        lend(made, GIVEN, count);
     }
     set_tables(made, levels, count);
     set_given(made);

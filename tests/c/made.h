@@ -14,6 +14,9 @@ struct made {
 
 extern const uint8_t primes[18];
 
+/* A buffer of the call: the first bytes of its own. */
+void lend(struct made *made, enum buffer which, size_t length);
+
 /* The settings, points and tables of a random basis, and the rest of a call of this kind that is to
  * succeed, or to be refused because of a point that repeats or is not there. */
 void make_call(struct made *made, enum kind kind);
