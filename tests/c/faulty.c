@@ -68,7 +68,10 @@ static uint8_t bad_level(uint32_t variant)
     return (uint8_t)levels[variant % 4];
 }
 
-/* The point (3, 4), which is not there, or (1, 2), which is. It is to be added, or withdrawn: one point more may then be
+/* Counts that are too great for any basis, some of which would not be if they were cut to fewer bits. */
+static const uint64_t many[8] = {65, 66, 128, 255, 256 + 3, 65536 + 3, 0x100000000 + 3, UINT64_MAX};
+
+/* The point (3, 4), which is not there, or (1, 2), which is. It is to be added, or withdrawn: then 64 points may be
  * claimed. */
 static void set_point(struct made *made, uint32_t faults, uint32_t variant)
 {
@@ -79,7 +82,7 @@ static void set_point(struct made *made, uint32_t faults, uint32_t variant)
     if (has_fault(faults, 9))
         made->bytes[GIVEN][variant % 2] = bad_level(variant);
     if (has_fault(faults, 8))
-        made->call.n = 64 + (uint32_t)withdrawn + variant % 8;
+        made->call.n = withdrawn || variant % 8 > 0 ? many[variant % 8] : MISQAFUR_MAX_POINTS;
     set_length(made, GIVEN, 2, faults, variant);
 }
 
@@ -131,7 +134,6 @@ static void set_terms(struct made *made, uint32_t faults, uint32_t variant)
 
 void make_faulty_call(struct made *made, enum kind kind, uint32_t faults, uint32_t variant)
 {
-    static const uint64_t many[8] = {65, 66, 128, 255, 256 + 3, 65536 + 3, 0x100000000 + 3, UINT64_MAX};
     made->call = (struct call){.kind = kind};
     memset(made->bytes[GIVEN], 0, 600);
     memset(made->bytes[EXPONENTS], 0, 8 * 300);
