@@ -1,5 +1,6 @@
 /* An example host: points one after another into a basis, of which one was mislabelled and is withdrawn;
- * then an interpolant, a wiring list and a remainder. Build: cc host.c $(pkg-config --cflags --libs misqafur) -o host */
+ * then an interpolant, a wiring list and a remainder.
+ * Build: cc host.c $(pkg-config --cflags --libs misqafur) -o host */
 #include <misqafur.h>
 
 #include <stdio.h>

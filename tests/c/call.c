@@ -23,11 +23,13 @@ const uint32_t possible_refusals[KINDS] = {[ADD_POINT] = ANSWERING | 1 << 11,
 const size_t table_sizes[4] = {MISQAFUR_STATES_SIZE, MISQAFUR_STANDARD_SIZE, MISQAFUR_LEADS_SIZE,
                                MISQAFUR_COEFFICIENTS_SIZE};
 
-const struct calls archive = {misqafur_add_point,   misqafur_withdraw_point, misqafur_draw_up, misqafur_check,
-                              misqafur_interpolate, misqafur_remainder,      misqafur_wiring,  misqafur_read_text};
+const struct calls archive = {misqafur_add_point, misqafur_withdraw_point, misqafur_draw_up,
+                              misqafur_check,     misqafur_interpolate,    misqafur_remainder,
+                              misqafur_wiring,    misqafur_read_text};
 
-const struct calls reference = {reference_add_point,   reference_withdraw_point, reference_draw_up, reference_check,
-                                reference_interpolate, reference_remainder,      reference_wiring,  reference_read_text};
+const struct calls reference = {reference_add_point, reference_withdraw_point, reference_draw_up,
+                                reference_check,     reference_interpolate,    reference_remainder,
+                                reference_wiring,    reference_read_text};
 
 size_t buffer_size(enum kind kind, enum buffer which)
 {

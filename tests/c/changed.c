@@ -32,8 +32,8 @@ static void make_basis(struct made *made, uint64_t p, uint64_t m, uint64_t order
         abort();
 }
 
-/* Turns the call over a basis into one of this kind. What it is handed beside: to be added the point of p - 1 everywhere,
- * to be withdrawn the first point, and else zeros. */
+/* Turns the call over a basis into one of this kind. What it is handed beside: to be added the point of p - 1
+ * everywhere, to be withdrawn the first point, and else zeros. */
 static void set_kind(struct made *made, enum kind kind)
 {
     struct call *call = &made->call;
