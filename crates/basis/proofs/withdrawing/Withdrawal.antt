@@ -1,5 +1,5 @@
 -- What a withdrawal stands on: the number by the tests that led to it, the points that are left, and the outcome.
-use mathlib.Core.Path.{_≡_, refl, sym, ap, ap₂, _∙_}
+use mathlib.Core.Path.{_≡_, refl, sym, ap, ap₂, subst, _∙_}
 use mathlib.Core.Bool.{Bool, true, false, not, cond}
 use mathlib.Core.List.{List, [], _∷_, _++_}
 use Prim.Native.Nat.{ℕ, suc, _-_, _<_, _≤_}
@@ -18,13 +18,17 @@ use Rattle.specification.specs.Settings.{settingsCases}
 use Rattle.specification.specs.Levels.{inRange, residues, isAmong}
 use Rattle.specification.specs.Tables.{Tables, tooShort, pointsIn, recognised}
 use Rattle.specification.specs.Solving.{checkRefusal}
-use Rattle.specification.specs.Withdrawing.{remaining, withdrawCases, withdrawRefusal}
+use Rattle.specification.specs.Withdrawing.{remaining, withdrawCases, withdrawRefusal, withdrawOutcome}
+use Rattle.specification.specs.Adding.{refused, holding}
 use Rattle.specification.proofs.Recognised.{length-read, read-each, none-of}
 use Rattle.specification.proofs.CallByCall.{known-points}
 use Rattle.specification.proofs.agreement.Points.{Points, length-residues}
 use Rattle.specification.proofs.agreement.Refusals.{Accepted, accepted, Large, large-of, settings-pass}
 use Rattle.specification.proofs.agreement.Removal.{points-left, left-one}
 use Rattle.basis.specs.Points.{placeIn}
+use Rattle.basis.specs.Drawing.{PointsGiven}
+use Rattle.basis.proofs.drawing.Given.{given, table-points}
+use Rattle.basis.proofs.settings.ByNumber.{when-refused, when-accepted}
 use Rattle.basis.proofs.settings.BySize.{sizes, by-size, by-rest}
 use Rattle.basis.proofs.points.PointPlaces.{place-le, place-filled, among-place, place-out}
 
@@ -151,3 +155,25 @@ module _ (s : Settings) (n r : ℕ) (t : Tables) (levels : List ℤ) where
         some = omega (arith, fewer, many);
         few = few;
       }
+
+  -- the table of the points that remain
+  module _ (e : withdrawRefusal s n r t levels ≡ 0) (table : List ℕ) (et : table ≡ fill 512 (inPlaces 8 (remaining new old))) where
+    o : Open
+    o = open-of e
+
+    pub left-given : PointsGiven s (n - 1) table
+    left-given =
+        subst (λ (k : ℕ). PointsGiven s k table) (o .count)
+        (subst (PointsGiven s (length (remaining new old))) (sym et) (given s (o .settings) (remaining new old) (o .left)))
+
+    pub left-points : pointsIn s (n - 1) table ≡ remaining new old
+    left-points = ap₂ (pointsIn s) (sym (o .count)) et ∙ table-points s (o .settings) (remaining new old) (o .left)
+
+  -- the outcome
+  pub withdraw-refused : (k : ℕ) → k ≡ withdrawRefusal s n r t levels → (k ≡ 0 → ⊥) → refused k t ≡ withdrawOutcome s n r t levels
+  unfolding withdrawOutcome
+  withdraw-refused k e z = when-refused t _ _ k e z
+
+  pub withdraw-done : withdrawRefusal s n r t levels ≡ 0 → (S : List (List ℕ)) → S ≡ remaining new old → holding s S t ≡ withdrawOutcome s n r t levels
+  unfolding withdrawOutcome
+  withdraw-done e S f = ap (λ (K : List (List ℕ)). holding s K t) f ∙ when-accepted t _ _ (sym e)

@@ -110,11 +110,12 @@ returns-2 : tie.Need-returns-2
 returns-2 c =
     let q = c .before .before .before .before .before .before in
     let s = s q in
-    let h = before-end q (c .before .before .before .before .before .if1 .left) in
-    (present (s .args .settings) (ok s) (s .args .n) (s .pre .0 .1) (s .args .states .now) (s .args .levels .now) (long s) h,
-    λ z. c .before .before .take-out .ensures
-    ∙ ap₂ (λ (k : ℕ) (l : List ℕ). over (takenOut 8 (s .args .n) k (table (q .before))) l) (place q) (s .pre .1 .2)
-    ∙ left-is (s .args .settings) (ok s) (s .args .n) (s .pre .0 .1) (s .args .states .now) (s .args .levels .now) (long s) (table (q .before)) (is-table (q .before)) h)
+    let h = before-end q (c .before .before .before .before .before .if1 .left) in (
+      present (s .args .settings) (ok s) (s .args .n) (s .pre .0 .1) (s .args .states .now) (s .args .levels .now) (long s) h,
+      λ z. c .before .before .take-out .ensures
+          ∙ ap₂ (λ (k : ℕ) (l : List ℕ). over (takenOut 8 (s .args .n) k (table (q .before))) l) (place q) (s .pre .1 .2)
+          ∙ left-is (s .args .settings) (ok s) (s .args .n) (s .pre .0 .1) (s .args .states .now) (s .args .levels .now) (long s) (table (q .before)) (is-table (q .before)) h,
+    )
 
 pub put-others-spec : {M : Type 1} → statement M
 put-others-spec =

@@ -91,10 +91,11 @@ returns-4 c =
     let k = g .before in
     let f = k .before in
     let x = e f in
-    let y = s x in
-    (withdraw-told (y .args .settings) (y .args .n) (y .args .r) (tables y) (y .args .levels .now) (fine x) (range f)
-    (known-of (y .args .settings) (y .args .n) (y .args .r) (tables y) (y .args .levels .now) (fine x) (k .check .result) (k .check .ensures) (g .if3 .left)) (o .put-others .result) (o .put-others .ensures .0),
-    o .put-others .ensures .1)
+    let y = s x in (
+      withdraw-told (y .args .settings) (y .args .n) (y .args .r) (tables y) (y .args .levels .now) (fine x) (range f)
+          (known-of (y .args .settings) (y .args .n) (y .args .r) (tables y) (y .args .levels .now) (fine x) (k .check .result) (k .check .ensures) (g .if3 .left)) (o .put-others .result) (o .put-others .ensures .0),
+      o .put-others .ensures .1,
+    )
 
 pub withdraw-refusal-spec : {M : Type 1} → statement M
 withdraw-refusal-spec =
