@@ -1,19 +1,41 @@
 -- What drawing up from all points is handed, and what it leaves. The public calls stand on it. Of these definitions a public promise names `settingsOf`
 -- alone (csv, Printing).
 use mathlib.Core.Path.{_≡_}
-use mathlib.Core.Bool.{true}
 use mathlib.Core.List.{List, _++_, map}
-use Prim.Native.Nat.{ℕ, _-_, _%_, _<_, _≤_}
+use Prim.Native.Nat.{ℕ, _+_, _-_, _%_, _<_, _≤_}
 use lib.ListN.{length, getD, take, replicate}
 use lib.Dec.{T}
-use Rattle.residue.specs.Modulus.{isModulus}
+use Rattle.residue.specs.Inverse.{inverseOf}
 use Rattle.residue.specs.Vector.{Below, pointwise}
 use Rattle.residue.specs.Elimination.{eliminated}
 use Rattle.residue.specs.Layout.{fill, inPlaces, over}
+use Rattle.residue.specs.Rows.{pivotRow}
 use Rattle.specification.specs.declared.settings.Settings.{Settings}
 use Rattle.specification.specs.Levels.{noRepeat}
 use Rattle.specification.specs.BasisOf.{interpolantOf}
 use Rattle.specification.specs.Tables.{spaceUnder, pointsUnder, rowCount, tablesOf, pointsIn}
+use Rattle.specification.proofs.agreement.Refusals.{Accepted}
+
+-- A working row: empty, with values at its front, and of residues.
+abbrev pub emptyRow : List ℕ
+emptyRow = replicate 128 0
+
+abbrev pub rowWith : List ℕ → List ℕ
+rowWith values = fill 128 values
+
+abbrev pub RowOf : ℕ → List ℕ → Type 0
+RowOf p work = (length work ≡ 128) × Below p work
+
+-- The pivot rows and their pivots: of their sizes, and none.
+abbrev pub RowsLong : List ℕ → List ℕ → Type 0
+RowsLong rows pivots = (length rows ≡ 8192) × (length pivots ≡ 64)
+
+abbrev pub NoRows : List ℕ → List ℕ → Type 0
+NoRows rows pivots = (rows ≡ replicate 8192 0) × (length pivots ≡ 64)
+
+-- the pivot row of a working row whose first number that is not 0, of n, is at q
+abbrev pub pivotOf : ℕ → ℕ → ℕ → ℕ → List ℕ → List ℕ
+pivotOf p n found q work = pivotRow p (n + found) (inverseOf p (getD work q 0)) work
 
 -- the values of a variable times a monomial, from the n of the variable and those of the monomial
 unfoldable pub productValues : ℕ → ℕ → List ℕ → List ℕ → List ℕ
@@ -24,10 +46,7 @@ settingsOf p m order = record { modulus = p; variables = m; order = order }
 
 -- Settings that no call refuses, and the table of n points, none twice.
 pub record PointsGiven (s : Settings) (n : ℕ) (points : List ℕ) : Type 0 where
-  pub modulus : isModulus (s .modulus) ≡ true
-  pub some : 1 ≤ s .variables
-  pub few : s .variables ≤ 8
-  pub order : s .order ≤ 2
+  pub settings : Accepted s
   pub most : n ≤ 64
   pub table : points ≡ fill 512 (inPlaces 8 (pointsIn s n points))
   pub once : T (noRepeat (pointsIn s n points))
@@ -39,8 +58,8 @@ pub record Solves (s : Settings) (S : List (List ℕ)) (rows pivots : List ℕ) 
   pub below : Below (s .modulus) rows
   pub inside : (t : ℕ) → t < length S → getD pivots t 0 < length S
   pub solves : (vs : List ℕ) → length vs ≡ length S → Below (s .modulus) vs
-      → eliminated (s .modulus) rows pivots (length S) (fill 128 vs)
-      ≡ fill 128 (replicate (length S) 0 ++ map (λ c. (s .modulus - c) % s .modulus) (interpolantOf (spaceUnder s) (pointsUnder s S) vs))
+      → eliminated (s .modulus) rows pivots (length S) (rowWith vs)
+      ≡ rowWith (replicate (length S) 0 ++ map (λ c. (s .modulus - c) % s .modulus) (interpolantOf (spaceUnder s) (pointsUnder s S) vs))
 
 -- The row count and the three tables of the points' basis.
 pub record Tabled (s : Settings) (S : List (List ℕ)) (r : ℕ) (standard leads coefficients : List ℕ) : Type 0 where

@@ -16,7 +16,7 @@ ghost use Rattle.residue.specs.Layout.{fill, inPlaces};
 ghost use Rattle.specification.specs.Levels.{residues};
 ghost use Rattle.specification.specs.Tables.{fourTables, pointsIn};
 ghost use Rattle.specification.specs.Adding.{ended, addRefusal, addOutcome};
-ghost use Rattle.basis.specs.Drawing.{Solves};
+ghost use Rattle.basis.specs.Drawing.{NoRows, Solves};
 
 // The refusal of an addition, or 0; then the points, their pivot rows and the new point are left in working arrays.
 fn add_refusal(
@@ -33,7 +33,7 @@ fn add_refusal(
     pivots: &mut [u8],
     point: &mut [u8],
 ) -> u8
-    requires { ⌜ (now points ≡ replicate 512 0) × (now rows ≡ replicate 8192 0) × (length (now pivots) ≡ 64) × (now point ≡ replicate 8 0) ⌝ }
+    requires { ⌜ (now points ≡ replicate 512 0) × (NoRows (now rows) (now pivots) × (now point ≡ replicate 8 0)) ⌝ }
     ensures { λ k. ⌜ k ≡ addRefusal settings n r (fourTables (now (states .entry)) (now (standard .entry)) (now (leads .entry)) (now (coefficients .entry)))
         (now (levels .entry)) ⌝ }
     ensures { λ k. ⌜ (k ≡ 0 → now (points .exit) ≡ fill 512 (inPlaces 8 (pointsIn settings n (now (states .entry))))) ⌝ }
@@ -114,7 +114,7 @@ pub fn add_point(
     if refusal != 0 {
         return refused(refusal);
     }
-    let k = add_accepted(
+    add_accepted(
         settings,
         n as usize,
         r as usize,
@@ -126,10 +126,5 @@ pub fn add_point(
         standard,
         leads,
         coefficients,
-    );
-    Answer {
-        refusal: 0,
-        n: n as u8 + 1,
-        r: k as u16,
-    }
+    )
 }

@@ -14,16 +14,17 @@ use residue::vector::multiply;
 use specification::settings::Answer;
 use specification::settings::Settings;
 ghost use mathlib.Core.Path.{_≡_};
+ghost use mathlib.Core.Bool.{false};
 ghost use Prim.Native.Nat.{ℕ, _+_, _*_, _<_, _≤_};
 ghost use lib.ListN.{length, getD, take, drop, set, replicate};
 ghost use Rattle.residue.specs.Vector.{Below};
 ghost use Rattle.residue.specs.Elimination.{eliminated, ZeroBehind};
-ghost use Rattle.residue.specs.Layout.{fill, withPlace, over};
-ghost use Rattle.residue.specs.Rows.{firstNonzero};
+ghost use Rattle.residue.specs.Layout.{withPlace};
+ghost use Rattle.residue.specs.Rows.{firstNonzero, withRow};
 ghost use Rattle.monomial.specs.Monomial.{timesVariable};
-ghost use Rattle.specification.specs.Tables.{pointsIn, fourTables, rowCount, tablesOf};
-ghost use Rattle.specification.specs.Adding.{ended, drawOutcome};
-ghost use Rattle.basis.specs.Drawing.{productValues, settingsOf, PointsGiven, DrawnUp};
+ghost use Rattle.specification.specs.Tables.{pointsIn, fourTables, tooShort};
+ghost use Rattle.specification.specs.Adding.{ended, holding, drawOutcome};
+ghost use Rattle.basis.specs.Drawing.{emptyRow, rowWith, RowOf, RowsLong, NoRows, pivotOf, productValues, PointsGiven, Tabled, DrawnUp};
 
 // The working row of given values after it met the pivot rows: the first point where it is not 0, or n.
 fn reduce(
@@ -36,12 +37,12 @@ fn reduce(
     work: &mut [u16],
 ) -> usize
     requires { ⌜ ((2 ≤ p) × (p ≤ 61)) × ((n ≤ 64) × (found ≤ n)) ⌝ }
-    requires { ⌜ (length (now own) ≡ 64) × ((length (now rows) ≡ 8192) × (length (now pivots) ≡ 64)) ⌝ }
+    requires { ⌜ (length (now own) ≡ 64) × RowsLong (now rows) (now pivots) ⌝ }
     requires { ⌜ (Below p (now own)) × (Below p (now rows)) ⌝ }
     requires { ⌜ ((t : ℕ) → t < found → getD (now pivots) t 0 < n) ⌝ }
     requires { ⌜ ZeroBehind n found (now rows) ⌝ }
-    requires { ⌜ now work ≡ replicate 128 0 ⌝ }
-    ensures { λ q. ⌜ now (work .exit) ≡ eliminated p (now (rows .entry)) (now (pivots .entry)) found (fill 128 (take n (now (own .entry)))) ⌝ }
+    requires { ⌜ now work ≡ emptyRow ⌝ }
+    ensures { λ q. ⌜ now (work .exit) ≡ eliminated p (now (rows .entry)) (now (pivots .entry)) found (rowWith (take n (now (own .entry)))) ⌝ }
     ensures { λ q. ⌜ q ≡ firstNonzero n (now (work .exit)) ⌝ }
 {
     rows::copy(&own[..n], &mut work[..n]);
@@ -61,8 +62,8 @@ fn keep_lead(
     coefficients: &mut [u8],
 )
     requires { ⌜ (p ≤ 61) × ((n ≤ 64) × ((found ≤ n) × (r < 449))) ⌝ }
-    requires { ⌜ (length (now exponents) ≡ 8) × ((length (now work) ≡ 128) × ((length (now leads) ≡ 3592) × (length (now coefficients) ≡ 28736))) ⌝ }
-    requires { ⌜ Below p (now work) ⌝ }
+    requires { ⌜ (length (now exponents) ≡ 8) × ((length (now leads) ≡ 3592) × (length (now coefficients) ≡ 28736)) ⌝ }
+    requires { ⌜ RowOf p (now work) ⌝ }
     ensures { λ _. ⌜ now (leads .exit) ≡ withPlace 8 r (now (exponents .entry)) (now (leads .entry)) ⌝ }
     ensures { λ _. ⌜ now (coefficients .exit) ≡ withPlace 64 r (take found (drop n (now (work .entry)))) (now (coefficients .entry)) ⌝ }
 {
@@ -73,18 +74,30 @@ fn keep_lead(
     bytes::narrow(p, &work[n..end], &mut coefficients[from..from + 64]);
 }
 
-// Keeps the monomial as a standard one, with its rank and its values.
+// Keeps the monomial as a standard one, with its rank, its values and its pivot row, whose pivot is q. Answers how many there are then.
 fn keep_standard(
+    p: u16,
+    n: usize,
     found: usize,
+    q: usize,
     exponents: &[u8],
     rank: u64,
     own: &[u16],
+    work: &mut [u16],
     standard: &mut [u8],
     ranks: &mut [u64],
     values: &mut [u16],
-)
-    requires { ⌜ (found < 64) × ((length (now exponents) ≡ 8) × (length (now own) ≡ 64)) ⌝ }
+    rows: &mut [u16],
+    pivots: &mut [u8],
+) -> usize
+    requires { ⌜ ((2 ≤ p) × (p ≤ 61)) × ((n ≤ 64) × ((q < n) × (found < n))) ⌝ }
+    requires { ⌜ (length (now exponents) ≡ 8) × ((length (now own) ≡ 64) × RowOf p (now work)) ⌝ }
     requires { ⌜ (length (now standard) ≡ 512) × ((length (now ranks) ≡ 64) × (length (now values) ≡ 4096)) ⌝ }
+    requires { ⌜ RowsLong (now rows) (now pivots) ⌝ }
+    ensures { λ k. ⌜ k ≡ found + 1 ⌝ }
+    ensures { λ _. ⌜ (now (work .exit) ≡ pivotOf p n found q (now (work .entry)))
+        × (now (rows .exit) ≡ withRow found (pivotOf p n found q (now (work .entry))) (now (rows .entry)))
+        × (now (pivots .exit) ≡ set (now (pivots .entry)) found q) ⌝ }
     ensures { λ _. ⌜ now (standard .exit) ≡ withPlace 8 found (now (exponents .entry)) (now (standard .entry)) ⌝ }
     ensures { λ _. ⌜ now (ranks .exit) ≡ set (now (ranks .entry)) found rank ⌝ }
     ensures { λ _. ⌜ now (values .exit) ≡ withPlace 64 found (now (own .entry)) (now (values .entry)) ⌝ }
@@ -94,6 +107,8 @@ fn keep_standard(
     ranks[found] = rank;
     let from = 64 * found;
     rows::copy(own, &mut values[from..from + 64]);
+    rows::keep(p, n, found, q, work, rows, pivots);
+    found + 1
 }
 
 // The exponents of x_(k+1) times standard monomial t.
@@ -130,9 +145,7 @@ fn put_values(
 
 // Fills the tables of the points' basis and its pivot rows; how many rows it has.
 pub fn draw(
-    p: u16,
-    m: usize,
-    order: u8,
+    settings: Settings,
     n: usize,
     points: &[u8],
     standard: &mut [u8],
@@ -141,14 +154,15 @@ pub fn draw(
     rows: &mut [u16],
     pivots: &mut [u8],
 ) -> usize
-    requires { ⌜ PointsGiven (settingsOf p m order) n (now points) ⌝ }
+    requires { ⌜ PointsGiven settings n (now points) ⌝ }
     requires { ⌜ (now standard ≡ replicate 512 0) × ((now leads ≡ replicate 3592 0) × (now coefficients ≡ replicate 28736 0)) ⌝ }
-    requires { ⌜ (now rows ≡ replicate 8192 0) × (length (now pivots) ≡ 64) ⌝ }
-    ensures { λ r. ⌜ DrawnUp (settingsOf p m order) (pointsIn (settingsOf p m order) n (now (points .entry))) r (now (standard .exit)) (now (leads .exit))
-        (now (coefficients .exit)) (now (rows .exit)) (now (pivots .exit)) ⌝ }
+    requires { ⌜ NoRows (now rows) (now pivots) ⌝ }
+    ensures { λ r. ⌜ DrawnUp settings (pointsIn settings n (now (points .entry))) r (now (standard .exit)) (now (leads .exit)) (now (coefficients .exit))
+        (now (rows .exit)) (now (pivots .exit)) ⌝ }
 {
+    let p = settings.modulus as u16;
     let mut steps = [0u64; 8];
-    put_steps(order, &mut steps);
+    put_steps(settings.order as u8, &mut steps);
     let mut columns = [0u16; 512];
     put_columns(n, points, &mut columns);
     let mut values = [0u16; 4096];
@@ -166,18 +180,23 @@ pub fn draw(
             keep_lead(p, n, found, r, &exponents, &work, leads, coefficients);
             r += 1;
         } else {
-            keep_standard(
+            found = keep_standard(
+                p,
+                n,
                 found,
+                q,
                 &exponents,
                 rank,
                 &own,
+                &mut work,
                 standard,
                 &mut ranks,
                 &mut values,
+                rows,
+                pivots,
             );
-            rows::keep(p, n, found, q, &mut work, rows, pivots);
-            found += 1;
         }
+        let m = settings.variables as usize;
         let Candidate::Of(k, t, least) = next(m, found, standard, &ranks, &steps, &mut at) else {
             return r;
         };
@@ -187,7 +206,37 @@ pub fn draw(
     }
 }
 
-// The basis of the n points of a table, written to lent tables: the row count.
+// The tables of the points' basis, over three lent tables of their sizes; how many rows it has.
+fn draw_anew(
+    settings: Settings,
+    n: usize,
+    points: &[u8],
+    standard: &mut [u8],
+    leads: &mut [u8],
+    coefficients: &mut [u8],
+) -> usize
+    requires { ⌜ PointsGiven settings n (now points) ⌝ }
+    requires { ⌜ (length (now standard) ≡ 512) × ((length (now leads) ≡ 3592) × (length (now coefficients) ≡ 28736)) ⌝ }
+    ensures { λ r. ⌜ Tabled settings (pointsIn settings n (now (points .entry))) r (now (standard .exit)) (now (leads .exit)) (now (coefficients .exit)) ⌝ }
+{
+    bytes::clear(standard);
+    bytes::clear(leads);
+    bytes::clear(coefficients);
+    let mut rows = [0u16; 8192];
+    let mut pivots = [0u8; 64];
+    draw(
+        settings,
+        n,
+        points,
+        standard,
+        leads,
+        coefficients,
+        &mut rows,
+        &mut pivots,
+    )
+}
+
+// The basis of the n points of a table, written to lent tables, and the answer that says so.
 fn draw_points(
     settings: Settings,
     n: usize,
@@ -196,34 +245,27 @@ fn draw_points(
     standard: &mut [u8],
     leads: &mut [u8],
     coefficients: &mut [u8],
-) -> usize
+) -> Answer
     requires { ⌜ PointsGiven settings n (now points) ⌝ }
-    requires { ⌜ (512 ≤ length (now states)) × ((512 ≤ length (now standard)) × ((3592 ≤ length (now leads)) × (28736 ≤ length (now coefficients)))) ⌝ }
-    ensures { λ r. ⌜ r ≡ rowCount settings (pointsIn settings n (now (points .entry))) ⌝ }
-    ensures { λ r. ⌜ now (states .exit) ≡ over (now (points .entry)) (now (states .entry)) ⌝ }
-    ensures { λ r. ⌜ now (standard .exit) ≡ over (tablesOf settings (pointsIn settings n (now (points .entry))) .standard) (now (standard .entry)) ⌝ }
-    ensures { λ r. ⌜ now (leads .exit) ≡ over (tablesOf settings (pointsIn settings n (now (points .entry))) .leads) (now (leads .entry)) ⌝ }
-    ensures { λ r. ⌜ now (coefficients .exit)
-        ≡ over (tablesOf settings (pointsIn settings n (now (points .entry))) .coefficients) (now (coefficients .entry)) ⌝ }
+    requires { ⌜ tooShort (fourTables (now states) (now standard) (now leads) (now coefficients)) ≡ false ⌝ }
+    ensures { λ a. ⌜ ended a (now (states .exit)) (now (standard .exit)) (now (leads .exit)) (now (coefficients .exit))
+        ≡ holding settings (pointsIn settings n (now (points .entry)))
+        (fourTables (now (states .entry)) (now (standard .entry)) (now (leads .entry)) (now (coefficients .entry))) ⌝ }
 {
     bytes::copy(points, states);
-    bytes::clear(&mut standard[..512]);
-    bytes::clear(&mut leads[..3592]);
-    bytes::clear(&mut coefficients[..28736]);
-    let mut rows = [0u16; 8192];
-    let mut pivots = [0u8; 64];
-    draw(
-        settings.modulus as u16,
-        settings.variables as usize,
-        settings.order as u8,
+    let r = draw_anew(
+        settings,
         n,
         points,
         &mut standard[..512],
         &mut leads[..3592],
         &mut coefficients[..28736],
-        &mut rows,
-        &mut pivots,
-    )
+    );
+    Answer {
+        refusal: 0,
+        n: n as u8,
+        r: r as u16,
+    }
 }
 
 // Drawing up from all points at once. Every refusal is decided before a lent byte is written.
@@ -261,10 +303,5 @@ pub fn draw_up(
     if !points::no_repeat(n, &points) {
         return refused(11);
     }
-    let r = draw_points(settings, n, &points, states, standard, leads, coefficients);
-    Answer {
-        refusal: 0,
-        n: n as u8,
-        r: r as u16,
-    }
+    draw_points(settings, n, &points, states, standard, leads, coefficients)
 }

@@ -4,6 +4,7 @@ use basis::answers::solving::put_names;
 use basis::answers::solving::solve;
 use basis::drawing::draw;
 use residue::bytes;
+use specification::settings::Settings;
 ghost use mathlib.Core.Path.{_≡_};
 ghost use mathlib.Core.List.{[], _∷_};
 ghost use Prim.Native.Nat.{ℕ, _+_, _*_, _<_, _≤_};
@@ -213,10 +214,13 @@ fn print_points(
     let mut coefficients = [0u8; 28736];
     let mut rows = [0u16; 8192];
     let mut pivots = [0u8; 64];
+    let settings = Settings {
+        modulus: p as u64,
+        variables: m as u64,
+        order: order as u64,
+    };
     let r = draw(
-        p,
-        m,
-        order,
+        settings,
         n,
         points,
         &mut standard,

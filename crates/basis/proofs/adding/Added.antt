@@ -7,12 +7,13 @@ use Prim.Native.Nat.{ℕ, zero, suc, _+_, _*_, _-_, _%_, _<_, _≤_}
 use native.Mathlib.Nat.{mod-eq-of-lt, mul-le-mul}
 use native.Mathlib.Decide.{decLt}
 use native.Mathlib.Omega.{arith}
-use lib.ListN.{length, getD, take, drop, replicate, length-map, List·getD-eq-default}
+use lib.ListN.{length, getD, take, drop, replicate, length-map, length-append, List·getD-eq-default}
+use lib.Dec.{T}
 use lib.Seq.{length-take-le}
 use Rattle.residue.specs.Lists.{Among}
 use Rattle.residue.specs.Vector.{Below}
 use Rattle.residue.specs.Elimination.{eliminated}
-use Rattle.residue.specs.Layout.{groups, fill, inPlaces, over, rowAt}
+use Rattle.residue.specs.Layout.{groups, fill, inPlaces, over, withPlace, rowAt}
 use Rattle.residue.proofs.vector.Vectors.{below-take, map-same}
 use Rattle.residue.proofs.Tests.{true-of}
 use Rattle.residue.proofs.Layouts.{fill-exact, below-fill, length-fill}
@@ -28,15 +29,17 @@ use Rattle.specification.specs.BasisOf.{standardOf, leadsOf, rowOf, rowsOf, int
 use Rattle.specification.specs.Instance.{Monomial, Point, reduced, pointOf}
 use Rattle.specification.specs.Tables.{spaceUnder, pointsUnder, rowCount, tablesOf, pointsIn}
 use Rattle.specification.proofs.Repeats.{is-among}
+use Rattle.specification.proofs.agreement.Points.{IsPoint, Points, points-more}
+use Rattle.specification.proofs.agreement.Drawings as Drawings
 use Rattle.specification.proofs.Instance.{laws, point-of, lead-exponent}
 use Rattle.specification.proofs.ideal.Laws.{Laws}
 use Rattle.specification.proofs.ideal.Lists.{getD-among, among-map}
 use Rattle.specification.proofs.ideal.Basis.{row-is}
 use Rattle.specification.proofs.ideal.Counts.{leads-length, standard-length}
 use Rattle.specification.proofs.ideal.Permutation.{basis-snoc}
-use Rattle.basis.specs.Drawing.{settingsOf, PointsGiven, Tabled, DrawnUp}
-use Rattle.basis.specs.Adding.{valueOfRow, firstFrom, Grown, grown, standardGrown, grownBy, NewPoint}
-use Rattle.basis.proofs.drawing.Given.{given-count}
+use Rattle.basis.specs.Drawing.{PointsGiven, Tabled, DrawnUp}
+use Rattle.basis.specs.Adding.{valueOfRow, firstFrom, Grown, grown, standardGrown, grownBy, allPoints, NewPoint}
+use Rattle.basis.proofs.drawing.Given.{given-count, given-points}
 use Rattle.basis.proofs.drawing.Grounds.{ground, places-below}
 use Rattle.basis.proofs.adding.Corrections.{valuesAt}
 use Rattle.basis.proofs.adding.LostRow.{lost, lost-one}
@@ -79,11 +82,16 @@ same-standard : (o : ℕ) {n n′ j j′ : ℕ} {standard standard′ leads lead
     → standardGrown o n standard (rowAt 8 j leads) ≡ standardGrown o n′ standard′ (rowAt 8 j′ leads′)
 same-standard o a b c d = cc
 
-module _ {p m o n r : ℕ} {points standard leads coefficients rows pivots point : List ℕ} (given : PointsGiven (settingsOf p m o) n points)
-    (drawn : DrawnUp (settingsOf p m o) (pointsIn (settingsOf p m o) n points) r standard leads coefficients rows pivots) (room : n < 64)
-    (new : NewPoint (settingsOf p m o) (pointsIn (settingsOf p m o) n points) point) where
-  abbrev s : Settings
-  s = settingsOf p m o
+module _ {s : Settings} {n r : ℕ} {points standard leads coefficients rows pivots point : List ℕ} (given : PointsGiven s n points)
+    (drawn : DrawnUp s (pointsIn s n points) r standard leads coefficients rows pivots) (room : n < 64) (new : NewPoint s (pointsIn s n points) point) where
+  abbrev p : ℕ
+  p = s .modulus
+
+  abbrev m : ℕ
+  m = s .variables
+
+  abbrev o : ℕ
+  o = s .order
 
   abbrev q : ℕ
   q = p - 1
@@ -109,12 +117,15 @@ module _ {p m o n r : ℕ} {points standard leads coefficients rows pivots point
   abbrev P : Point (suc q) m
   P = pointOf q m (take m point)
 
+  new-point : IsPoint s (take m point)
+  new-point = record {
+    long = length-take-le m point (omega (arith, ap length (new .filled), length-fill 8 (take m point), given .settings .few));
+    same = residues-kept q (take m point) (below-take (suc q) m point (subst (λ (z : ℕ). Below z point) raised (new .below)));
+  }
+
   coordinates : P .0 ≡ take m point
   unfolding pointOf
-  coordinates =
-      let e : length (take m point) ≡ m = length-take-le m point (omega (arith, ap length (new .filled), length-fill 8 (take m point), given .few)) in
-      ap (reduced q) (fill-exact m (take m point) e)
-      ∙ residues-kept q (take m point) (below-take (suc q) m point (subst (λ (z : ℕ). Below z point) raised (new .below)))
+  coordinates = ap (reduced q) (fill-exact m (take m point) (new-point .long)) ∙ new-point .same
 
   lists : map (λ (Q : Point (suc q) m). Q .0) S ≡ K
   unfolding pointsIn
@@ -137,7 +148,7 @@ module _ {p m o n r : ℕ} {points standard leads coefficients rows pivots point
   rows-many = drawn .tabled .row-count
 
   fits : length (leadsOf D S) + m ≤ 450
-  fits = bound (length (leadsOf D S)) (length S) m many (given .some) (given .few) (leads-length D L S d)
+  fits = bound (length (leadsOf D S)) (length S) m many (given .settings .some) (given .settings .few) (leads-length D L S d)
     where
       bound : (r n m : ℕ) → n < 64 → 1 ≤ m → m ≤ 8 → r + n ≤ 1 + n * m → r + m ≤ 450
       bound r n zero a b c e = absurd (omega arith)
@@ -147,14 +158,14 @@ module _ {p m o n r : ℕ} {points standard leads coefficients rows pivots point
   few-rows = rw rows-many fits
 
   most-rows : r ≤ 449
-  most-rows = omega (arith, few-rows, given .some)
+  most-rows = omega (arith, few-rows, given .settings .some)
 
   -- the tables
-  standard-is : standard ≡ table q m o (given .few) L 512 (standardOf D S)
+  standard-is : standard ≡ table q m o (given .settings .few) L 512 (standardOf D S)
   unfolding tablesOf
   standard-is = drawn .tabled .standard-table
 
-  leads-are : leads ≡ table q m o (given .few) L 3592 (leadsOf D S)
+  leads-are : leads ≡ table q m o (given .settings .few) L 3592 (leadsOf D S)
   unfolding tablesOf
   leads-are = drawn .tabled .leads-table
 
@@ -173,6 +184,17 @@ module _ {p m o n r : ℕ} {points standard leads coefficients rows pivots point
   lead-below : (a : List ℕ) → Among a (map (λ (a : Monomial m). a .0) (leadsOf D S)) → Below 255 a
   lead-below a mem i h = let w = among-map (λ (a : Monomial m). a .0) (leadsOf D S) a mem in
       rw (w .2) (omega (arith, lead-exponent q m (orderOf o) (ground given .prime) S d (w .0) (w .1) i, many))
+
+  -- how many points there are now, and that they have few rows
+  every : Points s (allPoints s n points point)
+  every =
+      points-more s K (take m point) (given-points given) new-point (λ w. subst T (new .new) (is-among (take m point) K w)) (omega (arith, given-count given, room))
+
+  pub all-count : n + 1 ≡ length (allPoints s n points point)
+  all-count = omega (arith, length-append K (take m point ∷ []), given-count given)
+
+  pub all-few : rowCount s (allPoints s n points point) ≤ 449
+  all-few = Drawings.few-rows s (given .settings) (allPoints s n points point) every
 
   -- what the functions of the addition ask
   pub record Sound : Type 0 where
@@ -202,7 +224,7 @@ module _ {p m o n r : ℕ} {points standard leads coefficients rows pivots point
 
   -- the values of the standard monomials
   abbrev due : List ℕ
-  due = valuesAt q m (orderOf o) (given .few) (standardOf D S) P (few-standard q m o (given .few) L S d many (given .some) fits P far)
+  due = valuesAt q m (orderOf o) (given .settings .few) (standardOf D S) P (few-standard q m o (given .settings .few) L S d many (given .settings .some) fits P far)
 
   standard-count : length (standardOf D S) ≡ n
   standard-count = standard-length D L S d ∙ count
@@ -210,9 +232,9 @@ module _ {p m o n r : ℕ} {points standard leads coefficients rows pivots point
   values-are : over (map (λ a. valueAt point a % p) (groups 8 n standard)) (replicate 64 0) ≡ due
   values-are =
       let f : Monomial m → List ℕ = λ b. fill 8 (b .0) in
-      let back : groups 8 n standard ≡ map f (standardOf D S) = ap₂ (λ (k : ℕ) (t : List ℕ). groups 8 k t) (sym standard-count) standard-is ∙ read q m o (given .few) L 512 (standardOf D S) (omega (arith, standard-count)) in
+      let back : groups 8 n standard ≡ map f (standardOf D S) = ap₂ (λ (k : ℕ) (t : List ℕ). groups 8 k t) (sym standard-count) standard-is ∙ read q m o (given .settings .few) L 512 (standardOf D S) (omega (arith, standard-count)) in
       let value : (b : Monomial m) → valueAt (fill 8 (P .0)) (fill 8 (b .0)) % suc q ≡ valueAt (P .0) (b .0) % suc q =
-      λ b. ap (λ (z : ℕ). z % suc q) (value-fill (P .0) (b .0) (P .1 .0 ∙ sym (b .1)) (rw (P .1 .0) (given .few))) in
+      λ b. ap (λ (z : ℕ). z % suc q) (value-fill (P .0) (b .0) (P .1 .0 ∙ sym (b .1)) (rw (P .1 .0) (given .settings .few))) in
       let n64 = length-map (standardOf D S) (λ (b : Monomial m). valueAt (P .0) (b .0) % suc q) in
       ap (λ (z : List ℕ). over z (replicate 64 0))
       (ap (map (λ a. valueAt point a % p)) back ∙ map-map (λ a. valueAt point a % p) f (standardOf D S)
@@ -230,45 +252,41 @@ module _ {p m o n r : ℕ} {points standard leads coefficients rows pivots point
   -- what the functions find and leave
   module _ (vs : List ℕ) (ev : vs ≡ over (map (λ a. valueAt point a % p) (groups 8 n standard)) (replicate 64 0)) (j : ℕ) (ej : j ≡ firstFrom (valueOfRow p n point vs leads coefficients) 0 r) where
     abbrev wanted : ℕ
-    wanted = lost q m (orderOf o) (given .few) L S d (short q m o (given .few) L S d many (given .some) fits P far) (most q m o (given .few) L S d many (given .some) fits P far) P far
+    wanted = lost q m (orderOf o) (given .settings .few) L S d (short q m o (given .settings .few) L S d many (given .settings .some) fits P far) (most q m o (given .settings .few) L S d many (given .settings .some) fits P far) P far
 
     found : j ≡ wanted
     found = ej ∙ same-search raised (sym count) rows-many point-is (ev ∙ values-are) leads-are rows-are
 
     pub inside : j < r
-    inside = rw (found, rows-many) (lost-one q m (orderOf o) (given .few) L S d (short q m o (given .few) L S d many (given .some) fits P far) (most q m o (given .few) L S d many (given .some) fits P far) P far)
+    inside = rw (found, rows-many) (lost-one q m (orderOf o) (given .settings .few) L S d (short q m o (given .settings .few) L S d many (given .settings .some) fits P far) (most q m o (given .settings .few) L S d many (given .settings .some) fits P far) P far)
 
     pub added : (k : ℕ) (ns nl nc : List ℕ) → ns ≡ standardGrown o n standard (rowAt 8 j leads) → grown k nl nc ≡ grownBy p m o n r points standard leads coefficients rows pivots point vs j
-        → Tabled s (K ++ (take m point ∷ [])) k ns nl nc
+        → Tabled s (allPoints s n points point) k ns nl nc
     unfolding tablesOf rowCount
     added k ns nl nc es eg =
         let all : pointsUnder s (K ++ (take m point ∷ [])) ≡ S ++ (P ∷ []) = map-append (pointOf q m) K (take m point ∷ []) in
         let b = basis-snoc D L S P d far in
         let l : leadsOf D (P ∷ S) ≡ leadsOf D (pointsUnder s (K ++ (take m point ∷ []))) = sym (b .1) ∙ ap (leadsOf D) (sym all) in
-        let g : grown k nl nc ≡ grown (length (leadsOf D (P ∷ S))) (table q m o (given .few) L 3592 (leadsOf D (P ∷ S))) (fill 28736 (inPlaces 64 (rowsOf D (P ∷ S)))) =
+        let g : grown k nl nc ≡ grown (length (leadsOf D (P ∷ S))) (table q m o (given .settings .few) L 3592 (leadsOf D (P ∷ S))) (fill 28736 (inPlaces 64 (rowsOf D (P ∷ S)))) =
         eg ∙ same-grown m o rows pivots raised (sym count) rows-many (given .table ∙ ap (λ (z : List (List ℕ)). fill 512 (inPlaces 8 z)) (sym lists)) standard-is leads-are rows-are point-is (ev ∙ values-are) found
-        ∙ grown-are q m o (given .few) L S d many (given .some) fits P far rows pivots solves-it in
+        ∙ grown-are q m o (given .settings .few) L S d many (given .settings .some) fits P far rows pivots solves-it in
         record {
           row-count = ap (λ (x : Grown). x .count) g ∙ ap length l;
-          standard-table = es ∙ same-standard o (sym count) standard-is leads-are found ∙ standard-are q m o (given .few) L S d many (given .some) fits P far
+          standard-table = es ∙ same-standard o (sym count) standard-is leads-are found ∙ standard-are q m o (given .settings .few) L S d many (given .settings .some) fits P far
               ∙ ap (λ (z : List (Monomial m)). fill 512 (inPlaces 8 (map (λ (a : Monomial m). a .0) z))) (sym (b .0) ∙ ap (standardOf D) (sym all));
           leads-table = ap (λ (x : Grown). x .leads) g ∙ ap (λ (z : List (Monomial m)). fill 3592 (inPlaces 8 (map (λ (a : Monomial m). a .0) z))) l;
           coefficients-table = ap (λ (x : Grown). x .coefficients) g ∙ ap (λ (z : List (List ℕ)). fill 28736 (inPlaces 64 z)) (sym (b .2) ∙ ap (rowsOf D) (sym all));
         }
 
 -- the table of points with the new one in its place
-pub states-more : (s : Settings) (n : ℕ) {points point : List ℕ} → PointsGiven s n points → n < 64 → NewPoint s (pointsIn s n points) point → (t ys : List ℕ) (k : ℕ) → t ≡ points → k ≡ 8
-    → ys ≡ over point (take k (drop (8 * n) t)) → take (8 * n) t ++ (ys ++ drop k (drop (8 * n) t)) ≡ tablesOf s (pointsIn s n points ++ (take (s .variables) point ∷ [])) .states
-unfolding tablesOf inPlaces
-states-more s n {points} {point} given room new t ys k et ek ey =
+pub states-more : (s : Settings) (n : ℕ) {points point : List ℕ} → PointsGiven s n points → n < 64 → NewPoint s (pointsIn s n points) point
+    → withPlace 8 n point points ≡ tablesOf s (allPoints s n points point) .states
+unfolding tablesOf inPlaces withPlace
+states-more s n {points} {point} given room new =
     let K : List (List ℕ) = pointsIn s n points in
     let P : List ℕ = take (s .variables) point in
     let count : length K ≡ n = given-count given in
     let long : length point ≡ 8 = ap length (new .filled) ∙ length-fill 8 P in
     let same : fill 8 point ≡ fill 8 P = fill-exact 8 point long ∙ new .filled in
-    place-more 8 512 K point t ys (8 * n) k (et ∙ given .table) (ap (λ (j : ℕ). 8 * j) (sym count)) ek (omega arith) (omega arith) ey
+    place-more 8 512 K point points (over point (take 8 (drop (8 * n) points))) (8 * n) 8 (given .table) (ap (λ (j : ℕ). 8 * j) (sym count)) refl (omega arith) (omega arith) refl
     ∙ ap (fill 512) (places-append 8 K (point ∷ []) ∙ ap (λ (z : List ℕ). inPlaces 8 K ++ (z ++ [])) same ∙ sym (places-append 8 K (P ∷ [])))
-
-pub states-long : (s : Settings) (S : List (List ℕ)) → length (tablesOf s S .states) ≡ 512
-unfolding tablesOf
-states-long s S = length-fill 512 (inPlaces 8 S)

@@ -35,8 +35,8 @@ use Rattle.specification.proofs.ideal.Lists.{getD-among}
 use Rattle.specification.proofs.ideal.Basis.{interpolant-fits, interpolant-values}
 use Rattle.specification.proofs.ideal.Counts.{standard-length}
 use Rattle.specification.proofs.agreement.Drawings.{distinct-under}
-use Rattle.basis.specs.Drawing.{settingsOf, PointsGiven, DrawnUp}
-use Rattle.basis.proofs.drawing.Given.{settings-given, given-count}
+use Rattle.basis.specs.Drawing.{PointsGiven, DrawnUp}
+use Rattle.basis.proofs.drawing.Given.{given-count}
 use Rattle.basis.proofs.drawing.ReducedRows.{solves}
 use Rattle.basis.proofs.drawing.Matrix.{valuesOf, terms-places}
 use Rattle.basis.proofs.drawing.FoundRows.{rows-only}
@@ -68,9 +68,15 @@ module _ (q m : ℕ) where
   points-again [] = refl
   points-again (P ∷ X) = ap₂ (λ (a : Point (suc q) m) (l : List (Point (suc q) m)). a ∷ l) (point-of q m P) (points-again X)
 
-module _ {p m order n : ℕ} {points : List ℕ} (given : PointsGiven (settingsOf p m order) n points) where
-  abbrev s : Settings
-  s = settingsOf p m order
+module _ {s : Settings} {n : ℕ} {points : List ℕ} (given : PointsGiven s n points) where
+  abbrev p : ℕ
+  p = s .modulus
+
+  abbrev m : ℕ
+  m = s .variables
+
+  abbrev order : ℕ
+  order = s .order
 
   abbrev q : ℕ
   q = p - 1
@@ -85,13 +91,13 @@ module _ {p m order n : ℕ} {points : List ℕ} (given : PointsGiven (settingsO
   D = spaceUnder s
 
   raised : p ≡ suc q
-  raised = omega (arith, modulus-range p (given .modulus))
+  raised = omega (arith, modulus-range p (given .settings .modulus))
 
   lowered : (l : List ℕ) → Below (suc q) l → Below p l
   lowered l b = subst (λ (z : ℕ). Below z l) (sym raised) b
 
   prime : isModulus (suc q) ≡ true
-  prime = subst (λ (z : ℕ). isModulus z ≡ true) raised (given .modulus)
+  prime = subst (λ (z : ℕ). isModulus z ≡ true) raised (given .settings .modulus)
 
   L : Laws D
   L = laws q m (orderOf order) prime
@@ -107,10 +113,10 @@ module _ {p m order n : ℕ} {points : List ℕ} (given : PointsGiven (settingsO
   ground = record {
     modulus = raised;
     prime = prime;
-    few = given .few;
+    few = given .settings .few;
     count = length-map K (pointOf q m) ∙ as-many;
     most = given .most;
-    distinct = distinct-under s (settings-given given) K
+    distinct = distinct-under s (given .settings) K
         (λ P mem. let t = point P mem in record { long = ap length (t .1) ∙ t .0 .1 .0; same = rw (t .1) (residues-reduced q (t .0 .0) (t .0 .1 .1)) }) (given .once);
   }
 
@@ -135,7 +141,7 @@ module _ {p m order n : ℕ} {points : List ℕ} (given : PointsGiven (settingsO
       ap (λ (X : List (Point (suc q) m)). getD X i (pointOf q m [])) same-points ∙ List·getD-map (pointOf q m) (groups 8 n points) i [] ∙ ap (pointOf q m) (groups-at 8 n i points [] l) in
       let f : getD (reduced q (fill m g)) k 0 ≡ getD points (8 * i + k) 0 % suc q =
       map-at (λ x. x % suc q) (fill m g) 0 0 k (rw (length-fill m g) h)
-      ∙ ap (λ (x : ℕ). x % suc q) (fill-at m g k h ∙ getD-take 8 (drop (8 * i) points) k 0 (omega (arith, given .few)) ∙ getD-drop (8 * i) points k 0) in
+      ∙ ap (λ (x : ℕ). x % suc q) (fill-at m g k h ∙ getD-take 8 (drop (8 * i) points) k 0 (omega (arith, given .settings .few)) ∙ getD-drop (8 * i) points k 0) in
       flip (of (ap (λ (P : Point (suc q) m). getD (P .0) k 0) e ∙ f) then reduce (suc q) (getD points (8 * i + k) 0))
 
   -- all is found

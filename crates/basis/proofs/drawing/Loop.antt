@@ -21,7 +21,7 @@ use Rattle.specification.specs.declared.settings.Settings.{Settings}
 use Rattle.specification.specs.BasisOf.{standardOf}
 use Rattle.specification.specs.Instance.{Monomial, Point}
 use Rattle.specification.specs.Tables.{spaceUnder, pointsUnder, pointsIn}
-use Rattle.basis.specs.Drawing.{productValues, settingsOf, PointsGiven, DrawnUp}
+use Rattle.basis.specs.Drawing.{productValues, PointsGiven, DrawnUp}
 use Rattle.basis.proofs.drawing.Positions.{productAt}
 use Rattle.basis.proofs.drawing.Candidates.{Outcome, Found, next-candidate}
 use Rattle.basis.proofs.drawing.FoundRows.{longer}
@@ -47,47 +47,50 @@ pub record Sized (p n found : ℕ) (standard leads coefficients rows pivots valu
   pub rows-zero : ZeroBehind n found rows
 
 -- the points under the settings
-abbrev pub pointsOf : (p m order n : ℕ) → List ℕ → List (Point (suc (p - 1)) m)
-pointsOf p m order n points = pointsUnder (settingsOf p m order) (pointsIn (settingsOf p m order) n points)
+abbrev pub pointsOf : (s : Settings) → ℕ → List ℕ → List (Point (suc (s .modulus - 1)) (s .variables))
+pointsOf s n points = pointsUnder s (pointsIn s n points)
 
-module _ (p m order n : ℕ) (points : List ℕ) where
+module _ (s : Settings) (n : ℕ) (points : List ℕ) where
   -- A monomial is in hand.
   pub record Head (found r : ℕ) (standard leads coefficients rows pivots values ranks steps at exponents : List ℕ) (rank : ℕ) (own : List ℕ) : Type 0 where
-    pub std : List (Monomial m)
-    pub lds : List (Monomial m)
+    pub std : List (Monomial (s .variables))
+    pub lds : List (Monomial (s .variables))
     pub css : List (List ℕ)
-    pub hand : Monomial m
+    pub hand : Monomial (s .variables)
     pub found-is : found ≡ length std
     pub r-is : r ≡ length lds
-    pub held : Held (p - 1) m n (orderOf order) (pointsOf p m order n points) std lds css standard leads coefficients rows pivots values ranks steps
-    pub in-hand : InHand (p - 1) m n (orderOf order) (pointsOf p m order n points) std lds hand at exponents rank own
+    pub held : Held (s .modulus - 1) (s .variables) n (orderOf (s .order)) (pointsOf s n points) std lds css standard leads coefficients rows pivots values ranks steps
+    pub in-hand : InHand (s .modulus - 1) (s .variables) n (orderOf (s .order)) (pointsOf s n points) std lds hand at exponents rank own
 
   -- It is kept.
   pub record Kept (found r : ℕ) (standard leads coefficients rows pivots values ranks steps at : List ℕ) : Type 0 where
-    pub std : List (Monomial m)
-    pub lds : List (Monomial m)
+    pub std : List (Monomial (s .variables))
+    pub lds : List (Monomial (s .variables))
     pub css : List (List ℕ)
     pub found-is : found ≡ length std
     pub r-is : r ≡ length lds
-    pub held : Held (p - 1) m n (orderOf order) (pointsOf p m order n points) std lds css standard leads coefficients rows pivots values ranks steps
-    pub decided : Decided (p - 1) m n (orderOf order) (pointsOf p m order n points) std lds at
+    pub held : Held (s .modulus - 1) (s .variables) n (orderOf (s .order)) (pointsOf s n points) std lds css standard leads coefficients rows pivots values ranks steps
+    pub decided : Decided (s .modulus - 1) (s .variables) n (orderOf (s .order)) (pointsOf s n points) std lds at
 
-module _ {p m order n : ℕ} {points : List ℕ} where
+module _ {s : Settings} {n : ℕ} {points : List ℕ} where
   -- the same lists, by their equations
   pub kept-as : {found found′ r r′ : ℕ} {standard standard′ leads leads′ coefficients coefficients′ rows rows′ pivots pivots′ values values′ ranks ranks′ steps at : List ℕ}
       → found ≡ found′ → r ≡ r′ → standard ≡ standard′ → leads ≡ leads′ → coefficients ≡ coefficients′ → rows ≡ rows′ → pivots ≡ pivots′ → values ≡ values′ → ranks ≡ ranks′
-      → Kept p m order n points found′ r′ standard′ leads′ coefficients′ rows′ pivots′ values′ ranks′ steps at → Kept p m order n points found r standard leads coefficients rows pivots values ranks steps at
+      → Kept s n points found′ r′ standard′ leads′ coefficients′ rows′ pivots′ values′ ranks′ steps at → Kept s n points found r standard leads coefficients rows pivots values ranks steps at
   kept-as a b c d e f g h i k = rw (a, b, c, d, e, f, g, h, i) k
 
-  module _ (given : PointsGiven (settingsOf p m order) n points) where
-    abbrev s : Settings
-    s = settingsOf p m order
+  module _ (given : PointsGiven s n points) where
+    abbrev p : ℕ
+    p = s .modulus
+
+    abbrev m : ℕ
+    m = s .variables
 
     abbrev S : List (Point (suc (p - 1)) m)
-    S = pointsOf p m order n points
+    S = pointsOf s n points
 
     abbrev o : Order
-    o = orderOf order
+    o = orderOf (s .order)
 
     G : Ground (p - 1) m n o S p
     G = ground given
@@ -97,7 +100,7 @@ module _ {p m order n : ℕ} {points : List ℕ} where
 
     pub head-start : {standard leads coefficients rows pivots steps : List ℕ} → standard ≡ replicate 512 0 → leads ≡ replicate 3592 0 → coefficients ≡ replicate 28736 0
         → rows ≡ replicate 8192 0 → length pivots ≡ 64 → steps ≡ stepsOf o
-        → Head p m order n points 0 0 standard leads coefficients rows pivots (replicate 4096 0) (replicate 64 0) steps (replicate 8 0) (replicate 8 0) 0 (replicate 64 1)
+        → Head s n points 0 0 standard leads coefficients rows pivots (replicate 4096 0) (replicate 64 0) steps (replicate 8 0) (replicate 8 0) 0 (replicate 64 1)
     head-start {standard} {leads} {coefficients} {rows} {pivots} a b c d e f = record {
       std = [];
       lds = [];
@@ -129,7 +132,7 @@ module _ {p m order n : ℕ} {points : List ℕ} where
         rows-zero = λ t j h. H .pivot-rows .beyond t j (omega arith);
       }
 
-      module _ {r : ℕ} {at exponents : List ℕ} {rank : ℕ} {own : List ℕ} (h : Head p m order n points found r standard leads coefficients rows pivots values ranks steps at exponents rank own) where
+      module _ {r : ℕ} {at exponents : List ℕ} {rank : ℕ} {own : List ℕ} (h : Head s n points found r standard leads coefficients rows pivots values ranks steps at exponents rank own) where
         pub head-sized : Sized p n found standard leads coefficients rows pivots values ranks
         head-sized = sized (h .found-is) (h .held)
 
@@ -154,7 +157,7 @@ module _ {p m order n : ℕ} {points : List ℕ} where
               rw (h .r-is) (lead-room G (h .held) (h .in-hand) left′ z)
 
           pub keeps-lead : {leads′ coefficients′ : List ℕ} → firstNonzero n work ≡ n → leads′ ≡ withPlace 8 r exponents leads
-              → coefficients′ ≡ withPlace 64 r (take found (drop n work)) coefficients → Kept p m order n points found (r + 1) standard leads′ coefficients′ rows pivots values ranks steps at
+              → coefficients′ ≡ withPlace 64 r (take found (drop n work)) coefficients → Kept s n points found (r + 1) standard leads′ coefficients′ rows pivots values ranks steps at
           keeps-lead {leads′} {coefficients′} z e f = record {
             std = h .std;
             lds = h .lds ++ (h .hand ∷ []);
@@ -175,7 +178,7 @@ module _ {p m order n : ℕ} {points : List ℕ} where
           pub keeps-standard : {q : ℕ} {standard′ ranks′ values′ rows′ pivots′ : List ℕ} → q ≡ firstNonzero n work → q < n → standard′ ≡ withPlace 8 found exponents standard
               → ranks′ ≡ set ranks found rank → values′ ≡ withPlace 64 found own values
               → rows′ ≡ withRow found (pivotRow p (n + found) (inverseOf p (getD work q 0)) work) rows → pivots′ ≡ set pivots found q
-              → Kept p m order n points (found + 1) r standard′ leads coefficients rows′ pivots′ values′ ranks′ steps at
+              → Kept s n points (found + 1) r standard′ leads coefficients rows′ pivots′ values′ ranks′ steps at
           keeps-standard {q} {standard′} {ranks′} {values′} {rows′} {pivots′} e z a b c d f = record {
             std = h .std ++ (h .hand ∷ []);
             lds = h .lds;
@@ -195,7 +198,7 @@ module _ {p m order n : ℕ} {points : List ℕ} where
                 standard-decided G (h .held) (h .in-hand) left′ (rw e at z);
           }
 
-      module _ {r : ℕ} {at : List ℕ} (h : Kept p m order n points found r standard leads coefficients rows pivots values ranks steps at) where
+      module _ {r : ℕ} {at : List ℕ} (h : Kept s n points found r standard leads coefficients rows pivots values ranks steps at) where
         pub kept-sized : Sized p n found standard leads coefficients rows pivots values ranks
         kept-sized = sized (h .found-is) (h .held)
 
@@ -237,7 +240,7 @@ module _ {p m order n : ℕ} {points : List ℕ} where
           next-exponent = exponent-small G (h .held) F
 
           pub goes-on : {exponents own : List ℕ} → exponents ≡ timesVariable k (take 8 (drop (8 * t) standard)) → own ≡ productValues p n (columnOf k n points) (take 64 (drop (64 * t) values))
-              → Head p m order n points found r standard leads coefficients rows pivots values ranks steps at′ exponents l own
+              → Head s n points found r standard leads coefficients rows pivots values ranks steps at′ exponents l own
           goes-on {exponents} {own} x y = record {
             std = h .std;
             lds = h .lds;

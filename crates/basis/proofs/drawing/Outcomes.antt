@@ -5,15 +5,17 @@ use mathlib.Core.List.{List, _++_}
 use Prim.Native.Nat.{ℕ, _/_, _%_}
 use native.Mathlib.Omega.{arith}
 use lib.IntN.{ℤ}
-use lib.ListN.{length}
+use lib.ListN.{length, drop}
 use lib.Dec.{eqb, ltb}
 use Rattle.residue.specs.Layout.{over}
+use Rattle.residue.proofs.Layouts.{answered}
 use Rattle.specification.specs.declared.settings.Settings.{Settings}
 use Rattle.specification.specs.Refusal.{Case, firstOf}
 use Rattle.specification.specs.Settings.{settingsCases}
 use Rattle.specification.specs.Levels.{inRange, noRepeat}
 use Rattle.specification.specs.Tables.{Tables, rowCount, tablesOf, written, tooShort}
 use Rattle.specification.specs.Adding.{ended, refused, holding, pointsOffered, drawCases, drawRefusal, drawOutcome}
+use Rattle.basis.specs.Drawing.{Tabled}
 use Rattle.basis.proofs.settings.BySize.{sizes, by-size, by-rest, two, two-first, two-second, two-none}
 use Rattle.basis.proofs.settings.ByNumber.{when-refused, when-accepted}
 
@@ -23,6 +25,14 @@ pub all-written : (s : Settings) (S : List (List ℕ)) (t : Tables) (n r : ℕ) 
     → d ≡ over (tablesOf s S .coefficients) (t .coefficients) → ended (record { refusal = 0; n = n; r = r }) a b c d ≡ holding s S t
 unfolding holding written
 all-written s S t n r a b c d e f g h i j = rw (e, f, g, h, i, j)
+
+-- and of their fronts, the rest behind them
+pub fronts-written : (s : Settings) (S : List (List ℕ)) (t : Tables) (n r : ℕ) (a x y z : List ℕ) → n ≡ length S → a ≡ over (tablesOf s S .states) (t .states) → Tabled s S r x y z
+    → ended (record { refusal = 0; n = n; r = r }) a (x ++ drop 512 (t .standard)) (y ++ drop 3592 (t .leads)) (z ++ drop 28736 (t .coefficients)) ≡ holding s S t
+unfolding tablesOf
+fronts-written s S t n r a x y z e g h =
+    all-written s S t n r a (x ++ drop 512 (t .standard)) (y ++ drop 3592 (t .leads)) (z ++ drop 28736 (t .coefficients)) e (h .row-count) g (answered 512 _ (t .standard) x (h .standard-table))
+    (answered 3592 _ (t .leads) y (h .leads-table)) (answered 28736 _ (t .coefficients) z (h .coefficients-table))
 
 -- Drawing up.
 module _ (s : Settings) (t : Tables) (levels : List ℤ) where

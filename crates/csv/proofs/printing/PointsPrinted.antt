@@ -17,7 +17,7 @@ use Rattle.specification.specs.Solving.{wiringOf, wiringUnder}
 use Rattle.specification.proofs.Recognised.{read}
 use Rattle.basis.specs.Answers.{solution}
 use Rattle.basis.specs.Drawing.{PointsGiven, DrawnUp}
-use Rattle.basis.proofs.drawing.Given.{settings-given, given-count}
+use Rattle.basis.proofs.drawing.Given.{given-count}
 use Rattle.basis.proofs.answers.Interpolants.{length-interpolant, solution-is, names-in}
 use Rattle.csv.specs.Appending.{Room, Put, inTable}
 use Rattle.csv.specs.Printing.{basisLines, linesOf}
@@ -28,7 +28,7 @@ module _ (s : Settings) (n : ℕ) (points values : List ℕ) (g : PointsGiven s 
   S = pointsIn s n points
 
   ok : Accepted s
-  ok = settings-given g
+  ok = g .settings
 
   pub given : Points s S
   given = read s ok n points (g .most) (g .once)

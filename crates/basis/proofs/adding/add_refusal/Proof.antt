@@ -95,7 +95,7 @@ module _ (w : tie.After-put-residues) where
 
   place : w .put-residues .last .1 .1 .0 ≡ fill 8 (newOne (o g))
   place =
-      w .put-residues .ensures ∙ ap (over (newOne (o g))) (o g .pre .3)
+      w .put-residues .ensures ∙ ap (over (newOne (o g))) (o g .pre .1 .1)
       ∙ over-zeros (newOne (o g)) 8 (omega (arith, length-residues (o g .args .settings .modulus) (o g .args .levels .now), long (e (f g)), room (e (f g)) .settings .few))
 
 repeats : (a : tie.After-is-among) → a .is-among .result ≡ isAmong (newOne (o (g (a .before .before .before .before .before)))) (olds (o (g (a .before .before .before .before .before))))
@@ -128,7 +128,7 @@ recognise-requires : tie.Need-recognise-requires
 recognise-requires c κs =
     let x = e (c .before .before .before) in
     let l = large-of (tables (s x)) (room x .long) in
-    ((room x .none, omega (arith, few x)), ((l .states, (l .standard, (l .leads, l .coefficients))), (s x .pre .0, (s x .pre .1, s x .pre .2))))
+    ((room x .none, omega (arith, few x)), ((l .states, (l .standard, (l .leads, l .coefficients))), (s x .pre .0, s x .pre .1 .0)))
 
 same-length : tie.Need-same-length
 same-length c = c .before .before .before .before .before .before .before .recognise .kept .1 .1 .1 .1 .1 .1 .1 .0
@@ -147,7 +147,7 @@ returns-3 c =
     (add-unknown (s x .args .settings) (s x .args .n) (s x .args .r) (tables (s x)) (s x .args .levels .now) (fine x) (range h) (sym (k .recognise .ensures .0) ∙ not-true _ (c .if3 .taken)), ((λ z. absurd (omega arith)), ((λ z. absurd (omega arith)), (λ z. absurd (omega arith)))))
 
 put-residues-requires : tie.Need-put-residues-requires
-put-residues-requires c κs = let x = e (f (c .before)) in omega (arith, long x, room x .settings .few, ap length (s x .pre .3))
+put-residues-requires c κs = let x = e (f (c .before)) in omega (arith, long x, room x .settings .few, ap length (s x .pre .1 .1))
 
 is-among-requires : tie.Need-is-among-requires
 is-among-requires c κs =

@@ -65,7 +65,7 @@ slice-aggregate-remainder-refusal-3 : tie.Need-slice-aggregate-remainder-refusal
 slice-aggregate-remainder-refusal-3 c = refl
 
 remainder-refusal-requires : tie.Need-remainder-refusal-requires
-remainder-refusal-requires c κs = (refl, refl, refl)
+remainder-refusal-requires c κs = (refl, (refl, refl))
 
 same-length : tie.Need-same-length
 same-length c = refl

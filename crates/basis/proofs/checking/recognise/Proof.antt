@@ -85,10 +85,10 @@ module _ (g : tie.Else1) where
 -- after the drawing
 module _ (d : tie.After-draw) where
   abbrev g : tie.Else1
-  g = d .before .before .before .before .before .before .before .before .before
+  g = d .before .before .before .before .before .before .before
 
-  drawn : DrawnUp (s g .args .settings) (S (w g)) (d .draw .result) (d .draw .last .1 .1 .1 .1 .1 .0) (d .draw .last .1 .1 .1 .1 .1 .1 .0) (d .draw .last .1 .1 .1 .1 .1 .1 .1 .0)
-      (d .draw .last .1 .1 .1 .1 .1 .1 .1 .1 .0) (d .draw .last .1 .1 .1 .1 .1 .1 .1 .1 .1 .0)
+  drawn : DrawnUp (s g .args .settings) (S (w g)) (d .draw .result) (d .draw .last .1 .1 .1 .0) (d .draw .last .1 .1 .1 .1 .0) (d .draw .last .1 .1 .1 .1 .1 .0)
+      (d .draw .last .1 .1 .1 .1 .1 .1 .0) (d .draw .last .1 .1 .1 .1 .1 .1 .1 .0)
   drawn = drawn-of (back g) (d .draw .ensures)
 
 read-points-requires : tie.Need-read-points-requires
@@ -110,12 +110,6 @@ returns c =
     let s = start w in
     (not-once (s .args .settings) (s .args .n) (s .args .r) (tables s) (sym (asked (c .before)) ∙ not-true _ (c .if1 .taken)), (is-table w, λ e. absurd (true≢false (sym e))))
 
-cast-draw : tie.Need-cast-draw
-cast-draw c = omega (arith, modulus-range (s (c .before) .args .settings .modulus) (ok (c .before) .modulus))
-
-cast-draw-2 : tie.Need-cast-draw-2
-cast-draw-2 c = omega (arith, ok (c .before .before) .order)
-
 slice-aggregate-draw : tie.Need-slice-aggregate-draw
 slice-aggregate-draw c = refl
 
@@ -127,17 +121,17 @@ slice-aggregate-draw-3 c = refl
 
 draw-requires : tie.Need-draw-requires
 draw-requires c κs =
-    let g = c .before .before .before .before .before .before .before .before in
+    let g = c .before .before .before .before .before .before in
     (ready g, ((refl, (refl, refl)), (s g .pre .1 .1 .1 .0, s g .pre .1 .1 .1 .1)))
 
 same-length-2 : tie.Need-same-length-2
-same-length-2 c = c .before .before .before .before .before .before .before .before .before .before .before .before .before .before .before .before .before .before .before .before .before .before .read-points .kept .1 .1 .1 .0
+same-length-2 c = c .before .before .before .before .before .before .before .before .before .before .before .before .before .before .before .before .before .before .before .before .read-points .kept .1 .1 .1 .0
 
 same-length-3 : tie.Need-same-length-3
-same-length-3 c = c .before .before .before .before .before .before .before .before .draw .kept .1 .1 .1 .1 .1 .1 .1 .1 .0
+same-length-3 c = c .before .before .before .before .before .before .before .before .draw .kept .1 .1 .1 .1 .1 .1 .0
 
 same-length-4 : tie.Need-same-length-4
-same-length-4 c = c .before .before .before .before .before .before .before .before .draw .kept .1 .1 .1 .1 .1 .1 .1 .1 .1 .0
+same-length-4 c = c .before .before .before .before .before .before .before .before .draw .kept .1 .1 .1 .1 .1 .1 .1 .0
 
 returns-2 : tie.Need-returns-2
 returns-2 c =
@@ -146,13 +140,13 @@ returns-2 c =
     (not-count (y .args .settings) (y .args .n) (y .args .r) (tables y) (once (g d)) (λ e. c .if2 .taken (drawn d .tabled .row-count ∙ sym e)), (is-table (w (g d)), λ e. absurd (true≢false (sym e))))
 
 slice-aggregate-agree : tie.Need-slice-aggregate-agree
-slice-aggregate-agree c = sym (c .before .before .before .before .before .before .before .before .before .before .draw .kept .1 .1 .1 .1 .1 .0)
+slice-aggregate-agree c = sym (c .before .before .before .before .before .before .before .before .before .before .draw .kept .1 .1 .1 .0)
 
 slice-aggregate-agree-2 : tie.Need-slice-aggregate-agree-2
-slice-aggregate-agree-2 c = sym (c .before .before .before .before .before .before .before .before .before .before .before .draw .kept .1 .1 .1 .1 .1 .1 .0)
+slice-aggregate-agree-2 c = sym (c .before .before .before .before .before .before .before .before .before .before .before .draw .kept .1 .1 .1 .1 .0)
 
 slice-aggregate-agree-3 : tie.Need-slice-aggregate-agree-3
-slice-aggregate-agree-3 c = sym (c .before .before .before .before .before .before .before .before .before .before .before .before .draw .kept .1 .1 .1 .1 .1 .1 .1 .0)
+slice-aggregate-agree-3 c = sym (c .before .before .before .before .before .before .before .before .before .before .before .before .draw .kept .1 .1 .1 .1 .1 .0)
 
 agree-requires : tie.Need-agree-requires
 agree-requires c κs =
@@ -161,13 +155,13 @@ agree-requires c κs =
     ((long (w (g d)), t), s (g d) .pre .1 .0)
 
 same-length-5 : tie.Need-same-length-5
-same-length-5 c = c .before .before .before .before .before .before .before .before .before .before .before .before .before .before .before .before .before .before .before .before .before .before .before .before .before .before .before .read-points .kept .1 .1 .1 .0
+same-length-5 c = c .before .before .before .before .before .before .before .before .before .before .before .before .before .before .before .before .before .before .before .before .before .before .before .before .before .read-points .kept .1 .1 .1 .0
 
 same-length-6 : tie.Need-same-length-6
-same-length-6 c = c .before .before .before .before .before .before .before .before .before .before .before .before .before .draw .kept .1 .1 .1 .1 .1 .1 .1 .1 .0
+same-length-6 c = c .before .before .before .before .before .before .before .before .before .before .before .before .before .draw .kept .1 .1 .1 .1 .1 .1 .0
 
 same-length-7 : tie.Need-same-length-7
-same-length-7 c = c .before .before .before .before .before .before .before .before .before .before .before .before .before .draw .kept .1 .1 .1 .1 .1 .1 .1 .1 .1 .0
+same-length-7 c = c .before .before .before .before .before .before .before .before .before .before .before .before .before .draw .kept .1 .1 .1 .1 .1 .1 .1 .0
 
 returns-3 : tie.Need-returns-3
 unfolding tablesOf
@@ -186,8 +180,6 @@ recognise-spec =
     no-repeat-requires
     same-length
     returns
-    cast-draw
-    cast-draw-2
     slice-aggregate-draw
     slice-aggregate-draw-2
     slice-aggregate-draw-3

@@ -2,6 +2,7 @@
 use mathlib.Core.Path.{refl, sym, _∙_}
 use native.Mathlib.Omega.{arith}
 use borrow.Author.Needs.{needs}
+use Rattle.residue.proofs.level.Moduli.{modulus-range}
 use Rattle.residue.proofs.Replaced.{zeros-long}
 use Rattle.basis.proofs.drawing.Grounds.{points-long}
 use Rattle.basis.proofs.drawing.Loop.{head-start, own-below, kept-few, ends, next-small, next-exponent, goes-on}
@@ -10,21 +11,27 @@ use Rattle.basis.proofs.drawing.draw.Statement.{statement}
 use Rattle.basis.proofs.drawing.draw.Tie as tie
 mod Turn
 
+cast-p : tie.Need-cast-p Inv-loop μ-loop
+cast-p c = let g = c .before .before .before .before .before .before .before .pre .0 in omega (arith, modulus-range _ (g .settings .modulus))
+
+cast-put-steps : tie.Need-cast-put-steps Inv-loop μ-loop
+cast-put-steps c = omega (arith, c .before .before .before .before .before .before .before .before .pre .0 .settings .order)
+
 slice-aggregate-put-steps : tie.Need-slice-aggregate-put-steps Inv-loop μ-loop
 slice-aggregate-put-steps c = refl
 
 put-steps-requires : tie.Need-put-steps-requires Inv-loop μ-loop
-put-steps-requires c κs = (c .before .before .before .before .before .before .before .pre .0 .order, refl)
+put-steps-requires c κs = (c .before .before .before .before .before .before .before .before .before .pre .0 .settings .order, refl)
 
 slice-aggregate-put-columns : tie.Need-slice-aggregate-put-columns Inv-loop μ-loop
 slice-aggregate-put-columns c = refl
 
 put-columns-requires : tie.Need-put-columns-requires Inv-loop μ-loop
-put-columns-requires c κs = let g = c .before .before .before .before .before .before .before .before .before .before .pre .0 in ((points-long g, g .most), refl)
+put-columns-requires c κs = let g = c .before .before .before .before .before .before .before .before .before .before .before .before .pre .0 in ((points-long g, g .most), refl)
 
 loop-holds : tie.Need-loop-holds Inv-loop μ-loop
 loop-holds c =
-    let s = c .before .before .before .before .before .before .before .before .before .before .before .before in
+    let s = c .before .before .before .before .before .before .before .before .before .before .before .before .before .before in
     head-start (s .pre .0) (s .pre .1 .0 .0) (s .pre .1 .0 .1 .0) (s .pre .1 .0 .1 .1) (s .pre .1 .1 .0) (s .pre .1 .1 .1) (c .before .before .before .before .put-steps .ensures)
 
 slice-aggregate-reduce : tie.Need-slice-aggregate-reduce Inv-loop μ-loop
@@ -59,7 +66,7 @@ keep-lead-requires c κs =
     let l = top q in
     let z = head-sizes l in (
       (range l .1, (given l .most, (z .found-room, lead-fits q (c .before .before .before .before .if1 .taken)))),
-      ((exponents-8 l, (work-128 q, (z .leads-long, z .coefficients-long))), work-residues q),
+      ((exponents-8 l, (z .leads-long, z .coefficients-long)), (work-128 q, work-residues q)),
     )
 
 add-r : tie.Need-add-r Inv-loop μ-loop
@@ -74,40 +81,26 @@ slice-aggregate-keep-standard-2 : tie.Need-slice-aggregate-keep-standard-2 Inv-l
 slice-aggregate-keep-standard-2 c = sym (c .before .before .before .before .before .before .before .before .before .loop .inv .in-hand .own-long)
 
 slice-aggregate-keep-standard-3 : tie.Need-slice-aggregate-keep-standard-3 Inv-loop μ-loop
-slice-aggregate-keep-standard-3 c = sym (head-sizes (c .before .before .before .before .before .before .before .before .before .before .before) .ranks-long)
+slice-aggregate-keep-standard-3 c = sym (work-128 (c .before .before .before .before .before))
 
 slice-aggregate-keep-standard-4 : tie.Need-slice-aggregate-keep-standard-4 Inv-loop μ-loop
-slice-aggregate-keep-standard-4 c = sym (head-sizes (c .before .before .before .before .before .before .before .before .before .before .before .before) .values-long)
+slice-aggregate-keep-standard-4 c = sym (head-sizes (top (c .before .before .before .before .before .before .before)) .ranks-long)
+
+slice-aggregate-keep-standard-5 : tie.Need-slice-aggregate-keep-standard-5 Inv-loop μ-loop
+slice-aggregate-keep-standard-5 c = sym (head-sizes (top (c .before .before .before .before .before .before .before .before)) .values-long)
 
 keep-standard-requires : tie.Need-keep-standard-requires Inv-loop μ-loop
 keep-standard-requires c κs =
-    let q = c .before .before .before .before .before .before .before in
+    let e = c .before .before .before .before .before .before .before .before in
+    let q = e .before .before in
     let l = top q in
     let z = head-sizes l in (
-      (omega (arith, standard-fits q (c .before .before .before .before .before .if1 .left), given l .most), (exponents-8 l, l .loop .inv .in-hand .own-long)),
-      (z .standard-long, (z .ranks-long, z .values-long)),
-    )
-
-slice-aggregate-keep : tie.Need-slice-aggregate-keep Inv-loop μ-loop
-slice-aggregate-keep c = sym (work-128 (c .before .before .before .before .before .before .before .before .before .before .before .before .before))
-
-keep-requires : tie.Need-keep-requires Inv-loop μ-loop
-keep-requires c κs =
-    let q = c .before .before .before .before .before .before .before .before .before .before .before .before .before .before .before in
-    let l = top q in
-    let z = head-sizes l in
-    let f = standard-fits q (c .before .before .before .before .before .before .before .before .before .before .before .before .before .if1 .left) in (
-      range l,
+      (range l, (given l .most, (inside q (e .if1 .left), standard-fits q (e .if1 .left)))),
       (
-        (inside q (c .before .before .before .before .before .before .before .before .before .before .before .before .before .if1 .left), (omega (arith, given l .most), work-128 q)),
-        ((omega (arith, z .rows-long, given l .most), omega (arith, z .pivots-long, given l .most)), work-residues q),
+        (exponents-8 l, (l .loop .inv .in-hand .own-long, (work-128 q, work-residues q))),
+        ((z .standard-long, (z .ranks-long, z .values-long)), (z .rows-long, z .pivots-long)),
       ),
     )
-
-add-found : tie.Need-add-found Inv-loop μ-loop
-add-found c =
-    let q = c .before .before .before .before .before .before .before .before .before .before .before .before .before .before .before .before .before .before .before .before .before in
-    omega (arith, standard-fits q (c .before .before .before .before .before .before .before .before .before .before .before .before .before .before .before .before .before .before .before .if1 .left), given (top q) .most)
 
 slice-aggregate-next : tie.Need-slice-aggregate-next Inv-loop μ-loop
 slice-aggregate-next c = sym (sizes (c .before .before) .ranks-long)
@@ -123,7 +116,7 @@ next-requires c κs =
     let j = c .before .before .before .before in
     let z = sizes j in
     let g = given (above j) in (
-      (g .few, omega (arith, z .found-room, g .most)),
+      (g .settings .few, omega (arith, z .found-room, g .most)),
       ((z .standard-long, z .ranks-long, steps-8 j, above j .loop .inv .in-hand .long), (z .ranks-below, steps-small j)),
     )
 
@@ -217,6 +210,8 @@ draw-spec =
     (tie.spec
     Inv-loop
     μ-loop
+    cast-p
+    cast-put-steps
     slice-aggregate-put-steps
     put-steps-requires
     slice-aggregate-put-columns
@@ -233,10 +228,8 @@ draw-spec =
     slice-aggregate-keep-standard-2
     slice-aggregate-keep-standard-3
     slice-aggregate-keep-standard-4
+    slice-aggregate-keep-standard-5
     keep-standard-requires
-    slice-aggregate-keep
-    keep-requires
-    add-found
     slice-aggregate-next
     slice-aggregate-next-2
     slice-aggregate-next-3

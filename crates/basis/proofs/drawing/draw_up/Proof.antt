@@ -8,22 +8,20 @@ use native.Mathlib.Omega.{arith}
 use lib.IntN.{ℤ}
 use lib.ListN.{length}
 use lib.Dec.{eqb, ltb}
-use Rattle.residue.specs.Layout.{groups, fill, inPlaces, over}
+use Rattle.residue.specs.Layout.{groups, fill, inPlaces}
 use Rattle.residue.proofs.level.Moduli.{modulus-range}
 use Rattle.residue.proofs.Tests.{of-true}
 use Rattle.residue.proofs.Layouts.{length-fill}
 use Rattle.specification.specs.Levels.{inRange, noRepeat}
-use Rattle.specification.specs.Tables.{Tables, fourTables, tooShort, rowCount, tablesOf, pointsIn}
-use Rattle.specification.specs.Adding.{pointsOffered}
+use Rattle.specification.specs.Tables.{Tables, fourTables, tooShort, pointsIn}
+use Rattle.specification.specs.Adding.{holding, pointsOffered}
 use Rattle.specification.proofs.agreement.Points.{Points}
-use Rattle.specification.proofs.agreement.Refusals.{large-of}
-use Rattle.specification.proofs.agreement.Drawings.{few-rows}
 use Rattle.basis.specs.Drawing.{PointsGiven}
 use Rattle.specification.proofs.Recognised.{whole-levels, length-offered, offered-each, offered}
 use Rattle.basis.proofs.drawing.Given.{table-repeat, table-points, given}
 use Rattle.basis.proofs.settings.BySize.{Passed, passed}
 use Rattle.basis.proofs.settings.ByNumber.{alone}
-use Rattle.basis.proofs.drawing.Outcomes.{drawSizes, draw-size, draw-range, draw-repeat, draw-good, all-written}
+use Rattle.basis.proofs.drawing.Outcomes.{drawSizes, draw-size, draw-range, draw-repeat, draw-good}
 use Rattle.basis.proofs.drawing.draw_up.Statement.{statement}
 use Rattle.basis.proofs.drawing.draw_up.Tie as tie
 
@@ -120,9 +118,6 @@ module _ (g : tie.Else3) where
   back : pointsIn (s x .args .settings) (length (levels x) / m x) (table w) ≡ S w
   back = ap₂ (pointsIn (s x .args .settings)) (sym (count w)) (is-table w) ∙ table-points (s x .args .settings) (room x .settings) (S w) points
 
-  rows : rowCount (s x .args .settings) (pointsIn (s x .args .settings) (length (levels x) / m x) (table w)) ≡ rowCount (s x .args .settings) (S w)
-  rows = ap (rowCount (s x .args .settings)) back
-
 draw-sizes-requires : tie.Need-draw-sizes-requires
 draw-sizes-requires c κs = tt
 
@@ -181,49 +176,31 @@ slice-aggregate-draw-points : tie.Need-slice-aggregate-draw-points
 slice-aggregate-draw-points c = sym (c .before .before .before .before .before .put-points .kept .1 .1 .1 .1 .0)
 
 draw-points-requires : tie.Need-draw-points-requires
-draw-points-requires c κs =
-    let g = c .before .before .before .before .before in
-    let l = large-of (tables (s (x g))) (room (x g) .long) in
-    (ready g, (l .states, (l .standard, (l .leads, l .coefficients))))
+draw-points-requires c κs = let g = c .before .before .before .before .before in (ready g, room (x g) .long)
 
 -- after the drawing
-abbrev drawing : tie.After-slice-known8 → tie.Else3
-drawing c = c .before .before .before .before .before .before .before .before .before .before .before .before .before .before
-
-cast-t35 : tie.Need-cast-t35
-cast-t35 c = omega (arith, few (x (drawing c)))
-
-cast-t36 : tie.Need-cast-t36
-cast-t36 c =
-    let g = drawing c in
-    let d = c .before .before .before .before .before .before .before .before in
-    omega (arith, d .draw-points .ensures .0, rows g, few-rows (s (x g) .args .settings) (room (x g) .settings) (S (w g)) (points g))
+abbrev drawing : tie.After-slice-known8 → tie.After-draw-points
+drawing c = c .before .before .before .before .before .before .before .before
 
 same-length : tie.Need-same-length
-same-length c = c .before .before .before .before .before .before .before .before .draw-points .kept .1 .1 .1 .0
+same-length c = drawing c .draw-points .kept .1 .1 .1 .0
 
 same-length-2 : tie.Need-same-length-2
-same-length-2 c = c .before .before .before .before .before .before .before .before .draw-points .kept .1 .1 .1 .1 .0
+same-length-2 c = drawing c .draw-points .kept .1 .1 .1 .1 .0
 
 same-length-3 : tie.Need-same-length-3
-same-length-3 c = c .before .before .before .before .before .before .before .before .draw-points .kept .1 .1 .1 .1 .1 .0
+same-length-3 c = drawing c .draw-points .kept .1 .1 .1 .1 .1 .0
 
 same-length-4 : tie.Need-same-length-4
-same-length-4 c = c .before .before .before .before .before .before .before .before .draw-points .kept .1 .1 .1 .1 .1 .1 .0
+same-length-4 c = drawing c .draw-points .kept .1 .1 .1 .1 .1 .1 .0
 
 returns-4 : tie.Need-returns-4
-unfolding tablesOf
 returns-4 c =
-    let g = drawing c in
-    let d = c .before .before .before .before .before .before .before .before .draw-points .ensures in
+    let d = drawing c in
+    let g = d .before .before .before .before .before .before in
     let z = s (x g) in
-    let o = z .args .settings in
-    all-written o (S (w g)) (tables z) _ _ _ _ _ _ (sym (count (w g))) (d .0 ∙ rows g)
-    (d .1 .0 ∙ ap (λ (t : List ℕ). over t (z .args .states .now)) (is-table (w g)))
-    (d .1 .1 .0 ∙ ap (λ (K : List (List ℕ)). over (tablesOf o K .standard) (z .args .standard .now)) (back g))
-    (d .1 .1 .1 .0 ∙ ap (λ (K : List (List ℕ)). over (tablesOf o K .leads) (z .args .leads .now)) (back g))
-    (d .1 .1 .1 .1 ∙ ap (λ (K : List (List ℕ)). over (tablesOf o K .coefficients) (z .args .coefficients .now)) (back g))
-    ∙ draw-good o (tables z) (levels (x g)) (fine (x g)) (range (f (w g))) (once g)
+    d .draw-points .ensures ∙ ap (λ (K : List (List ℕ)). holding (z .args .settings) K (tables z)) (back g)
+    ∙ draw-good (z .args .settings) (tables z) (levels (x g)) (fine (x g)) (range (f (w g))) (once g)
 
 pub draw-up-spec : {M : Type 1} → statement M
 draw-up-spec =
@@ -245,8 +222,6 @@ draw-up-spec =
     returns-3
     slice-aggregate-draw-points
     draw-points-requires
-    cast-t35
-    cast-t36
     same-length
     same-length-2
     same-length-3

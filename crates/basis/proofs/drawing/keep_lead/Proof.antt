@@ -77,8 +77,8 @@ narrow-requires c κs =
     let l = s .pre .1 .0 .1 in (
       h .0,
       (
-        row-fits (s .args .n) (s .args .found) (s .args .r) (s .args .work .now) (s .args .coefficients .now) (h .1 .0) (h .1 .1 .0) (h .1 .1 .1) (l .0) (l .1 .1),
-        below-take (s .args .p) (s .args .n + s .args .found - s .args .n) (drop (s .args .n) (s .args .work .now)) (below-drop (s .args .p) (s .args .n) (s .args .work .now) (s .pre .1 .1)),
+        row-fits (s .args .n) (s .args .found) (s .args .r) (s .args .work .now) (s .args .coefficients .now) (h .1 .0) (h .1 .1 .0) (h .1 .1 .1) (s .pre .1 .1 .0) (l .1),
+        below-take (s .args .p) (s .args .n + s .args .found - s .args .n) (drop (s .args .n) (s .args .work .now)) (below-drop (s .args .p) (s .args .n) (s .args .work .now) (s .pre .1 .1 .1)),
       ),
     )
 

@@ -3,6 +3,7 @@ use mathlib.Core.Path.{_≡_, refl, sym, _∙_}
 use mathlib.Core.List.{List}
 use Prim.Native.Nat.{ℕ, _+_, _*_, _-_, _<_, _≤_}
 use native.Mathlib.Omega.{arith}
+use borrow.Author.Needs.{needs}
 use native.Mathlib.Nat.{add-sub-cancel-left}
 use lib.ListN.{length, length-set}
 use borrow.Rule.Slice.PartMut.{same-len-mid}
@@ -14,9 +15,18 @@ use Rattle.basis.proofs.drawing.keep_standard.Tie as tie
 row-fits : (found : ℕ) (values : List ℕ) → found < 64 → length values ≡ 4096 → 64 * found + 64 ≤ length values
 row-fits found values few long = omega arith
 
--- where the parameters come in, from the end
-abbrev start : tie.After-slice-known5 → tie.Start
-start c = c .before .before .before .before .before .before .before .before .before .before .before .before .before
+-- the calls, one from the next, and where the parameters come in
+abbrev start : tie.After-copy → tie.Start
+start c = c .before .before .before .before .before .before .before .before .before .before
+
+abbrev first : tie.After-copy2 → tie.After-copy
+first c = c .before .before .before .before
+
+abbrev second : tie.After-keep → tie.After-copy2
+second c = c .before .before .before .before .before .before
+
+abbrev kept : tie.After-pivots → tie.After-keep
+kept c = c .before .before .before .before .before
 
 mul-place : tie.Need-mul-place
 mul-place c = omega arith
@@ -62,30 +72,57 @@ part-copy-end-2 c = omega arith
 
 copy-requires-2 : tie.Need-copy-requires-2
 copy-requires-2 c κs =
-    let s = c .before .before .before .before .before .before .before .before .before .before in
-    s .pre .0 .1 .1 ∙ sym (part-long (64 * s .args .found) (64 * s .args .found + 64 - 64 * s .args .found) 64 (s .args .values .now) (add-sub-cancel-left (64 * s .args .found) 64) (row-fits (s .args .found) (s .args .values .now) (s .pre .0 .0) (s .pre .1 .1 .1)))
+    let s = start (c .before .before .before) in
+    s .pre .1 .0 .1 .0 ∙ sym (part-long (64 * s .args .found) (64 * s .args .found + 64 - 64 * s .args .found) 64 (s .args .values .now) (add-sub-cancel-left (64 * s .args .found) 64) (row-fits (s .args .found) (s .args .values .now) (omega arith) (s .pre .1 .1 .0 .1 .1)))
+
+keep-requires : tie.Need-keep-requires
+keep-requires c κs =
+    let s = start (first (c .before .before .before .before .before)) in
+    let h = s .pre .0 .1 in
+    (s .pre .0 .0, ((h .1 .0, (omega (arith, h), s .pre .1 .0 .1 .1 .0)), ((omega (arith, h, s .pre .1 .1 .1), omega (arith, h, s .pre .1 .1 .1)), s .pre .1 .0 .1 .1 .1)))
+
+add-result : tie.Need-add-result
+add-result c = omega (arith, start (first (second (kept (c .before)))) .pre .0)
 
 same-length : tie.Need-same-length
-same-length c =
-    let a = start c .args in
-    let called = c .before .before .before .before .before .before in
-    same-len-mid (8 * a .found) (8 * a .found + 8 - 8 * a .found) (a .standard .now) (called .copy .last .1 .0) (called .copy .kept .1 .0)
+same-length c = search needs
 
 same-length-2 : tie.Need-same-length-2
-same-length-2 c = let a = start c .args in length-set (a .ranks .now) (a .found) (a .rank)
+same-length-2 c =
+    let f = first (second (kept (c .before))) in
+    let a = start f .args in
+    same-len-mid (8 * a .found) (8 * a .found + 8 - 8 * a .found) (a .standard .now) (f .copy .last .1 .0) (f .copy .kept .1 .0)
 
 same-length-3 : tie.Need-same-length-3
-same-length-3 c =
-    let a = start c .args in
-    let called = c .before .before in
-    same-len-mid (64 * a .found) (64 * a .found + 64 - 64 * a .found) (a .values .now) (called .copy2 .last .1 .0) (called .copy2 .kept .1 .0)
+same-length-3 c = let a = start (first (second (kept (c .before)))) .args in length-set (a .ranks .now) (a .found) (a .rank)
+
+same-length-4 : tie.Need-same-length-4
+same-length-4 c =
+    let k = second (kept (c .before)) in
+    let a = start (first k) .args in
+    same-len-mid (64 * a .found) (64 * a .found + 64 - 64 * a .found) (a .values .now) (k .copy2 .last .1 .0) (k .copy2 .kept .1 .0)
+
+same-length-5 : tie.Need-same-length-5
+same-length-5 c = search needs
+
+same-length-6 : tie.Need-same-length-6
+same-length-6 c = search needs
 
 returns : tie.Need-returns
 returns c =
-    let s = start c in
-    let a = s .args in (
-      put-place 8 (a .found) (8 * a .found + 8 - 8 * a .found) (a .exponents .now) (a .standard .now) (add-sub-cancel-left (8 * a .found) 8) (c .before .before .before .before .before .before .copy .ensures),
-      (refl, put-whole 64 (a .found) (64 * a .found + 64 - 64 * a .found) (a .own .now) (a .values .now) (add-sub-cancel-left (64 * a .found) 64) (row-fits (a .found) (a .values .now) (s .pre .0 .0) (s .pre .1 .1 .1)) (s .pre .0 .1 .1) (c .before .before .copy2 .ensures)),
+    let w = kept (c .before) in
+    let k = second w in
+    let s = start (first k) in
+    let a = s .args in
+    let e = w .keep .ensures in (
+      refl,
+      (
+        (e .0, e .1 .0, e .1 .1),
+        (
+          put-place 8 (a .found) (8 * a .found + 8 - 8 * a .found) (a .exponents .now) (a .standard .now) (add-sub-cancel-left (8 * a .found) 8) (first k .copy .ensures),
+          (refl, put-whole 64 (a .found) (64 * a .found + 64 - 64 * a .found) (a .own .now) (a .values .now) (add-sub-cancel-left (64 * a .found) 64) (row-fits (a .found) (a .values .now) (omega (arith, s .pre .0)) (s .pre .1 .1 .0 .1 .1)) (s .pre .1 .0 .1 .0) (k .copy2 .ensures)),
+        ),
+      ),
     )
 
 pub keep-standard-spec : {M : Type 1} → statement M
@@ -107,7 +144,12 @@ keep-standard-spec =
     part-copy-start-2
     part-copy-end-2
     copy-requires-2
+    keep-requires
+    add-result
     same-length
     same-length-2
     same-length-3
+    same-length-4
+    same-length-5
+    same-length-6
     returns)

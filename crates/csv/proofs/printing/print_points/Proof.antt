@@ -48,7 +48,7 @@ solve-bytes-requires c κs =
     let d = c .before .before .before .before .before .before .before .before in
     let s = d .before .before .before .before .before .before .before .before .before in
     let u = d .draw .ensures .pivot-rows in
-    (modulus-range _ (s .pre .0 .modulus), (s .pre .1 .0, ((s .pre .0 .most, u .long-rows, u .long-pivots), ((u .below, inside _ _ _ (s .args .values .now) (s .pre .0) (s .pre .1 .0 .0) (s .pre .1 .0 .1) _ _ _ _ _ _ (d .draw .ensures)), refl))))
+    (modulus-range _ (s .pre .0 .settings .modulus), (s .pre .1 .0, ((s .pre .0 .most, u .long-rows, u .long-pivots), ((u .below, inside _ _ _ (s .args .values .now) (s .pre .0) (s .pre .1 .0 .0) (s .pre .1 .0 .1) _ _ _ _ _ _ (d .draw .ensures)), refl))))
 
 slice-aggregate-put-names : tie.Need-slice-aggregate-put-names
 slice-aggregate-put-names c = search needs
@@ -66,7 +66,7 @@ put-names-requires c κs =
     let i = ap (λ (z : List ℕ). length z) (c .before .before .before .before .solve-bytes .ensures) ∙ length-fill 64 _ in
     let l = drawn-long _ _ _ _ _ _ _ _ (d .draw .ensures) .0 in
     let most = s .pre .0 .most in
-    ((s .pre .0 .few, omega arith, omega arith), refl)
+    ((s .pre .0 .settings .few, omega arith, omega arith), refl)
 
 cast-count : tie.Need-cast-count
 cast-count c = search needs
@@ -98,8 +98,8 @@ array-share-prefix-names c =
     let n = called .ensures .0 in
     let l = ap (λ (z : List ℕ). length z) (called .ensures .1) ∙ length-fill 8 _ in
     let s = c .before .before .before .before .before .before .before .before .before .before .before .before .before .before .before .before .before .before .before .before .before .before .before .before .before .before .before .before in
-    let m = names-length (take (s .args .n) (c .before .before .before .before .before .before .before .before .before .before .solve-bytes .last .1 .1 .1 .1 .1 .0)) (groups 8 (s .args .n) (c .before .before .before .before .before .before .before .before .before .before .before .before .before .before .before .before .before .before .before .draw .last .1 .1 .1 .1 .1 .0)) (s .args .m) in
-    let few = s .pre .0 .few in
+    let m = names-length (take (s .args .n) (c .before .before .before .before .before .before .before .before .before .before .solve-bytes .last .1 .1 .1 .1 .1 .0)) (groups 8 (s .args .n) (c .before .before .before .before .before .before .before .before .before .before .before .before .before .before .before .before .before .before .before .draw .last .1 .1 .1 .0)) (s .args .m) in
+    let few = s .pre .0 .settings .few in
     omega arith
 
 slice-aggregate-print-basis-5 : tie.Need-slice-aggregate-print-basis-5
@@ -108,8 +108,8 @@ slice-aggregate-print-basis-5 c =
     let n = called .ensures .0 in
     let l = ap (λ (z : List ℕ). length z) (called .ensures .1) ∙ length-fill 8 _ in
     let s = c .before .before .before .before .before .before .before .before .before .before .before .before .before .before .before .before .before .before .before .before .before .before .before .before .before .before .before .before .before in
-    let m = names-length (take (s .args .n) (c .before .before .before .before .before .before .before .before .before .before .before .solve-bytes .last .1 .1 .1 .1 .1 .0)) (groups 8 (s .args .n) (c .before .before .before .before .before .before .before .before .before .before .before .before .before .before .before .before .before .before .before .before .draw .last .1 .1 .1 .1 .1 .0)) (s .args .m) in
-    let few = s .pre .0 .few in
+    let m = names-length (take (s .args .n) (c .before .before .before .before .before .before .before .before .before .before .before .solve-bytes .last .1 .1 .1 .1 .1 .0)) (groups 8 (s .args .n) (c .before .before .before .before .before .before .before .before .before .before .before .before .before .before .before .before .before .before .before .before .draw .last .1 .1 .1 .0)) (s .args .m) in
+    let few = s .pre .0 .settings .few in
     sym (length-take-le _ _ (omega arith))
 
 print-basis-requires : tie.Need-print-basis-requires
@@ -119,7 +119,7 @@ print-basis-requires c κs =
     let r = few _ _ _ (s .args .values .now) (s .pre .0) (s .pre .1 .0 .0) (s .pre .1 .0 .1) _ _ _ _ _ _ (d .draw .ensures) in
     let most = s .pre .0 .most in
     let t = drawn-long _ _ _ _ _ _ _ _ (d .draw .ensures) in
-    ((s .pre .0 .few, most, r), ((omega arith, omega arith, omega arith), told-room _ _ _ (s .args .values .now) (s .pre .0) (s .pre .1 .0 .0) (s .pre .1 .0 .1) _ _ _ _ _ _ (d .draw .ensures) _ (c .before .before .before .before .before .before .before .before .before .before .before .before .solve-bytes .ensures) _ _ (c .before .before .before .before .before .before .before .put-names .ensures .0) (c .before .before .before .before .before .before .before .put-names .ensures .1) (s .args .out .now) (s .pre .1 .1)))
+    ((s .pre .0 .settings .few, most, r), ((omega arith, omega arith, omega arith), told-room _ _ _ (s .args .values .now) (s .pre .0) (s .pre .1 .0 .0) (s .pre .1 .0 .1) _ _ _ _ _ _ (d .draw .ensures) _ (c .before .before .before .before .before .before .before .before .before .before .before .before .solve-bytes .ensures) _ _ (c .before .before .before .before .before .before .before .put-names .ensures .0) (c .before .before .before .before .before .before .before .put-names .ensures .1) (s .args .out .now) (s .pre .1 .1)))
 
 same-length : tie.Need-same-length
 same-length c = search needs

@@ -14,35 +14,35 @@ use Rattle.monomial.specs.Columns.{columnOf}
 use Rattle.monomial.specs.Rank.{rankBound}
 use Rattle.monomial.proofs.rank.Steps.{steps-long, steps-below}
 use Rattle.monomial.proofs.columns.Entries.{column-below, column-in}
-use Rattle.basis.specs.Drawing.{productValues, settingsOf, PointsGiven}
+use Rattle.basis.specs.Drawing.{productValues, PointsGiven}
 use Rattle.basis.proofs.drawing.Grounds.{points-long, points-below}
 use Rattle.basis.proofs.drawing.Loop.{Head, Kept, Sized, head-sized, exponents-long, worked-long, worked-below, room-lead, keeps-lead, room-standard, keeps-standard, kept-as, kept-sized}
 use Rattle.basis.proofs.drawing.draw.Tie as tie
 
 abbrev pub Inv-loop : tie.InvT-loop
-Inv-loop p m order n points standard₀ leads₀ coefficients₀ rows₀ pivots₀ steps columns values₀ ranks₀ at₀ found₀ r₀ exponents₀ rank₀ own₀ standard leads coefficients rows pivots values ranks at found r exponents rank own =
-    Head p m order n points found r standard leads coefficients rows pivots values ranks steps at exponents rank own
+Inv-loop settings n points standard₀ leads₀ coefficients₀ rows₀ pivots₀ p steps columns values₀ ranks₀ at₀ found₀ r₀ exponents₀ rank₀ own₀ standard leads coefficients rows pivots values ranks at found r exponents rank own =
+    Head settings n points found r standard leads coefficients rows pivots values ranks steps at exponents rank own
 
 abbrev pub μ-loop : tie.MeasureT-loop
-μ-loop p m order n points standard₀ leads₀ coefficients₀ rows₀ pivots₀ steps columns values₀ ranks₀ at₀ found₀ r₀ exponents₀ rank₀ own₀ standard leads coefficients rows pivots values ranks at found r exponents rank own =
+μ-loop settings n points standard₀ leads₀ coefficients₀ rows₀ pivots₀ p steps columns values₀ ranks₀ at₀ found₀ r₀ exponents₀ rank₀ own₀ standard leads coefficients rows pivots values ranks at found r exponents rank own =
     513 - (found + r)
 
 -- at the loop's head
 module _ (l : tie.At-loop Inv-loop μ-loop) where
   abbrev pub start : tie.Start Inv-loop μ-loop
-  start = l .before .before .before .before .before .before .before .before .before .before .before .before .before
+  start = l .before .before .before .before .before .before .before .before .before .before .before .before .before .before .before
 
-  pub given : PointsGiven (settingsOf (start .args .p) (start .args .m) (start .args .order)) (start .args .n) (start .args .points .now)
+  pub given : PointsGiven (start .args .settings) (start .args .n) (start .args .points .now)
   given = start .pre .0
 
-  pub head-sizes : Sized (start .args .p) (start .args .n) (l .loop .found) (l .loop .standard) (l .loop .leads) (l .loop .coefficients) (l .loop .rows) (l .loop .pivots) (l .loop .values) (l .loop .ranks)
+  pub head-sizes : Sized (start .args .settings .modulus) (start .args .n) (l .loop .found) (l .loop .standard) (l .loop .leads) (l .loop .coefficients) (l .loop .rows) (l .loop .pivots) (l .loop .values) (l .loop .ranks)
   head-sizes = head-sized given (l .loop .inv)
 
   pub exponents-8 : length (l .loop .exponents) ≡ 8
   exponents-8 = exponents-long given (l .loop .inv)
 
-  pub range : (2 ≤ start .args .p) × (start .args .p ≤ 61)
-  range = modulus-range (start .args .p) (given .modulus)
+  pub range : (2 ≤ start .args .settings .modulus) × (start .args .settings .modulus ≤ 61)
+  range = modulus-range (start .args .settings .modulus) (given .settings .modulus)
 
 -- the working row is reduced
 module _ (c : tie.After-reduce Inv-loop μ-loop) where
@@ -55,7 +55,7 @@ module _ (c : tie.After-reduce Inv-loop μ-loop) where
   pub work-128 : length work ≡ 128
   work-128 = worked-long (given top) (top .loop .inv) (c .reduce .ensures .0)
 
-  pub work-residues : Below (start top .args .p) work
+  pub work-residues : Below (start top .args .settings .modulus) work
   work-residues = worked-below (given top) (top .loop .inv) (c .reduce .ensures .0)
 
   pub lead-fits : c .reduce .result ≡ start top .args .n → top .loop .r < 449
@@ -88,29 +88,29 @@ module _ (j : tie.Joined1 Inv-loop μ-loop) where
   abbrev pub columns : List ℕ
   columns = gathered .put-columns .last .1 .1 .0
 
-  pub kept : Kept (start above .args .p) (start above .args .m) (start above .args .order) (start above .args .n) (start above .args .points .now) (j .if1 .found) (j .if1 .r)
+  pub kept : Kept (start above .args .settings) (start above .args .n) (start above .args .points .now) (j .if1 .found) (j .if1 .r)
       (j .if1 .standard) (j .if1 .leads) (j .if1 .coefficients) (j .if1 .rows) (j .if1 .pivots) (j .if1 .values) (j .if1 .ranks) steps (above .loop .at)
   kept =
       ⊎-elim
       (λ w. kept-as (w .17) (w .18) (w .10) (w .11) (w .12) (w .13) (w .14) (w .15) (w .16)
       (keeps-lead (given above) (above .loop .inv) (reduced .reduce .ensures .0) (sym (reduced .reduce .ensures .1) ∙ w .0 .taken)
       (w .5 .ensures .0) (w .5 .ensures .1)))
-      (λ w. kept-as (w .27) (w .28) (w .20) (w .21) (w .22) (w .23) (w .24) (w .25) (w .26)
+      (λ w. let e = w .9 .ensures in kept-as (w .26 ∙ e .0) (w .27) (w .19) (w .20) (w .21) (w .22) (w .23) (w .24) (w .25)
       (keeps-standard (given above) (above .loop .inv) (reduced .reduce .ensures .0) (reduced .reduce .ensures .1) (inside reduced (w .0 .left))
-      (w .6 .ensures .0) (w .6 .ensures .1 .0) (w .6 .ensures .1 .1) (w .14 .ensures .1 .0) (w .14 .ensures .1 .1)))
+      (e .1 .1 .0) (e .1 .1 .1 .0) (e .1 .1 .1 .1) (e .1 .0 .1) (e .1 .0 .2)))
       (j .if1 .came)
 
   pub one-more : j .if1 .found + j .if1 .r ≡ above .loop .found + above .loop .r + 1
-  one-more = ⊎-elim (λ w. omega (arith, w .17, w .18)) (λ w. omega (arith, w .27, w .28)) (j .if1 .came)
+  one-more = ⊎-elim (λ w. omega (arith, w .17, w .18)) (λ w. omega (arith, w .9 .ensures .0, w .26, w .27)) (j .if1 .came)
 
-  pub sizes : Sized (start above .args .p) (start above .args .n) (j .if1 .found) (j .if1 .standard) (j .if1 .leads) (j .if1 .coefficients) (j .if1 .rows) (j .if1 .pivots) (j .if1 .values) (j .if1 .ranks)
+  pub sizes : Sized (start above .args .settings .modulus) (start above .args .n) (j .if1 .found) (j .if1 .standard) (j .if1 .leads) (j .if1 .coefficients) (j .if1 .rows) (j .if1 .pivots) (j .if1 .values) (j .if1 .ranks)
   sizes = kept-sized (given above) kept
 
   pub steps-8 : length steps ≡ 8
-  steps-8 = ap length (ranked .put-steps .ensures) ∙ steps-long (orderOf (start above .args .order))
+  steps-8 = ap length (ranked .put-steps .ensures) ∙ steps-long (orderOf (start above .args .settings .order))
 
   pub steps-small : Below rankBound steps
-  steps-small = subst (Below rankBound) (sym (ranked .put-steps .ensures)) (steps-below (orderOf (start above .args .order)))
+  steps-small = subst (Below rankBound) (sym (ranked .put-steps .ensures)) (steps-below (orderOf (start above .args .settings .order)))
 
   pub columns-512 : length columns ≡ 512
   columns-512 = ap length (gathered .put-columns .ensures) ∙ length-fill 512 _
@@ -119,11 +119,11 @@ module _ (j : tie.Joined1 Inv-loop μ-loop) where
     column : take (start above .args .n) (drop (64 * k) columns) ≡ columnOf k (start above .args .n) (start above .args .points .now)
     column = column-in (start above .args .n) (start above .args .points .now) k columns (gathered .put-columns .ensures) h (given above .most)
 
-    pub column-small : Below (start above .args .p) (take (start above .args .n) (drop (64 * k) columns))
+    pub column-small : Below (start above .args .settings .modulus) (take (start above .args .n) (drop (64 * k) columns))
     column-small =
-        subst (Below (start above .args .p)) (sym column)
-        (column-below k (start above .args .n) (start above .args .points .now) (start above .args .p) (points-below (given above)) h (omega (arith, points-long (given above), given above .most)))
+        subst (Below (start above .args .settings .modulus)) (sym column)
+        (column-below k (start above .args .n) (start above .args .points .now) (start above .args .settings .modulus) (points-below (given above)) h (omega (arith, points-long (given above), given above .most)))
 
-    pub values-are : (values : List ℕ) {own : List ℕ} → own ≡ productValues (start above .args .p) (start above .args .n) (take (start above .args .n) (drop (64 * k) columns)) values
-        → own ≡ productValues (start above .args .p) (start above .args .n) (columnOf k (start above .args .n) (start above .args .points .now)) values
-    values-are values e = e ∙ ap (λ (l : List ℕ). productValues (start above .args .p) (start above .args .n) l values) column
+    pub values-are : (values : List ℕ) {own : List ℕ} → own ≡ productValues (start above .args .settings .modulus) (start above .args .n) (take (start above .args .n) (drop (64 * k) columns)) values
+        → own ≡ productValues (start above .args .settings .modulus) (start above .args .n) (columnOf k (start above .args .n) (start above .args .points .now)) values
+    values-are values e = e ∙ ap (λ (l : List ℕ). productValues (start above .args .settings .modulus) (start above .args .n) l values) column

@@ -1,0 +1,71 @@
+-- `drawing::draw_anew` meets its contract: three tables of their sizes are cleared, and drawn up.
+use mathlib.Core.Path.{_≡_, refl, ap, _∙_}
+use mathlib.Core.List.{List}
+use Prim.Native.Nat.{ℕ}
+use borrow.Author.Needs.{needs}
+use lib.ListN.{length, replicate}
+use Rattle.basis.proofs.drawing.draw_anew.Statement.{statement}
+use Rattle.basis.proofs.drawing.draw_anew.Tie as tie
+
+-- a table of zeros, by its size
+blank : (k : ℕ) (t zeros : List ℕ) → length t ≡ k → zeros ≡ replicate (length t) 0 → zeros ≡ replicate k 0
+blank k t zeros e f = f ∙ ap (λ (j : ℕ). replicate j 0) e
+
+clear-requires : tie.Need-clear-requires
+clear-requires c κs = tt
+
+clear-requires-2 : tie.Need-clear-requires-2
+clear-requires-2 c κs = tt
+
+clear-requires-3 : tie.Need-clear-requires-3
+clear-requires-3 c κs = tt
+
+slice-aggregate-draw : tie.Need-slice-aggregate-draw
+slice-aggregate-draw c = refl
+
+slice-aggregate-draw-2 : tie.Need-slice-aggregate-draw-2
+slice-aggregate-draw-2 c = refl
+
+-- the three calls before, one from the next, and where the parameters come in
+module _ (k : tie.After-clear3) where
+  abbrev second : tie.After-clear2
+  second = k .before .before .before .before
+
+  abbrev first : tie.After-clear
+  first = second .before .before .before .before
+
+  abbrev s : tie.Start
+  s = first .before .before .before .before .before .before
+
+draw-requires : tie.Need-draw-requires
+draw-requires c κs =
+    let k = c .before .before .before .before .before .before .before in
+    let o = s k in
+    (o .pre .0, ((blank 512 (o .args .standard .now) _ (o .pre .1 .0) (first k .clear .ensures), (blank 3592 (o .args .leads .now) _ (o .pre .1 .1 .0) (second k .clear2 .ensures), blank 28736 (o .args .coefficients .now) _ (o .pre .1 .1 .1) (k .clear3 .ensures))), (refl, refl)))
+
+same-length : tie.Need-same-length
+same-length c = search needs
+
+same-length-2 : tie.Need-same-length-2
+same-length-2 c = search needs
+
+same-length-3 : tie.Need-same-length-3
+same-length-3 c = search needs
+
+returns : tie.Need-returns
+returns c = c .before .before .before .before .before .before .before .before .draw .ensures .tabled
+
+pub draw-anew-spec : {M : Type 1} → statement M
+draw-anew-spec =
+    tie.close
+    (tie.spec
+    clear-requires
+    clear-requires-2
+    clear-requires-3
+    slice-aggregate-draw
+    slice-aggregate-draw-2
+    draw-requires
+    same-length
+    same-length-2
+    same-length-3
+    returns)
