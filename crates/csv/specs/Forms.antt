@@ -74,12 +74,12 @@ header m (some p) none = none
 header m none k = none
 
 -- one to three digits, and optionally a space and the order word
-unfoldable pub settingsOf : ℕ → List ℕ → Option Header
-settingsOf m l = header m (numberOf (take (front isDigit l) l)) (orderWord (drop (front isDigit l) l))
+unfoldable pub modulusAndOrder : ℕ → List ℕ → Option Header
+modulusAndOrder m l = header m (numberOf (take (front isDigit l) l)) (orderWord (drop (front isDigit l) l))
 
 -- the last field: `mod`, a space, and these
 unfoldable pub lastField : ℕ → List ℕ → Option Header
-lastField m l = cond (sameList (take 4 l) mod-word) (settingsOf m (drop 4 l)) none
+lastField m l = cond (sameList (take 4 l) mod-word) (modulusAndOrder m (drop 4 l)) none
 
 -- m names so far, which may be anything, and the last field behind them all
 unfoldable pub headerFrom : ℕ → List (List ℕ) → Option Header

@@ -11,7 +11,7 @@ use Rattle.residue.specs.Level.{residueOf}
 use Rattle.residue.specs.Layout.{rowAt}
 use Rattle.specification.specs.Levels.{isResidue, residueOr0, inRange}
 use Rattle.csv.specs.Fields.{Field, field, broken, Part, part, faulty}
-use Rattle.csv.specs.Reading.{Entries, valueOf}
+use Rattle.csv.specs.Reading.{Contents, entryValue}
 use Rattle.csv.specs.Records.{entriesAt}
 use Rattle.csv.specs.declared.points.Placed.{Placed}
 use Rattle.csv.specs.declared.points.Filled.{Filled}
@@ -44,7 +44,7 @@ behindEntry faulty = []
 -- whether all of them are in range, and the value
 pub record FilledAs (p m : ℕ) (text : List ℕ) (e : Part (List ℤ)) (r : Filled) : Type 0 where
   pub inside : r .inside ≡ inRange p (levelsIn e)
-  pub value : r .value ≡ valueOf p m (levelsIn e)
+  pub value : r .value ≡ entryValue p m (levelsIn e)
   pub rest : drop (r .next) text ≡ behindEntry e
   pub within : r .next ≤ length text
 
@@ -53,7 +53,7 @@ unfoldable pub levelsAt : ℕ → List ℕ → List (List ℤ)
 levelsAt m l = map (λ e. Option·getD e []) (entriesAt m l)
 
 -- what a text says with these settings in its header and these entries behind it
-unfoldable pub saying : ℕ → ℕ → ℕ → List ℕ → Entries
+unfoldable pub saying : ℕ → ℕ → ℕ → List ℕ → Contents
 saying p m order l = record { header = record { variables = m; modulus = p; order = order }; entries = levelsAt m l }
 
 -- the first place found, or this one if it has a fault

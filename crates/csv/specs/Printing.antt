@@ -11,7 +11,7 @@ use Rattle.specification.specs.Tables.{spaceUnder, pointsUnder, pointsIn}
 use Rattle.basis.specs.Drawing.{settingsOf}
 use Rattle.specification.specs.Solving.{wiringUnder}
 use Rattle.residue.specs.Layout.{over}
-use Rattle.csv.specs.Reading.{Outcome, readOutcome}
+use Rattle.csv.specs.Reading.{TextOutcome, readOutcome}
 
 -- a number in decimal, with more turns than it has digits
 unfoldable pub digitsOf : ℕ → ℕ → List ℕ
@@ -25,8 +25,8 @@ decimal n = digitsOf (suc n) n
 unfoldable pub spaced : ℕ → List ℕ
 spaced n = 32 ∷ decimal n
 
-unfoldable pub numbers : List ℕ → List ℕ
-numbers l = flatten (map spaced l)
+unfoldable pub spacedNumbers : List ℕ → List ℕ
+spacedNumbers l = flatten (map spaced l)
 
 abbrev pub colon : List ℕ
 colon = 32 ∷ 58 ∷ []
@@ -58,7 +58,7 @@ refused-word = 114 ∷ 101 ∷ 102 ∷ 117 ∷ 115 ∷ 101 ∷ 100 ∷ []
 
 -- a word and numbers
 unfoldable pub line : List ℕ → List ℕ → List ℕ
-line word l = word ++ (numbers l ++ lineEnd)
+line word l = word ++ (spacedNumbers l ++ lineEnd)
 
 unfoldable pub labelled : List ℕ → ℕ → List ℕ
 labelled word n = word ++ spaced n
@@ -73,7 +73,7 @@ standardLines standard = flatten (map (line standard-word) standard)
 
 -- after `row` the lead's m exponents and, behind a colon, n coefficients
 unfoldable pub rowLine : List ℕ → List ℕ → List ℕ
-rowLine lead coefficients = row-word ++ (numbers lead ++ line colon coefficients)
+rowLine lead coefficients = row-word ++ (spacedNumbers lead ++ line colon coefficients)
 
 unfoldable pub rowLines : List (List ℕ) → List (List ℕ) → List ℕ
 rowLines leads rows = flatten (zipWith rowLine leads rows)
@@ -99,7 +99,7 @@ linesOf s S values =
     (wiringUnder s S values)
 
 -- What is printed of the reader's answer: the refusal's line, or the lines of the points and values that were read.
-unfoldable pub linesRead : Outcome → List ℕ
+unfoldable pub linesRead : TextOutcome → List ℕ
 linesRead o = let a = o .answer in let s = settingsOf (a .modulus) (a .variables) (a .order) in
     cond (eqb (a .refusal) 0) (linesOf s (pointsIn s (a .n) (o .states)) (take (a .n) (o .values))) (refusalLine (a .refusal) (a .at))
 

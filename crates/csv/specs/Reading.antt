@@ -9,6 +9,7 @@ use lib.Dec.{eqb, leb, ltb}
 use Rattle.residue.specs.Modulus.{isModulus}
 use Rattle.residue.specs.Layout.{fill, inPlaces, over}
 use Rattle.specification.specs.Levels.{inRange, residues, isAmong}
+use Rattle.specification.specs.Refusal.{firstOf}
 use Rattle.csv.specs.declared.reading.Refusal.{Refusal}
 use Rattle.csv.specs.declared.reading.Read.{Read}
 use Rattle.csv.specs.Fields.{recordsOf}
@@ -47,32 +48,32 @@ formFault none records = 1
 formFault (some h) records = further (firstFault isNone (entriesIn (h .variables) records))
 
 -- What a text of right form says.
-pub record Entries : Type 0 where
+pub record Contents : Type 0 where
   pub header : Header
   pub entries : List (List ℤ)
 
-unfoldable pub entriesOf : Header → List (Option (List (List ℕ))) → Entries
-entriesOf h records = record { header = h; entries = map (λ e. Option·getD e []) (entriesIn (h .variables) records) }
+unfoldable pub contentsOf : Header → List (Option (List (List ℕ))) → Contents
+contentsOf h records = record { header = h; entries = map (λ e. Option·getD e []) (entriesIn (h .variables) records) }
 
 -- of an entry: the point, the value, and whether a level or the value is out of range
-unfoldable pub pointOf : ℕ → ℕ → List ℤ → List ℕ
-pointOf p m l = residues p (take m l)
+unfoldable pub entryPoint : ℕ → ℕ → List ℤ → List ℕ
+entryPoint p m l = residues p (take m l)
 
-unfoldable pub valueOf : ℕ → ℕ → List ℤ → ℕ
-valueOf p m l = getD (residues p l) m 0
+unfoldable pub entryValue : ℕ → ℕ → List ℤ → ℕ
+entryValue p m l = getD (residues p l) m 0
 
 unfoldable pub isOutside : ℕ → List ℤ → Bool
 isOutside p l = not (inRange p l)
 
 -- the points, and the values in their order
-unfoldable pub pointsOf : Entries → List (List ℕ)
-pointsOf e = map (pointOf (e .header .modulus) (e .header .variables)) (e .entries)
+unfoldable pub entryPoints : Contents → List (List ℕ)
+entryPoints e = map (entryPoint (e .header .modulus) (e .header .variables)) (e .entries)
 
-unfoldable pub valuesOf : Entries → List ℕ
-valuesOf e = map (valueOf (e .header .modulus) (e .header .variables)) (e .entries)
+unfoldable pub entryValues : Contents → List ℕ
+entryValues e = map (entryValue (e .header .modulus) (e .header .variables)) (e .entries)
 
 -- the place, from 1, of the first entry out of range; 0 where there is none
-unfoldable pub firstOutside : Entries → ℕ
+unfoldable pub firstOutside : Contents → ℕ
 firstOutside e = firstFault (isOutside (e .header .modulus)) (e .entries)
 
 -- the place, from 1, of the first point that equals an earlier one; 0 where there is none
@@ -80,62 +81,68 @@ unfoldable pub firstRepeat : List (List ℕ) → List (List ℕ) → ℕ
 firstRepeat seen [] = 0
 firstRepeat seen (P ∷ S) = cond (isAmong P seen) 1 (further (firstRepeat (P ∷ seen) S))
 
--- A case in which a text is refused: whether it holds, its number, and its record.
-abbrev pub Case : Type 0
-Case = Bool × ℕ × ℕ
+-- A refusal with its record; 0 where a text is not refused.
+abbrev pub refusalAt : ℕ → ℕ → Refusal
+refusalAt refusal at = record { refusal = refusal; at = at }
+
+abbrev pub notRefused : Refusal
+notRefused = refusalAt 0 0
+
+-- a record that breaks the rules of the text
+abbrev pub brokenAt : ℕ → Refusal
+brokenAt at = refusalAt 2 at
+
+-- A case in which a text is refused: whether it holds, and its number with the record.
+abbrev pub TextCase : Type 0
+TextCase = Bool × Refusal
 
 -- what the settings, the number of entries and the lent lengths decide: 3 and 4 come with record 1, and 6 with record 0; record 66 is the 65th behind
 -- the header
-unfoldable pub settingsCases : ℕ → ℕ → ℕ → ℕ → ℕ → List Case
-settingsCases p m n states values =
-    (not (isModulus p), 3, 1)
-    ∷ (not (leb 1 m && leb m 8), 4, 1)
-    ∷ (ltb states 512 || ltb values 64, 6, 0)
-    ∷ (ltb 64 n, 8, 66) ∷ []
+unfoldable pub headerCases : ℕ → ℕ → ℕ → ℕ → ℕ → List TextCase
+headerCases p m n states values =
+    (not (isModulus p), refusalAt 3 1)
+    ∷ (not (leb 1 m && leb m 8), refusalAt 4 1)
+    ∷ (ltb states 512 || ltb values 64, refusalAt 6 0)
+    ∷ (ltb 64 n, refusalAt 8 66) ∷ []
 
 -- what the entries decide, the header being record 1
-unfoldable pub entriesCases : Entries → List Case
+unfoldable pub entriesCases : Contents → List TextCase
 entriesCases e =
-    (not (eqb (firstOutside e) 0), 9, suc (firstOutside e))
-    ∷ (not (eqb (firstRepeat [] (pointsOf e)) 0), 11, suc (firstRepeat [] (pointsOf e))) ∷ []
+    (not (eqb (firstOutside e) 0), refusalAt 9 (suc (firstOutside e)))
+    ∷ (not (eqb (firstRepeat [] (entryPoints e)) 0), refusalAt 11 (suc (firstRepeat [] (entryPoints e)))) ∷ []
 
 -- all of them, in the order of checking
-unfoldable pub readCases : List ℕ → ℕ → Entries → ℕ → ℕ → List Case
+unfoldable pub readCases : List ℕ → ℕ → Contents → ℕ → ℕ → List TextCase
 readCases text fault e states values =
-    (ltb 16384 (length text), 1, 0)
-    ∷ (not (eqb fault 0), 2, fault)
-    ∷ (settingsCases (e .header .modulus) (e .header .variables) (length (e .entries)) states values ++ entriesCases e)
-
--- the first case that holds; 0 where none does
-unfoldable pub firstCase : List Case → Refusal
-firstCase [] = record { refusal = 0; at = 0 }
-firstCase (c ∷ l) = cond (c .0) (record { refusal = c .1; at = c .2 }) (firstCase l)
+    (ltb 16384 (length text), refusalAt 1 0)
+    ∷ (not (eqb fault 0), brokenAt fault)
+    ∷ (headerCases (e .header .modulus) (e .header .variables) (length (e .entries)) states values ++ entriesCases e)
 
 -- the answer, and the lent buffers at exit
-pub record Outcome : Type 0 where
+pub record TextOutcome : Type 0 where
   pub answer : Read
   pub states : List ℕ
   pub values : List ℕ
 
-abbrev pub ended : Read → List ℕ → List ℕ → Outcome
-ended r states values = record { answer = r; states = states; values = values }
+abbrev pub textEnded : Read → List ℕ → List ℕ → TextOutcome
+textEnded r states values = record { answer = r; states = states; values = values }
 
-unfoldable pub accepted : Entries → List ℕ → List ℕ → Outcome
-accepted e states values =
-    ended
+unfoldable pub textAccepted : Contents → List ℕ → List ℕ → TextOutcome
+textAccepted e states values =
+    textEnded
     (record { refusal = 0; at = 0; modulus = e .header .modulus; variables = e .header .variables; order = e .header .order; n = length (e .entries) })
-    (over (fill 512 (inPlaces 8 (pointsOf e))) states)
-    (over (fill 64 (valuesOf e)) values)
+    (over (fill 512 (inPlaces 8 (entryPoints e))) states)
+    (over (fill 64 (entryValues e)) values)
 
 -- A refusal comes with its record and changes nothing.
-unfoldable pub refused : Refusal → List ℕ → List ℕ → Outcome
-refused r states values = ended (record { refusal = r .refusal; at = r .at; modulus = 0; variables = 0; order = 0; n = 0 }) states values
+unfoldable pub textRefused : Refusal → List ℕ → List ℕ → TextOutcome
+textRefused r states values = textEnded (record { refusal = r .refusal; at = r .at; modulus = 0; variables = 0; order = 0; n = 0 }) states values
 
-unfoldable pub decided : Refusal → Outcome → List ℕ → List ℕ → Outcome
-decided r done states values = cond (eqb (r .refusal) 0) done (refused r states values)
+unfoldable pub textDecided : Refusal → TextOutcome → List ℕ → List ℕ → TextOutcome
+textDecided r done states values = cond (eqb (r .refusal) 0) done (textRefused r states values)
 
-unfoldable pub readOutcome : List ℕ → List ℕ → List ℕ → Outcome
+unfoldable pub readOutcome : List ℕ → List ℕ → List ℕ → TextOutcome
 readOutcome text states values =
     let t = recordsOf text in
-    let e = entriesOf (Option·getD (headerIn t) (record { variables = 0; modulus = 0; order = 0 })) t in
-    decided (firstCase (readCases text (formFault (headerIn t) t) e (length states) (length values))) (accepted e states values) states values
+    let e = contentsOf (Option·getD (headerIn t) (record { variables = 0; modulus = 0; order = 0 })) t in
+    textDecided (firstOf notRefused (readCases text (formFault (headerIn t) t) e (length states) (length values))) (textAccepted e states values) states values

@@ -8,7 +8,7 @@ use lib.ListN.{drop}
 use Rattle.csv.specs.Fields.{Field, field, broken, fieldOf, Part, part, faulty, recordOf, recordsOf}
 use Rattle.csv.specs.Forms.{levelOf, entryOf, Header, headerOf}
 use Rattle.csv.specs.Reading.{entryIn}
-use Rattle.csv.specs.Said.{signedOf}
+use Rattle.csv.specs.Said.{withSign}
 use Rattle.csv.specs.declared.records.LevelAt.{LevelAt}
 use Rattle.csv.specs.declared.records.LevelAt.the-variants as L
 use Rattle.csv.specs.declared.records.HeaderAt.{HeaderAt}
@@ -53,7 +53,7 @@ entriesAt m l = map (entryIn m) (recordsOf l)
 
 -- Of each answer what it says, and that the place where the text goes on lies within.
 unfoldable pub levelAtSaid : List ℕ → LevelAt → Field ℤ
-levelAtSaid text (L.Level negative size more next) = field (signedOf negative size) more (drop next text)
+levelAtSaid text (L.Level negative size more next) = field (withSign negative size) more (drop next text)
 levelAtSaid text L.Broken = broken
 
 abbrev pub LevelWithin : ℕ → LevelAt → Type 0

@@ -22,12 +22,12 @@ orderSaid (W.Order k) = some k
 orderSaid W.Broken = none
 
 -- a level by its sign and size
-unfoldable pub signedOf : Bool → ℕ → ℤ
-signedOf true size = negative size
-signedOf false size = pos size
+unfoldable pub withSign : Bool → ℕ → ℤ
+withSign true size = negative size
+withSign false size = pos size
 
 unfoldable pub levelSaid : Signed → Option ℤ
-levelSaid (S.Level negative size) = some (signedOf negative size)
+levelSaid (S.Level negative size) = some (withSign negative size)
 levelSaid S.Broken = none
 
 -- the last header field, behind m names

@@ -3,7 +3,7 @@ ghost use mathlib.Core.Path.{_≡_};
 ghost use Prim.Native.Nat.{ℕ};
 ghost use Rattle.residue.specs.Lists.{sameList};
 ghost use Rattle.csv.specs.Fields.{front};
-ghost use Rattle.csv.specs.Forms.{isDigit, numberOf, levelOf, orderWord, settingsOf, lastField};
+ghost use Rattle.csv.specs.Forms.{isDigit, numberOf, levelOf, orderWord, modulusAndOrder, lastField};
 ghost use Rattle.csv.specs.Said.{numberSaid, orderSaid, levelSaid, lastSaid};
 
 // Whether two runs of bytes are the same.
@@ -131,7 +131,7 @@ pub enum Last {
 
 // Digits, and the order word if there is one.
 fn read_settings(content: &[u8]) -> Last
-    ensures { λ r. ⌜ ((m : ℕ) → lastSaid m r ≡ settingsOf m (now (content .entry))) ⌝ }
+    ensures { λ r. ⌜ ((m : ℕ) → lastSaid m r ≡ modulusAndOrder m (now (content .entry))) ⌝ }
 {
     let k = digit_end(content);
     let Number::Size(modulus) = read_number(&content[..k]) else {

@@ -10,15 +10,15 @@ ghost use lib.ListN.{length, drop};
 ghost use Rattle.residue.specs.Level.{residueOf};
 ghost use Rattle.residue.specs.Layout.{fill, inPlaces, over};
 ghost use Rattle.csv.specs.Fields.{broken, faulty};
-ghost use Rattle.csv.specs.Said.{signedOf};
-ghost use Rattle.csv.specs.Reading.{pointOf, valueOf, isOutside, firstFault};
+ghost use Rattle.csv.specs.Said.{withSign};
+ghost use Rattle.csv.specs.Reading.{entryPoint, entryValue, isOutside, firstFault};
 ghost use Rattle.csv.specs.Records.{levelField, entryPart, entriesAt, counted};
 ghost use Rattle.csv.specs.Points.{PlacedAs, levelsIn, FilledAs, levelsAt, firstPlace};
 ghost use Rattle.csv.specs.declared.records.Entries.the-variants.{Count};
 
 // The residue of a level by its sign and size. A size that fits no byte is out of range like any other.
 fn residue_of(p: u8, negative: bool, size: u16) -> Level
-    ensures { λ r. ⌜ r ≡ residueOf p (signedOf negative size) ⌝ }
+    ensures { λ r. ⌜ r ≡ residueOf p (withSign negative size) ⌝ }
 {
     let modulus = p as u16;
     if modulus <= size {
@@ -91,7 +91,7 @@ pub struct Filled {
 fn fill_entry(text: &[u8], at: usize, p: u8, variables: usize, row: &mut [u8]) -> Filled
     requires { ⌜ (at ≤ length (now text)) × (variables ≤ length (now row)) ⌝ }
     requires { ⌜ (entryPart variables (drop at (now text)) ≡ faulty → ⊥) ⌝ }
-    ensures { λ r. ⌜ FilledAs p variables (now (text .entry)) (entryPart variables (drop at (now (text .entry)))) r ⌝ ∗ ⌜ now (row .exit) ≡ over (pointOf p variables (levelsIn (entryPart variables (drop at (now (text .entry)))))) (now (row .entry)) ⌝ }
+    ensures { λ r. ⌜ FilledAs p variables (now (text .entry)) (entryPart variables (drop at (now (text .entry)))) r ⌝ ∗ ⌜ now (row .exit) ≡ over (entryPoint p variables (levelsIn (entryPart variables (drop at (now (text .entry)))))) (now (row .entry)) ⌝ }
 {
     let mut from = at;
     let mut inside = true;
@@ -134,7 +134,7 @@ pub fn fill_entries(
     requires { ⌜ (at ≤ length (now text)) × (variables ≤ 8) × (n ≤ 64) ⌝ }
     requires { ⌜ counted 0 (entriesAt variables (drop at (now text))) ≡ Count n ⌝ }
     requires { ⌜ (now points ≡ fill 512 []) × (now values ≡ fill 64 []) ⌝ }
-    ensures { λ r. ⌜ r ≡ firstFault (isOutside p) (levelsAt variables (drop at (now (text .entry)))) ⌝ ∗ ⌜ now (points .exit) ≡ fill 512 (inPlaces 8 (map (pointOf p variables) (levelsAt variables (drop at (now (text .entry)))))) ⌝ ∗ ⌜ now (values .exit) ≡ fill 64 (map (valueOf p variables) (levelsAt variables (drop at (now (text .entry))))) ⌝ }
+    ensures { λ r. ⌜ r ≡ firstFault (isOutside p) (levelsAt variables (drop at (now (text .entry)))) ⌝ ∗ ⌜ now (points .exit) ≡ fill 512 (inPlaces 8 (map (entryPoint p variables) (levelsAt variables (drop at (now (text .entry)))))) ⌝ ∗ ⌜ now (values .exit) ≡ fill 64 (map (entryValue p variables) (levelsAt variables (drop at (now (text .entry))))) ⌝ }
 {
     let mut from = at;
     let mut outside = 0;

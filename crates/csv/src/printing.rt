@@ -13,7 +13,7 @@ ghost use Rattle.residue.specs.Layout.{fill};
 ghost use Rattle.specification.specs.Tables.{pointsIn};
 ghost use Rattle.basis.specs.Drawing.{settingsOf, PointsGiven};
 ghost use Rattle.basis.specs.Answers.{solution};
-ghost use Rattle.csv.specs.Printing.{decimal, spaced, numbers, labelled, line, firstLine, standardLines, rowLine, rowLines, basisLines, refusalLine, linesOf, printed, printOutcome, Within};
+ghost use Rattle.csv.specs.Printing.{decimal, spaced, spacedNumbers, labelled, line, firstLine, standardLines, rowLine, rowLines, basisLines, refusalLine, linesOf, printed, printOutcome, Within};
 ghost use Rattle.csv.specs.Appending.{Room, Put, inTable};
 
 fn put_byte(out: &mut [u8], at: usize, b: u8) -> usize
@@ -54,8 +54,8 @@ fn put_number(out: &mut [u8], at: usize, n: u16) -> usize
 }
 
 fn put_numbers(out: &mut [u8], at: usize, list: &[u8]) -> usize
-    requires { ⌜ Room at (numbers (now list)) (now out) ⌝ }
-    ensures { λ r. ⌜ Put at (numbers (now (list .entry))) (now (out .entry)) (now (out .exit)) r ⌝ }
+    requires { ⌜ Room at (spacedNumbers (now list)) (now out) ⌝ }
+    ensures { λ r. ⌜ Put at (spacedNumbers (now (list .entry))) (now (out .entry)) (now (out .exit)) r ⌝ }
 {
     let mut next = at;
     for i in 0..list.len() {

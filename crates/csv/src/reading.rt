@@ -3,7 +3,8 @@ ghost use mathlib.Core.Path.{_≡_};
 ghost use mathlib.Core.List.{_++_};
 ghost use Prim.Native.Nat.{_≤_};
 ghost use lib.ListN.{length, drop};
-ghost use Rattle.csv.specs.Reading.{settingsCases, entriesCases, firstCase, ended, accepted, decided, readOutcome};
+ghost use Rattle.specification.specs.Refusal.{firstOf};
+ghost use Rattle.csv.specs.Reading.{headerCases, entriesCases, notRefused, textEnded, textAccepted, textDecided, readOutcome};
 ghost use Rattle.csv.specs.Records.{entriesAt, counted};
 ghost use Rattle.csv.specs.Points.{saying};
 ghost use Rattle.csv.specs.declared.records.Entries.the-variants.{Count};
@@ -38,7 +39,7 @@ fn settings_refusal(
     states: usize,
     values: usize,
 ) -> Refusal
-    ensures { λ r. ⌜ r ≡ firstCase (settingsCases modulus variables n states values) ⌝ }
+    ensures { λ r. ⌜ r ≡ firstOf notRefused (headerCases modulus variables n states values) ⌝ }
 {
     if !residue::level::is_modulus(modulus as u64) {
         return Refusal { refusal: 3, at: 1 };
@@ -88,7 +89,7 @@ fn read_entries(
 ) -> Read
     requires { ⌜ from ≤ length (now text) ⌝ }
     requires { ⌜ counted 0 (entriesAt variables (drop from (now text))) ≡ Count n ⌝ }
-    ensures { λ r. ⌜ ended r (now (states .exit)) (now (values .exit)) ≡ decided (firstCase (settingsCases modulus variables n (length (now (states .entry))) (length (now (values .entry))) ++ entriesCases (saying modulus variables order (drop from (now (text .entry)))))) (accepted (saying modulus variables order (drop from (now (text .entry)))) (now (states .entry)) (now (values .entry))) (now (states .entry)) (now (values .entry)) ⌝ }
+    ensures { λ r. ⌜ textEnded r (now (states .exit)) (now (values .exit)) ≡ textDecided (firstOf notRefused (headerCases modulus variables n (length (now (states .entry))) (length (now (values .entry))) ++ entriesCases (saying modulus variables order (drop from (now (text .entry)))))) (textAccepted (saying modulus variables order (drop from (now (text .entry)))) (now (states .entry)) (now (values .entry))) (now (states .entry)) (now (values .entry)) ⌝ }
 {
     let first = settings_refusal(modulus, variables, n, states.len(), values.len());
     let refusal = first.refusal;
@@ -127,7 +128,7 @@ fn read_entries(
 
 // The settings and the number of points of a text, the points and values into the lent buffers.
 pub fn read_text(text: &[u8], states: &mut [u8], values: &mut [u8]) -> Read
-    ensures { λ r. ⌜ ended r (now (states .exit)) (now (values .exit)) ≡ readOutcome (now (text .entry)) (now (states .entry)) (now (values .entry)) ⌝ }
+    ensures { λ r. ⌜ textEnded r (now (states .exit)) (now (values .exit)) ≡ readOutcome (now (text .entry)) (now (states .entry)) (now (values .entry)) ⌝ }
 {
     if 16384 < text.len() {
         return refused(1, 0);

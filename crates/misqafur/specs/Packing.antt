@@ -9,7 +9,7 @@ use Rattle.specification.specs.Tables.{Tables, fourTables}
 use Rattle.specification.specs.Adding.{Outcome}
 use Rattle.specification.specs.Solving.{Listed}
 use Rattle.csv.specs.declared.reading.Read.{Read}
-use Rattle.csv.specs.Reading.{Outcome as ReadOutcome}
+use Rattle.csv.specs.Reading.{TextOutcome}
 
 -- Numbers in one, each 256 times higher than the one before it.
 abbrev pub packed : List ℕ → ℕ
@@ -59,5 +59,5 @@ pub record LeftReading : Type 0 where
 abbrev pub leftReading : ℕ → List ℕ → List ℕ → LeftReading
 leftReading a states values = record { number = a; states = states; values = values }
 
-unfoldable pub packedReading : ReadOutcome → LeftReading
+unfoldable pub packedReading : TextOutcome → LeftReading
 packedReading o = record { number = packedRead (o .answer); states = o .states; values = o .values }

@@ -9,7 +9,7 @@ use lib.ListN.{length, take, drop, length-drop, length-take}
 use lib.Seq.{take-all}
 use Rattle.residue.specs.Lists.{sameList}
 use Rattle.csv.specs.Fields.{front}
-use Rattle.csv.specs.Forms.{isDigit, numberOf, mod-word, lex-word, grlex-word, grevlex-word, orderWord, header, settingsOf, lastField}
+use Rattle.csv.specs.Forms.{isDigit, numberOf, mod-word, lex-word, grlex-word, grevlex-word, orderWord, header, modulusAndOrder, lastField}
 use Rattle.csv.specs.Said.{numberSaid, orderSaid, lastSaid}
 use Rattle.csv.specs.declared.forms.Number.{Number}
 use Rattle.csv.specs.declared.forms.Number.the-variants as N
@@ -49,22 +49,22 @@ module _ (l : List ℕ) where
 
 -- digits, read or not, and what stands behind them
 module _ (m : ℕ) (l : List ℕ) (k : ℕ) (r : Number) (h : k ≡ front isDigit l) (e : numberSaid r ≡ numberOf (take k l)) where
-  behind : (w : Option ℕ) → w ≡ orderWord (take (length l - k) (drop k l)) → header m (numberSaid r) w ≡ settingsOf m l
-  unfolding settingsOf
+  behind : (w : Option ℕ) → w ≡ orderWord (take (length l - k) (drop k l)) → header m (numberSaid r) w ≡ modulusAndOrder m l
+  unfolding modulusAndOrder
   behind w f =
       let d : length (drop k l) ≤ length l - k = simp length-drop (omega arith) in
       ap₂ (header m) e (f ∙ ap orderWord (take-all (length l - k) (drop k l) d)) ∙ ap (λ (j : ℕ). header m (numberOf (take j l)) (orderWord (drop j l))) h
 
-  pub no-digits : r ≡ N.Broken → lastSaid m L.Broken ≡ settingsOf m l
+  pub no-digits : r ≡ N.Broken → lastSaid m L.Broken ≡ modulusAndOrder m l
   unfolding header lastSaid numberSaid
   no-digits b = ap (λ (x : Number). header m (numberSaid x) (orderWord (take (length l - k) (drop k l)))) (sym b) ∙ behind _ refl
 
   module _ (w : Word) (f : orderSaid w ≡ orderWord (take (length l - k) (drop k l))) (p : ℕ) (s : r ≡ N.Size p) where
-    pub no-word : w ≡ W.Broken → lastSaid m L.Broken ≡ settingsOf m l
+    pub no-word : w ≡ W.Broken → lastSaid m L.Broken ≡ modulusAndOrder m l
     unfolding header lastSaid numberSaid orderSaid
     no-word b = ap₂ (λ (x : Number) (y : Word). header m (numberSaid x) (orderSaid y)) (sym s) (sym b) ∙ behind _ f
 
-    pub all-read : (o : ℕ) → w ≡ W.Order o → lastSaid m (L.Settings p o) ≡ settingsOf m l
+    pub all-read : (o : ℕ) → w ≡ W.Order o → lastSaid m (L.Settings p o) ≡ modulusAndOrder m l
     unfolding header lastSaid numberSaid orderSaid
     all-read o b = ap₂ (λ (x : Number) (y : Word). header m (numberSaid x) (orderSaid y)) (sym s) (sym b) ∙ behind _ f
 
@@ -77,8 +77,8 @@ module _ (m : ℕ) (l : List ℕ) where
   pub last-short : length l < 4 → lastField m l ≡ none
   last-short h = last-other (same-length (take 4 l) mod-word (λ e. omega (arith, length-take 4 l)))
 
-  pub last-mod : 4 ≤ length l → sameList (take 4 l) mod-word ≡ true → settingsOf m (take (length l - 4) (drop 4 l)) ≡ lastField m l
+  pub last-mod : 4 ≤ length l → sameList (take 4 l) mod-word ≡ true → modulusAndOrder m (take (length l - 4) (drop 4 l)) ≡ lastField m l
   unfolding lastField
   last-mod h e =
       let d : length (drop 4 l) ≤ length l - 4 = simp length-drop (omega arith) in
-      simp e (ap (settingsOf m) (take-all (length l - 4) (drop 4 l) d))
+      simp e (ap (modulusAndOrder m) (take-all (length l - 4) (drop 4 l) d))

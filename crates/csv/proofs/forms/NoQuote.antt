@@ -13,7 +13,7 @@ use borrow.Author.Tests.{ne-eqb, eqb-true}
 use Rattle.residue.specs.Lists.{sameList}
 use Rattle.residue.proofs.bytes.Equality.{same-is}
 use Rattle.csv.specs.Fields.{quote, front}
-use Rattle.csv.specs.Forms.{isDigit, digitsFrom, numberOf, negative, levelOf, mod-word, lex-word, grlex-word, grevlex-word, orderWord, header, settingsOf, lastField}
+use Rattle.csv.specs.Forms.{isDigit, digitsFrom, numberOf, negative, levelOf, mod-word, lex-word, grlex-word, grevlex-word, orderWord, header, modulusAndOrder, lastField}
 use Rattle.csv.specs.Spans.{undoubled}
 
 hasQuote : List ℕ → Bool
@@ -119,8 +119,8 @@ unfolding header
 no-order m none = refl
 no-order m (some p) = refl
 
-settings-none : (m : ℕ) (l : List ℕ) → hasQuote l ≡ true → settingsOf m l ≡ none
-unfolding settingsOf
+settings-none : (m : ℕ) (l : List ℕ) → hasQuote l ≡ true → modulusAndOrder m l ≡ none
+unfolding modulusAndOrder
 settings-none m l h = pick (hasQuote (take k l)) refl (sym (quote-apart k l) ∙ h)
   where
     k : ℕ
@@ -134,7 +134,7 @@ last-none : (m : ℕ) (l : List ℕ) → hasQuote l ≡ true → lastField m l �
 unfolding lastField hasQuote
 last-none m l h = pick (hasQuote (take 4 l)) refl (sym (quote-apart 4 l) ∙ h)
   where
-    pick : (x : Bool) → hasQuote (take 4 l) ≡ x → x || hasQuote (drop 4 l) ≡ true → cond (sameList (take 4 l) mod-word) (settingsOf m (drop 4 l)) none ≡ none
+    pick : (x : Bool) → hasQuote (take 4 l) ≡ x → x || hasQuote (drop 4 l) ≡ true → cond (sameList (take 4 l) mod-word) (modulusAndOrder m (drop 4 l)) none ≡ none
     pick true e f = rw (differs (take 4 l) mod-word e refl)
     pick false e f = either (sameList (take 4 l) mod-word) (settings-none m (drop 4 l) f)
 

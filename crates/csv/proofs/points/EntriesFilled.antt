@@ -16,7 +16,7 @@ use Rattle.residue.proofs.Places.{place-more}
 use Rattle.specification.specs.Levels.{inRange}
 use Rattle.specification.proofs.agreement.Points.{length-residues}
 use Rattle.csv.specs.Fields.{Part, part, faulty, recordsFrom, recordsOf}
-use Rattle.csv.specs.Reading.{pointOf, valueOf, isOutside, further, firstFault}
+use Rattle.csv.specs.Reading.{entryPoint, entryValue, isOutside, further, firstFault}
 use Rattle.csv.specs.Records.{entryPart, entriesAt, counted}
 use Rattle.csv.specs.Points.{levelsIn, behindEntry, FilledAs, levelsAt, firstPlace}
 use Rattle.csv.specs.declared.points.Filled.{Filled}
@@ -75,8 +75,8 @@ fault-snoc f (b ∷ l) a = go (f b) (fault-snoc f l a)
     go false h = ap further h ∙ moved (firstFault f l) (not (f a)) (length l)
 
 -- one row and one value more in the tables
-point-short : (p m : ℕ) (zs : List ℤ) → m ≤ 8 → length (pointOf p m zs) ≤ 8
-unfolding pointOf
+point-short : (p m : ℕ) (zs : List ℤ) → m ≤ 8 → length (entryPoint p m zs) ≤ 8
+unfolding entryPoint
 point-short p m zs h = let e = length-residues p (take m zs) in omega (arith, length-take m zs)
 
 point-in : (Q : List (List ℕ)) (P : List ℕ) (i k : ℕ) (points row : List ℕ) → length Q ≡ i → k ≡ 8 → points ≡ fill 512 (inPlaces 8 Q)
@@ -93,8 +93,8 @@ pub record Gathered (p m n : ℕ) (t : List ℕ) (S : List (List ℤ)) (points v
   pub bound : i ≤ n
   pub within : from ≤ length t
   pub left : entriesAt m (drop from t) ≡ map some (drop i S)
-  pub written : points ≡ fill 512 (inPlaces 8 (map (pointOf p m) (take i S)))
-  pub valued : values ≡ fill 64 (map (valueOf p m) (take i S))
+  pub written : points ≡ fill 512 (inPlaces 8 (map (entryPoint p m) (take i S)))
+  pub valued : values ≡ fill 64 (map (entryValue p m) (take i S))
   pub found : outside ≡ firstFault (isOutside p) (take i S)
 
 module _ (p m n : ℕ) (t : List ℕ) where
@@ -118,10 +118,10 @@ module _ (p m n : ℕ) (t : List ℕ) where
 
   module _ (S : List (List ℤ)) (points values : List ℕ) (from outside i : ℕ) (g : Gathered p m n t S points values from outside i) (c : length S ≡ n) (b : n ≤ 64) where
     pub points-length : length points ≡ 512
-    points-length = ap length (g .written) ∙ length-fill 512 (inPlaces 8 (map (pointOf p m) (take i S)))
+    points-length = ap length (g .written) ∙ length-fill 512 (inPlaces 8 (map (entryPoint p m) (take i S)))
 
     pub values-length : length values ≡ 64
-    values-length = ap length (g .valued) ∙ length-fill 64 (map (valueOf p m) (take i S))
+    values-length = ap length (g .valued) ∙ length-fill 64 (map (entryValue p m) (take i S))
 
     module _ (h : i < n) where
       zs : List ℤ
@@ -158,7 +158,7 @@ module _ (p m n : ℕ) (t : List ℕ) where
 
         -- the row, as it comes back into the table
         pub gather : (k o : ℕ) (row : List ℕ) → m ≤ 8 → k ≡ 8
-            → row ≡ over (pointOf p m (levelsIn (entryPart m (drop from t)))) (take k (drop (8 * i) points))
+            → row ≡ over (entryPoint p m (levelsIn (entryPart m (drop from t)))) (take k (drop (8 * i) points))
             → o ≡ firstPlace outside (r .inside) (i + 1)
             → Gathered p m n t S (take (8 * i) points ++ (row ++ drop k (drop (8 * i) points))) (set values i (r .value)) (r .next) o (i + 1)
         unfolding isOutside
@@ -167,13 +167,13 @@ module _ (p m n : ℕ) (t : List ℕ) where
           within = f .within;
           left = ap (entriesAt m) rested ∙ read .2 ∙ ap (λ (j : ℕ). map some (drop j S)) (sym (add-one i));
           written =
-              point-in (map (pointOf p m) (take i S)) (pointOf p m zs) i k points row (count (pointOf p m)) e (g .written)
-              (s ∙ ap (λ (l : List ℤ). over (pointOf p m l) (take k (drop (8 * i) points))) levels) (omega arith) (point-short p m zs w)
-              ∙ ap (λ (l : List (List ℕ)). fill 512 (inPlaces 8 l)) (sym (mapped (pointOf p m)));
+              point-in (map (entryPoint p m) (take i S)) (entryPoint p m zs) i k points row (count (entryPoint p m)) e (g .written)
+              (s ∙ ap (λ (l : List ℤ). over (entryPoint p m l) (take k (drop (8 * i) points))) levels) (omega arith) (point-short p m zs w)
+              ∙ ap (λ (l : List (List ℕ)). fill 512 (inPlaces 8 l)) (sym (mapped (entryPoint p m)));
           valued =
-              value-in (map (valueOf p m) (take i S)) (valueOf p m zs) i values (r .value) (count (valueOf p m)) (g .valued)
-              (f .value ∙ ap (valueOf p m) levels) (omega arith)
-              ∙ ap (fill 64) (sym (mapped (valueOf p m)));
+              value-in (map (entryValue p m) (take i S)) (entryValue p m zs) i values (r .value) (count (entryValue p m)) (g .valued)
+              (f .value ∙ ap (entryValue p m) levels) (omega arith)
+              ∙ ap (fill 64) (sym (mapped (entryValue p m)));
           found =
               q ∙ ap₂ (λ (x : ℕ) (y : Bool). firstPlace x y (i + 1)) (g .found) (f .inside ∙ ap (inRange p) levels ∙ sym (Bool·not-not (inRange p zs)))
               ∙ ap (firstPlace (firstFault (isOutside p) (take i S)) (not (isOutside p zs))) (add-one i ∙ ap suc (sym (length-take-le i S (omega arith))))
@@ -181,9 +181,9 @@ module _ (p m n : ℕ) (t : List ℕ) where
         }
 
     pub gathered : n ≤ i
-        → (outside ≡ firstFault (isOutside p) S) × ((points ≡ fill 512 (inPlaces 8 (map (pointOf p m) S))) × (values ≡ fill 64 (map (valueOf p m) S)))
+        → (outside ≡ firstFault (isOutside p) S) × ((points ≡ fill 512 (inPlaces 8 (map (entryPoint p m) S))) × (values ≡ fill 64 (map (entryValue p m) S)))
     gathered h =
         let e : take i S ≡ S = take-all i S (omega arith) in (
           g .found ∙ ap (firstFault (isOutside p)) e,
-          (g .written ∙ ap (λ (l : List (List ℤ)). fill 512 (inPlaces 8 (map (pointOf p m) l))) e, g .valued ∙ ap (λ (l : List (List ℤ)). fill 64 (map (valueOf p m) l)) e),
+          (g .written ∙ ap (λ (l : List (List ℤ)). fill 512 (inPlaces 8 (map (entryPoint p m) l))) e, g .valued ∙ ap (λ (l : List (List ℤ)). fill 64 (map (entryValue p m) l)) e),
         )

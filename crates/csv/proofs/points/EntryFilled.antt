@@ -13,7 +13,7 @@ use Rattle.residue.specs.Layout.{over}
 use Rattle.specification.specs.Levels.{isResidue, residueOr0, inRange, residues}
 use Rattle.specification.proofs.agreement.Points.{length-residues}
 use Rattle.csv.specs.Fields.{Field, field, broken, Part, part, faulty, withFirst}
-use Rattle.csv.specs.Reading.{pointOf, valueOf}
+use Rattle.csv.specs.Reading.{entryPoint, entryValue}
 use Rattle.csv.specs.Records.{levelField, entryPart}
 use Rattle.csv.specs.Points.{levelIn, behindLevel, PlacedAs, levelsIn, behindEntry, FilledAs}
 use Rattle.csv.specs.declared.points.Placed.{Placed}
@@ -107,8 +107,8 @@ module _ (p m : ℕ) (zs : List ℤ) (z : ℤ) (e : drop m zs ≡ z ∷ []) wher
   pub range-all : (a b : Bool) → a ≡ inRange p (take m zs) → b ≡ isResidue (residueOf p z) → (a && b) ≡ inRange p zs
   range-all a b f g = ap₂ _&&_ f g ∙ sym (ap (inRange p) all ∙ range-snoc p (take m zs) z)
 
-  pub value-last : residueOr0 (residueOf p z) ≡ valueOf p m zs
-  unfolding valueOf
+  pub value-last : residueOr0 (residueOf p z) ≡ entryValue p m zs
+  unfolding entryValue
   value-last =
       sym (ap (λ (l : List ℕ). getD l m 0) (ap (residues p) all ∙ residues-snoc p (take m zs) z)
       ∙ getD-at (residues p (take m zs)) (residueOr0 (residueOf p z)) [] 0 m (count p m zs z [] e))
@@ -171,8 +171,8 @@ module _ (p m : ℕ) (t : List ℕ) where
             kept = length-set row j (r .residue) ∙ s .kept;
           }
 
-      pub done : m ≤ j → FilledAs p m t e (record { inside = b; value = r .residue; next = r .next }) × (row ≡ over (pointOf p m (levelsIn e)) old)
-      unfolding pointOf
+      pub done : m ≤ j → FilledAs p m t e (record { inside = b; value = r .residue; next = r .next }) × (row ≡ over (entryPoint p m (levelsIn e)) old)
+      unfolding entryPoint
       done h =
           let i : j ≡ m = let b = s .bound in omega arith in
           let n = last h in

@@ -13,23 +13,23 @@ use Rattle.residue.specs.declared.level.Level.the-variants.{Residue, Outside}
 use Rattle.specification.specs.Levels.{isResidue, residueOr0}
 use Rattle.csv.specs.Fields.{Field, field}
 use Rattle.csv.specs.Forms.{negative}
-use Rattle.csv.specs.Said.{signedOf}
+use Rattle.csv.specs.Said.{withSign}
 use Rattle.csv.specs.Points.{levelIn, behindLevel, PlacedAs}
 
-pub outside : (p : ℕ) (n : Bool) (size : ℕ) → p ≤ size → Outside ≡ residueOf p (signedOf n size)
-unfolding residueOf signedOf negative
+pub outside : (p : ℕ) (n : Bool) (size : ℕ) → p ≤ size → Outside ≡ residueOf p (withSign n size)
+unfolding residueOf withSign negative
 outside p true zero h = simp (le-ltb 0 p h)
 outside p true (suc k) h = simp (le-ltb (suc k) p h)
 outside p false size h = simp (le-ltb size p h)
 
-pub below-zero : (p : ℕ) (n : Bool) (size : ℕ) → n ≡ true → 0 < size → size < p → Residue (p - size) ≡ residueOf p (signedOf n size)
-unfolding residueOf signedOf negative
+pub below-zero : (p : ℕ) (n : Bool) (size : ℕ) → n ≡ true → 0 < size → size < p → Residue (p - size) ≡ residueOf p (withSign n size)
+unfolding residueOf withSign negative
 below-zero p true zero e h k = absurd (not-suc-le-zero h)
 below-zero p true (suc j) e h k = simp (lt-ltb (suc j) p k)
 below-zero p false size e h k = let z : _≡_ {A = ℕ} 0 1 = cc in absurd (omega arith)
 
-pub as-it-is : (p : ℕ) (n : Bool) (size : ℕ) → (n ≡ true → size ≤ 0) → size < p → Residue size ≡ residueOf p (signedOf n size)
-unfolding residueOf signedOf negative
+pub as-it-is : (p : ℕ) (n : Bool) (size : ℕ) → (n ≡ true → size ≤ 0) → size < p → Residue size ≡ residueOf p (withSign n size)
+unfolding residueOf withSign negative
 as-it-is p true zero h k = simp (lt-ltb 0 p k)
 as-it-is p true (suc j) h k = absurd (not-suc-le-zero (h refl))
 as-it-is p false size h k = simp (lt-ltb size p k)

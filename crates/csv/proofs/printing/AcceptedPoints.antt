@@ -15,14 +15,15 @@ use Rattle.residue.proofs.Tests.{true-of, of-true, and-both}
 use Rattle.specification.specs.Levels.{inRange, isAmong, noRepeat}
 use Rattle.specification.proofs.Repeats.{among-is, is-among}
 use Rattle.csv.specs.Fields.{front}
-use Rattle.csv.specs.Forms.{isDigit, numberOf, lex-word, grlex-word, grevlex-word, mod-word, orderWord, Header, header, settingsOf, lastField, headerFrom, headerOf}
-use Rattle.csv.specs.Reading.{Case, further, firstFault, isNone, headerIn, entryIn, entriesIn, formFault, isOutside, firstRepeat, firstCase}
+use Rattle.csv.specs.Forms.{isDigit, numberOf, lex-word, grlex-word, grevlex-word, mod-word, orderWord, Header, header, modulusAndOrder, lastField, headerFrom, headerOf}
+use Rattle.specification.specs.Refusal.{firstOf}
+use Rattle.csv.specs.Reading.{TextCase, further, firstFault, isNone, headerIn, entryIn, entriesIn, formFault, isOutside, firstRepeat, notRefused, refusalAt}
 use Rattle.csv.proofs.tables.RepeatedRows.{AllLong}
 use Rattle.csv.proofs.reading.RepeatedPoints.{entries-long}
 
 -- A case that refuses and does not hold.
-pub passed : (b : Bool) (k at : ℕ) (l : List Case) → firstCase ((b, suc k, at) ∷ l) .refusal ≡ 0 → (b ≡ false) × (firstCase l .refusal ≡ 0)
-unfolding firstCase
+pub passed : (b : Bool) (k at : ℕ) (l : List TextCase) → firstOf notRefused ((b, refusalAt (suc k) at) ∷ l) .refusal ≡ 0 → (b ≡ false) × (firstOf notRefused l .refusal ≡ 0)
+unfolding firstOf
 passed true k at l h = absurd (omega arith)
 passed false k at l h = (refl, h)
 
@@ -60,7 +61,7 @@ header-small m (some p) none h = tt
 header-small m (some p) (some k) h = h
 
 last-small : (m : ℕ) (l : List ℕ) → SmallOrder (lastField m l)
-unfolding lastField settingsOf
+unfolding lastField modulusAndOrder
 last-small m l = go (sameList (take 4 l) mod-word)
   where
     go : (b : Bool) → SmallOrder (cond b (header m (numberOf (take (front isDigit (drop 4 l)) (drop 4 l))) (orderWord (drop (front isDigit (drop 4 l)) (drop 4 l)))) none)

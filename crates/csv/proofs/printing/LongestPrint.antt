@@ -10,7 +10,7 @@ use native.Mathlib.Omega.{arith}
 use lib.ListN.{length, length-append}
 use Rattle.residue.specs.Lists.{Among}
 use Rattle.residue.specs.Vector.{Below}
-use Rattle.csv.specs.Printing.{decimal, spaced, numbers, line, labelled, lineEnd, colon, points-word, standard-word, rows-word, row-word, interpolant-word, wiring-word, refused-word, refusalLine, firstLine, standardLines, rowLine, rowLines, basisLines}
+use Rattle.csv.specs.Printing.{decimal, spaced, spacedNumbers, line, labelled, lineEnd, colon, points-word, standard-word, rows-word, row-word, interpolant-word, wiring-word, refused-word, refusalLine, firstLine, standardLines, rowLine, rowLines, basisLines}
 use Rattle.csv.proofs.printing.DecimalDigits.{decimal-digit, decimal-more}
 
 -- a number has at most as many digits as the power of ten that it is below
@@ -35,15 +35,15 @@ spaced-length : (k n : ℕ) → n < 10 ^ suc k → length (spaced n) ≤ k + 2
 unfolding spaced
 spaced-length k n h = omega (arith, decimal-length k n h)
 
-pub numbers-length : (k : ℕ) (l : List ℕ) → Below (10 ^ suc k) l → length (numbers l) ≤ (k + 2) * length l
-unfolding numbers flatten
+pub numbers-length : (k : ℕ) (l : List ℕ) → Below (10 ^ suc k) l → length (spacedNumbers l) ≤ (k + 2) * length l
+unfolding spacedNumbers flatten
 numbers-length k [] h = omega arith
 numbers-length k (x ∷ l) h =
-    omega (arith, length-append (spaced x) (numbers l), spaced-length k x (h 0 (omega arith)), numbers-length k l (λ i e. h (suc i) (omega arith)))
+    omega (arith, length-append (spaced x) (spacedNumbers l), spaced-length k x (h 0 (omega arith)), numbers-length k l (λ i e. h (suc i) (omega arith)))
 
 pub line-length : (k : ℕ) (word l : List ℕ) → Below (10 ^ suc k) l → length (line word l) ≤ length word + (k + 2) * length l + 1
 unfolding line
-line-length k word l h = omega (arith, length-append word (numbers l ++ lineEnd), length-append (numbers l) lineEnd, numbers-length k l h)
+line-length k word l h = omega (arith, length-append word (spacedNumbers l ++ lineEnd), length-append (spacedNumbers l) lineEnd, numbers-length k l h)
 
 labelled-length : (k : ℕ) (word : List ℕ) (n : ℕ) → n < 10 ^ suc k → length (labelled word n) ≤ length word + (k + 2)
 unfolding labelled
@@ -84,8 +84,8 @@ unfolding rowLine
 row-length a l h k =
     omega (
       arith,
-      length-append row-word (numbers a ++ line colon l),
-      length-append (numbers a) (line colon l),
+      length-append row-word (spacedNumbers a ++ line colon l),
+      length-append (spacedNumbers a) (line colon l),
       numbers-length 1 a (h .1),
       line-length 1 colon l (k .1),
     )

@@ -6,7 +6,7 @@ use mathlib.Core.Option.{Option·map}
 use native.Mathlib.Omega.{arith}
 use lib.IntN.{pos}
 use Rattle.csv.specs.Forms.{negative, levelOf}
-use Rattle.csv.specs.Said.{numberSaid, signedOf, levelSaid}
+use Rattle.csv.specs.Said.{numberSaid, withSign, levelSaid}
 use Rattle.csv.specs.declared.forms.Number.{Number}
 use Rattle.csv.proofs.forms.NumberForms.{level-minus, level-plus}
 use Rattle.csv.proofs.forms.read_level.Statement.{statement}
@@ -44,11 +44,11 @@ enum-told : tie.Need-enum-told
 enum-told c = search needs
 
 returns : tie.Need-returns
-unfolding numberSaid levelSaid signedOf
+unfolding numberSaid levelSaid withSign
 returns c = ap (λ (r : Number). Option·map negative (numberSaid r)) (sym (c .enum-told .given .1)) ∙ minus (c .before .before)
 
 returns-2 : tie.Need-returns-2
-unfolding numberSaid levelSaid signedOf
+unfolding numberSaid levelSaid withSign
 returns-2 c = ap (λ (r : Number). Option·map negative (numberSaid r)) (sym (c .before .size .given .1)) ∙ minus (c .before .before .before)
 
 read-number-requires-2 : tie.Need-read-number-requires-2
@@ -61,11 +61,11 @@ enum-told-2 : tie.Need-enum-told-2
 enum-told-2 c = search needs
 
 returns-3 : tie.Need-returns-3
-unfolding numberSaid levelSaid signedOf
+unfolding numberSaid levelSaid withSign
 returns-3 c = ap (λ (r : Number). Option·map pos (numberSaid r)) (sym (c .enum-told2 .given .1)) ∙ plus (c .before .before)
 
 returns-4 : tie.Need-returns-4
-unfolding numberSaid levelSaid signedOf
+unfolding numberSaid levelSaid withSign
 returns-4 c = ap (λ (r : Number). Option·map pos (numberSaid r)) (sym (c .before .size2 .given .1)) ∙ plus (c .before .before .before)
 
 pub read-level-spec : {M : Type 1} → statement M

@@ -5,7 +5,7 @@ use mathlib.Core.List.{List}
 use Prim.Native.Nat.{ℕ, _≤_}
 use lib.ListN.{length, drop}
 use Rattle.csv.specs.Fields.{field}
-use Rattle.csv.specs.Said.{signedOf}
+use Rattle.csv.specs.Said.{withSign}
 use Rattle.csv.specs.Records.{levelField, levelAtSaid, LevelWithin}
 use Rattle.csv.proofs.points.LevelResidues.{placed-out, placed-in}
 use Rattle.csv.proofs.points.residue_at.Statement.{statement}
@@ -15,7 +15,7 @@ abbrev text : tie.Start → List ℕ
 text s = s .args .text .now
 
 said : (c : tie.After-known-told)
-    → field (signedOf (c .before .negative .given .0 .0) (c .before .negative .given .0 .1 .0)) (c .before .negative .given .0 .1 .1 .0) (drop (c .before .negative .given .0 .1 .1 .1 .0) (text (c .before .before .before .before .before)))
+    → field (withSign (c .before .negative .given .0 .0) (c .before .negative .given .0 .1 .0)) (c .before .negative .given .0 .1 .1 .0) (drop (c .before .negative .given .0 .1 .1 .1 .0) (text (c .before .before .before .before .before)))
     ≡ levelField (drop (c .before .before .before .before .before .args .at) (text (c .before .before .before .before .before)))
 unfolding levelAtSaid
 said c = ap (levelAtSaid (text (c .before .before .before .before .before))) (sym (c .before .negative .given .1)) ∙ c .before .before .before .level-at .ensures .0

@@ -1,7 +1,7 @@
 -- `printing::print_text` meets its contract.
 use mathlib.Core.Path.{refl, sym}
 use native.Mathlib.Omega.{arith}
-use Rattle.csv.specs.Reading.{ended}
+use Rattle.csv.specs.Reading.{textEnded}
 use Rattle.csv.proofs.printing.Appends.{put-within}
 use Rattle.csv.proofs.printing.LongestPrint.{refusal-length}
 use Rattle.csv.proofs.printing.AcceptedText.{fit, printed-refusal, printed-basis, print-short, print-long}
@@ -49,17 +49,17 @@ slice-aggregate-print-points c = search needs
 array-share-prefix-values : tie.Need-array-share-prefix-values
 array-share-prefix-values c =
     let r = c .before .before .before .before .before .before .read-text in
-    fit _ (ended (r .result) (r .last .1 .0) (r .last .1 .1 .0)) (r .ensures) (omega arith) .3
+    fit _ (textEnded (r .result) (r .last .1 .0) (r .last .1 .1 .0)) (r .ensures) (omega arith) .3
 
 slice-aggregate-print-points-2 : tie.Need-slice-aggregate-print-points-2
 slice-aggregate-print-points-2 c =
     let r = c .before .before .before .before .before .before .before .read-text in
-    sym (fit _ (ended (r .result) (r .last .1 .0) (r .last .1 .1 .0)) (r .ensures) (omega arith) .1)
+    sym (fit _ (textEnded (r .result) (r .last .1 .0) (r .last .1 .1 .0)) (r .ensures) (omega arith) .1)
 
 print-points-requires : tie.Need-print-points-requires
 print-points-requires c κs =
     let r = c .before .before .before .before .before .before .before .before .read-text in
-    let f = fit _ (ended (r .result) (r .last .1 .0) (r .last .1 .1 .0)) (r .ensures) (omega arith) in
+    let f = fit _ (textEnded (r .result) (r .last .1 .0) (r .last .1 .1 .0)) (r .ensures) (omega arith) in
     (f .0, ((f .1, f .2), omega arith))
 
 same-length-2 : tie.Need-same-length-2

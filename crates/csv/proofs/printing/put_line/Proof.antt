@@ -1,6 +1,6 @@
 -- `printing::put_line` meets its contract.
 use mathlib.Core.List.{_++_}
-use Rattle.csv.specs.Printing.{lineEnd, numbers, line}
+use Rattle.csv.specs.Printing.{lineEnd, spacedNumbers, line}
 use Rattle.csv.proofs.printing.Appends.{first-room, put-room, put-front, put-more}
 use borrow.Author.Needs.{needs}
 use Rattle.csv.proofs.printing.put_line.Statement.{statement}
@@ -10,19 +10,19 @@ put-word-requires : tie.Need-put-word-requires
 unfolding line
 put-word-requires c κs =
     let s = c .before .before .before .before in
-    first-room (s .args .at) (s .args .word .now) (numbers (s .args .list .now) ++ lineEnd) (s .args .out .now) (s .pre)
+    first-room (s .args .at) (s .args .word .now) (spacedNumbers (s .args .list .now) ++ lineEnd) (s .args .out .now) (s .pre)
 
 put-numbers-requires : tie.Need-put-numbers-requires
 unfolding line
 put-numbers-requires c κs =
     let s = c .before .before .before .before .before .before .before .before in
-    put-front (c .before .before .before .put-word .ensures) (numbers (s .args .list .now)) lineEnd (s .pre)
+    put-front (c .before .before .before .put-word .ensures) (spacedNumbers (s .args .list .now)) lineEnd (s .pre)
 
 put-byte-requires : tie.Need-put-byte-requires
 unfolding line
 put-byte-requires c κs =
     let s = c .before .before .before .before .before .before .before .before .before .before .before .before in
-    put-room (c .before .before .before .put-numbers .ensures) lineEnd (put-room (c .before .before .before .before .before .before .before .put-word .ensures) (numbers (s .args .list .now) ++ lineEnd) (s .pre))
+    put-room (c .before .before .before .put-numbers .ensures) lineEnd (put-room (c .before .before .before .before .before .before .before .put-word .ensures) (spacedNumbers (s .args .list .now) ++ lineEnd) (s .pre))
 
 same-length : tie.Need-same-length
 same-length c = search needs
@@ -34,7 +34,7 @@ returns c =
     let p₁ = p₂ .before .before .before .before in
     let s = p₁ .before .before .before .before .before in
     put-more (p₁ .put-word .ensures) (s .pre)
-    (put-more (p₂ .put-numbers .ensures) (put-room (p₁ .put-word .ensures) (numbers (s .args .list .now) ++ lineEnd) (s .pre)) (c .before .before .put-byte .ensures))
+    (put-more (p₂ .put-numbers .ensures) (put-room (p₁ .put-word .ensures) (spacedNumbers (s .args .list .now) ++ lineEnd) (s .pre)) (c .before .before .put-byte .ensures))
 
 pub put-line-spec : {M : Type 1} → statement M
 put-line-spec =

@@ -5,7 +5,7 @@ use Prim.Native.Nat.{_-_, _<_, _≤_}
 use native.Mathlib.Omega.{arith}
 use lib.ListN.{length, getD, take, length-map}
 use Rattle.residue.proofs.vector.Vectors.{map-at}
-use Rattle.csv.specs.Printing.{spaced, numbers}
+use Rattle.csv.specs.Printing.{spaced, spacedNumbers}
 use Rattle.csv.specs.Appending.{Put}
 use Rattle.csv.proofs.printing.Appends.{put-nothing, turn-room, turn, turns-all, turn-length}
 use Rattle.csv.proofs.printing.put_numbers.Statement.{statement}
@@ -35,7 +35,7 @@ cast-put-number : tie.Need-cast-put-number Inv-loop μ-loop
 cast-put-number c = omega (arith, c .shared-slice-known2 .given (c .before .before .before .loop .i))
 
 put-number-requires : tie.Need-put-number-requires Inv-loop μ-loop
-unfolding numbers
+unfolding spacedNumbers
 put-number-requires c κs =
     let l = c .before .before .before in
     let s = l .before .before .before in
@@ -48,20 +48,20 @@ loop-less : tie.Need-loop-less Inv-loop μ-loop
 loop-less c = omega arith
 
 loop-again : tie.Need-loop-again Inv-loop μ-loop
-unfolding numbers
+unfolding spacedNumbers
 loop-again c =
     let l = c .before .before .before .before .before .before in
     let s = l .before .before .before in
     (refl, omega arith, turn (map spaced (s .args .list .now)) (l .loop .i) _ (inside l (omega arith)) (number-at l (omega arith)) (l .loop .inv .2) (s .pre) (c .before .before .put-number .ensures))
 
 same-length : tie.Need-same-length Inv-loop μ-loop
-unfolding numbers
+unfolding spacedNumbers
 same-length c =
     let l = c .before in
     turn-length (map spaced (l .before .before .before .args .list .now)) (l .loop .i) (l .before .before .before .pre) (l .loop .inv .2)
 
 returns : tie.Need-returns Inv-loop μ-loop
-unfolding numbers
+unfolding spacedNumbers
 returns c =
     let l = c .before in
     let e = length-map (l .before .before .before .args .list .now) spaced in

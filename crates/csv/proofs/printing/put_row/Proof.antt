@@ -1,6 +1,6 @@
 -- `printing::put_row` meets its contract.
 use mathlib.Core.List.{_++_}
-use Rattle.csv.specs.Printing.{row-word, colon, numbers, line, rowLine}
+use Rattle.csv.specs.Printing.{row-word, colon, spacedNumbers, line, rowLine}
 use Rattle.csv.proofs.printing.Appends.{first-room, put-room, put-front, put-more}
 use borrow.Author.Needs.{needs}
 use Rattle.csv.proofs.printing.put_row.Statement.{statement}
@@ -13,13 +13,13 @@ put-word-requires : tie.Need-put-word-requires
 unfolding rowLine
 put-word-requires c κs =
     let s = c .before .before .before .before .before in
-    first-room (s .args .at) row-word (numbers (s .args .lead .now) ++ line colon (s .args .coefficients .now)) (s .args .out .now) (s .pre)
+    first-room (s .args .at) row-word (spacedNumbers (s .args .lead .now) ++ line colon (s .args .coefficients .now)) (s .args .out .now) (s .pre)
 
 put-numbers-requires : tie.Need-put-numbers-requires
 unfolding rowLine
 put-numbers-requires c κs =
     let s = c .before .before .before .before .before .before .before .before .before in
-    put-front (c .before .before .before .put-word .ensures) (numbers (s .args .lead .now)) (line colon (s .args .coefficients .now)) (s .pre)
+    put-front (c .before .before .before .put-word .ensures) (spacedNumbers (s .args .lead .now)) (line colon (s .args .coefficients .now)) (s .pre)
 
 slice-aggregate-put-line : tie.Need-slice-aggregate-put-line
 slice-aggregate-put-line c = search needs
@@ -29,7 +29,7 @@ unfolding rowLine
 put-line-requires c κs =
     let s = c .before .before .before .before .before .before .before .before .before .before .before .before .before .before in
     put-room (c .before .before .before .before .put-numbers .ensures) (line colon (s .args .coefficients .now))
-    (put-room (c .before .before .before .before .before .before .before .before .put-word .ensures) (numbers (s .args .lead .now) ++ line colon (s .args .coefficients .now)) (s .pre))
+    (put-room (c .before .before .before .before .before .before .before .before .put-word .ensures) (spacedNumbers (s .args .lead .now) ++ line colon (s .args .coefficients .now)) (s .pre))
 
 same-length : tie.Need-same-length
 same-length c = search needs
@@ -41,7 +41,7 @@ returns c =
     let p₁ = p₂ .before .before .before .before in
     let s = p₁ .before .before .before .before .before .before in
     put-more (p₁ .put-word .ensures) (s .pre)
-    (put-more (p₂ .put-numbers .ensures) (put-room (p₁ .put-word .ensures) (numbers (s .args .lead .now) ++ line colon (s .args .coefficients .now)) (s .pre)) (c .before .before .put-line .ensures))
+    (put-more (p₂ .put-numbers .ensures) (put-room (p₁ .put-word .ensures) (spacedNumbers (s .args .lead .now) ++ line colon (s .args .coefficients .now)) (s .pre)) (c .before .before .put-line .ensures))
 
 pub put-row-spec : {M : Type 1} → statement M
 put-row-spec =

@@ -9,10 +9,11 @@ use lib.ListN.{length, drop, length-map}
 use Rattle.residue.specs.Layout.{groups, inPlaces, over}
 use Rattle.residue.proofs.level.Moduli.{modulus-range}
 use Rattle.residue.proofs.Layouts.{fill-zeros, length-fill}
-use Rattle.csv.specs.Reading.{Case, Entries, pointOf, valueOf, isOutside, pointsOf, firstOutside, firstRepeat, entriesCases, settingsCases, firstCase, ended, refused}
+use Rattle.specification.specs.Refusal.{firstOf}
+use Rattle.csv.specs.Reading.{TextCase, Contents, entryPoint, entryValue, isOutside, entryPoints, firstOutside, firstRepeat, entriesCases, headerCases, notRefused, textEnded, textRefused}
 use Rattle.csv.specs.Points.{levelsAt, saying}
 use Rattle.csv.specs.declared.reading.Read.{Read}
-use Rattle.csv.proofs.reading.FirstCase.{Room, room, first-of-both, refuse-9, refuse-11, entries-pass, settings-over, when-refused, when-accepted, fault-le, repeat-le}
+use Rattle.csv.proofs.reading.TextCases.{Allowed, room, first-of-both, refuse-9, refuse-11, entries-pass, settings-over, text-refused, text-accepted, fault-le, repeat-le}
 use Rattle.csv.proofs.reading.RepeatedPoints.{entries-count, points-repeat, assembled}
 use Rattle.csv.proofs.reading.read_entries.Statement.{statement}
 use Rattle.csv.proofs.reading.read_entries.Tie as tie
@@ -20,13 +21,13 @@ use Rattle.csv.proofs.reading.read_entries.Tie as tie
 abbrev text : tie.Start → List ℕ
 text s = drop (s .args .from) (s .args .text .now)
 
-abbrev says : tie.Start → Entries
+abbrev says : tie.Start → Contents
 says s = saying (s .args .modulus) (s .args .variables) (s .args .order) (text s)
 
-space : (c : tie.Else1) → Room (c .before .before .before .before .before .args .modulus) (c .before .before .before .before .before .args .variables) (c .before .before .before .before .before .args .n) (length (c .before .before .before .before .before .args .states .now)) (length (c .before .before .before .before .before .args .values .now))
+space : (c : tie.Else1) → Allowed (c .before .before .before .before .before .args .modulus) (c .before .before .before .before .before .args .variables) (c .before .before .before .before .before .args .n) (length (c .before .before .before .before .before .args .states .now)) (length (c .before .before .before .before .before .args .values .now))
 space c = room _ _ _ _ _ (c .before .settings-refusal .result) (c .before .settings-refusal .ensures) (c .if1 .left)
 
-past : (c : tie.Else1) (l : List Case) → firstCase (settingsCases (c .before .before .before .before .before .args .modulus) (c .before .before .before .before .before .args .variables) (c .before .before .before .before .before .args .n) (length (c .before .before .before .before .before .args .states .now)) (length (c .before .before .before .before .before .args .values .now)) ++ l) ≡ firstCase l
+past : (c : tie.Else1) (l : List TextCase) → firstOf notRefused (headerCases (c .before .before .before .before .before .args .modulus) (c .before .before .before .before .before .args .variables) (c .before .before .before .before .before .args .n) (length (c .before .before .before .before .before .args .states .now)) (length (c .before .before .before .before .before .args .values .now)) ++ l) ≡ firstOf notRefused l
 past c l =
     let h = space c in
     settings-over _ _ _ _ _ (h .modulus) (h .some) (h .few) (h .states) (h .values) (h .count) l
@@ -53,14 +54,14 @@ outside-small c =
     omega (arith, c .fill-entries .ensures .0)
 
 rows-length : (c : F) → length (c .fill-entries .last .1 .1 .1 .1 .1 .0) ≡ 512
-rows-length c = ap length (c .fill-entries .ensures .1 .0) ∙ length-fill 512 (inPlaces 8 (map (pointOf (c .before .before .before .before .before .before .before .before .args .modulus) (c .before .before .before .before .before .before .before .before .args .variables)) (entries (c .before .before .before .before .before .before .before .before))))
+rows-length c = ap length (c .fill-entries .ensures .1 .0) ∙ length-fill 512 (inPlaces 8 (map (entryPoint (c .before .before .before .before .before .before .before .before .args .modulus) (c .before .before .before .before .before .before .before .before .args .variables)) (entries (c .before .before .before .before .before .before .before .before))))
 
 residues-length : (c : F) → length (c .fill-entries .last .1 .1 .1 .1 .1 .1 .0) ≡ 64
-residues-length c = ap length (c .fill-entries .ensures .1 .1) ∙ length-fill 64 (map (valueOf (c .before .before .before .before .before .before .before .before .args .modulus) (c .before .before .before .before .before .before .before .before .args .variables)) (entries (c .before .before .before .before .before .before .before .before)))
+residues-length c = ap length (c .fill-entries .ensures .1 .1) ∙ length-fill 64 (map (entryValue (c .before .before .before .before .before .before .before .before .args .modulus) (c .before .before .before .before .before .before .before .before .args .variables)) (entries (c .before .before .before .before .before .before .before .before)))
 
 -- repeats are looked for
-repeated-is : (c : tie.After-first-repeat) → c .first-repeat .result ≡ firstRepeat [] (pointsOf (says (c .before .before .before .before .before .before .before .before .before .before .before .before .before)))
-unfolding pointsOf saying
+repeated-is : (c : tie.After-first-repeat) → c .first-repeat .result ≡ firstRepeat [] (entryPoints (says (c .before .before .before .before .before .before .before .before .before .before .before .before .before)))
+unfolding entryPoints saying
 repeated-is c =
     let s = c .before .before .before .before .before .before .before .before .before .before .before .before .before in
     let h = space (c .before .before .before .before .before .before .before .before) in
@@ -68,10 +69,10 @@ repeated-is c =
     ∙ points-repeat (s .args .modulus) (s .args .variables) (s .args .n) (text s) (s .pre .1) (h .few) (h .count)
 
 repeated-small : (c : tie.After-first-repeat) → c .first-repeat .result ≤ 64
-unfolding pointsOf saying
+unfolding entryPoints saying
 repeated-small c =
     let s = c .before .before .before .before .before .before .before .before .before .before .before .before .before in
-    let f = pointOf (s .args .modulus) (s .args .variables) in
+    let f = entryPoint (s .args .modulus) (s .args .variables) in
     let h = repeat-le [] (map f (entries s)) in
     let e = length-map (entries s) f in
     let n = count s in
@@ -85,12 +86,12 @@ refused-requires : tie.Need-refused-requires
 refused-requires c κs = search needs
 
 returns : tie.Need-returns
-unfolding refused
+unfolding textRefused
 returns c =
     let s = c .before .before .before .before .before .before in
     let r = c .before .before .settings-refusal .result in
-    ap (λ (x : Read). ended x (s .args .states .now) (s .args .values .now)) (c .refused .ensures)
-    ∙ when-refused _ _ _ _ r (first-of-both _ (entriesCases (says s)) r (c .before .if1 .taken) (c .before .before .settings-refusal .ensures)) (c .before .if1 .taken)
+    ap (λ (x : Read). textEnded x (s .args .states .now) (s .args .values .now)) (c .refused .ensures)
+    ∙ text-refused _ _ _ _ r (first-of-both _ (entriesCases (says s)) r (c .before .if1 .taken) (c .before .before .settings-refusal .ensures)) (c .before .if1 .taken)
 
 cast-fill-entries : tie.Need-cast-fill-entries
 cast-fill-entries c = let h = modulus-range _ (space c .modulus) in omega arith
@@ -116,11 +117,11 @@ refused-requires-2 : tie.Need-refused-requires-2
 refused-requires-2 c κs = tt
 
 returns-2 : tie.Need-returns-2
-unfolding refused
+unfolding textRefused
 returns-2 c =
     let s = c .before .before .before .before .before .before .before .before .before .before .before .before in
-    ap (λ (x : Read). ended x (s .args .states .now) (s .args .values .now)) (c .refused2 .ensures)
-    ∙ when-refused _ _ _ _ _ (refuse-9 (says s) (c .before .before .before .before .fill-entries .result) (outside-is (c .before .before .before .before)) (c .before .if2 .taken) ∙ sym (past (c .before .before .before .before .before .before .before) (entriesCases (says s))))
+    ap (λ (x : Read). textEnded x (s .args .states .now) (s .args .values .now)) (c .refused2 .ensures)
+    ∙ text-refused _ _ _ _ _ (refuse-9 (says s) (c .before .before .before .before .fill-entries .result) (outside-is (c .before .before .before .before)) (c .before .if2 .taken) ∙ sym (past (c .before .before .before .before .before .before .before) (entriesCases (says s))))
     (λ e. omega arith)
 
 slice-aggregate-first-repeat : tie.Need-slice-aggregate-first-repeat
@@ -142,11 +143,11 @@ refused-requires-3 : tie.Need-refused-requires-3
 refused-requires-3 c κs = tt
 
 returns-3 : tie.Need-returns-3
-unfolding refused
+unfolding textRefused
 returns-3 c =
     let s = c .before .before .before .before .before .before .before .before .before .before .before .before .before .before .before in
-    ap (λ (x : Read). ended x (s .args .states .now) (s .args .values .now)) (c .refused3 .ensures)
-    ∙ when-refused _ _ _ _ _
+    ap (λ (x : Read). textEnded x (s .args .states .now) (s .args .values .now)) (c .refused3 .ensures)
+    ∙ text-refused _ _ _ _ _
     (refuse-11 (says s) (sym (outside-is (c .before .before .before .before .before .before .before)) ∙ c .before .before .before .before .if2 .left) (c .before .before .first-repeat .result) (repeated-is (c .before .before)) (c .before .if3 .taken)
     ∙ sym (past (c .before .before .before .before .before .before .before .before .before .before) (entriesCases (says s))))
     (λ e. omega arith)
@@ -188,7 +189,7 @@ returns-4 c =
     assembled (s .args .modulus) (s .args .variables) (s .args .order) (s .args .n) (text s) (s .args .states .now) (s .args .values .now) _ _ (count s)
     (c .before .before .before .before .before .before .before .copy .ensures ∙ ap (λ (t : List ℕ). over t (s .args .states .now)) (f .0))
     (c .before .before .copy2 .ensures ∙ ap (λ (t : List ℕ). over t (s .args .values .now)) (f .1))
-    ∙ when-accepted _ _ _ _
+    ∙ text-accepted _ _ _ _
     (entries-pass (says s) (sym (outside-is (c .before .before .before .before .before .before .before .before .before .before .before .before .before .before .before .before)) ∙ c .before .before .before .before .before .before .before .before .before .before .before .before .before .if2 .left) (sym (repeated-is (c .before .before .before .before .before .before .before .before .before .before .before)) ∙ c .before .before .before .before .before .before .before .before .before .before .if3 .left)
     ∙ sym (past (c .before .before .before .before .before .before .before .before .before .before .before .before .before .before .before .before .before .before .before) (entriesCases (says s))))
 

@@ -7,7 +7,7 @@ use native.Mathlib.Omega.{arith}
 use lib.ListN.{length, drop, length-drop}
 use Rattle.csv.specs.Fields.{part}
 use Rattle.csv.specs.Forms.{Header}
-use Rattle.csv.specs.Reading.{ended, refused}
+use Rattle.csv.specs.Reading.{textEnded, textRefused}
 use Rattle.csv.specs.Records.{headerPart, headerSaid, HeaderWithin}
 use Rattle.csv.specs.declared.reading.Read.{Read}
 use Rattle.csv.proofs.reading.WholeText.{too-long, header-broken, entry-broken, form-right, record-small}
@@ -38,10 +38,10 @@ refused-requires : tie.Need-refused-requires
 refused-requires c κs = search needs
 
 returns : tie.Need-returns
-unfolding refused
+unfolding textRefused
 returns c =
     let s = c .before .before .before .before .before in
-    ap (λ (x : Read). ended x (s .args .states .now) (s .args .values .now)) (c .refused .ensures) ∙ too-long (text s) (s .args .states .now) (s .args .values .now) (c .before .if1 .taken)
+    ap (λ (x : Read). textEnded x (s .args .states .now) (s .args .values .now)) (c .refused .ensures) ∙ too-long (text s) (s .args .states .now) (s .args .values .now) (c .before .if1 .taken)
 
 read-header-requires : tie.Need-read-header-requires
 read-header-requires c κs = search needs
@@ -56,10 +56,10 @@ refused-requires-2 : tie.Need-refused-requires-2
 refused-requires-2 c κs = search needs
 
 returns-2 : tie.Need-returns-2
-unfolding refused headerSaid
+unfolding textRefused headerSaid
 returns-2 c =
     let s = c .before .before .before .before .before .before .before .before in
-    ap (λ (x : Read). ended x (s .args .states .now) (s .args .values .now)) (c .refused2 .ensures)
+    ap (λ (x : Read). textEnded x (s .args .states .now) (s .args .values .now)) (c .refused2 .ensures)
     ∙ header-broken (text s) (s .args .states .now) (s .args .values .now) (c .before .before .before .before .if1 .left)
     (sym (ap (headerSaid (text s)) (sym (c .before .enum-told .given .1)) ∙ c .before .before .before .read-header .ensures .0))
 
@@ -89,11 +89,11 @@ read-entries-requires : tie.Need-read-entries-requires
 read-entries-requires c κs = (within (c .before .before .before .before .before .before), sym (c .before .before .before .before .before .check-entries .ensures) ∙ c .before .before .before .n .given .1)
 
 returns-3 : tie.Need-returns-3
-unfolding refused
+unfolding textRefused
 returns-3 c =
     let d = c .before .before .before .before .before in
     let s = d .before .before .before .before .before .before .before .before in
-    ap (λ (x : Read). ended x (s .args .states .now) (s .args .values .now)) (c .refused3 .ensures)
+    ap (λ (x : Read). textEnded x (s .args .states .now) (s .args .values .now)) (c .refused3 .ensures)
     ∙ entry-broken (text s) (s .args .states .now) (s .args .values .now) (d .before .before .before .before .if1 .left) (header d) (drop (next d) (text s)) (said d) _ _
     (sym (c .before .before .refusal .given .1) ∙ c .before .before .before .before .check-entries .ensures)
 

@@ -2,7 +2,7 @@
 use borrow.Author.Needs.{needs}
 use mathlib.Core.Path.{sym, _∙_}
 use borrow.Author.Tests.{not-true, not-false}
-use Rattle.csv.proofs.reading.FirstCase.{refuse-3, refuse-4-low, refuse-4-high, refuse-6-states, refuse-6-values, refuse-8, settings-pass}
+use Rattle.csv.proofs.reading.TextCases.{refuse-3, refuse-4-low, refuse-4-high, refuse-6-states, refuse-6-values, refuse-8, settings-pass}
 use Rattle.csv.proofs.reading.settings_refusal.Statement.{statement}
 use Rattle.csv.proofs.reading.settings_refusal.Tie as tie
 

@@ -7,7 +7,7 @@ use native.Mathlib.Omega.{arith}
 use lib.ListN.{length, drop}
 use borrow.Author.Tests.{not-true, not-false}
 use Rattle.csv.specs.Fields.{field}
-use Rattle.csv.specs.Said.{signedOf}
+use Rattle.csv.specs.Said.{withSign}
 use Rattle.csv.specs.Records.{levelField, entryPart, levelAtSaid, LevelWithin, checked, entrySaid}
 use Rattle.csv.proofs.records.EntriesChecked.{check-broken, check-long, check-last, check-short, check-more}
 use Rattle.csv.proofs.records.check_entry.Statement.{statement}
@@ -25,7 +25,7 @@ text s = s .args .text .now
 
 -- the level that was read, and where the text goes on
 said : (c : tie.After-known-told Inv-loop μ-loop)
-    → field (signedOf (c .before .more .given .0 .0) (c .before .more .given .0 .1 .0)) (c .before .more .given .0 .1 .1 .0) (drop (c .before .more .given .0 .1 .1 .1 .0) (text (c .before .before .before .before .before .before)))
+    → field (withSign (c .before .more .given .0 .0) (c .before .more .given .0 .1 .0)) (c .before .more .given .0 .1 .1 .0) (drop (c .before .more .given .0 .1 .1 .1 .0) (text (c .before .before .before .before .before .before)))
     ≡ levelField (drop (c .before .before .before .before .loop .from) (text (c .before .before .before .before .before .before)))
 unfolding levelAtSaid
 said c = ap (levelAtSaid (text (c .before .before .before .before .before .before))) (sym (c .before .more .given .1)) ∙ c .before .before .before .level-at .ensures .0
