@@ -2,3 +2,4 @@
 pub mod TextCases
 pub mod RepeatedPoints
 pub mod WholeText
+pub mod AcceptedPoints

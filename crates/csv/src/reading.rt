@@ -1,18 +1,21 @@
 // The text reader.
+mod fields;
+pub mod forms;
+mod points;
+mod records;
+mod repeats;
+
 ghost use mathlib.Core.Path.{_≡_};
 ghost use mathlib.Core.List.{_++_};
 ghost use Prim.Native.Nat.{_≤_};
 ghost use lib.ListN.{length, drop};
 ghost use Rattle.specification.specs.Refusal.{firstOf};
-ghost use Rattle.csv.specs.Reading.{headerCases, entriesCases, notRefused, textEnded, textAccepted, textDecided, readOutcome};
-ghost use Rattle.csv.specs.Records.{entriesAt, counted};
-ghost use Rattle.csv.specs.Points.{saying};
-ghost use Rattle.csv.specs.declared.records.Entries.the-variants.{Count};
-use crate::points;
-use crate::records;
-use crate::records::Entries;
-use crate::records::HeaderAt;
-use crate::tables;
+ghost use Rattle.csv.specs.reading.Text.{headerCases, entriesCases, notRefused, textEnded, textAccepted, textDecided, readOutcome};
+ghost use Rattle.csv.specs.reading.Records.{entriesAt, counted};
+ghost use Rattle.csv.specs.reading.Points.{saying};
+ghost use Rattle.csv.specs.declared.reading.records.Entries.the-variants.{Count};
+use crate::reading::records::Entries;
+use crate::reading::records::HeaderAt;
 use residue::bytes;
 
 // The number of a refusal, or 0, with the record at fault.
@@ -110,7 +113,7 @@ fn read_entries(
     if outside != 0 {
         return refused(9, outside as u16 + 1);
     }
-    let repeated = tables::first_repeat(&rows, n);
+    let repeated = repeats::first_repeat(&rows, n);
     if repeated != 0 {
         return refused(11, repeated as u16 + 1);
     }

@@ -7,7 +7,7 @@ use Rattle.specification.specs.declared.settings.Wired.{Wired}
 use Rattle.specification.specs.Adding.{Outcome, ended}
 use Rattle.specification.specs.Solving.{Listed, listed}
 use Rattle.csv.specs.declared.reading.Read.{Read}
-use Rattle.csv.specs.Reading.{TextOutcome, textEnded}
+use Rattle.csv.specs.reading.Text.{TextOutcome, textEnded}
 use Rattle.misqafur.specs.Packing.{packedAnswer, packedWired, packedRead, left, packedOutcome, leftList, packedList, leftReading, packedReading}
 
 pub packs : {a : Answer} {b c d e : List ℕ} {o : Outcome} {k : ℕ} → ended a b c d e ≡ o → k ≡ packedAnswer a → left k b c d e ≡ packedOutcome o

@@ -9,7 +9,7 @@ use Rattle.specification.specs.Tables.{Tables, fourTables}
 use Rattle.specification.specs.Adding.{Outcome}
 use Rattle.specification.specs.Solving.{Listed}
 use Rattle.csv.specs.declared.reading.Read.{Read}
-use Rattle.csv.specs.Reading.{TextOutcome}
+use Rattle.csv.specs.reading.Text.{TextOutcome}
 
 -- Numbers in one, each 256 times higher than the one before it.
 abbrev pub packed : List ℕ → ℕ

@@ -2,7 +2,7 @@
 use crate::packing::pack_read;
 use csv::reading::read_text;
 ghost use mathlib.Core.Path.{_≡_};
-ghost use Rattle.csv.specs.Reading.{readOutcome};
+ghost use Rattle.csv.specs.reading.Text.{readOutcome};
 ghost use Rattle.misqafur.specs.Packing.{leftReading, packedReading};
 
 // The settings and the number of points of a text, the points and values into the lent buffers.

@@ -32,14 +32,14 @@ use Rattle.basis.specs.Drawing.{PointsGiven}
 use Rattle.basis.specs.Drawing as D
 use Rattle.basis.proofs.drawing.Given as G
 use Rattle.csv.specs.declared.reading.Refusal.{Refusal}
-use Rattle.csv.specs.Forms.{Header}
-use Rattle.csv.specs.Fields.{recordsOf}
+use Rattle.csv.specs.reading.Forms.{Header}
+use Rattle.csv.specs.reading.Fields.{recordsOf}
 use Rattle.specification.specs.Refusal.{firstOf}
-use Rattle.csv.specs.Reading.{Contents, TextOutcome, headerIn, formFault, contentsOf, entryPoint, entryValue, entryPoints, entryValues, firstOutside, firstRepeat, headerCases, entriesCases, readCases, notRefused, textAccepted, textDecided, textRefused, readOutcome}
+use Rattle.csv.specs.reading.Text.{Contents, TextOutcome, headerIn, formFault, contentsOf, entryPoint, entryValue, entryPoints, entryValues, firstOutside, firstRepeat, headerCases, entriesCases, readCases, notRefused, textAccepted, textDecided, textRefused, readOutcome}
 use Rattle.csv.specs.Appending.{putAt, Put}
-use Rattle.csv.specs.Printing.{refusalLine, linesOf, linesRead, linesFor, printed, printOutcome}
-use Rattle.csv.proofs.tables.RepeatedRows.{AllLong}
-use Rattle.csv.proofs.printing.AcceptedPoints.{passed, in-small, or-small, no-fault, all-long, all-inside, none-again}
+use Rattle.csv.specs.printing.Lines.{refusalLine}
+use Rattle.csv.specs.printing.Text.{linesOf, linesRead, linesFor, printed, printOutcome}
+use Rattle.csv.proofs.reading.AcceptedPoints.{AllLong, passed, in-small, or-small, no-fault, all-long, all-inside, none-again}
 
 pub record Says (e : Contents) : Type 0 where
   pub modulus : isModulus (e .header .modulus) ≡ true

@@ -12,14 +12,14 @@ use lib.Dec.{eqb}
 use borrow.Author.Tests.{eqb-true}
 use Rattle.residue.specs.Layout.{groups, fill, inPlaces, over}
 use Rattle.specification.proofs.agreement.Points.{length-residues}
-use Rattle.csv.specs.Fields.{recordsOf}
-use Rattle.csv.specs.Forms.{levelOf, together, levelsOf, entryOf}
-use Rattle.csv.specs.Reading.{entryIn, entryPoint, entryValue, entryPoints, entryValues, firstRepeat, textEnded, textAccepted}
-use Rattle.csv.specs.Records.{entriesAt, counted}
-use Rattle.csv.specs.Points.{levelsAt, saying}
-use Rattle.csv.specs.declared.records.Entries.the-variants as N
-use Rattle.csv.proofs.points.EntriesFilled.{all-entries}
-use Rattle.csv.proofs.tables.RepeatedRows.{AllLong, table-repeats}
+use Rattle.csv.specs.reading.Fields.{recordsOf}
+use Rattle.csv.specs.reading.Forms.{levelOf, together, levelsOf, entryOf}
+use Rattle.csv.specs.reading.Text.{entryIn, entryPoint, entryValue, entryPoints, entryValues, firstRepeat, textEnded, textAccepted}
+use Rattle.csv.specs.reading.Records.{entriesAt, counted}
+use Rattle.csv.specs.reading.Points.{levelsAt, saying}
+use Rattle.csv.specs.declared.reading.records.Entries.the-variants as N
+use Rattle.csv.proofs.reading.points.EntriesFilled.{all-entries}
+use Rattle.csv.proofs.reading.repeats.RepeatedRows.{AllLong, table-repeats}
 
 levels-length : (fields : List (List ℕ)) (zs : List ℤ) → levelsOf fields ≡ some zs → length zs ≡ length fields
 unfolding levelsOf together

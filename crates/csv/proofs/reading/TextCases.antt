@@ -10,7 +10,7 @@ use borrow.Author.Tests.{lt-ltb, le-ltb, lt-leb, le-leb, eq-eqb, ne-eqb}
 use Rattle.residue.specs.Modulus.{isModulus}
 use Rattle.specification.specs.Levels.{isAmong}
 use Rattle.specification.specs.Refusal.{firstOf}
-use Rattle.csv.specs.Reading.{Contents, TextCase, TextOutcome, entryPoints, firstOutside, further, firstFault, firstRepeat, headerCases, entriesCases, notRefused, textRefused, textDecided, refusalAt}
+use Rattle.csv.specs.reading.Text.{Contents, TextCase, TextOutcome, entryPoints, firstOutside, further, firstFault, firstRepeat, headerCases, entriesCases, notRefused, textRefused, textDecided, refusalAt}
 use Rattle.csv.specs.declared.reading.Refusal.{Refusal}
 
 module _ (p m n s v : ℕ) where

@@ -8,15 +8,15 @@ use lib.IntN.{ℤ}
 use lib.ListN.{length, drop, length-map}
 use borrow.Author.Tests.{lt-ltb, le-ltb, eq-eqb, ne-eqb}
 use Rattle.residue.specs.Lists.{sameList}
-use Rattle.csv.specs.Fields.{Part, part, faulty, front, ending, unquoted, fieldOf, behindField, recordFrom, recordOf, behindRecord, recordsFrom, recordsOf}
-use Rattle.csv.specs.Forms.{Header, lastField, headerFrom, headerOf}
+use Rattle.csv.specs.reading.Fields.{Part, part, faulty, front, ending, unquoted, fieldOf, behindField, recordFrom, recordOf, behindRecord, recordsFrom, recordsOf}
+use Rattle.csv.specs.reading.Forms.{Header, lastField, headerFrom, headerOf}
 use Rattle.specification.specs.Refusal.{firstOf}
-use Rattle.csv.specs.Reading.{Contents, TextOutcome, further, firstFault, isNone, headerIn, entryIn, entriesIn, formFault, contentsOf, headerCases, entriesCases, readCases, notRefused, textAccepted, textRefused, textDecided, readOutcome, refusalAt}
-use Rattle.csv.specs.Records.{kept, reads, headerPart, entriesAt, counted}
-use Rattle.csv.specs.Points.{levelsAt, saying}
+use Rattle.csv.specs.reading.Text.{Contents, TextOutcome, further, firstFault, isNone, headerIn, entryIn, entriesIn, formFault, contentsOf, headerCases, entriesCases, readCases, notRefused, textAccepted, textRefused, textDecided, readOutcome, refusalAt}
+use Rattle.csv.specs.reading.Records.{kept, reads, headerPart, entriesAt, counted}
+use Rattle.csv.specs.reading.Points.{levelsAt, saying}
 use Rattle.csv.specs.declared.reading.Refusal.{Refusal}
-use Rattle.csv.specs.declared.records.Entries.the-variants as N
-use Rattle.csv.proofs.fields.EnoughTurns.{records-unroll}
+use Rattle.csv.specs.declared.reading.records.Entries.the-variants as N
+use Rattle.csv.proofs.reading.fields.EnoughTurns.{records-unroll}
 use Rattle.csv.proofs.reading.RepeatedPoints.{entries-count}
 use Rattle.csv.proofs.reading.TextCases.{text-refused, fault-le}
 

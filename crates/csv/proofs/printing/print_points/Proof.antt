@@ -11,7 +11,7 @@ use Rattle.residue.proofs.level.Moduli.{modulus-range}
 use Rattle.residue.proofs.Layouts.{length-fill}
 use Rattle.specification.proofs.Wiring.{names-length}
 use Rattle.basis.proofs.drawing.Given.{drawn-long}
-use Rattle.csv.proofs.printing.Appends.{put-within}
+use Rattle.csv.proofs.appending.Appends.{put-within}
 use Rattle.csv.proofs.printing.PointsPrinted.{few, inside, told-room, told}
 use Rattle.csv.proofs.printing.print_points.Statement.{statement}
 use Rattle.csv.proofs.printing.print_points.Tie as tie

@@ -1,9 +1,9 @@
 -- `printing::print_text` meets its contract.
 use mathlib.Core.Path.{refl, sym}
 use native.Mathlib.Omega.{arith}
-use Rattle.csv.specs.Reading.{textEnded}
-use Rattle.csv.proofs.printing.Appends.{put-within}
-use Rattle.csv.proofs.printing.LongestPrint.{refusal-length}
+use Rattle.csv.specs.reading.Text.{textEnded}
+use Rattle.csv.proofs.appending.Appends.{put-within}
+use Rattle.csv.proofs.printing.lines.LongestPrint.{refusal-length}
 use Rattle.csv.proofs.printing.AcceptedText.{fit, printed-refusal, printed-basis, print-short, print-long}
 use borrow.Author.Needs.{needs}
 use Rattle.csv.proofs.printing.print_text.Statement.{statement}

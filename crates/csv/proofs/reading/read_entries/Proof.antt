@@ -10,8 +10,8 @@ use Rattle.residue.specs.Layout.{groups, inPlaces, over}
 use Rattle.residue.proofs.level.Moduli.{modulus-range}
 use Rattle.residue.proofs.Layouts.{fill-zeros, length-fill}
 use Rattle.specification.specs.Refusal.{firstOf}
-use Rattle.csv.specs.Reading.{TextCase, Contents, entryPoint, entryValue, isOutside, entryPoints, firstOutside, firstRepeat, entriesCases, headerCases, notRefused, textEnded, textRefused}
-use Rattle.csv.specs.Points.{levelsAt, saying}
+use Rattle.csv.specs.reading.Text.{TextCase, Contents, entryPoint, entryValue, isOutside, entryPoints, firstOutside, firstRepeat, entriesCases, headerCases, notRefused, textEnded, textRefused}
+use Rattle.csv.specs.reading.Points.{levelsAt, saying}
 use Rattle.csv.specs.declared.reading.Read.{Read}
 use Rattle.csv.proofs.reading.TextCases.{Allowed, room, first-of-both, refuse-9, refuse-11, entries-pass, settings-over, text-refused, text-accepted, fault-le, repeat-le}
 use Rattle.csv.proofs.reading.RepeatedPoints.{entries-count, points-repeat, assembled}

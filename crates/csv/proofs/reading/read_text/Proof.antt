@@ -5,10 +5,10 @@ use mathlib.Core.List.{List}
 use Prim.Native.Nat.{ℕ, _≤_}
 use native.Mathlib.Omega.{arith}
 use lib.ListN.{length, drop, length-drop}
-use Rattle.csv.specs.Fields.{part}
-use Rattle.csv.specs.Forms.{Header}
-use Rattle.csv.specs.Reading.{textEnded, textRefused}
-use Rattle.csv.specs.Records.{headerPart, headerSaid, HeaderWithin}
+use Rattle.csv.specs.reading.Fields.{part}
+use Rattle.csv.specs.reading.Forms.{Header}
+use Rattle.csv.specs.reading.Text.{textEnded, textRefused}
+use Rattle.csv.specs.reading.Records.{headerPart, headerSaid, HeaderWithin}
 use Rattle.csv.specs.declared.reading.Read.{Read}
 use Rattle.csv.proofs.reading.WholeText.{too-long, header-broken, entry-broken, form-right, record-small}
 use Rattle.csv.proofs.reading.read_text.Statement.{statement}
