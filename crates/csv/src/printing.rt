@@ -46,7 +46,8 @@ fn print_points(
     requires { ⌜ PointsGiven (settingsOf p m order) n (now points) ⌝ }
     requires { ⌜ (length (now values) ≡ n) × (Below p (now values)) ⌝ }
     requires { ⌜ 102048 ≤ length (now out) ⌝ }
-    ensures { λ e. ⌜ Put 0 (linesOf (settingsOf p m order) (pointsIn (settingsOf p m order) n (now (points .entry))) (now (values .entry))) (now (out .entry)) (now (out .exit)) e ⌝ ∗ ⌜ Within e (now (out .exit)) ⌝ }
+    ensures { λ e. ⌜ Put 0 (linesOf (settingsOf p m order) (pointsIn (settingsOf p m order) n (now (points .entry))) (now (values .entry)))
+        (now (out .entry)) (now (out .exit)) e ⌝ ∗ ⌜ Within e (now (out .exit)) ⌝ }
 {
     let mut standard = [0u8; 512];
     let mut leads = [0u8; 3592];

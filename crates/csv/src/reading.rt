@@ -6,13 +6,12 @@ mod records;
 mod repeats;
 
 ghost use mathlib.Core.Path.{_≡_};
-ghost use mathlib.Core.List.{_++_};
 ghost use Prim.Native.Nat.{_≤_};
 ghost use lib.ListN.{length, drop};
 ghost use Rattle.specification.specs.Refusal.{firstOf};
-ghost use Rattle.csv.specs.reading.Text.{headerCases, entriesCases, notRefused, textEnded, textAccepted, textDecided, readOutcome};
+ghost use Rattle.csv.specs.reading.Text.{headerCases, notRefused, textEnded, readOutcome};
 ghost use Rattle.csv.specs.reading.Records.{entriesAt, counted};
-ghost use Rattle.csv.specs.reading.Points.{saying};
+ghost use Rattle.csv.specs.reading.Points.{entriesOutcome};
 ghost use Rattle.csv.specs.declared.reading.records.Entries.the-variants.{Count};
 use crate::reading::records::Entries;
 use crate::reading::records::HeaderAt;
@@ -92,7 +91,8 @@ fn read_entries(
 ) -> Read
     requires { ⌜ from ≤ length (now text) ⌝ }
     requires { ⌜ counted 0 (entriesAt variables (drop from (now text))) ≡ Count n ⌝ }
-    ensures { λ r. ⌜ textEnded r (now (states .exit)) (now (values .exit)) ≡ textDecided (firstOf notRefused (headerCases modulus variables n (length (now (states .entry))) (length (now (values .entry))) ++ entriesCases (saying modulus variables order (drop from (now (text .entry)))))) (textAccepted (saying modulus variables order (drop from (now (text .entry)))) (now (states .entry)) (now (values .entry))) (now (states .entry)) (now (values .entry)) ⌝ }
+    ensures { λ r. ⌜ textEnded r (now (states .exit)) (now (values .exit))
+        ≡ entriesOutcome modulus variables order n (drop from (now (text .entry))) (now (states .entry)) (now (values .entry)) ⌝ }
 {
     let first = settings_refusal(modulus, variables, n, states.len(), values.len());
     let refusal = first.refusal;

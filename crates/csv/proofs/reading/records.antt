@@ -2,3 +2,4 @@
 pub mod EntryLevels
 pub mod EntriesChecked
 pub mod HeaderFields
+pub mod Numbers

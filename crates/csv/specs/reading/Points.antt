@@ -1,7 +1,7 @@
 -- What the readers of residues answer, in the terms of the definitions.
 use mathlib.Core.Path.{_≡_}
 use mathlib.Core.Bool.{Bool, cond}
-use mathlib.Core.List.{List, [], _∷_, map}
+use mathlib.Core.List.{List, [], _∷_, _++_, map}
 use mathlib.Core.Option.{Option·getD}
 use Prim.Native.Nat.{ℕ, zero, suc, _≤_}
 use lib.IntN.{ℤ, pos}
@@ -11,7 +11,8 @@ use Rattle.residue.specs.Level.{residueOf}
 use Rattle.residue.specs.Layout.{rowAt}
 use Rattle.specification.specs.Levels.{isResidue, residueOr0, inRange}
 use Rattle.csv.specs.reading.Fields.{Field, field, broken, Part, part, faulty}
-use Rattle.csv.specs.reading.Text.{Contents, entryValue}
+use Rattle.specification.specs.Refusal.{firstOf}
+use Rattle.csv.specs.reading.Text.{Contents, TextOutcome, entryValue, notRefused, headerCases, entriesCases, textAccepted, textDecided}
 use Rattle.csv.specs.reading.Records.{entriesAt}
 use Rattle.csv.specs.declared.reading.points.Placed.{Placed}
 use Rattle.csv.specs.declared.reading.points.Filled.{Filled}
@@ -55,6 +56,11 @@ levelsAt m l = map (λ e. Option·getD e []) (entriesAt m l)
 -- what a text says with these settings in its header and these entries behind it
 unfoldable pub saying : ℕ → ℕ → ℕ → List ℕ → Contents
 saying p m order l = record { header = record { variables = m; modulus = p; order = order }; entries = levelsAt m l }
+
+-- what is left of a text of right form, by its settings and its n entries
+abbrev pub entriesOutcome : (p m order n : ℕ) → List ℕ → List ℕ → List ℕ → TextOutcome
+entriesOutcome p m order n l states values = let said = saying p m order l in
+    textDecided (firstOf notRefused (headerCases p m n (length states) (length values) ++ entriesCases said)) (textAccepted said states values) states values
 
 -- the first place found, or this one if it has a fault
 unfoldable pub firstPlace : ℕ → Bool → ℕ → ℕ

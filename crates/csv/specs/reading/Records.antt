@@ -1,14 +1,16 @@
 -- What the readers of records answer, by places in the text, in the terms of the definitions.
+use mathlib.Core.Path.{_≡_}
 use mathlib.Core.Bool.{Bool}
 use mathlib.Core.List.{List, [], _∷_, map}
 use mathlib.Core.Option.{Option, some, none}
 use Prim.Native.Nat.{ℕ, suc, _+_, _≤_}
 use lib.IntN.{ℤ}
-use lib.ListN.{drop}
+use lib.ListN.{length, drop}
 use Rattle.csv.specs.reading.Fields.{Field, field, broken, fieldOf, Part, part, faulty, recordOf, recordsOf}
 use Rattle.csv.specs.reading.Forms.{levelOf, entryOf, Header, headerOf}
-use Rattle.csv.specs.reading.Text.{entryIn}
+use Rattle.csv.specs.reading.Text.{refusalAt, notRefused, brokenAt, entryIn}
 use Rattle.csv.specs.reading.Said.{withSign}
+use Rattle.csv.specs.declared.reading.Refusal.{Refusal}
 use Rattle.csv.specs.declared.reading.records.LevelAt.{LevelAt}
 use Rattle.csv.specs.declared.reading.records.LevelAt.the-variants as L
 use Rattle.csv.specs.declared.reading.records.HeaderAt.{HeaderAt}
@@ -60,6 +62,21 @@ abbrev pub LevelWithin : ℕ → LevelAt → Type 0
 LevelWithin n (L.Level negative size more next) = next ≤ n
 LevelWithin n L.Broken = Unit {0}
 
+-- docs/SCOPE.md's number for each case of an answer, with the record at fault: what was read is not refused, what breaks the rules of the text is, with 2
+unfoldable pub fieldRefusal : {A : Type 0} → ℕ → Field A → Refusal
+fieldRefusal «record» (field content more rest) = notRefused
+fieldRefusal «record» broken = brokenAt «record»
+
+unfoldable pub levelRefusal : ℕ → LevelAt → Refusal
+levelRefusal «record» (L.Level negative size more next) = notRefused
+levelRefusal «record» L.Broken = brokenAt «record»
+
+-- `level_at` at a place of a record
+pub record LevelRead (text : List ℕ) (at : ℕ) (r : LevelAt) : Type 0 where
+  pub said : levelAtSaid text r ≡ levelField (drop at text)
+  pub number : («record» : ℕ) → levelRefusal «record» r ≡ fieldRefusal «record» (levelField (drop at text))
+  pub within : LevelWithin (length text) r
+
 unfoldable pub headerSaid : List ℕ → HeaderAt → Part Header
 headerSaid text (H.Header modulus variables order next) = part (record { variables = variables; modulus = modulus; order = order }) (drop next text)
 headerSaid text H.Broken = faulty
@@ -68,26 +85,48 @@ abbrev pub HeaderWithin : ℕ → HeaderAt → Type 0
 HeaderWithin n (H.Header modulus variables order next) = next ≤ n
 HeaderWithin n H.Broken = Unit {0}
 
+unfoldable pub partRefusal : {A : Type 0} → ℕ → Part A → Refusal
+partRefusal «record» (part said rest) = notRefused
+partRefusal «record» faulty = brokenAt «record»
+
+-- the header is record 1
+unfoldable pub headerRefusal : HeaderAt → Refusal
+headerRefusal (H.Header modulus variables order next) = notRefused
+headerRefusal H.Broken = brokenAt 1
+
+-- `read_header`
+pub record HeaderRead (text : List ℕ) (r : HeaderAt) : Type 0 where
+  pub said : headerSaid text r ≡ headerPart text
+  pub number : headerRefusal r ≡ partRefusal 1 (headerPart text)
+  pub within : HeaderWithin (length text) r
+
 -- An entry ends, or is refused with its number and record.
 pub data Checked : Type 0 where
   ends : (rest : List ℕ) → Checked
-  refuses : (refusal at : ℕ) → Checked
+  refuses : (r : Refusal) → Checked
 
--- docs/SCOPE.md's number for each case: a record that is no entry is refused with 2
 unfoldable pub checked : ℕ → Part (List ℤ) → Checked
 checked at (part levels rest) = ends rest
-checked at faulty = refuses 2 at
+checked at faulty = refuses (brokenAt at)
 
 unfoldable pub entrySaid : List ℕ → Entry → Checked
 entrySaid text (E.Ends next) = ends (drop next text)
-entrySaid text (E.Refused refusal at) = refuses refusal at
+entrySaid text (E.Refused refusal at) = refuses (refusalAt refusal at)
 
 abbrev pub EntryWithin : ℕ → Entry → Type 0
 EntryWithin n (E.Ends next) = next ≤ n
 EntryWithin n (E.Refused refusal at) = Unit {0}
 
--- the count of the entries, k being passed, or refusal 2 with the first record that is none, the header being 1
+-- `check_entry` at a place, for an entry of m levels and a value whose record has this number
+pub record EntryRead (text : List ℕ) (at m «record» : ℕ) (r : Entry) : Type 0 where
+  pub said : entrySaid text r ≡ checked «record» (entryPart m (drop at text))
+  pub within : EntryWithin (length text) r
+
+abbrev pub entriesRefused : Refusal → Entries
+entriesRefused r = N.Refused (r .refusal) (r .at)
+
+-- the count of the entries, k being passed, or the refusal of the first record that is none, the header being 1
 unfoldable pub counted : ℕ → List (Option (List ℤ)) → Entries
 counted k [] = N.Count k
 counted k (some levels ∷ l) = counted (suc k) l
-counted k (none ∷ l) = N.Refused 2 (k + 2)
+counted k (none ∷ l) = entriesRefused (brokenAt (k + 2))

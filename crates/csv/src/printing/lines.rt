@@ -5,7 +5,8 @@ use crate::digits::put_digits;
 ghost use Prim.Native.Nat.{_*_, _≤_};
 ghost use lib.ListN.{length};
 ghost use Rattle.csv.specs.Appending.{Room, Put};
-ghost use Rattle.csv.specs.printing.Lines.{spaced, spacedNumbers, labelled, line, firstLine, standardLines, rowLine, rowLines, basisLines, refusalLine, inTable};
+ghost use Rattle.csv.specs.printing.Lines.{spaced, spacedNumbers, labelled, line, firstLine, refusalLine};
+ghost use Rattle.csv.specs.printing.Lines.{standardLines, rowLine, rowLines, basisLines, inTable};
 
 // A space and the number.
 fn put_number(out: &mut [u8], at: usize, n: u16) -> usize
@@ -101,7 +102,8 @@ fn put_rows(
     requires { ⌜ (m ≤ 8) × (n ≤ 64) ⌝ }
     requires { ⌜ (8 * r ≤ length (now leads)) × (64 * r ≤ length (now coefficients)) ⌝ }
     requires { ⌜ Room at (rowLines (inTable 8 r m (now leads)) (inTable 64 r n (now coefficients))) (now out) ⌝ }
-    ensures { λ e. ⌜ Put at (rowLines (inTable 8 r m (now (leads .entry))) (inTable 64 r n (now (coefficients .entry)))) (now (out .entry)) (now (out .exit)) e ⌝ }
+    ensures { λ e. ⌜ Put at (rowLines (inTable 8 r m (now (leads .entry))) (inTable 64 r n (now (coefficients .entry))))
+        (now (out .entry)) (now (out .exit)) e ⌝ }
 {
     let mut next = at;
     for i in 0..r {
@@ -131,8 +133,10 @@ pub fn print_basis(
 ) -> usize
     requires { ⌜ (m ≤ 8) × (n ≤ 64) × (r ≤ 449) ⌝ }
     requires { ⌜ (8 * n ≤ length (now standard)) × (8 * r ≤ length (now leads)) × (64 * r ≤ length (now coefficients)) ⌝ }
-    requires { ⌜ Room 0 (basisLines (inTable 8 n m (now standard)) (inTable 8 r m (now leads)) (inTable 64 r n (now coefficients)) (now interpolant) (now names)) (now out) ⌝ }
-    ensures { λ e. ⌜ Put 0 (basisLines (inTable 8 n m (now (standard .entry))) (inTable 8 r m (now (leads .entry))) (inTable 64 r n (now (coefficients .entry))) (now (interpolant .entry)) (now (names .entry)))
+    requires { ⌜ Room 0 (basisLines (inTable 8 n m (now standard)) (inTable 8 r m (now leads)) (inTable 64 r n (now coefficients))
+        (now interpolant) (now names)) (now out) ⌝ }
+    ensures { λ e. ⌜ Put 0 (basisLines (inTable 8 n m (now (standard .entry))) (inTable 8 r m (now (leads .entry)))
+        (inTable 64 r n (now (coefficients .entry))) (now (interpolant .entry)) (now (names .entry)))
         (now (out .entry)) (now (out .exit)) e ⌝ }
 {
     let first = put_first(out, 0, n as u16, r as u16);

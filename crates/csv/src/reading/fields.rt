@@ -1,10 +1,9 @@
 // The fields of a text, by their places.
 ghost use mathlib.Core.Path.{_≡_};
-ghost use mathlib.Core.List.{List};
-ghost use Prim.Native.Nat.{ℕ, _+_, _≤_};
+ghost use Prim.Native.Nat.{_+_, _≤_};
 ghost use lib.ListN.{length, drop};
-ghost use Rattle.csv.specs.reading.Fields.{isPlain, front, ending, fieldOf, quoted};
-ghost use Rattle.csv.specs.reading.Spans.{closing, endedBy, EndWithin, spanned, SpanWithin};
+ghost use Rattle.csv.specs.reading.Fields.{isPlain, front, fieldOf, quoted};
+ghost use Rattle.csv.specs.reading.Spans.{closing, EndRead, SpanRead};
 
 // A byte that an unquoted field may hold.
 fn is_plain(b: u8) -> bool
@@ -67,7 +66,7 @@ pub enum End {
 
 fn read_end(text: &[u8], at: usize) -> End
     requires { ⌜ at ≤ length (now text) ⌝ }
-    ensures { λ r. ⌜ ((content : List ℕ) → endedBy (now (text .entry)) content r ≡ ending content (drop at (now (text .entry)))) ⌝ ∗ ⌜ EndWithin (length (now (text .entry))) r ⌝ }
+    ensures { λ r. ⌜ EndRead (now (text .entry)) at r ⌝ }
 {
     if at == text.len() {
         return End::At {
@@ -117,7 +116,7 @@ pub enum Span {
 // A quoted field whose content begins at `from`, behind the opening quote.
 fn read_quoted(text: &[u8], from: usize) -> Span
     requires { ⌜ from ≤ length (now text) ⌝ }
-    ensures { λ r. ⌜ spanned (now (text .entry)) r ≡ quoted (drop from (now (text .entry))) ⌝ ∗ ⌜ SpanWithin (length (now (text .entry))) r ⌝ }
+    ensures { λ r. ⌜ SpanRead (now (text .entry)) (quoted (drop from (now (text .entry)))) r ⌝ }
 {
     let to = quote_end(text, from);
     if to == text.len() {
@@ -137,7 +136,7 @@ fn read_quoted(text: &[u8], from: usize) -> Span
 // The field that begins at `at`.
 pub fn read_field(text: &[u8], at: usize) -> Span
     requires { ⌜ at ≤ length (now text) ⌝ }
-    ensures { λ r. ⌜ spanned (now (text .entry)) r ≡ fieldOf (drop at (now (text .entry))) ⌝ ∗ ⌜ SpanWithin (length (now (text .entry))) r ⌝ }
+    ensures { λ r. ⌜ SpanRead (now (text .entry)) (fieldOf (drop at (now (text .entry)))) r ⌝ }
 {
     if at < text.len() {
         if text[at] == 34 {

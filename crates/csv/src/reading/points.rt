@@ -1,6 +1,7 @@
 // The points and values of a text whose records are entries.
 use crate::reading::records;
 use crate::reading::records::LevelAt;
+use residue::level;
 use residue::level::Level;
 ghost use mathlib.Core.Path.{_≡_};
 ghost use mathlib.Core.Bool.{_&&_};
@@ -16,20 +17,19 @@ ghost use Rattle.csv.specs.reading.Records.{levelField, entryPart, entri
 ghost use Rattle.csv.specs.reading.Points.{PlacedAs, levelsIn, FilledAs, levelsAt, firstPlace};
 ghost use Rattle.csv.specs.declared.reading.records.Entries.the-variants.{Count};
 
-// The residue of a level by its sign and size. A size that fits no byte is out of range like any other.
+// The residue of a level by its sign and size. A size that fits no signed byte is out of range like any other.
 fn residue_of(p: u8, negative: bool, size: u16) -> Level
+    requires { ⌜ p ≤ 128 ⌝ }
     ensures { λ r. ⌜ r ≡ residueOf p (withSign negative size) ⌝ }
 {
-    let modulus = p as u16;
-    if modulus <= size {
+    if 127 < size {
         return Level::Outside;
     }
+    let level = size as i8;
     if negative {
-        if 0 < size {
-            return Level::Residue((modulus - size) as u8);
-        }
+        return level::residue(p, -level);
     }
-    Level::Residue(size as u8)
+    level::residue(p, level)
 }
 
 pub struct Placed {
@@ -40,7 +40,7 @@ pub struct Placed {
 
 // The residue of the level in the field at `at`, 0 where it is out of range.
 fn residue_at(text: &[u8], at: usize, p: u8) -> Placed
-    requires { ⌜ at ≤ length (now text) ⌝ }
+    requires { ⌜ (at ≤ length (now text)) × (p ≤ 128) ⌝ }
     requires { ⌜ (levelField (drop at (now text)) ≡ broken → ⊥) ⌝ }
     ensures { λ r. ⌜ PlacedAs p (now (text .entry)) (levelField (drop at (now (text .entry)))) r ⌝ }
 {
@@ -89,9 +89,10 @@ pub struct Filled {
 
 // The point and the value of the entry at `at`.
 fn fill_entry(text: &[u8], at: usize, p: u8, variables: usize, row: &mut [u8]) -> Filled
-    requires { ⌜ (at ≤ length (now text)) × (variables ≤ length (now row)) ⌝ }
+    requires { ⌜ (at ≤ length (now text)) × (variables ≤ length (now row)) × (p ≤ 128) ⌝ }
     requires { ⌜ (entryPart variables (drop at (now text)) ≡ faulty → ⊥) ⌝ }
-    ensures { λ r. ⌜ FilledAs p variables (now (text .entry)) (entryPart variables (drop at (now (text .entry)))) r ⌝ ∗ ⌜ now (row .exit) ≡ over (entryPoint p variables (levelsIn (entryPart variables (drop at (now (text .entry)))))) (now (row .entry)) ⌝ }
+    ensures { λ r. ⌜ FilledAs p variables (now (text .entry)) (entryPart variables (drop at (now (text .entry)))) r ⌝
+        ∗ ⌜ now (row .exit) ≡ over (entryPoint p variables (levelsIn (entryPart variables (drop at (now (text .entry)))))) (now (row .entry)) ⌝ }
 {
     let mut from = at;
     let mut inside = true;
@@ -131,10 +132,12 @@ pub fn fill_entries(
     points: &mut [u8],
     values: &mut [u8],
 ) -> usize
-    requires { ⌜ (at ≤ length (now text)) × (variables ≤ 8) × (n ≤ 64) ⌝ }
+    requires { ⌜ (at ≤ length (now text)) × (variables ≤ 8) × (n ≤ 64) × (p ≤ 128) ⌝ }
     requires { ⌜ counted 0 (entriesAt variables (drop at (now text))) ≡ Count n ⌝ }
     requires { ⌜ (now points ≡ fill 512 []) × (now values ≡ fill 64 []) ⌝ }
-    ensures { λ r. ⌜ r ≡ firstFault (isOutside p) (levelsAt variables (drop at (now (text .entry)))) ⌝ ∗ ⌜ now (points .exit) ≡ fill 512 (inPlaces 8 (map (entryPoint p variables) (levelsAt variables (drop at (now (text .entry)))))) ⌝ ∗ ⌜ now (values .exit) ≡ fill 64 (map (entryValue p variables) (levelsAt variables (drop at (now (text .entry))))) ⌝ }
+    ensures { λ r. ⌜ r ≡ firstFault (isOutside p) (levelsAt variables (drop at (now (text .entry)))) ⌝
+        ∗ ⌜ now (points .exit) ≡ fill 512 (inPlaces 8 (map (entryPoint p variables) (levelsAt variables (drop at (now (text .entry)))))) ⌝
+        ∗ ⌜ now (values .exit) ≡ fill 64 (map (entryValue p variables) (levelsAt variables (drop at (now (text .entry))))) ⌝ }
 {
     let mut from = at;
     let mut outside = 0;

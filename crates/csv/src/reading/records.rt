@@ -2,8 +2,7 @@
 ghost use mathlib.Core.Path.{_≡_};
 ghost use Prim.Native.Nat.{_≤_};
 ghost use lib.ListN.{length, drop};
-ghost use Rattle.csv.specs.reading.Records.{levelField, headerPart, entryPart, entriesAt};
-ghost use Rattle.csv.specs.reading.Records.{levelAtSaid, LevelWithin, headerSaid, HeaderWithin, checked, entrySaid, EntryWithin, counted};
+ghost use Rattle.csv.specs.reading.Records.{LevelRead, HeaderRead, EntryRead, entriesAt, counted};
 use crate::reading::fields;
 use crate::reading::fields::Span;
 use crate::reading::forms;
@@ -23,7 +22,7 @@ pub enum LevelAt {
 // The level or value in the field at `at`.
 pub fn level_at(text: &[u8], at: usize) -> LevelAt
     requires { ⌜ at ≤ length (now text) ⌝ }
-    ensures { λ r. ⌜ levelAtSaid (now (text .entry)) r ≡ levelField (drop at (now (text .entry))) ⌝ ∗ ⌜ LevelWithin (length (now (text .entry))) r ⌝ }
+    ensures { λ r. ⌜ LevelRead (now (text .entry)) at r ⌝ }
 {
     let Span::Content {
         from,
@@ -57,7 +56,7 @@ pub enum HeaderAt {
 
 // The header of a text.
 pub fn read_header(text: &[u8]) -> HeaderAt
-    ensures { λ r. ⌜ headerSaid (now (text .entry)) r ≡ headerPart (now (text .entry)) ⌝ ∗ ⌜ HeaderWithin (length (now (text .entry))) r ⌝ }
+    ensures { λ r. ⌜ HeaderRead (now (text .entry)) r ⌝ }
 {
     let mut at = 0;
     let mut variables = 0;
@@ -95,7 +94,7 @@ pub enum Entry {
 // Whether the record at `at`, whose number is `record`, is an entry of so many variables, and where it ends.
 fn check_entry(text: &[u8], at: usize, variables: usize, record: usize) -> Entry
     requires { ⌜ at ≤ length (now text) ⌝ }
-    ensures { λ r. ⌜ entrySaid (now (text .entry)) r ≡ checked «record» (entryPart variables (drop at (now (text .entry)))) ⌝ ∗ ⌜ EntryWithin (length (now (text .entry))) r ⌝ }
+    ensures { λ r. ⌜ EntryRead (now (text .entry)) at variables «record» r ⌝ }
 {
     let mut from = at;
     let mut left = variables;

@@ -1,11 +1,14 @@
 -- The residue of a level by its sign and size, and of the level in a field.
-use mathlib.Core.Path.{_≡_, refl, ap, _∙_}
+use mathlib.Core.Path.{_≡_, refl, sym, ap, _∙_, subst}
 use mathlib.Core.Bool.{Bool, true, false}
 use mathlib.Core.List.{List}
-use Prim.Native.Nat.{ℕ, zero, suc, _-_, _<_, _≤_}
+use Prim.Native.Nat.{ℕ, zero, suc, _-_, _^_, _<_, _≤_}
 use native.Mathlib.Nat.{not-suc-le-zero}
 use native.Mathlib.Omega.{arith}
-use lib.IntN.{ℤ}
+use lib.IntN.{ℤ, pos, negsuc, _-ℤ_}
+use mir.Syntax.{w8}
+use mir.Val.{SFits, toZ, ofZ}
+use mir.Facts.{toZ-ofZ, toZ-pos}
 use lib.ListN.{length, drop}
 use borrow.Author.Tests.{lt-ltb, le-ltb}
 use Rattle.residue.specs.Level.{residueOf}
@@ -22,17 +25,38 @@ outside p true zero h = simp (le-ltb 0 p h)
 outside p true (suc k) h = simp (le-ltb (suc k) p h)
 outside p false size h = simp (le-ltb size p h)
 
-pub below-zero : (p : ℕ) (n : Bool) (size : ℕ) → n ≡ true → 0 < size → size < p → Residue (p - size) ≡ residueOf p (withSign n size)
-unfolding residueOf withSign negative
-below-zero p true zero e h k = absurd (not-suc-le-zero h)
-below-zero p true (suc j) e h k = simp (lt-ltb (suc j) p k)
-below-zero p false size e h k = let z : _≡_ {A = ℕ} 0 1 = cc in absurd (omega arith)
+-- a size below 128 as a signed byte, and its negation
+below-zero : (k : ℕ) → pos 0 -ℤ pos k ≡ negative k
+unfolding negative
+below-zero zero = refl
+below-zero (suc k) =
+    let e : suc k - 1 ≡ k = omega arith in
+    simp (lt-ltb 0 (suc k) (omega arith)) (ap negsuc e)
 
-pub as-it-is : (p : ℕ) (n : Bool) (size : ℕ) → (n ≡ true → size ≤ 0) → size < p → Residue size ≡ residueOf p (withSign n size)
-unfolding residueOf withSign negative
-as-it-is p true zero h k = simp (lt-ltb 0 p k)
-as-it-is p true (suc j) h k = absurd (not-suc-le-zero (h refl))
-as-it-is p false size h k = simp (lt-ltb size p k)
+negative-fits : (k : ℕ) → k ≤ 127 → SFits w8 (negative k)
+unfolding negative
+negative-fits zero h = record { sfits = omega arith }
+negative-fits (suc k) h = record { sfits = omega arith }
+
+module _ (size : ℕ) (h : size ≤ 127) where
+  as-byte : toZ w8 size ≡ pos size
+  as-byte = let k : size < 2 ^ 7 = omega arith in toZ-pos w8 k
+
+  negated : pos 0 -ℤ toZ w8 size ≡ negative size
+  negated = ap (λ (y : ℤ). pos 0 -ℤ y) as-byte ∙ below-zero size
+
+  pub negation-fits : SFits w8 (pos 0 -ℤ toZ w8 size)
+  negation-fits = subst (SFits w8) (sym negated) (negative-fits size h)
+
+  pub minus : (n : Bool) → n ≡ true → toZ w8 (ofZ w8 (pos 0 -ℤ toZ w8 size)) ≡ withSign n size
+  unfolding withSign
+  minus true e = toZ-ofZ {w = w8} negation-fits ∙ negated
+  minus false e = let z : _≡_ {A = ℕ} 0 1 = cc in absurd (omega arith)
+
+  pub plus : (n : Bool) → n ≡ false → toZ w8 size ≡ withSign n size
+  unfolding withSign
+  plus true e = let z : _≡_ {A = ℕ} 0 1 = cc in absurd (omega arith)
+  plus false e = as-byte
 
 module _ (p : ℕ) (t : List ℕ) (f : Field ℤ) (z : ℤ) (more : Bool) (next : ℕ) (e : field z more (drop next t) ≡ f) (w : next ≤ length t) where
   pub placed-out : Outside ≡ residueOf p z → PlacedAs p t f (record { inside = false; residue = 0; next = next })

@@ -105,7 +105,8 @@ slice-aggregate-fill-entries-2 c = search needs
 fill-entries-requires : tie.Need-fill-entries-requires
 fill-entries-requires c κs =
     let h = space (c .before .before) in
-    ((c .before .before .before .before .before .before .before .pre .0, h .few, h .count), (c .before .before .before .before .before .before .before .pre .1, (sym (fill-zeros 512), sym (fill-zeros 64))))
+    let k = modulus-range _ (h .modulus) in
+    ((c .before .before .before .before .before .before .before .pre .0, h .few, h .count, omega arith), (c .before .before .before .before .before .before .before .pre .1, (sym (fill-zeros 512), sym (fill-zeros 64))))
 
 cast-refused : tie.Need-cast-refused
 cast-refused c = let h = outside-small (c .before .before .before) in omega arith

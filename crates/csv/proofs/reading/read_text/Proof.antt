@@ -29,10 +29,10 @@ header c = record { variables = c .before .modulus .given .0 .1 .0; modulus = c 
 
 said : (c : K) → headerPart (text (c .before .before .before .before .before .before .before .before)) ≡ part (header c) (drop (next c) (text (c .before .before .before .before .before .before .before .before)))
 unfolding headerSaid
-said c = sym (ap (headerSaid (text (c .before .before .before .before .before .before .before .before))) (sym (c .before .modulus .given .1)) ∙ c .before .before .before .read-header .ensures .0)
+said c = sym (ap (headerSaid (text (c .before .before .before .before .before .before .before .before))) (sym (c .before .modulus .given .1)) ∙ c .before .before .before .read-header .ensures .said)
 
 within : (c : K) → next c ≤ length (text (c .before .before .before .before .before .before .before .before))
-within c = subst (HeaderWithin (length (text (c .before .before .before .before .before .before .before .before)))) (c .before .modulus .given .1) (c .before .before .before .read-header .ensures .1)
+within c = subst (HeaderWithin (length (text (c .before .before .before .before .before .before .before .before)))) (c .before .modulus .given .1) (c .before .before .before .read-header .ensures .within)
 
 refused-requires : tie.Need-refused-requires
 refused-requires c κs = search needs
@@ -61,7 +61,7 @@ returns-2 c =
     let s = c .before .before .before .before .before .before .before .before in
     ap (λ (x : Read). textEnded x (s .args .states .now) (s .args .values .now)) (c .refused2 .ensures)
     ∙ header-broken (text s) (s .args .states .now) (s .args .values .now) (c .before .before .before .before .if1 .left)
-    (sym (ap (headerSaid (text s)) (sym (c .before .enum-told .given .1)) ∙ c .before .before .before .read-header .ensures .0))
+    (sym (ap (headerSaid (text s)) (sym (c .before .enum-told .given .1)) ∙ c .before .before .before .read-header .ensures .said))
 
 check-entries-requires : tie.Need-check-entries-requires
 check-entries-requires c κs = (within c, c .before .before .before .before .if1 .left)

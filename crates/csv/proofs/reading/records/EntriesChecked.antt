@@ -12,7 +12,8 @@ use Rattle.csv.specs.reading.Fields.{field, broken, fieldOf, Part, part,
 use Rattle.csv.specs.reading.Forms.{levelOf, entryOf}
 use Rattle.csv.specs.reading.Spans.{undoubled}
 use Rattle.csv.specs.reading.Said.{levelSaid}
-use Rattle.csv.specs.reading.Text.{entryIn}
+use Rattle.csv.specs.reading.Text.{refusalAt, brokenAt, entryIn}
+use Rattle.csv.specs.declared.reading.Refusal.{Refusal}
 use Rattle.csv.specs.reading.Records.{held, reading, levelField, kept, reads, entryPart, entriesAt, ends, refuses, checked, counted}
 use Rattle.csv.specs.declared.reading.forms.Signed.{Signed}
 use Rattle.csv.specs.declared.reading.records.Entries.the-variants as N
@@ -32,7 +33,7 @@ with-checked at z (part zs rest) = refl
 with-checked at z faulty = refl
 
 module _ (at : ℕ) (l : List ℕ) (k : ℕ) where
-  pub check-broken : levelField l ≡ broken → refuses 2 at ≡ checked at (entryPart k l)
+  pub check-broken : levelField l ≡ broken → refuses (brokenAt at) ≡ checked at (entryPart k l)
   unfolding checked
   check-broken e = ap (checked at) (sym (entry-broken l k e))
 
@@ -43,7 +44,7 @@ module _ (at : ℕ) (l : List ℕ) (k : ℕ) where
     ending : more ≡ false → levelField l ≡ field z false rest
     ending h = sym e ∙ ap (λ (b : Bool). field z b rest) h
 
-    pub check-long : k ≡ 0 → more ≡ true → refuses 2 at ≡ checked at (entryPart k l)
+    pub check-long : k ≡ 0 → more ≡ true → refuses (brokenAt at) ≡ checked at (entryPart k l)
     unfolding checked
     check-long n h = ap (checked at) (sym (entry-long l z rest (going h)) ∙ ap (λ (j : ℕ). entryPart j l) (sym n))
 
@@ -55,7 +56,7 @@ module _ (at : ℕ) (l : List ℕ) (k : ℕ) where
       one : suc (k - 1) ≡ k
       one = omega (arith, n)
 
-      pub check-short : more ≡ false → refuses 2 at ≡ checked at (entryPart k l)
+      pub check-short : more ≡ false → refuses (brokenAt at) ≡ checked at (entryPart k l)
       unfolding checked
       check-short h = ap (checked at) (sym (entry-short l z rest (ending h) (k - 1)) ∙ ap (λ (j : ℕ). entryPart j l) one)
 
@@ -122,10 +123,12 @@ unfolding checked
 of-ends at rest (part zs r) e = let q : r ≡ rest = cc in (zs, ap (part zs) q)
 of-ends at rest faulty e = let z : _≡_ {A = ℕ} 0 1 = cc in absurd (omega arith)
 
-of-refuses : (at k b : ℕ) (p : Part (List ℤ)) → refuses k b ≡ checked at p → (p ≡ faulty) × ((k ≡ 2) × (b ≡ at))
+of-refuses : (at k b : ℕ) (p : Part (List ℤ)) → refuses (refusalAt k b) ≡ checked at p → (p ≡ faulty) × ((k ≡ 2) × (b ≡ at))
 unfolding checked
 of-refuses at k b (part zs r) e = let z : _≡_ {A = ℕ} 0 1 = cc in absurd (omega arith)
-of-refuses at k b faulty e = (refl, (cc, cc))
+of-refuses at k b faulty e =
+    let r : refusalAt k b ≡ brokenAt at = cc in
+    (refl, (ap (λ (x : Refusal). x .refusal) r, ap (λ (x : Refusal). x .at) r))
 
 module _ (t : List ℕ) (m from n : ℕ) (h : from < length t) where
   some-left : 0 < length (drop from t)
@@ -141,7 +144,7 @@ module _ (t : List ℕ) (m from n : ℕ) (h : from < length t) where
         ap (λ (j : ℕ). counted j (entriesAt m (drop next t))) (add-one n) ∙ ap (counted n) (sym (entries-more m (drop from t) some-left (p .0) (drop next t) (p .1))),
       )
 
-  pub no-entry : (k b : ℕ) → refuses k b ≡ checked (n + 2) (entryPart m (drop from t)) → N.Refused k b ≡ counted n (entriesAt m (drop from t))
+  pub no-entry : (k b : ℕ) → refuses (refusalAt k b) ≡ checked (n + 2) (entryPart m (drop from t)) → N.Refused k b ≡ counted n (entriesAt m (drop from t))
   unfolding counted
   no-entry k b e =
       let p = of-refuses (n + 2) k b (entryPart m (drop from t)) e in

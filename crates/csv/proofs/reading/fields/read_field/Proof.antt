@@ -26,7 +26,7 @@ content c = undoubled (take (c .plain-end .result - c .before .before .before .a
 
 ended : (c : tie.After-read-end) → endedBy (text (c .before .before .before .before)) (content (c .before)) (c .read-end .result) ≡ fieldOf (drop (c .before .before .before .before .args .at) (text (c .before .before .before .before)))
 ended c =
-    span-plain (text (c .before .before .before .before)) (c .before .before .before .before .args .at) (c .before .plain-end .result) (c .read-end .result) (c .before .plain-end .ensures) (c .read-end .ensures .0)
+    span-plain (text (c .before .before .before .before)) (c .before .before .before .before .args .at) (c .before .plain-end .result) (c .read-end .result) (c .before .plain-end .ensures) (c .read-end .ensures .said)
     ∙ field-plain (text (c .before .before .before .before)) (c .before .before .before .before .args .at) (⊎-elim (λ w h. w .2 .left) (λ w h e. omega arith) (c .before .before .if1 .came))
 
 shared-slice-read-if2 : tie.Need-shared-slice-read-if2
@@ -40,7 +40,7 @@ read-quoted-requires c κs = search needs
 
 returns : tie.Need-returns
 returns c =
-    (c .read-quoted .ensures .0 ∙ field-quoted (text (c .before .before .before .before .before)) (c .before .before .before .before .before .args .at) (c .before .before .before .if1 .taken) (c .before .if2 .taken), c .read-quoted .ensures .1)
+    record { said = c .read-quoted .ensures .said ∙ field-quoted (text (c .before .before .before .before .before)) (c .before .before .before .before .before .args .at) (c .before .before .before .if1 .taken) (c .before .if2 .taken); within = c .read-quoted .ensures .within }
 
 plain-end-requires : tie.Need-plain-end-requires
 plain-end-requires c κs = search needs
@@ -58,17 +58,14 @@ returns-2 : tie.Need-returns-2
 unfolding spanned endedBy
 returns-2 c =
     let d = c .before .before in
-    (ap (endedBy (text (d .before .before .before .before)) (content (d .before))) (sym (c .enum-told .given .1)) ∙ ended d, tt)
+    record { said = ap (endedBy (text (d .before .before .before .before)) (content (d .before))) (sym (c .enum-told .given .1)) ∙ ended d; within = tt }
 
 returns-3 : tie.Need-returns-3
 unfolding spanned endedBy
 returns-3 c =
     let d = c .before .before .before in
     let h = within (d .before) in
-    let e = d .before .plain-end .ensures in (
-      ap (endedBy (text (d .before .before .before .before)) (content (d .before))) (sym (c .before .more .given .1)) ∙ ended d,
-      (omega arith, h, subst (EndWithin (length (text (d .before .before .before .before)))) (c .before .more .given .1) (d .read-end .ensures .1)),
-    )
+    let e = d .before .plain-end .ensures in record { said = ap (endedBy (text (d .before .before .before .before)) (content (d .before))) (sym (c .before .more .given .1)) ∙ ended d; within = (omega arith, h, subst (EndWithin (length (text (d .before .before .before .before)))) (c .before .more .given .1) (d .read-end .ensures .within)) }
 
 pub read-field-spec : {M : Type 1} → statement M
 read-field-spec =

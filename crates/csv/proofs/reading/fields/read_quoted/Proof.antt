@@ -26,7 +26,7 @@ content c = undoubled (take (c .before .quote-end .result - c .before .before .b
 ended : (c : tie.After-read-end) → endedBy (text (c .before .before .before .before)) (content (c .before)) (c .read-end .result) ≡ quoted (drop (c .before .before .before .before .args .from) (text (c .before .before .before .before)))
 ended c =
     span-quoted (text (c .before .before .before .before)) (c .before .before .before .before .args .from) (c .before .before .quote-end .result) (c .read-end .result) (c .before .before .quote-end .ensures) (within (c .before))
-    (c .read-end .ensures .0)
+    (c .read-end .ensures .said)
 
 quote-end-requires : tie.Need-quote-end-requires
 quote-end-requires c κs = search needs
@@ -35,7 +35,7 @@ returns : tie.Need-returns
 unfolding spanned
 returns c =
     let h : length (drop (c .before .before .before .args .from) (text (c .before .before .before))) ≤ closing (drop (c .before .before .before .args .from) (text (c .before .before .before))) = simp length-drop (omega (arith, c .before .quote-end .ensures)) in
-    (sym (quoted-open (drop (c .before .before .before .args .from) (text (c .before .before .before))) h), tt)
+    record { said = sym (quoted-open (drop (c .before .before .before .args .from) (text (c .before .before .before))) h); within = tt }
 
 add-read-end : tie.Need-add-read-end
 add-read-end c = let h = within c in omega arith
@@ -53,17 +53,14 @@ returns-2 : tie.Need-returns-2
 unfolding spanned endedBy
 returns-2 c =
     let d = c .before .before in
-    (ap (endedBy (text (d .before .before .before .before)) (content (d .before))) (sym (c .enum-told .given .1)) ∙ ended d, tt)
+    record { said = ap (endedBy (text (d .before .before .before .before)) (content (d .before))) (sym (c .enum-told .given .1)) ∙ ended d; within = tt }
 
 returns-3 : tie.Need-returns-3
 unfolding spanned endedBy
 returns-3 c =
     let d = c .before .before .before in
     let h = within (d .before) in
-    let e = d .before .before .quote-end .ensures in (
-      ap (endedBy (text (d .before .before .before .before)) (content (d .before))) (sym (c .before .more .given .1)) ∙ ended d,
-      (omega arith, omega arith, subst (EndWithin (length (text (d .before .before .before .before)))) (c .before .more .given .1) (d .read-end .ensures .1)),
-    )
+    let e = d .before .before .quote-end .ensures in record { said = ap (endedBy (text (d .before .before .before .before)) (content (d .before))) (sym (c .before .more .given .1)) ∙ ended d; within = (omega arith, omega arith, subst (EndWithin (length (text (d .before .before .before .before)))) (c .before .more .given .1) (d .read-end .ensures .within)) }
 
 pub read-quoted-spec : {M : Type 1} → statement M
 read-quoted-spec =

@@ -54,7 +54,7 @@ fill-entry-requires c κs =
     let l = c .before .before in
     let h = long l in
     let k : 8 * l .loop .i + 8 - 8 * l .loop .i ≡ 8 = omega arith in (
-      (l .loop .inv .within, simp (length-take, length-drop) (omega arith)),
+      (l .loop .inv .within, simp (length-take, length-drop) (omega arith), l .before .before .before .before .pre .0 .3),
       entry-there _ _ _ _ _ _ _ _ _ _ (l .loop .inv) (count l) (l .before .before .before .before .pre .0 .2) (c .before .loop-test .taken),
     )
 

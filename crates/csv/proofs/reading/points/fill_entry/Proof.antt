@@ -17,7 +17,7 @@ loop-holds : tie.Need-loop-holds Inv-loop μ-loop
 loop-holds c = start _ _ _ _ _ (c .before .before .pre .0 .0) (c .before .before .pre .1)
 
 residue-at-requires : tie.Need-residue-at-requires Inv-loop μ-loop
-residue-at-requires c κs = (c .before .loop .inv .within, level-there _ _ _ _ _ _ _ _ _ (c .before .loop .inv) (c .loop-test .taken))
+residue-at-requires c κs = ((c .before .loop .inv .within, c .before .before .before .before .pre .0 .2), level-there _ _ _ _ _ _ _ _ _ (c .before .loop .inv) (c .loop-test .taken))
 
 slice-write-row : tie.Need-slice-write-row Inv-loop μ-loop
 slice-write-row c = omega (arith, c .before .before .loop .inv .kept, c .before .before .before .before .before .pre .0)
@@ -37,7 +37,7 @@ loop-again c =
     (c .before .before .loop-test .taken) (c .before .before .before .before .before .before .pre .0 .1)
 
 residue-at-requires-2 : tie.Need-residue-at-requires-2 Inv-loop μ-loop
-residue-at-requires-2 c κs = (c .before .loop .inv .within, value-there _ _ _ _ _ _ _ _ _ (c .before .loop .inv) (c .loop-test .left))
+residue-at-requires-2 c κs = ((c .before .loop .inv .within, c .before .before .before .before .pre .0 .2), value-there _ _ _ _ _ _ _ _ _ (c .before .loop .inv) (c .loop-test .left))
 
 both-requires-2 : tie.Need-both-requires-2 Inv-loop μ-loop
 both-requires-2 c κs = tt

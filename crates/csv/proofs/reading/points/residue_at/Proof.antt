@@ -18,10 +18,10 @@ said : (c : tie.After-known-told)
     → field (withSign (c .before .negative .given .0 .0) (c .before .negative .given .0 .1 .0)) (c .before .negative .given .0 .1 .1 .0) (drop (c .before .negative .given .0 .1 .1 .1 .0) (text (c .before .before .before .before .before)))
     ≡ levelField (drop (c .before .before .before .before .before .args .at) (text (c .before .before .before .before .before)))
 unfolding levelAtSaid
-said c = ap (levelAtSaid (text (c .before .before .before .before .before))) (sym (c .before .negative .given .1)) ∙ c .before .before .before .level-at .ensures .0
+said c = ap (levelAtSaid (text (c .before .before .before .before .before))) (sym (c .before .negative .given .1)) ∙ c .before .before .before .level-at .ensures .said
 
 within : (c : tie.After-known-told) → c .before .negative .given .0 .1 .1 .1 .0 ≤ length (text (c .before .before .before .before .before))
-within c = subst (LevelWithin (length (text (c .before .before .before .before .before)))) (c .before .negative .given .1) (c .before .before .before .level-at .ensures .1)
+within c = subst (LevelWithin (length (text (c .before .before .before .before .before)))) (c .before .negative .given .1) (c .before .before .before .level-at .ensures .within)
 
 level-at-requires : tie.Need-level-at-requires
 level-at-requires c κs = search needs
@@ -34,7 +34,7 @@ enum-told c = search needs
 
 returns : tie.Need-returns
 unfolding levelAtSaid
-returns c = absurd (c .before .before .before .before .pre .1 (sym (ap (levelAtSaid (text (c .before .before .before .before))) (sym (c .enum-told .given .1)) ∙ c .before .before .level-at .ensures .0)))
+returns c = absurd (c .before .before .before .before .pre .1 (sym (ap (levelAtSaid (text (c .before .before .before .before))) (sym (c .enum-told .given .1)) ∙ c .before .before .level-at .ensures .said)))
 
 residue-of-requires : tie.Need-residue-of-requires
 residue-of-requires c κs = search needs

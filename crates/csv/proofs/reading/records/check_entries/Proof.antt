@@ -21,7 +21,7 @@ abbrev text : tie.Start Inv-loop μ-loop → List ℕ
 text s = s .args .text .now
 
 within : (c : tie.After-known-told2 Inv-loop μ-loop) → c .before .next .given .0 .0 ≤ length (text (c .before .before .before .before .before .before .before))
-within c = subst (EntryWithin (length (text (c .before .before .before .before .before .before .before)))) (c .before .next .given .1) (c .before .before .before .check-entry .ensures .1)
+within c = subst (EntryWithin (length (text (c .before .before .before .before .before .before .before)))) (c .before .next .given .1) (c .before .before .before .check-entry .ensures .within)
 
 -- an entry was passed
 passed : (c : tie.After-known-told2 Inv-loop μ-loop)
@@ -31,7 +31,7 @@ passed : (c : tie.After-known-told2 Inv-loop μ-loop)
 unfolding entrySaid
 passed c =
     next-entry (text (c .before .before .before .before .before .before .before)) (c .before .before .before .before .before .before .before .args .variables) (c .before .before .before .before .before .loop .from) (c .before .before .before .before .before .loop .n) (c .before .before .before .before .loop-test .taken) (c .before .next .given .0 .0) (c .before .before .before .before .before .loop .n + 2)
-    (within c) (ap (entrySaid (text (c .before .before .before .before .before .before .before))) (sym (c .before .next .given .1)) ∙ c .before .before .before .check-entry .ensures .0)
+    (within c) (ap (entrySaid (text (c .before .before .before .before .before .before .before))) (sym (c .before .next .given .1)) ∙ c .before .before .before .check-entry .ensures .said)
 
 loop-holds : tie.Need-loop-holds Inv-loop μ-loop
 loop-holds c = (omega arith, omega arith, refl)
@@ -51,7 +51,7 @@ returns c =
     let l = c .before .before .before .before .before in
     let t = text (l .before .before) in
     no-entry t (l .before .before .args .variables) (l .loop .from) (l .loop .n) (c .before .before .before .before .loop-test .taken) _ _
-    (ap (entrySaid t) (sym (c .before .refusal .given .1)) ∙ c .before .before .before .check-entry .ensures .0) ∙ l .loop .inv .2
+    (ap (entrySaid t) (sym (c .before .refusal .given .1)) ∙ c .before .before .before .check-entry .ensures .said) ∙ l .loop .inv .2
 
 enum-known-next : tie.Need-enum-known-next Inv-loop μ-loop
 enum-known-next c = search needs

@@ -28,10 +28,10 @@ said : (c : tie.After-known-told Inv-loop μ-loop)
     → field (withSign (c .before .more .given .0 .0) (c .before .more .given .0 .1 .0)) (c .before .more .given .0 .1 .1 .0) (drop (c .before .more .given .0 .1 .1 .1 .0) (text (c .before .before .before .before .before .before)))
     ≡ levelField (drop (c .before .before .before .before .loop .from) (text (c .before .before .before .before .before .before)))
 unfolding levelAtSaid
-said c = ap (levelAtSaid (text (c .before .before .before .before .before .before))) (sym (c .before .more .given .1)) ∙ c .before .before .before .level-at .ensures .0
+said c = ap (levelAtSaid (text (c .before .before .before .before .before .before))) (sym (c .before .more .given .1)) ∙ c .before .before .before .level-at .ensures .said
 
 within : (c : tie.After-known-told Inv-loop μ-loop) → c .before .more .given .0 .1 .1 .1 .0 ≤ length (text (c .before .before .before .before .before .before))
-within c = subst (LevelWithin (length (text (c .before .before .before .before .before .before)))) (c .before .more .given .1) (c .before .before .before .level-at .ensures .1)
+within c = subst (LevelWithin (length (text (c .before .before .before .before .before .before)))) (c .before .more .given .1) (c .before .before .before .level-at .ensures .within)
 
 loop-holds : tie.Need-loop-holds Inv-loop μ-loop
 loop-holds c = (omega arith, refl)
@@ -50,35 +50,35 @@ unfolding entrySaid levelAtSaid
 returns c =
     let l = c .before .before .before in
     let t = text (l .before .before) in
-    let e = ap (levelAtSaid t) (sym (c .enum-told .given .1)) ∙ c .before .before .level-at .ensures .0 in
-    (check-broken (l .before .before .args .«record») (drop (l .loop .from) t) (l .loop .left) (sym e) ∙ l .loop .inv .1, tt)
+    let e = ap (levelAtSaid t) (sym (c .enum-told .given .1)) ∙ c .before .before .level-at .ensures .said in
+    record { said = check-broken (l .before .before .args .«record») (drop (l .loop .from) t) (l .loop .left) (sym e) ∙ l .loop .inv .1; within = tt }
 
 returns-2 : tie.Need-returns-2 Inv-loop μ-loop
 unfolding entrySaid
 returns-2 c =
-    let l = c .before .before .before .before .before .before in (
-      check-long (l .before .before .args .«record») (drop (l .loop .from) (text (l .before .before))) (l .loop .left) _ _ _ (said (c .before .before)) (c .before .if1 .taken) (c .if2 .taken)
-          ∙ l .loop .inv .1,
-      tt,
-    )
+    let l = c .before .before .before .before .before .before in record {
+      said = check-long (l .before .before .args .«record») (drop (l .loop .from) (text (l .before .before))) (l .loop .left) _ _ _ (said (c .before .before)) (c .before .if1 .taken) (c .if2 .taken)
+          ∙ l .loop .inv .1;
+      within = tt;
+    }
 
 returns-3 : tie.Need-returns-3 Inv-loop μ-loop
 unfolding entrySaid
 returns-3 c =
-    let l = c .before .before .before .before .before .before in (
-      check-last (l .before .before .args .«record») (drop (l .loop .from) (text (l .before .before))) (l .loop .left) _ _ _ (said (c .before .before)) (c .before .if1 .taken) (c .if2 .left)
-          ∙ l .loop .inv .1,
-      within (c .before .before),
-    )
+    let l = c .before .before .before .before .before .before in record {
+      said = check-last (l .before .before .args .«record») (drop (l .loop .from) (text (l .before .before))) (l .loop .left) _ _ _ (said (c .before .before)) (c .before .if1 .taken) (c .if2 .left)
+          ∙ l .loop .inv .1;
+      within = within (c .before .before);
+    }
 
 returns-4 : tie.Need-returns-4 Inv-loop μ-loop
 unfolding entrySaid
 returns-4 c =
-    let l = c .before .before .before .before .before .before in (
-      check-short (l .before .before .args .«record») (drop (l .loop .from) (text (l .before .before))) (l .loop .left) _ _ _ (said (c .before .before)) (c .before .if1 .left) (not-true _ (c .if3 .taken))
-          ∙ l .loop .inv .1,
-      tt,
-    )
+    let l = c .before .before .before .before .before .before in record {
+      said = check-short (l .before .before .args .«record») (drop (l .loop .from) (text (l .before .before))) (l .loop .left) _ _ _ (said (c .before .before)) (c .before .if1 .left) (not-true _ (c .if3 .taken))
+          ∙ l .loop .inv .1;
+      within = tt;
+    }
 
 sub-left : tie.Need-sub-left Inv-loop μ-loop
 sub-left c = omega (arith, c .before .if1 .left)

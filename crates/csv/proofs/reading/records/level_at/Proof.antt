@@ -9,6 +9,7 @@ use Rattle.csv.specs.reading.Spans.{spanned, SpanWithin}
 use Rattle.csv.specs.reading.Said.{levelSaid}
 use Rattle.csv.specs.reading.Records.{held, reading, levelField, levelAtSaid}
 use Rattle.csv.specs.declared.reading.forms.Signed.{Signed}
+use Rattle.csv.proofs.reading.records.Numbers.{level-read}
 use Rattle.csv.proofs.reading.records.EntriesChecked.{level-is}
 use Rattle.csv.proofs.reading.records.level_at.Statement.{statement}
 use Rattle.csv.proofs.reading.records.level_at.Tie as tie
@@ -19,7 +20,7 @@ text s = s .args .text .now
 -- the field's places, which lie within the text
 within : (c : tie.After-known-told)
     → (c .before .from .given .0 .0 ≤ c .before .from .given .0 .1 .0) × (c .before .from .given .0 .1 .0 ≤ length (text (c .before .before .before .before .before))) × (c .before .from .given .0 .1 .1 .1 .0 ≤ length (text (c .before .before .before .before .before)))
-within c = subst (SpanWithin (length (text (c .before .before .before .before .before)))) (c .before .from .given .1) (c .before .before .before .read-field .ensures .1)
+within c = subst (SpanWithin (length (text (c .before .before .before .before .before)))) (c .before .from .given .1) (c .before .before .before .read-field .ensures .within)
 
 said : (c : tie.After-read-level)
     → held (levelSaid (c .read-level .result)) (c .before .before .before .from .given .0 .1 .1 .0) (drop (c .before .before .before .from .given .0 .1 .1 .1 .0) (text (c .before .before .before .before .before .before .before)))
@@ -29,7 +30,7 @@ said c =
     let f = c .before .before .before .from .given .0 in
     let t = text (c .before .before .before .before .before .before .before) in
     level-is (take (f .1 .0 - f .0) (drop (f .0) t)) (drop (f .1 .1 .1 .0) t) (drop (c .before .before .before .before .before .before .before .args .at) t) (f .1 .1 .0) (c .read-level .result)
-    (ap (spanned t) (sym (c .before .before .before .from .given .1)) ∙ c .before .before .before .before .before .read-field .ensures .0) (c .read-level .ensures)
+    (ap (spanned t) (sym (c .before .before .before .from .given .1)) ∙ c .before .before .before .before .before .read-field .ensures .said) (c .read-level .ensures)
 
 read-field-requires : tie.Need-read-field-requires
 read-field-requires c κs = search needs
@@ -42,7 +43,7 @@ enum-told c = search needs
 
 returns : tie.Need-returns
 unfolding levelAtSaid levelField reading spanned
-returns c = (ap (reading levelOf) (ap (spanned (text (c .before .before .before .before))) (sym (c .enum-told .given .1)) ∙ c .before .before .read-field .ensures .0), tt)
+returns c = level-read _ _ _ (ap (reading levelOf) (ap (spanned (text (c .before .before .before .before))) (sym (c .enum-told .given .1)) ∙ c .before .before .read-field .ensures .said)) tt
 
 sub-read-level : tie.Need-sub-read-level
 sub-read-level c = within c .0
@@ -67,14 +68,14 @@ unfolding levelAtSaid levelSaid held
 returns-2 c =
     let d = c .before .before in
     let f = d .before .before .before .from .given .0 in
-    (ap (λ (s : Signed). held (levelSaid s) (f .1 .1 .0) (drop (f .1 .1 .1 .0) (text (d .before .before .before .before .before .before .before)))) (sym (c .enum-told2 .given .1)) ∙ said d, tt)
+    level-read _ _ _ (ap (λ (s : Signed). held (levelSaid s) (f .1 .1 .0) (drop (f .1 .1 .1 .0) (text (d .before .before .before .before .before .before .before)))) (sym (c .enum-told2 .given .1)) ∙ said d) tt
 
 returns-3 : tie.Need-returns-3
 unfolding levelAtSaid levelSaid held
 returns-3 c =
     let d = c .before .before .before in
     let f = d .before .before .before .from .given .0 in
-    (ap (λ (s : Signed). held (levelSaid s) (f .1 .1 .0) (drop (f .1 .1 .1 .0) (text (d .before .before .before .before .before .before .before)))) (sym (c .before .negative .given .1)) ∙ said d, within (d .before .before) .2)
+    level-read _ _ _ (ap (λ (s : Signed). held (levelSaid s) (f .1 .1 .0) (drop (f .1 .1 .1 .0) (text (d .before .before .before .before .before .before .before)))) (sym (c .before .negative .given .1)) ∙ said d) (within (d .before .before) .2)
 
 pub level-at-spec : {M : Type 1} → statement M
 level-at-spec =

@@ -13,6 +13,7 @@ use Rattle.csv.specs.reading.Spans.{undoubled, spanned, SpanWithin}
 use Rattle.csv.specs.reading.Said.{lastSaid}
 use Rattle.csv.specs.reading.Records.{kept, headerPart, headerSaid}
 use Rattle.csv.specs.declared.reading.forms.Last.{Last}
+use Rattle.csv.proofs.reading.records.Numbers.{header-read}
 use Rattle.csv.proofs.reading.records.HeaderFields.{headed, head-broken, head-more, head-last, field-shorter}
 use Rattle.csv.proofs.reading.records.read_header.Statement.{statement}
 use Rattle.csv.proofs.reading.records.read_header.Tie as tie
@@ -32,7 +33,7 @@ K = tie.After-known-told Inv-loop μ-loop
 -- the field's places, which lie within the text
 within : (c : K)
     → (c .before .from .given .0 .0 ≤ c .before .from .given .0 .1 .0) × (c .before .from .given .0 .1 .0 ≤ length (text (c .before .before .before .before .before .before))) × (c .before .from .given .0 .1 .1 .1 .0 ≤ length (text (c .before .before .before .before .before .before)))
-within c = subst (SpanWithin (length (text (c .before .before .before .before .before .before)))) (c .before .from .given .1) (c .before .before .before .read-field .ensures .1)
+within c = subst (SpanWithin (length (text (c .before .before .before .before .before .before)))) (c .before .from .given .1) (c .before .before .before .read-field .ensures .within)
 
 abbrev raw : K → List ℕ
 raw c = take (c .before .from .given .0 .1 .0 - c .before .from .given .0 .0) (drop (c .before .from .given .0 .0) (text (c .before .before .before .before .before .before)))
@@ -43,7 +44,7 @@ rest c = drop (c .before .from .given .0 .1 .1 .1 .0) (text (c .before .before .
 here : (c : K) (more : Bool) → c .before .from .given .0 .1 .1 .0 ≡ more → field (undoubled (raw c)) more (rest c) ≡ fieldOf (drop (c .before .before .before .before .loop .at) (text (c .before .before .before .before .before .before)))
 unfolding spanned
 here c more e =
-    ap (λ (b : Bool). field (undoubled (raw c)) b (rest c)) (sym e) ∙ ap (spanned (text (c .before .before .before .before .before .before))) (sym (c .before .from .given .1)) ∙ c .before .before .before .read-field .ensures .0
+    ap (λ (b : Bool). field (undoubled (raw c)) b (rest c)) (sym e) ∙ ap (spanned (text (c .before .before .before .before .before .before))) (sym (c .before .from .given .1)) ∙ c .before .before .before .read-field .ensures .said
 
 -- the last field
 last : (c : tie.After-read-last Inv-loop μ-loop) → kept (lastSaid (c .before .before .before .before .before .before .before .loop .variables) (c .read-last .result)) (rest (c .before .before .before)) ≡ headerPart (text (c .before .before .before .before .before .before .before .before .before))
@@ -76,7 +77,7 @@ unfolding headerSaid spanned
 returns c =
     let l = c .before .before .before in
     let t = text (l .before .before) in
-    (head-broken (l .loop .variables) (drop (l .loop .at) t) (ap (spanned t) (sym (c .enum-told .given .1)) ∙ c .before .before .read-field .ensures .0) ∙ l .loop .inv .2, tt)
+    header-read _ _ (head-broken (l .loop .variables) (drop (l .loop .at) t) (ap (spanned t) (sym (c .enum-told .given .1)) ∙ c .before .before .read-field .ensures .said) ∙ l .loop .inv .2) tt
 
 sub-read-last : tie.Need-sub-read-last Inv-loop μ-loop
 sub-read-last c = within (c .before) .0
@@ -100,13 +101,13 @@ returns-2 : tie.Need-returns-2 Inv-loop μ-loop
 unfolding headerSaid lastSaid kept
 returns-2 c =
     let d = c .before .before in
-    (ap (λ (s : Last). kept (lastSaid (d .before .before .before .before .before .before .before .loop .variables) s) (rest (d .before .before .before))) (sym (c .enum-told2 .given .1)) ∙ last d, tt)
+    header-read _ _ (ap (λ (s : Last). kept (lastSaid (d .before .before .before .before .before .before .before .loop .variables) s) (rest (d .before .before .before))) (sym (c .enum-told2 .given .1)) ∙ last d) tt
 
 returns-3 : tie.Need-returns-3 Inv-loop μ-loop
 unfolding headerSaid lastSaid kept
 returns-3 c =
     let d = c .before .before .before in
-    (ap (λ (s : Last). kept (lastSaid (d .before .before .before .before .before .before .before .loop .variables) s) (rest (d .before .before .before))) (sym (c .before .modulus .given .1)) ∙ last d, within (d .before .before .before) .2)
+    header-read _ _ (ap (λ (s : Last). kept (lastSaid (d .before .before .before .before .before .before .before .loop .variables) s) (rest (d .before .before .before))) (sym (c .before .modulus .given .1)) ∙ last d) (within (d .before .before .before) .2)
 
 add-variables : tie.Need-add-variables Inv-loop μ-loop
 add-variables c = omega arith
