@@ -21,18 +21,21 @@ text s = s .args .text .now
 abbrev K : Type 0
 K = tie.After-known-told
 
+abbrev start : K → tie.Start
+start c = c .before .before .before .before .before .before .before .before
+
 abbrev next : K → ℕ
 next c = c .before .modulus .given .0 .1 .1 .1 .0
 
 abbrev header : K → Header
 header c = record { variables = c .before .modulus .given .0 .1 .0; modulus = c .before .modulus .given .0 .0; order = c .before .modulus .given .0 .1 .1 .0 }
 
-said : (c : K) → headerPart (text (c .before .before .before .before .before .before .before .before)) ≡ part (header c) (drop (next c) (text (c .before .before .before .before .before .before .before .before)))
+said : (c : K) → headerPart (text (start c)) ≡ part (header c) (drop (next c) (text (start c)))
 unfolding headerSaid
-said c = sym (ap (headerSaid (text (c .before .before .before .before .before .before .before .before))) (sym (c .before .modulus .given .1)) ∙ c .before .before .before .read-header .ensures .said)
+said c = sym (ap (headerSaid (text (start c))) (sym (c .before .modulus .given .1)) ∙ c .before .before .before .read-header .ensures .said)
 
-within : (c : K) → next c ≤ length (text (c .before .before .before .before .before .before .before .before))
-within c = subst (HeaderWithin (length (text (c .before .before .before .before .before .before .before .before)))) (c .before .modulus .given .1) (c .before .before .before .read-header .ensures .within)
+within : (c : K) → next c ≤ length (text (start c))
+within c = subst (HeaderWithin (length (text (start c)))) (c .before .modulus .given .1) (c .before .before .before .read-header .ensures .within)
 
 refused-requires : tie.Need-refused-requires
 refused-requires c κs = search needs
@@ -72,7 +75,7 @@ enum-known-refusal c = search needs
 cast-refused : tie.Need-cast-refused
 cast-refused c =
     let d = c .before .before .before .before in
-    let s = d .before .before .before .before .before .before .before .before in
+    let s = start d in
     let l = length-drop (next d) (text s) in
     let b = d .before .before .before .before .if1 .left in
     let h = record-small (header d .variables) (c .before .refusal .given .0 .0) (c .before .refusal .given .0 .1 .0) (drop (next d) (text s)) (omega arith)
@@ -92,7 +95,7 @@ returns-3 : tie.Need-returns-3
 unfolding textRefused
 returns-3 c =
     let d = c .before .before .before .before .before in
-    let s = d .before .before .before .before .before .before .before .before in
+    let s = start d in
     ap (λ (x : Read). textEnded x (s .args .states .now) (s .args .values .now)) (c .refused3 .ensures)
     ∙ entry-broken (text s) (s .args .states .now) (s .args .values .now) (d .before .before .before .before .if1 .left) (header d) (drop (next d) (text s)) (said d) _ _
     (sym (c .before .before .refusal .given .1) ∙ c .before .before .before .before .check-entries .ensures)
@@ -106,7 +109,7 @@ same-length-2 c = search needs
 returns-4 : tie.Need-returns-4
 returns-4 c =
     let d = c .before .before .before .before .before .before .before .before .before .before .before in
-    let s = d .before .before .before .before .before .before .before .before in
+    let s = start d in
     c .before .before .before .before .read-entries .ensures
     ∙ form-right (text s) (s .args .states .now) (s .args .values .now) (d .before .before .before .before .if1 .left) (header d) (drop (next d) (text s)) (said d) _
     (sym (c .before .before .before .before .before .before .before .before .n .given .1) ∙ c .before .before .before .before .before .before .before .before .before .before .check-entries .ensures)

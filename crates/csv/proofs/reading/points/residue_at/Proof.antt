@@ -14,14 +14,17 @@ use Rattle.csv.proofs.reading.points.residue_at.Tie as tie
 abbrev text : tie.Start → List ℕ
 text s = s .args .text .now
 
-said : (c : tie.After-known-told)
-    → field (withSign (c .before .negative .given .0 .0) (c .before .negative .given .0 .1 .0)) (c .before .negative .given .0 .1 .1 .0) (drop (c .before .negative .given .0 .1 .1 .1 .0) (text (c .before .before .before .before .before)))
-    ≡ levelField (drop (c .before .before .before .before .before .args .at) (text (c .before .before .before .before .before)))
-unfolding levelAtSaid
-said c = ap (levelAtSaid (text (c .before .before .before .before .before))) (sym (c .before .negative .given .1)) ∙ c .before .before .before .level-at .ensures .said
+abbrev start : tie.After-known-told → tie.Start
+start c = c .before .before .before .before .before
 
-within : (c : tie.After-known-told) → c .before .negative .given .0 .1 .1 .1 .0 ≤ length (text (c .before .before .before .before .before))
-within c = subst (LevelWithin (length (text (c .before .before .before .before .before)))) (c .before .negative .given .1) (c .before .before .before .level-at .ensures .within)
+said : (c : tie.After-known-told)
+    → field (withSign (c .before .negative .given .0 .0) (c .before .negative .given .0 .1 .0)) (c .before .negative .given .0 .1 .1 .0) (drop (c .before .negative .given .0 .1 .1 .1 .0) (text (start c)))
+    ≡ levelField (drop (start c .args .at) (text (start c)))
+unfolding levelAtSaid
+said c = ap (levelAtSaid (text (start c))) (sym (c .before .negative .given .1)) ∙ c .before .before .before .level-at .ensures .said
+
+within : (c : tie.After-known-told) → c .before .negative .given .0 .1 .1 .1 .0 ≤ length (text (start c))
+within c = subst (LevelWithin (length (text (start c)))) (c .before .negative .given .1) (c .before .before .before .level-at .ensures .within)
 
 level-at-requires : tie.Need-level-at-requires
 level-at-requires c κs = search needs
@@ -48,13 +51,13 @@ enum-told-2 c = search needs
 returns-2 : tie.Need-returns-2
 returns-2 c =
     let d = c .before .before .before in
-    placed-out (d .before .before .before .before .before .args .p) (text (d .before .before .before .before .before)) (levelField (drop (d .before .before .before .before .before .args .at) (text (d .before .before .before .before .before)))) _ _ _ (said d) (within d)
+    placed-out (start d .args .p) (text (start d)) (levelField (drop (start d .args .at) (text (start d)))) _ _ _ (said d) (within d)
     (sym (c .enum-told2 .given .1) ∙ c .before .before .residue-of .ensures)
 
 returns-3 : tie.Need-returns-3
 returns-3 c =
     let d = c .before .before .before .before in
-    placed-in (d .before .before .before .before .before .args .p) (text (d .before .before .before .before .before)) (levelField (drop (d .before .before .before .before .before .args .at) (text (d .before .before .before .before .before)))) _ _ _ (said d) (within d) _
+    placed-in (start d .args .p) (text (start d)) (levelField (drop (start d .args .at) (text (start d)))) _ _ _ (said d) (within d) _
     (sym (c .before .residue .given .1) ∙ c .before .before .before .residue-of .ensures)
 
 pub residue-at-spec : {M : Type 1} → statement M

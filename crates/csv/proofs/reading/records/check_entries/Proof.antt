@@ -20,18 +20,31 @@ abbrev μ-loop : tie.MeasureT-loop
 abbrev text : tie.Start Inv-loop μ-loop → List ℕ
 text s = s .args .text .now
 
-within : (c : tie.After-known-told2 Inv-loop μ-loop) → c .before .next .given .0 .0 ≤ length (text (c .before .before .before .before .before .before .before))
-within c = subst (EntryWithin (length (text (c .before .before .before .before .before .before .before)))) (c .before .next .given .1) (c .before .before .before .check-entry .ensures .within)
+-- The places: the loop, and an entry that was read in it.
+abbrev L : Type 0
+L = tie.At-loop Inv-loop μ-loop
+
+abbrev start : L → tie.Start Inv-loop μ-loop
+start l = l .before .before
+
+abbrev K : Type 0
+K = tie.After-known-told2 Inv-loop μ-loop
+
+abbrev turn : K → L
+turn c = c .before .before .before .before .before
+
+within : (c : K) → c .before .next .given .0 .0 ≤ length (text (start (turn c)))
+within c = subst (EntryWithin (length (text (start (turn c))))) (c .before .next .given .1) (c .before .before .before .check-entry .ensures .within)
 
 -- an entry was passed
-passed : (c : tie.After-known-told2 Inv-loop μ-loop)
-    → (c .before .before .before .before .before .loop .from < c .before .next .given .0 .0)
-    × (counted (c .before .before .before .before .before .loop .n + 1) (entriesAt (c .before .before .before .before .before .before .before .args .variables) (drop (c .before .next .given .0 .0) (text (c .before .before .before .before .before .before .before))))
-    ≡ counted (c .before .before .before .before .before .loop .n) (entriesAt (c .before .before .before .before .before .before .before .args .variables) (drop (c .before .before .before .before .before .loop .from) (text (c .before .before .before .before .before .before .before)))))
+passed : (c : K)
+    → (turn c .loop .from < c .before .next .given .0 .0)
+    × (counted (turn c .loop .n + 1) (entriesAt (start (turn c) .args .variables) (drop (c .before .next .given .0 .0) (text (start (turn c)))))
+    ≡ counted (turn c .loop .n) (entriesAt (start (turn c) .args .variables) (drop (turn c .loop .from) (text (start (turn c))))))
 unfolding entrySaid
 passed c =
-    next-entry (text (c .before .before .before .before .before .before .before)) (c .before .before .before .before .before .before .before .args .variables) (c .before .before .before .before .before .loop .from) (c .before .before .before .before .before .loop .n) (c .before .before .before .before .loop-test .taken) (c .before .next .given .0 .0) (c .before .before .before .before .before .loop .n + 2)
-    (within c) (ap (entrySaid (text (c .before .before .before .before .before .before .before))) (sym (c .before .next .given .1)) ∙ c .before .before .before .check-entry .ensures .said)
+    next-entry (text (start (turn c))) (start (turn c) .args .variables) (turn c .loop .from) (turn c .loop .n) (c .before .before .before .before .loop-test .taken) (c .before .next .given .0 .0) (turn c .loop .n + 2)
+    (within c) (ap (entrySaid (text (start (turn c)))) (sym (c .before .next .given .1)) ∙ c .before .before .before .check-entry .ensures .said)
 
 loop-holds : tie.Need-loop-holds Inv-loop μ-loop
 loop-holds c = (omega arith, omega arith, refl)
@@ -49,8 +62,8 @@ returns : tie.Need-returns Inv-loop μ-loop
 unfolding entrySaid
 returns c =
     let l = c .before .before .before .before .before in
-    let t = text (l .before .before) in
-    no-entry t (l .before .before .args .variables) (l .loop .from) (l .loop .n) (c .before .before .before .before .loop-test .taken) _ _
+    let t = text (start l) in
+    no-entry t (start l .args .variables) (l .loop .from) (l .loop .n) (c .before .before .before .before .loop-test .taken) _ _
     (ap (entrySaid t) (sym (c .before .refusal .given .1)) ∙ c .before .before .before .check-entry .ensures .said) ∙ l .loop .inv .2
 
 enum-known-next : tie.Need-enum-known-next Inv-loop μ-loop
@@ -63,10 +76,10 @@ loop-less : tie.Need-loop-less Inv-loop μ-loop
 loop-less c = let h = passed c .0 in omega arith
 
 loop-again : tie.Need-loop-again Inv-loop μ-loop
-loop-again c = let h = passed c .0 in (within c, omega arith, passed c .1 ∙ c .before .before .before .before .before .loop .inv .2)
+loop-again c = let h = passed c .0 in (within c, omega arith, passed c .1 ∙ turn c .loop .inv .2)
 
 returns-2 : tie.Need-returns-2 Inv-loop μ-loop
-returns-2 c = no-more (text (c .before .before .before)) (c .before .before .before .args .variables) (c .before .loop .from) (c .before .loop .n) (c .loop-test .left) ∙ c .before .loop .inv .2
+returns-2 c = no-more (text (start (c .before))) (start (c .before) .args .variables) (c .before .loop .from) (c .before .loop .n) (c .loop-test .left) ∙ c .before .loop .inv .2
 
 pub check-entries-spec : {M : Type 1} → statement M
 check-entries-spec =

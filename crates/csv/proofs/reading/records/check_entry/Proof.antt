@@ -23,15 +23,28 @@ abbrev μ-loop : tie.MeasureT-loop
 abbrev text : tie.Start Inv-loop μ-loop → List ℕ
 text s = s .args .text .now
 
--- the level that was read, and where the text goes on
-said : (c : tie.After-known-told Inv-loop μ-loop)
-    → field (withSign (c .before .more .given .0 .0) (c .before .more .given .0 .1 .0)) (c .before .more .given .0 .1 .1 .0) (drop (c .before .more .given .0 .1 .1 .1 .0) (text (c .before .before .before .before .before .before)))
-    ≡ levelField (drop (c .before .before .before .before .loop .from) (text (c .before .before .before .before .before .before)))
-unfolding levelAtSaid
-said c = ap (levelAtSaid (text (c .before .before .before .before .before .before))) (sym (c .before .more .given .1)) ∙ c .before .before .before .level-at .ensures .said
+-- The places: the loop, and a level that was read in it.
+abbrev L : Type 0
+L = tie.At-loop Inv-loop μ-loop
 
-within : (c : tie.After-known-told Inv-loop μ-loop) → c .before .more .given .0 .1 .1 .1 .0 ≤ length (text (c .before .before .before .before .before .before))
-within c = subst (LevelWithin (length (text (c .before .before .before .before .before .before)))) (c .before .more .given .1) (c .before .before .before .level-at .ensures .within)
+abbrev start : L → tie.Start Inv-loop μ-loop
+start l = l .before .before
+
+abbrev K : Type 0
+K = tie.After-known-told Inv-loop μ-loop
+
+abbrev turn : K → L
+turn c = c .before .before .before .before
+
+-- the level that was read, and where the text goes on
+said : (c : K)
+    → field (withSign (c .before .more .given .0 .0) (c .before .more .given .0 .1 .0)) (c .before .more .given .0 .1 .1 .0) (drop (c .before .more .given .0 .1 .1 .1 .0) (text (start (turn c))))
+    ≡ levelField (drop (turn c .loop .from) (text (start (turn c))))
+unfolding levelAtSaid
+said c = ap (levelAtSaid (text (start (turn c)))) (sym (c .before .more .given .1)) ∙ c .before .before .before .level-at .ensures .said
+
+within : (c : K) → c .before .more .given .0 .1 .1 .1 .0 ≤ length (text (start (turn c)))
+within c = subst (LevelWithin (length (text (start (turn c))))) (c .before .more .given .1) (c .before .before .before .level-at .ensures .within)
 
 loop-holds : tie.Need-loop-holds Inv-loop μ-loop
 loop-holds c = (omega arith, refl)
@@ -49,15 +62,15 @@ returns : tie.Need-returns Inv-loop μ-loop
 unfolding entrySaid levelAtSaid
 returns c =
     let l = c .before .before .before in
-    let t = text (l .before .before) in
+    let t = text (start l) in
     let e = ap (levelAtSaid t) (sym (c .enum-told .given .1)) ∙ c .before .before .level-at .ensures .said in
-    record { said = check-broken (l .before .before .args .«record») (drop (l .loop .from) t) (l .loop .left) (sym e) ∙ l .loop .inv .1; within = tt }
+    record { said = check-broken (start l .args .«record») (drop (l .loop .from) t) (l .loop .left) (sym e) ∙ l .loop .inv .1; within = tt }
 
 returns-2 : tie.Need-returns-2 Inv-loop μ-loop
 unfolding entrySaid
 returns-2 c =
-    let l = c .before .before .before .before .before .before in record {
-      said = check-long (l .before .before .args .«record») (drop (l .loop .from) (text (l .before .before))) (l .loop .left) _ _ _ (said (c .before .before)) (c .before .if1 .taken) (c .if2 .taken)
+    let l = turn (c .before .before) in record {
+      said = check-long (start l .args .«record») (drop (l .loop .from) (text (start l))) (l .loop .left) _ _ _ (said (c .before .before)) (c .before .if1 .taken) (c .if2 .taken)
           ∙ l .loop .inv .1;
       within = tt;
     }
@@ -65,8 +78,8 @@ returns-2 c =
 returns-3 : tie.Need-returns-3 Inv-loop μ-loop
 unfolding entrySaid
 returns-3 c =
-    let l = c .before .before .before .before .before .before in record {
-      said = check-last (l .before .before .args .«record») (drop (l .loop .from) (text (l .before .before))) (l .loop .left) _ _ _ (said (c .before .before)) (c .before .if1 .taken) (c .if2 .left)
+    let l = turn (c .before .before) in record {
+      said = check-last (start l .args .«record») (drop (l .loop .from) (text (start l))) (l .loop .left) _ _ _ (said (c .before .before)) (c .before .if1 .taken) (c .if2 .left)
           ∙ l .loop .inv .1;
       within = within (c .before .before);
     }
@@ -74,8 +87,8 @@ returns-3 c =
 returns-4 : tie.Need-returns-4 Inv-loop μ-loop
 unfolding entrySaid
 returns-4 c =
-    let l = c .before .before .before .before .before .before in record {
-      said = check-short (l .before .before .args .«record») (drop (l .loop .from) (text (l .before .before))) (l .loop .left) _ _ _ (said (c .before .before)) (c .before .if1 .left) (not-true _ (c .if3 .taken))
+    let l = turn (c .before .before) in record {
+      said = check-short (start l .args .«record») (drop (l .loop .from) (text (start l))) (l .loop .left) _ _ _ (said (c .before .before)) (c .before .if1 .left) (not-true _ (c .if3 .taken))
           ∙ l .loop .inv .1;
       within = tt;
     }
@@ -88,9 +101,9 @@ loop-less c = omega (arith, c .before .if1 .left)
 
 loop-again : tie.Need-loop-again Inv-loop μ-loop
 loop-again c =
-    let l = c .before .before .before .before .before .before in (
+    let l = turn (c .before .before) in (
       within (c .before .before),
-      check-more (l .before .before .args .«record») (drop (l .loop .from) (text (l .before .before))) (l .loop .left) _ _ _ (said (c .before .before)) (c .before .if1 .left) (not-false _ (c .if3 .left))
+      check-more (start l .args .«record») (drop (l .loop .from) (text (start l))) (l .loop .left) _ _ _ (said (c .before .before)) (c .before .if1 .left) (not-false _ (c .if3 .left))
           ∙ l .loop .inv .1,
     )
 

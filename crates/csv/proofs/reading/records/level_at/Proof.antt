@@ -17,20 +17,27 @@ use Rattle.csv.proofs.reading.records.level_at.Tie as tie
 abbrev text : tie.Start → List ℕ
 text s = s .args .text .now
 
+-- The places: a field was read, its bytes were.
+abbrev start : tie.After-known-told → tie.Start
+start c = c .before .before .before .before .before
+
+abbrev known : tie.After-read-level → tie.After-known-told
+known c = c .before .before
+
 -- the field's places, which lie within the text
 within : (c : tie.After-known-told)
-    → (c .before .from .given .0 .0 ≤ c .before .from .given .0 .1 .0) × (c .before .from .given .0 .1 .0 ≤ length (text (c .before .before .before .before .before))) × (c .before .from .given .0 .1 .1 .1 .0 ≤ length (text (c .before .before .before .before .before)))
-within c = subst (SpanWithin (length (text (c .before .before .before .before .before)))) (c .before .from .given .1) (c .before .before .before .read-field .ensures .within)
+    → (c .before .from .given .0 .0 ≤ c .before .from .given .0 .1 .0) × (c .before .from .given .0 .1 .0 ≤ length (text (start c))) × (c .before .from .given .0 .1 .1 .1 .0 ≤ length (text (start c)))
+within c = subst (SpanWithin (length (text (start c)))) (c .before .from .given .1) (c .before .before .before .read-field .ensures .within)
 
 said : (c : tie.After-read-level)
-    → held (levelSaid (c .read-level .result)) (c .before .before .before .from .given .0 .1 .1 .0) (drop (c .before .before .before .from .given .0 .1 .1 .1 .0) (text (c .before .before .before .before .before .before .before)))
-    ≡ levelField (drop (c .before .before .before .before .before .before .before .args .at) (text (c .before .before .before .before .before .before .before)))
+    → held (levelSaid (c .read-level .result)) (known c .before .from .given .0 .1 .1 .0) (drop (known c .before .from .given .0 .1 .1 .1 .0) (text (start (known c))))
+    ≡ levelField (drop (start (known c) .args .at) (text (start (known c))))
 unfolding spanned
 said c =
-    let f = c .before .before .before .from .given .0 in
-    let t = text (c .before .before .before .before .before .before .before) in
-    level-is (take (f .1 .0 - f .0) (drop (f .0) t)) (drop (f .1 .1 .1 .0) t) (drop (c .before .before .before .before .before .before .before .args .at) t) (f .1 .1 .0) (c .read-level .result)
-    (ap (spanned t) (sym (c .before .before .before .from .given .1)) ∙ c .before .before .before .before .before .read-field .ensures .said) (c .read-level .ensures)
+    let f = known c .before .from .given .0 in
+    let t = text (start (known c)) in
+    level-is (take (f .1 .0 - f .0) (drop (f .0) t)) (drop (f .1 .1 .1 .0) t) (drop (start (known c) .args .at) t) (f .1 .1 .0) (c .read-level .result)
+    (ap (spanned t) (sym (known c .before .from .given .1)) ∙ known c .before .before .before .read-field .ensures .said) (c .read-level .ensures)
 
 read-field-requires : tie.Need-read-field-requires
 read-field-requires c κs = search needs
@@ -67,15 +74,15 @@ returns-2 : tie.Need-returns-2
 unfolding levelAtSaid levelSaid held
 returns-2 c =
     let d = c .before .before in
-    let f = d .before .before .before .from .given .0 in
-    level-read _ _ _ (ap (λ (s : Signed). held (levelSaid s) (f .1 .1 .0) (drop (f .1 .1 .1 .0) (text (d .before .before .before .before .before .before .before)))) (sym (c .enum-told2 .given .1)) ∙ said d) tt
+    let f = known d .before .from .given .0 in
+    level-read _ _ _ (ap (λ (s : Signed). held (levelSaid s) (f .1 .1 .0) (drop (f .1 .1 .1 .0) (text (start (known d))))) (sym (c .enum-told2 .given .1)) ∙ said d) tt
 
 returns-3 : tie.Need-returns-3
 unfolding levelAtSaid levelSaid held
 returns-3 c =
     let d = c .before .before .before in
-    let f = d .before .before .before .from .given .0 in
-    level-read _ _ _ (ap (λ (s : Signed). held (levelSaid s) (f .1 .1 .0) (drop (f .1 .1 .1 .0) (text (d .before .before .before .before .before .before .before)))) (sym (c .before .negative .given .1)) ∙ said d) (within (d .before .before) .2)
+    let f = known d .before .from .given .0 in
+    level-read _ _ _ (ap (λ (s : Signed). held (levelSaid s) (f .1 .1 .0) (drop (f .1 .1 .1 .0) (text (start (known d))))) (sym (c .before .negative .given .1)) ∙ said d) (within (known d) .2)
 
 pub level-at-spec : {M : Type 1} → statement M
 level-at-spec =

@@ -30,34 +30,47 @@ text s = s .args .text .now
 abbrev K : Type 0
 K = tie.After-known-told Inv-loop μ-loop
 
+-- The places: the loop, a field that was read in it, the last field.
+abbrev L : Type 0
+L = tie.At-loop Inv-loop μ-loop
+
+abbrev start : L → tie.Start Inv-loop μ-loop
+start l = l .before .before
+
+abbrev turn : K → L
+turn c = c .before .before .before .before
+
+abbrev known : tie.After-read-last Inv-loop μ-loop → K
+known c = c .before .before .before
+
 -- the field's places, which lie within the text
 within : (c : K)
-    → (c .before .from .given .0 .0 ≤ c .before .from .given .0 .1 .0) × (c .before .from .given .0 .1 .0 ≤ length (text (c .before .before .before .before .before .before))) × (c .before .from .given .0 .1 .1 .1 .0 ≤ length (text (c .before .before .before .before .before .before)))
-within c = subst (SpanWithin (length (text (c .before .before .before .before .before .before)))) (c .before .from .given .1) (c .before .before .before .read-field .ensures .within)
+    → (c .before .from .given .0 .0 ≤ c .before .from .given .0 .1 .0) × (c .before .from .given .0 .1 .0 ≤ length (text (start (turn c)))) × (c .before .from .given .0 .1 .1 .1 .0 ≤ length (text (start (turn c))))
+within c = subst (SpanWithin (length (text (start (turn c))))) (c .before .from .given .1) (c .before .before .before .read-field .ensures .within)
 
 abbrev raw : K → List ℕ
-raw c = take (c .before .from .given .0 .1 .0 - c .before .from .given .0 .0) (drop (c .before .from .given .0 .0) (text (c .before .before .before .before .before .before)))
+raw c = take (c .before .from .given .0 .1 .0 - c .before .from .given .0 .0) (drop (c .before .from .given .0 .0) (text (start (turn c))))
 
 abbrev rest : K → List ℕ
-rest c = drop (c .before .from .given .0 .1 .1 .1 .0) (text (c .before .before .before .before .before .before))
+rest c = drop (c .before .from .given .0 .1 .1 .1 .0) (text (start (turn c)))
 
-here : (c : K) (more : Bool) → c .before .from .given .0 .1 .1 .0 ≡ more → field (undoubled (raw c)) more (rest c) ≡ fieldOf (drop (c .before .before .before .before .loop .at) (text (c .before .before .before .before .before .before)))
+here : (c : K) (more : Bool) → c .before .from .given .0 .1 .1 .0 ≡ more → field (undoubled (raw c)) more (rest c) ≡ fieldOf (drop (turn c .loop .at) (text (start (turn c))))
 unfolding spanned
 here c more e =
-    ap (λ (b : Bool). field (undoubled (raw c)) b (rest c)) (sym e) ∙ ap (spanned (text (c .before .before .before .before .before .before))) (sym (c .before .from .given .1)) ∙ c .before .before .before .read-field .ensures .said
+    ap (λ (b : Bool). field (undoubled (raw c)) b (rest c)) (sym e) ∙ ap (spanned (text (start (turn c)))) (sym (c .before .from .given .1)) ∙ c .before .before .before .read-field .ensures .said
 
 -- the last field
-last : (c : tie.After-read-last Inv-loop μ-loop) → kept (lastSaid (c .before .before .before .before .before .before .before .loop .variables) (c .read-last .result)) (rest (c .before .before .before)) ≡ headerPart (text (c .before .before .before .before .before .before .before .before .before))
+last : (c : tie.After-read-last Inv-loop μ-loop) → kept (lastSaid (turn (known c) .loop .variables) (c .read-last .result)) (rest (known c)) ≡ headerPart (text (start (turn (known c))))
 last c =
-    head-last (c .before .before .before .before .before .before .before .loop .variables) (drop (c .before .before .before .before .before .before .before .loop .at) (text (c .before .before .before .before .before .before .before .before .before))) (raw (c .before .before .before)) (rest (c .before .before .before)) (c .read-last .result)
-    (here (c .before .before .before) _ (not-true _ (c .before .before .if1 .taken))) (c .read-last .ensures (c .before .before .before .before .before .before .before .loop .variables))
-    ∙ c .before .before .before .before .before .before .before .loop .inv .2
+    head-last (turn (known c) .loop .variables) (drop (turn (known c) .loop .at) (text (start (turn (known c))))) (raw (known c)) (rest (known c)) (c .read-last .result)
+    (here (known c) _ (not-true _ (c .before .before .if1 .taken))) (c .read-last .ensures (turn (known c) .loop .variables))
+    ∙ turn (known c) .loop .inv .2
 
-next : (c : tie.Else1 Inv-loop μ-loop) → c .before .before .before .before .before .loop .at < c .before .before .from .given .0 .1 .1 .1 .0
+next : (c : tie.Else1 Inv-loop μ-loop) → turn (c .before) .loop .at < c .before .before .from .given .0 .1 .1 .1 .0
 next c =
-    let h = field-shorter (c .before .before .before .before .before .loop .variables) (drop (c .before .before .before .before .before .loop .at) (text (c .before .before .before .before .before .before .before))) (undoubled (raw (c .before))) (rest (c .before)) (here (c .before) true (not-false _ (c .if1 .left))) in
+    let h = field-shorter (turn (c .before) .loop .variables) (drop (turn (c .before) .loop .at) (text (start (turn (c .before))))) (undoubled (raw (c .before))) (rest (c .before)) (here (c .before) true (not-false _ (c .if1 .left))) in
     let w = within (c .before) in
-    omega (arith, length-drop (c .before .before .before .before .before .loop .at) (text (c .before .before .before .before .before .before .before)), length-drop (c .before .before .from .given .0 .1 .1 .1 .0) (text (c .before .before .before .before .before .before .before)))
+    omega (arith, length-drop (turn (c .before) .loop .at) (text (start (turn (c .before)))), length-drop (c .before .before .from .given .0 .1 .1 .1 .0) (text (start (turn (c .before)))))
 
 loop-holds : tie.Need-loop-holds Inv-loop μ-loop
 unfolding headed headerPart headerOf
@@ -76,7 +89,7 @@ returns : tie.Need-returns Inv-loop μ-loop
 unfolding headerSaid spanned
 returns c =
     let l = c .before .before .before in
-    let t = text (l .before .before) in
+    let t = text (start l) in
     header-read _ _ (head-broken (l .loop .variables) (drop (l .loop .at) t) (ap (spanned t) (sym (c .enum-told .given .1)) ∙ c .before .before .read-field .ensures .said) ∙ l .loop .inv .2) tt
 
 sub-read-last : tie.Need-sub-read-last Inv-loop μ-loop
@@ -101,13 +114,13 @@ returns-2 : tie.Need-returns-2 Inv-loop μ-loop
 unfolding headerSaid lastSaid kept
 returns-2 c =
     let d = c .before .before in
-    header-read _ _ (ap (λ (s : Last). kept (lastSaid (d .before .before .before .before .before .before .before .loop .variables) s) (rest (d .before .before .before))) (sym (c .enum-told2 .given .1)) ∙ last d) tt
+    header-read _ _ (ap (λ (s : Last). kept (lastSaid (turn (known d) .loop .variables) s) (rest (known d))) (sym (c .enum-told2 .given .1)) ∙ last d) tt
 
 returns-3 : tie.Need-returns-3 Inv-loop μ-loop
 unfolding headerSaid lastSaid kept
 returns-3 c =
     let d = c .before .before .before in
-    header-read _ _ (ap (λ (s : Last). kept (lastSaid (d .before .before .before .before .before .before .before .loop .variables) s) (rest (d .before .before .before))) (sym (c .before .modulus .given .1)) ∙ last d) (within (d .before .before .before) .2)
+    header-read _ _ (ap (λ (s : Last). kept (lastSaid (turn (known d) .loop .variables) s) (rest (known d))) (sym (c .before .modulus .given .1)) ∙ last d) (within (known d) .2)
 
 add-variables : tie.Need-add-variables Inv-loop μ-loop
 add-variables c = omega arith
@@ -118,10 +131,10 @@ loop-less c = let h = next c in let w = within (c .before) in omega arith
 loop-again : tie.Need-loop-again Inv-loop μ-loop
 loop-again c =
     let h = next c in
-    let l = c .before .before .before .before .before in (
+    let l = turn (c .before) in (
       within (c .before) .2,
       omega arith,
-      head-more (l .loop .variables) (drop (l .loop .at) (text (l .before .before))) (undoubled (raw (c .before))) (rest (c .before)) (here (c .before) true (not-false _ (c .if1 .left)))
+      head-more (l .loop .variables) (drop (l .loop .at) (text (start l))) (undoubled (raw (c .before))) (rest (c .before)) (here (c .before) true (not-false _ (c .if1 .left)))
           ∙ l .loop .inv .2,
     )
 
