@@ -40,6 +40,19 @@ text s =
 room : (s : tie.Start) → Room 0 (firstLine (s .args .n) (s .args .r) ++ (standards s ++ (rows s ++ (solved s ++ wired s)))) (s .args .out .now)
 room s = rw (text s) at (s .pre .1 .1)
 
+-- The places: behind the first line, the standard lines, the row lines, the interpolant's line. Each names the one before it.
+abbrev start : tie.After-put-first → tie.Start
+start p = p .before .before .before .before .before .before .before .before
+
+abbrev first : tie.After-put-standard → tie.After-put-first
+first p = p .before .before .before .before
+
+abbrev second : tie.After-put-rows → tie.After-put-standard
+second p = p .before .before .before .before
+
+abbrev third : tie.After-put-line → tie.After-put-rows
+third p = p .before .before .before .before .before
+
 cast-put-first : tie.Need-cast-put-first
 cast-put-first c = search needs
 
@@ -53,17 +66,20 @@ put-first-requires c κs =
 
 put-standard-requires : tie.Need-put-standard-requires
 put-standard-requires c κs =
-    let s = c .before .before .before .before .before .before .before .before .before .before .before in
-    ((s .pre .0 .0, s .pre .1 .0 .0), put-front (c .before .before .before .put-first .ensures) (standards s) (rows s ++ (solved s ++ wired s)) (room s))
+    let p₁ = c .before .before .before in
+    let s = start p₁ in
+    ((s .pre .0 .0, s .pre .1 .0 .0), put-front (p₁ .put-first .ensures) (standards s) (rows s ++ (solved s ++ wired s)) (room s))
 
 put-rows-requires : tie.Need-put-rows-requires
 put-rows-requires c κs =
-    let s = c .before .before .before .before .before .before .before .before .before .before .before .before .before .before .before in (
+    let p₂ = c .before .before .before in
+    let p₁ = first p₂ in
+    let s = start p₁ in (
       (s .pre .0 .0, s .pre .0 .1),
       (
         (s .pre .1 .0 .1, s .pre .1 .0 .2),
-        put-front (c .before .before .before .put-standard .ensures) (rows s) (solved s ++ wired s)
-            (put-room (c .before .before .before .before .before .before .before .put-first .ensures) (standards s ++ (rows s ++ (solved s ++ wired s))) (room s)),
+        put-front (p₂ .put-standard .ensures) (rows s) (solved s ++ wired s)
+            (put-room (p₁ .put-first .ensures) (standards s ++ (rows s ++ (solved s ++ wired s))) (room s)),
       ),
     )
 
@@ -72,21 +88,28 @@ slice-aggregate-put-line c = search needs
 
 put-line-requires : tie.Need-put-line-requires
 put-line-requires c κs =
-    let s = c .before .before .before .before .before .before .before .before .before .before .before .before .before .before .before .before .before .before .before .before in
-    put-front (c .before .before .before .before .put-rows .ensures) (solved s) (wired s)
-    (put-room (c .before .before .before .before .before .before .before .before .put-standard .ensures) (rows s ++ (solved s ++ wired s))
-    (put-room (c .before .before .before .before .before .before .before .before .before .before .before .before .put-first .ensures) (standards s ++ (rows s ++ (solved s ++ wired s))) (room s)))
+    let p₃ = c .before .before .before .before in
+    let p₂ = second p₃ in
+    let p₁ = first p₂ in
+    let s = start p₁ in
+    put-front (p₃ .put-rows .ensures) (solved s) (wired s)
+    (put-room (p₂ .put-standard .ensures) (rows s ++ (solved s ++ wired s))
+    (put-room (p₁ .put-first .ensures) (standards s ++ (rows s ++ (solved s ++ wired s))) (room s)))
 
 slice-aggregate-put-line-2 : tie.Need-slice-aggregate-put-line-2
 slice-aggregate-put-line-2 c = search needs
 
 put-line-requires-2 : tie.Need-put-line-requires-2
 put-line-requires-2 c κs =
-    let s = c .before .before .before .before .before .before .before .before .before .before .before .before .before .before .before .before .before .before .before .before .before .before .before .before .before in
-    put-room (c .before .before .before .before .put-line .ensures) (wired s)
-    (put-room (c .before .before .before .before .before .before .before .before .before .put-rows .ensures) (solved s ++ wired s)
-    (put-room (c .before .before .before .before .before .before .before .before .before .before .before .before .before .put-standard .ensures) (rows s ++ (solved s ++ wired s))
-    (put-room (c .before .before .before .before .before .before .before .before .before .before .before .before .before .before .before .before .before .put-first .ensures) (standards s ++ (rows s ++ (solved s ++ wired s))) (room s))))
+    let p₄ = c .before .before .before .before in
+    let p₃ = third p₄ in
+    let p₂ = second p₃ in
+    let p₁ = first p₂ in
+    let s = start p₁ in
+    put-room (p₄ .put-line .ensures) (wired s)
+    (put-room (p₃ .put-rows .ensures) (solved s ++ wired s)
+    (put-room (p₂ .put-standard .ensures) (rows s ++ (solved s ++ wired s))
+    (put-room (p₁ .put-first .ensures) (standards s ++ (rows s ++ (solved s ++ wired s))) (room s))))
 
 same-length : tie.Need-same-length
 same-length c = search needs
@@ -94,10 +117,10 @@ same-length c = search needs
 returns : tie.Need-returns
 returns c =
     let p₄ = c .before .before .before .before .before .before .before in
-    let p₃ = p₄ .before .before .before .before .before in
-    let p₂ = p₃ .before .before .before .before in
-    let p₁ = p₂ .before .before .before .before in
-    let s = p₁ .before .before .before .before .before .before .before .before in
+    let p₃ = third p₄ in
+    let p₂ = second p₃ in
+    let p₁ = first p₂ in
+    let s = start p₁ in
     let k₁ = room s in
     let k₂ = put-room (p₁ .put-first .ensures) (standards s ++ (rows s ++ (solved s ++ wired s))) k₁ in
     let k₃ = put-room (p₂ .put-standard .ensures) (rows s ++ (solved s ++ wired s)) k₂ in
