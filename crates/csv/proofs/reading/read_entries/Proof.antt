@@ -6,7 +6,7 @@ use Prim.Native.Nat.{ℕ, _≤_}
 use native.Mathlib.Omega.{arith}
 use lib.IntN.{ℤ}
 use lib.ListN.{length, drop, length-map}
-use Rattle.residue.specs.Layout.{groups, inPlaces, over}
+use Rattle.residue.specs.Layout.{groups, fill, inPlaces, over}
 use Rattle.residue.proofs.level.Moduli.{modulus-range}
 use Rattle.residue.proofs.Layouts.{fill-zeros, length-fill}
 use Rattle.specification.specs.Refusal.{firstOf}
@@ -62,6 +62,12 @@ past c l =
 abbrev entries : tie.Start → List (List ℤ)
 entries s = levelsAt (s .args .variables) (text s)
 
+abbrev point-bytes : tie.Start → List ℕ
+point-bytes s = fill 512 (inPlaces 8 (map (entryPoint (s .args .modulus) (s .args .variables)) (entries s)))
+
+abbrev value-bytes : tie.Start → List ℕ
+value-bytes s = fill 64 (map (entryValue (s .args .modulus) (s .args .variables)) (entries s))
+
 count : (s : tie.Start) → length (entries s) ≡ s .args .n
 count s = entries-count (s .args .modulus) (s .args .variables) (s .args .n) (text s) (s .pre .1)
 
@@ -80,12 +86,12 @@ outside-small c =
 rows-length : (c : F) → length (c .fill-entries .last .1 .1 .1 .1 .1 .0) ≡ 512
 rows-length c =
     let s = start-of-filled c in
-    ap length (c .fill-entries .ensures .1 .0) ∙ length-fill 512 (inPlaces 8 (map (entryPoint (s .args .modulus) (s .args .variables)) (entries s)))
+    ap length {y = point-bytes s} (c .fill-entries .ensures .1 .0) ∙ length-fill 512 (inPlaces 8 (map (entryPoint (s .args .modulus) (s .args .variables)) (entries s)))
 
 residues-length : (c : F) → length (c .fill-entries .last .1 .1 .1 .1 .1 .1 .0) ≡ 64
 residues-length c =
     let s = start-of-filled c in
-    ap length (c .fill-entries .ensures .1 .1) ∙ length-fill 64 (map (entryValue (s .args .modulus) (s .args .variables)) (entries s))
+    ap length {y = value-bytes s} (c .fill-entries .ensures .1 .1) ∙ length-fill 64 (map (entryValue (s .args .modulus) (s .args .variables)) (entries s))
 
 -- repeats are looked for
 repeated-is : (c : R) → c .first-repeat .result ≡ firstRepeat [] (entryPoints (says (start-of-filled (filled c))))
@@ -93,7 +99,7 @@ unfolding entryPoints saying
 repeated-is c =
     let s = start-of-filled (filled c) in
     let h = space (allowed (filled c)) in
-    c .first-repeat .ensures ∙ ap (λ (t : List ℕ). firstRepeat [] (groups 8 (s .args .n) t)) (filled c .fill-entries .ensures .1 .0)
+    c .first-repeat .ensures ∙ ap (λ (t : List ℕ). firstRepeat [] (groups 8 (s .args .n) t)) {y = point-bytes s} (filled c .fill-entries .ensures .1 .0)
     ∙ points-repeat (s .args .modulus) (s .args .variables) (s .args .n) (text s) (s .pre .1) (h .few) (h .count)
 
 repeated-small : (c : R) → c .first-repeat .result ≤ 64
@@ -119,7 +125,7 @@ returns c =
     let s = c .before .before .before .before .before .before in
     let r = c .before .before .settings-refusal .result in
     ap (λ (x : Read). textEnded x (s .args .states .now) (s .args .values .now)) (c .refused .ensures)
-    ∙ text-refused _ _ _ _ r (first-of-both _ (entriesCases (says s)) r (c .before .if1 .taken) (c .before .before .settings-refusal .ensures)) (c .before .if1 .taken)
+    ∙ text-refused (cases s ++ entriesCases (says s)) _ _ _ r (first-of-both (cases s) (entriesCases (says s)) r (c .before .if1 .taken) (c .before .before .settings-refusal .ensures)) (c .before .if1 .taken)
 
 cast-fill-entries : tie.Need-cast-fill-entries
 cast-fill-entries c = let h = modulus-range _ (space c .modulus) in omega arith
@@ -223,8 +229,8 @@ returns-4 c =
     let s = start-of-filled d in
     let f = d .fill-entries .ensures .1 in
     assembled (s .args .modulus) (s .args .variables) (s .args .order) (s .args .n) (text s) (s .args .states .now) (s .args .values .now) _ _ (count s)
-    (c .before .before .before .before .before .before .before .copy .ensures ∙ ap (λ (t : List ℕ). over t (s .args .states .now)) (f .0))
-    (c .before .before .copy2 .ensures ∙ ap (λ (t : List ℕ). over t (s .args .values .now)) (f .1))
+    (c .before .before .before .before .before .before .before .copy .ensures ∙ ap (λ (t : List ℕ). over t (s .args .states .now)) {y = point-bytes s} (f .0))
+    (c .before .before .copy2 .ensures ∙ ap (λ (t : List ℕ). over t (s .args .values .now)) {y = value-bytes s} (f .1))
     ∙ text-accepted _ _ _ _
     (entries-pass (says s) (sym (outside-is d) ∙ r .before .before .if2 .left) (sym (repeated-is r) ∙ c .before .before .before .before .before .before .before .before .before .before .if3 .left)
     ∙ sym (past (allowed d) (entriesCases (says s))))

@@ -92,7 +92,7 @@ put-line-requires c κs =
     let p₂ = second p₃ in
     let p₁ = first p₂ in
     let s = start p₁ in
-    put-front (p₃ .put-rows .ensures) (solved s) (wired s)
+    put-front {a = rows s} (p₃ .put-rows .ensures) (solved s) (wired s)
     (put-room (p₂ .put-standard .ensures) (rows s ++ (solved s ++ wired s))
     (put-room (p₁ .put-first .ensures) (standards s ++ (rows s ++ (solved s ++ wired s))) (room s)))
 
@@ -106,8 +106,8 @@ put-line-requires-2 c κs =
     let p₂ = second p₃ in
     let p₁ = first p₂ in
     let s = start p₁ in
-    put-room (p₄ .put-line .ensures) (wired s)
-    (put-room (p₃ .put-rows .ensures) (solved s ++ wired s)
+    put-room {a = solved s} (p₄ .put-line .ensures) (wired s)
+    (put-room {a = rows s} (p₃ .put-rows .ensures) (solved s ++ wired s)
     (put-room (p₂ .put-standard .ensures) (rows s ++ (solved s ++ wired s))
     (put-room (p₁ .put-first .ensures) (standards s ++ (rows s ++ (solved s ++ wired s))) (room s))))
 
@@ -124,11 +124,11 @@ returns c =
     let k₁ = room s in
     let k₂ = put-room (p₁ .put-first .ensures) (standards s ++ (rows s ++ (solved s ++ wired s))) k₁ in
     let k₃ = put-room (p₂ .put-standard .ensures) (rows s ++ (solved s ++ wired s)) k₂ in
-    let k₄ = put-room (p₃ .put-rows .ensures) (solved s ++ wired s) k₃ in
+    let k₄ = put-room {a = rows s} (p₃ .put-rows .ensures) (solved s ++ wired s) k₃ in
     rw (text s)
     (put-more (p₁ .put-first .ensures) k₁
     (put-more (p₂ .put-standard .ensures) k₂
-    (put-more (p₃ .put-rows .ensures) k₃ (put-more (p₄ .put-line .ensures) k₄ (c .before .before .put-line2 .ensures)))))
+    (put-more {a = rows s} (p₃ .put-rows .ensures) k₃ (put-more {a = solved s} (p₄ .put-line .ensures) k₄ (c .before .before .put-line2 .ensures)))))
 
 pub print-basis-spec : {M : Type 1} → statement M
 print-basis-spec =
