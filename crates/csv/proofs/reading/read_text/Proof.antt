@@ -9,6 +9,7 @@ use Rattle.csv.specs.reading.Fields.{part}
 use Rattle.csv.specs.reading.Forms.{Header}
 use Rattle.csv.specs.reading.Text.{textEnded, textRefused}
 use Rattle.csv.specs.reading.Records.{headerPart, headerSaid, HeaderWithin}
+use Rattle.csv.specs.reading.Points.{entriesOutcome}
 use Rattle.csv.specs.declared.reading.Read.{Read}
 use Rattle.csv.proofs.reading.WholeText.{too-long, header-broken, entry-broken, form-right, record-small}
 use Rattle.csv.proofs.reading.read_text.Statement.{statement}
@@ -110,9 +111,11 @@ returns-4 : tie.Need-returns-4
 returns-4 c =
     let d = c .before .before .before .before .before .before .before .before .before .before .before in
     let s = start d in
-    c .before .before .before .before .read-entries .ensures
-    ∙ form-right (text s) (s .args .states .now) (s .args .values .now) (d .before .before .before .before .if1 .left) (header d) (drop (next d) (text s)) (said d) _
-    (sym (c .before .before .before .before .before .before .before .before .n .given .1) ∙ c .before .before .before .before .before .before .before .before .before .before .check-entries .ensures)
+    let n = c .before .before .before .before .before .before .before .before .n .given .0 .0 in
+    _∙_ {b = entriesOutcome (header d .modulus) (header d .variables) (header d .order) n (drop (next d) (text s)) (s .args .states .now) (s .args .values .now)}
+    (c .before .before .before .before .read-entries .ensures)
+    (form-right (text s) (s .args .states .now) (s .args .values .now) (d .before .before .before .before .if1 .left) (header d) (drop (next d) (text s)) (said d) n
+    (sym (c .before .before .before .before .before .before .before .before .n .given .1) ∙ c .before .before .before .before .before .before .before .before .before .before .check-entries .ensures))
 
 pub read-text-spec : {M : Type 1} → statement M
 read-text-spec =
