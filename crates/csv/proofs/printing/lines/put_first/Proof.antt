@@ -14,6 +14,16 @@ behind₂ r = labelled (32 ∷ rows-word) r ++ lineEnd
 abbrev behind₁ : ℕ → ℕ → List ℕ
 behind₁ n r = labelled (32 ∷ standard-word) n ++ behind₂ r
 
+-- The places: behind the number of points, of standard monomials, of rows. Each names the one before it.
+abbrev start : tie.After-put-labelled → tie.Start
+start p = p .before .before .before .before
+
+abbrev first : tie.After-put-labelled2 → tie.After-put-labelled
+first p = p .before .before .before .before .before
+
+abbrev second : tie.After-put-labelled3 → tie.After-put-labelled2
+second p = p .before .before .before .before .before
+
 slice-aggregate-put-labelled : tie.Need-slice-aggregate-put-labelled
 slice-aggregate-put-labelled c = search needs
 
@@ -29,8 +39,9 @@ slice-aggregate-put-labelled-2 c = search needs
 put-labelled-requires-2 : tie.Need-put-labelled-requires-2
 unfolding firstLine
 put-labelled-requires-2 c κs =
-    let s = c .before .before .before .before .before .before .before .before in
-    put-front (c .before .before .before .before .put-labelled .ensures) (labelled (32 ∷ standard-word) (s .args .n)) (behind₂ (s .args .r)) (s .pre)
+    let p₁ = c .before .before .before .before in
+    let s = start p₁ in
+    put-front (p₁ .put-labelled .ensures) (labelled (32 ∷ standard-word) (s .args .n)) (behind₂ (s .args .r)) (s .pre)
 
 slice-aggregate-put-labelled-3 : tie.Need-slice-aggregate-put-labelled-3
 slice-aggregate-put-labelled-3 c = search needs
@@ -38,16 +49,21 @@ slice-aggregate-put-labelled-3 c = search needs
 put-labelled-requires-3 : tie.Need-put-labelled-requires-3
 unfolding firstLine
 put-labelled-requires-3 c κs =
-    let s = c .before .before .before .before .before .before .before .before .before .before .before .before .before in
-    put-front (c .before .before .before .before .put-labelled2 .ensures) (labelled (32 ∷ rows-word) (s .args .r)) lineEnd
-    (put-room (c .before .before .before .before .before .before .before .before .before .put-labelled .ensures) (behind₁ (s .args .n) (s .args .r)) (s .pre))
+    let p₂ = c .before .before .before .before in
+    let p₁ = first p₂ in
+    let s = start p₁ in
+    put-front (p₂ .put-labelled2 .ensures) (labelled (32 ∷ rows-word) (s .args .r)) lineEnd
+    (put-room (p₁ .put-labelled .ensures) (behind₁ (s .args .n) (s .args .r)) (s .pre))
 
 put-byte-requires : tie.Need-put-byte-requires
 unfolding firstLine
 put-byte-requires c κs =
-    let s = c .before .before .before .before .before .before .before .before .before .before .before .before .before .before .before .before .before in
-    put-room (c .before .before .before .put-labelled3 .ensures) lineEnd
-    (put-room (c .before .before .before .before .before .before .before .before .put-labelled2 .ensures) (behind₂ (s .args .r)) (put-room (c .before .before .before .before .before .before .before .before .before .before .before .before .before .put-labelled .ensures) (behind₁ (s .args .n) (s .args .r)) (s .pre)))
+    let p₃ = c .before .before .before in
+    let p₂ = second p₃ in
+    let p₁ = first p₂ in
+    let s = start p₁ in
+    put-room (p₃ .put-labelled3 .ensures) lineEnd
+    (put-room (p₂ .put-labelled2 .ensures) (behind₂ (s .args .r)) (put-room (p₁ .put-labelled .ensures) (behind₁ (s .args .n) (s .args .r)) (s .pre)))
 
 same-length : tie.Need-same-length
 same-length c = search needs
@@ -56,9 +72,9 @@ returns : tie.Need-returns
 unfolding firstLine
 returns c =
     let p₃ = c .before .before .before .before .before .before in
-    let p₂ = p₃ .before .before .before .before .before in
-    let p₁ = p₂ .before .before .before .before .before in
-    let s = p₁ .before .before .before .before in
+    let p₂ = second p₃ in
+    let p₁ = first p₂ in
+    let s = start p₁ in
     let k = put-room (p₁ .put-labelled .ensures) (behind₁ (s .args .n) (s .args .r)) (s .pre) in
     put-more (p₁ .put-labelled .ensures) (s .pre)
     (put-more (p₂ .put-labelled2 .ensures) k

@@ -6,6 +6,13 @@ use borrow.Author.Needs.{needs}
 use Rattle.csv.proofs.printing.lines.put_row.Statement.{statement}
 use Rattle.csv.proofs.printing.lines.put_row.Tie as tie
 
+-- The places: behind the word, behind the lead. Each names the one before it.
+abbrev start : tie.After-put-word → tie.Start
+start p = p .before .before .before .before .before .before
+
+abbrev first : tie.After-put-numbers → tie.After-put-word
+first p = p .before .before .before .before
+
 slice-aggregate-put-word : tie.Need-slice-aggregate-put-word
 slice-aggregate-put-word c = search needs
 
@@ -18,8 +25,9 @@ put-word-requires c κs =
 put-numbers-requires : tie.Need-put-numbers-requires
 unfolding rowLine
 put-numbers-requires c κs =
-    let s = c .before .before .before .before .before .before .before .before .before in
-    put-front (c .before .before .before .put-word .ensures) (spacedNumbers (s .args .lead .now)) (line colon (s .args .coefficients .now)) (s .pre)
+    let p₁ = c .before .before .before in
+    let s = start p₁ in
+    put-front (p₁ .put-word .ensures) (spacedNumbers (s .args .lead .now)) (line colon (s .args .coefficients .now)) (s .pre)
 
 slice-aggregate-put-line : tie.Need-slice-aggregate-put-line
 slice-aggregate-put-line c = search needs
@@ -27,9 +35,11 @@ slice-aggregate-put-line c = search needs
 put-line-requires : tie.Need-put-line-requires
 unfolding rowLine
 put-line-requires c κs =
-    let s = c .before .before .before .before .before .before .before .before .before .before .before .before .before .before in
-    put-room (c .before .before .before .before .put-numbers .ensures) (line colon (s .args .coefficients .now))
-    (put-room (c .before .before .before .before .before .before .before .before .put-word .ensures) (spacedNumbers (s .args .lead .now) ++ line colon (s .args .coefficients .now)) (s .pre))
+    let p₂ = c .before .before .before .before in
+    let p₁ = first p₂ in
+    let s = start p₁ in
+    put-room (p₂ .put-numbers .ensures) (line colon (s .args .coefficients .now))
+    (put-room (p₁ .put-word .ensures) (spacedNumbers (s .args .lead .now) ++ line colon (s .args .coefficients .now)) (s .pre))
 
 same-length : tie.Need-same-length
 same-length c = search needs
@@ -38,8 +48,8 @@ returns : tie.Need-returns
 unfolding rowLine
 returns c =
     let p₂ = c .before .before .before .before .before .before .before in
-    let p₁ = p₂ .before .before .before .before in
-    let s = p₁ .before .before .before .before .before .before in
+    let p₁ = first p₂ in
+    let s = start p₁ in
     put-more (p₁ .put-word .ensures) (s .pre)
     (put-more (p₂ .put-numbers .ensures) (put-room (p₁ .put-word .ensures) (spacedNumbers (s .args .lead .now) ++ line colon (s .args .coefficients .now)) (s .pre)) (c .before .before .put-line .ensures))
 

@@ -6,6 +6,13 @@ use Rattle.csv.proofs.reading.forms.LastField.{word-none, word-lex, wor
 use Rattle.csv.proofs.reading.forms.read_order.Statement.{statement}
 use Rattle.csv.proofs.reading.forms.read_order.Tie as tie
 
+-- The places: some word is there, it is not `lex`, nor `grlex`. Each names the one before it.
+abbrev some-word : tie.Else2 → tie.Else1
+some-word c = c .before .before .before
+
+abbrev not-lex : tie.Else3 → tie.Else2
+not-lex c = c .before .before .before
+
 returns : tie.Need-returns
 unfolding orderSaid
 returns c = sym (word-none _ (c .if1 .taken))
@@ -28,7 +35,9 @@ same-requires-2 c κs = search needs
 
 returns-3 : tie.Need-returns-3
 unfolding orderSaid
-returns-3 c = sym (word-grlex _ (c .before .before .before .before .before .before .if1 .left) (sym (c .before .before .before .before .same .ensures) ∙ c .before .before .before .if2 .left) (sym (c .before .same2 .ensures) ∙ c .if3 .taken))
+returns-3 c =
+    let e₂ = c .before .before .before in
+    sym (word-grlex _ (some-word e₂ .if1 .left) (sym (e₂ .before .same .ensures) ∙ e₂ .if2 .left) (sym (c .before .same2 .ensures) ∙ c .if3 .taken))
 
 slice-aggregate-same-3 : tie.Need-slice-aggregate-same-3
 slice-aggregate-same-3 c = search needs
@@ -39,13 +48,17 @@ same-requires-3 c κs = search needs
 returns-4 : tie.Need-returns-4
 unfolding orderSaid
 returns-4 c =
-    sym (word-grevlex _ (c .before .before .before .before .before .before .before .before .before .if1 .left) (sym (c .before .before .before .before .before .before .before .same .ensures) ∙ c .before .before .before .before .before .before .if2 .left) (sym (c .before .before .before .before .same2 .ensures) ∙ c .before .before .before .if3 .left)
+    let e₃ = c .before .before .before in
+    let e₂ = not-lex e₃ in
+    sym (word-grevlex _ (some-word e₂ .if1 .left) (sym (e₂ .before .same .ensures) ∙ e₂ .if2 .left) (sym (e₃ .before .same2 .ensures) ∙ e₃ .if3 .left)
     (sym (c .before .same3 .ensures) ∙ c .if4 .taken))
 
 returns-5 : tie.Need-returns-5
 unfolding orderSaid
 returns-5 c =
-    sym (word-other _ (c .before .before .before .before .before .before .before .before .before .if1 .left) (sym (c .before .before .before .before .before .before .before .same .ensures) ∙ c .before .before .before .before .before .before .if2 .left) (sym (c .before .before .before .before .same2 .ensures) ∙ c .before .before .before .if3 .left)
+    let e₃ = c .before .before .before in
+    let e₂ = not-lex e₃ in
+    sym (word-other _ (some-word e₂ .if1 .left) (sym (e₂ .before .same .ensures) ∙ e₂ .if2 .left) (sym (e₃ .before .same2 .ensures) ∙ e₃ .if3 .left)
     (sym (c .before .same3 .ensures) ∙ c .if4 .left))
 
 pub read-order-spec : {M : Type 1} → statement M

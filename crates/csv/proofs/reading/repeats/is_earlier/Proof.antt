@@ -22,9 +22,22 @@ abbrev μ-loop : tie.MeasureT-loop
 lent : (t : List ℕ) (i : ℕ) → take (8 * i + 8 - 8 * i) (drop (8 * i) t) ≡ rowAt 8 i t
 lent t i = let e : 8 * i + 8 - 8 * i ≡ 8 = omega arith in ap (λ (k : ℕ). take k (drop (8 * i) t)) e
 
+-- The places: the loop, and a comparison in it.
+abbrev L : Type 0
+L = tie.At-loop Inv-loop μ-loop
+
+abbrev start : L → tie.Start Inv-loop μ-loop
+start l = l .before .before .before
+
+abbrev turn : tie.After-same Inv-loop μ-loop → L
+turn c = c .before .before .before
+
+abbrev points : L → List ℕ
+points l = start l .args .points .now
+
 compared : (c : tie.After-same Inv-loop μ-loop)
-    → c .same .result ≡ sameList (rowAt 8 (c .before .before .before .before .before .before .args .i) (c .before .before .before .before .before .before .args .points .now)) (rowAt 8 (c .before .before .before .loop .j - 1) (c .before .before .before .before .before .before .args .points .now))
-compared c = c .same .ensures ∙ ap₂ sameList (lent (c .before .before .before .before .before .before .args .points .now) (c .before .before .before .before .before .before .args .i)) (lent (c .before .before .before .before .before .before .args .points .now) (c .before .before .before .loop .j - 1))
+    → c .same .result ≡ sameList (rowAt 8 (start (turn c) .args .i) (points (turn c))) (rowAt 8 (turn c .loop .j - 1) (points (turn c)))
+compared c = c .same .ensures ∙ ap₂ sameList (lent (points (turn c)) (start (turn c) .args .i)) (lent (points (turn c)) (turn c .loop .j - 1))
 
 mul-at : tie.Need-mul-at Inv-loop μ-loop
 mul-at c = omega arith
@@ -67,19 +80,19 @@ same-requires c κs = tt
 
 returns : tie.Need-returns Inv-loop μ-loop
 returns c =
-    let l = c .before .before .before .before in
-    sym (among-here _ (l .before .before .before .args .points .now) (l .loop .j) (c .before .before .before .loop-test .taken) (sym (compared (c .before)) ∙ c .if1 .taken)) ∙ l .loop .inv .1
+    let l = turn (c .before) in
+    sym (among-here _ (points l) (l .loop .j) (c .before .before .before .loop-test .taken) (sym (compared (c .before)) ∙ c .if1 .taken)) ∙ l .loop .inv .1
 
 loop-less : tie.Need-loop-less Inv-loop μ-loop
 loop-less c = omega arith
 
 loop-again : tie.Need-loop-again Inv-loop μ-loop
 loop-again c =
-    let l = c .before .before .before .before in
-    (omega arith, among-on _ (l .before .before .before .args .points .now) (l .loop .j) (c .before .before .before .loop-test .taken) (sym (compared (c .before)) ∙ c .if1 .left) ∙ l .loop .inv .1)
+    let l = turn (c .before) in
+    (omega arith, among-on _ (points l) (l .loop .j) (c .before .before .before .loop-test .taken) (sym (compared (c .before)) ∙ c .if1 .left) ∙ l .loop .inv .1)
 
 returns-2 : tie.Need-returns-2 Inv-loop μ-loop
-returns-2 c = sym (among-end _ (c .before .before .before .before .args .points .now) (c .before .loop .j) (c .loop-test .left)) ∙ c .before .loop .inv .1
+returns-2 c = sym (among-end _ (points (c .before)) (c .before .loop .j) (c .loop-test .left)) ∙ c .before .loop .inv .1
 
 pub is-earlier-spec : {M : Type 1} → statement M
 is-earlier-spec =
