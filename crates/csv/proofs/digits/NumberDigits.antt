@@ -1,19 +1,17 @@
 -- One to three digits, one after the other.
 use mathlib.Core.Path.{_≡_, refl, ap, _∙_}
 use mathlib.Core.Bool.{Bool, true, false, _&&_}
-use mathlib.Core.List.{List, [], _∷_}
-use mathlib.Core.Option.{some, none, Option·map}
+use mathlib.Core.List.{List}
+use mathlib.Core.Option.{some, none}
 use Prim.Native.Nat.{ℕ, zero, suc, _+_, _*_, _-_, _^_, _<_, _≤_}
-use native.Mathlib.Nat.{pow-suc, not-suc-le-zero}
+use native.Mathlib.Nat.{pow-suc}
 use native.Mathlib.Numerals.{add-one}
 use native.Mathlib.Omega.{arith}
-use lib.IntN.{pos}
-use lib.ListN.{length, getD, take, drop, drop-of-length-le}
-use lib.Seq.{drop-cons, take-all}
+use lib.ListN.{length, getD, drop, drop-of-length-le}
+use lib.Seq.{drop-cons}
 use lib.Dec.{leb}
-use borrow.Author.Tests.{lt-leb, le-leb, leb-true, eq-eqb, ne-eqb}
+use borrow.Author.Tests.{lt-leb, le-leb, leb-true}
 use Rattle.csv.specs.Digits.{isDigit, digitsFrom, numberOf}
-use Rattle.csv.specs.reading.Forms.{negative, levelOf}
 
 -- powers of ten
 pub tens : (i : ℕ) → 10 ^ (i + 1) ≡ 10 ^ i * 10

@@ -6,9 +6,8 @@ ghost use mathlib.Core.Path.{_≡_};
 ghost use Prim.Native.Nat.{ℕ};
 ghost use Rattle.residue.specs.Lists.{sameList};
 ghost use Rattle.csv.specs.reading.Fields.{front};
-ghost use Rattle.csv.specs.Digits.{isDigit, numberOf};
+ghost use Rattle.csv.specs.Digits.{isDigit};
 ghost use Rattle.csv.specs.reading.Forms.{levelOf, orderWord, modulusAndOrder, lastField};
-ghost use Rattle.csv.specs.Digits.{numberSaid};
 ghost use Rattle.csv.specs.reading.Said.{orderSaid, levelSaid, lastSaid};
 
 // Whether two runs of bytes are the same.
