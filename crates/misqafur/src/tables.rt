@@ -12,7 +12,7 @@ ghost use Rattle.specification.specs.Tables.{fourTables};
 ghost use Rattle.specification.specs.Adding.{addOutcome, drawOutcome};
 ghost use Rattle.specification.specs.Solving.{checkRefusal};
 ghost use Rattle.misqafur.specs.Bytes.{signedBytes};
-ghost use Rattle.misqafur.specs.Packing.{left, packedOutcome};
+ghost use Rattle.misqafur.specs.Packing.{givenSettings, left, packedOutcome};
 
 // Adding one point to the n points of the tables.
 #[no_mangle]
@@ -28,7 +28,9 @@ pub extern "C" fn misqafur_add_point(
     coefficients: &mut [u8],
     levels: &[u8],
 ) -> u32
-    ensures { λ a. ⌜ left a (now (states .exit)) (now (standard .exit)) (now (leads .exit)) (now (coefficients .exit)) ≡ packedOutcome (addOutcome (record { modulus = modulus; variables = variables; order = order }) n r (fourTables (now (states .entry)) (now (standard .entry)) (now (leads .entry)) (now (coefficients .entry))) (signedBytes (now (levels .entry)))) ⌝ }
+    ensures { λ a. ⌜ left a (now (states .exit)) (now (standard .exit)) (now (leads .exit)) (now (coefficients .exit))
+        ≡ packedOutcome (addOutcome (givenSettings modulus variables order) n r
+        (fourTables (now (states .entry)) (now (standard .entry)) (now (leads .entry)) (now (coefficients .entry))) (signedBytes (now (levels .entry)))) ⌝ }
 {
     let settings = Settings {
         modulus,
@@ -75,7 +77,9 @@ pub extern "C" fn misqafur_draw_up(
     coefficients: &mut [u8],
     levels: &[u8],
 ) -> u32
-    ensures { λ a. ⌜ left a (now (states .exit)) (now (standard .exit)) (now (leads .exit)) (now (coefficients .exit)) ≡ packedOutcome (drawOutcome (record { modulus = modulus; variables = variables; order = order }) (fourTables (now (states .entry)) (now (standard .entry)) (now (leads .entry)) (now (coefficients .entry))) (signedBytes (now (levels .entry)))) ⌝ }
+    ensures { λ a. ⌜ left a (now (states .exit)) (now (standard .exit)) (now (leads .exit)) (now (coefficients .exit))
+        ≡ packedOutcome (drawOutcome (givenSettings modulus variables order)
+        (fourTables (now (states .entry)) (now (standard .entry)) (now (leads .entry)) (now (coefficients .entry))) (signedBytes (now (levels .entry)))) ⌝ }
 {
     let settings = Settings {
         modulus,
@@ -120,7 +124,9 @@ pub extern "C" fn misqafur_check(
     leads: &[u8],
     coefficients: &[u8],
 ) -> u32
-    ensures { λ a. ⌜ a ≡ checkRefusal (record { modulus = modulus; variables = variables; order = order }) n r (fourTables (now (states .entry)) (now (standard .entry)) (now (leads .entry)) (now (coefficients .entry))) ⌝ }
+    ensures { λ a. ⌜ a
+        ≡ checkRefusal (givenSettings modulus variables order) n r
+        (fourTables (now (states .entry)) (now (standard .entry)) (now (leads .entry)) (now (coefficients .entry))) ⌝ }
 {
     let settings = Settings {
         modulus,
