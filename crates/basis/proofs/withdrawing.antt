@@ -1,2 +1,2 @@
 -- Withdrawing a point.
-mod Withdrawal
+pub mod Withdrawal

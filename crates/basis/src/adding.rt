@@ -114,7 +114,7 @@ pub fn add_point(
     if refusal != 0 {
         return refused(refusal);
     }
-    let k = add_accepted(
+    add_accepted(
         settings,
         n as usize,
         r as usize,
@@ -126,10 +126,5 @@ pub fn add_point(
         standard,
         leads,
         coefficients,
-    );
-    Answer {
-        refusal: 0,
-        n: n as u8 + 1,
-        r: k as u16,
-    }
+    )
 }

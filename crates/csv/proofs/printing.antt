@@ -1,9 +1,4 @@
--- What is printed, and how long it is.
-pub mod Appends
-pub mod DecimalDigits
-pub mod TableLines
-pub mod LongestPrint
+-- What is printed of a text.
 pub mod DrawnTables
 pub mod PointsPrinted
-pub mod AcceptedPoints
 pub mod AcceptedText

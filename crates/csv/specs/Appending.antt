@@ -1,9 +1,8 @@
 -- Bytes written into a lent buffer from a place on.
 use mathlib.Core.Path.{_≡_}
-use mathlib.Core.List.{List, _++_, map}
+use mathlib.Core.List.{List, _++_}
 use Prim.Native.Nat.{ℕ, _+_, _≤_}
 use lib.ListN.{length, take, drop}
-use Rattle.residue.specs.Layout.{groups}
 
 -- the buffer has room for them
 abbrev pub Room : ℕ → List ℕ → List ℕ → Type 0
@@ -16,7 +15,3 @@ putAt at bytes out = take at out ++ (bytes ++ drop (at + length bytes) out)
 pub record Put (at : ℕ) (bytes before after : List ℕ) (next : ℕ) : Type 0 where
   pub ends : next ≡ at + length bytes
   pub holds : after ≡ putAt at bytes before
-
--- the first m numbers in each of the first n places of a table
-unfoldable pub inTable : (width n m : ℕ) → List ℕ → List (List ℕ)
-inTable width n m table = map (take m) (groups width n table)

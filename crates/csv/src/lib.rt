@@ -1,8 +1,5 @@
-// Comma-separated text: the reader, and the printed basis.
-mod fields;
-pub mod forms;
-mod points;
+// Comma-separated text: the reader and the printer, over numbers in decimal and bytes that are appended.
+mod appending;
+mod digits;
 pub mod printing;
 pub mod reading;
-mod records;
-mod tables;

@@ -1,17 +1,20 @@
 // The text reader.
+mod fields;
+pub mod forms;
+mod points;
+mod records;
+mod repeats;
+
 ghost use mathlib.Core.Path.{_≡_};
-ghost use mathlib.Core.List.{_++_};
 ghost use Prim.Native.Nat.{_≤_};
 ghost use lib.ListN.{length, drop};
-ghost use Rattle.csv.specs.Reading.{settingsCases, entriesCases, firstCase, ended, accepted, decided, readOutcome};
-ghost use Rattle.csv.specs.Records.{entriesAt, counted};
-ghost use Rattle.csv.specs.Points.{saying};
-ghost use Rattle.csv.specs.declared.records.Entries.the-variants.{Count};
-use crate::points;
-use crate::records;
-use crate::records::Entries;
-use crate::records::HeaderAt;
-use crate::tables;
+ghost use Rattle.specification.specs.Refusal.{firstOf};
+ghost use Rattle.csv.specs.reading.Text.{headerCases, notRefused, textEnded, readOutcome};
+ghost use Rattle.csv.specs.reading.Records.{entriesAt, counted};
+ghost use Rattle.csv.specs.reading.Points.{entriesOutcome};
+ghost use Rattle.csv.specs.declared.reading.records.Entries.the-variants.{Count};
+use crate::reading::records::Entries;
+use crate::reading::records::HeaderAt;
 use residue::bytes;
 
 // The number of a refusal, or 0, with the record at fault.
@@ -38,7 +41,7 @@ fn settings_refusal(
     states: usize,
     values: usize,
 ) -> Refusal
-    ensures { λ r. ⌜ r ≡ firstCase (settingsCases modulus variables n states values) ⌝ }
+    ensures { λ r. ⌜ r ≡ firstOf notRefused (headerCases modulus variables n states values) ⌝ }
 {
     if !residue::level::is_modulus(modulus as u64) {
         return Refusal { refusal: 3, at: 1 };
@@ -88,7 +91,8 @@ fn read_entries(
 ) -> Read
     requires { ⌜ from ≤ length (now text) ⌝ }
     requires { ⌜ counted 0 (entriesAt variables (drop from (now text))) ≡ Count n ⌝ }
-    ensures { λ r. ⌜ ended r (now (states .exit)) (now (values .exit)) ≡ decided (firstCase (settingsCases modulus variables n (length (now (states .entry))) (length (now (values .entry))) ++ entriesCases (saying modulus variables order (drop from (now (text .entry)))))) (accepted (saying modulus variables order (drop from (now (text .entry)))) (now (states .entry)) (now (values .entry))) (now (states .entry)) (now (values .entry)) ⌝ }
+    ensures { λ r. ⌜ textEnded r (now (states .exit)) (now (values .exit))
+        ≡ entriesOutcome modulus variables order n (drop from (now (text .entry))) (now (states .entry)) (now (values .entry)) ⌝ }
 {
     let first = settings_refusal(modulus, variables, n, states.len(), values.len());
     let refusal = first.refusal;
@@ -109,7 +113,7 @@ fn read_entries(
     if outside != 0 {
         return refused(9, outside as u16 + 1);
     }
-    let repeated = tables::first_repeat(&rows, n);
+    let repeated = repeats::first_repeat(&rows, n);
     if repeated != 0 {
         return refused(11, repeated as u16 + 1);
     }
@@ -127,7 +131,7 @@ fn read_entries(
 
 // The settings and the number of points of a text, the points and values into the lent buffers.
 pub fn read_text(text: &[u8], states: &mut [u8], values: &mut [u8]) -> Read
-    ensures { λ r. ⌜ ended r (now (states .exit)) (now (values .exit)) ≡ readOutcome (now (text .entry)) (now (states .entry)) (now (values .entry)) ⌝ }
+    ensures { λ r. ⌜ textEnded r (now (states .exit)) (now (values .exit)) ≡ readOutcome (now (text .entry)) (now (states .entry)) (now (values .entry)) ⌝ }
 {
     if 16384 < text.len() {
         return refused(1, 0);

@@ -1,8 +1,8 @@
 // Runs every stored text through the text reader, and holds the answer and the lent buffers to what is stored with it (tools/text_cases.py). The texts are
 // those of standard input, or where none of them passes those of the file `texts`.
-use csv::forms;
 use csv::reading;
 use csv::reading::Read;
+use csv::reading::forms;
 use libc::STDIN_FILENO;
 use libc::STDOUT_FILENO;
 

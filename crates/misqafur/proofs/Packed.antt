@@ -7,7 +7,7 @@ use Rattle.specification.specs.declared.settings.Wired.{Wired}
 use Rattle.specification.specs.Adding.{Outcome, ended}
 use Rattle.specification.specs.Solving.{Listed, listed}
 use Rattle.csv.specs.declared.reading.Read.{Read}
-use Rattle.csv.specs.Reading.{Outcome as ReadOutcome, ended as read}
+use Rattle.csv.specs.reading.Text.{TextOutcome, textEnded}
 use Rattle.misqafur.specs.Packing.{packedAnswer, packedWired, packedRead, left, packedOutcome, leftList, packedList, leftReading, packedReading}
 
 pub packs : {a : Answer} {b c d e : List ℕ} {o : Outcome} {k : ℕ} → ended a b c d e ≡ o → k ≡ packedAnswer a → left k b c d e ≡ packedOutcome o
@@ -18,6 +18,6 @@ pub packs-list : {w : Wired} {b : List ℕ} {o : Listed} {k : ℕ} → listed w 
 unfolding packedList
 packs-list {b = b} h n = ap (λ (k : ℕ). leftList k b) n ∙ ap packedList h
 
-pub packs-read : {r : Read} {b c : List ℕ} {o : ReadOutcome} {k : ℕ} → read r b c ≡ o → k ≡ packedRead r → leftReading k b c ≡ packedReading o
+pub packs-read : {r : Read} {b c : List ℕ} {o : TextOutcome} {k : ℕ} → textEnded r b c ≡ o → k ≡ packedRead r → leftReading k b c ≡ packedReading o
 unfolding packedReading
 packs-read {b = b} {c = c} h n = ap (λ (k : ℕ). leftReading k b c) n ∙ ap packedReading h

@@ -33,19 +33,24 @@ alone k t o e =
     let n : k ≡ k + 0 = omega arith in
     ap (λ (j : ℕ). record { number = j; tables = t }) n ∙ ap packedOutcome e
 
--- Adding a point.
-abbrev pub addBySize : Settings → ℕ → Tables → ℕ → ℕ
-addBySize s n t count = firstOf 0 (settingsCases s ++ sizes s (tooShort t) (not (eqb count (s .variables))) (leb 64 n))
+-- A call that is handed one point.
+abbrev pub pointBySize : Settings → Bool → Tables → ℕ → ℕ
+pointBySize s many t count = firstOf 0 (settingsCases s ++ sizes s (tooShort t) (not (eqb count (s .variables))) many)
+
+pub point-few : (s : Settings) (many : Bool) (t : Tables) (levels : List ℕ) → pointBySize s many t (length levels) ≡ 0 → length levels ≤ 8
+point-few s many t levels e =
+    let ok = passed s (tooShort t) (not (eqb (length levels) (s .variables))) many e in
+    omega (arith, eqb-true (length levels) (s .variables) (not-false _ (ok .right)), ok .settings .few)
 
 module _ (s : Settings) (n r : ℕ) (t : Tables) (levels : List ℕ) where
-  pub add-refused : (k : ℕ) → k ≡ addBySize s n t (length levels) → (k ≡ 0 → ⊥) → _≡_ {A = Left} (record { number = k; tables = t }) (packedOutcome (addOutcome s n r t (signedBytes levels)))
+  pub add-refused : (k : ℕ) → k ≡ pointBySize s (leb 64 n) t (length levels) → (k ≡ 0 → ⊥) → _≡_ {A = Left} (record { number = k; tables = t }) (packedOutcome (addOutcome s n r t (signedBytes levels)))
   unfolding addOutcome
-  add-refused k e z = alone k t _ (when-refused t _ _ k (add-size s n r t (signedBytes levels) k (e ∙ ap (addBySize s n t) (sym (length-signed levels))) z) z)
+  add-refused k e z = alone k t _ (when-refused t _ _ k (add-size s n r t (signedBytes levels) k (e ∙ ap (pointBySize s (leb 64 n) t) (sym (length-signed levels))) z) z)
 
-  pub add-few : addBySize s n t (length levels) ≡ 0 → length levels ≤ 8
-  add-few e =
-      let ok = passed s (tooShort t) (not (eqb (length levels) (s .variables))) (leb 64 n) e in
-      omega (arith, eqb-true (length levels) (s .variables) (not-false _ (ok .right)), ok .settings .few)
+  pub withdrawal-refused : (k : ℕ) → k ≡ pointBySize s (ltb 64 n) t (length levels) → (k ≡ 0 → ⊥) → _≡_ {A = Left} (record { number = k; tables = t }) (packedOutcome (withdrawOutcome s n r t (signedBytes levels)))
+  withdrawal-refused k e z =
+      let size = withdraw-size s n r t (signedBytes levels) k (e ∙ ap (pointBySize s (ltb 64 n) t) (sym (length-signed levels))) z in
+      alone k t _ (withdraw-refused s n r t (signedBytes levels) k size z)
 
 -- Drawing up.
 abbrev pub drawBySize : Settings → Tables → ℕ → ℕ

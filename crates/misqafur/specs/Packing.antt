@@ -3,13 +3,18 @@ use mathlib.Core.Bool.{cond}
 use mathlib.Core.List.{List, [], _∷_}
 use Prim.Native.Nat.{ℕ, _+_, _*_}
 use lib.Dec.{eqb}
+use Rattle.specification.specs.declared.settings.Settings.{Settings}
 use Rattle.specification.specs.declared.settings.Answer.{Answer}
 use Rattle.specification.specs.declared.settings.Wired.{Wired}
 use Rattle.specification.specs.Tables.{Tables, fourTables}
 use Rattle.specification.specs.Adding.{Outcome}
 use Rattle.specification.specs.Solving.{Listed}
 use Rattle.csv.specs.declared.reading.Read.{Read}
-use Rattle.csv.specs.Reading.{Outcome as ReadOutcome}
+use Rattle.csv.specs.reading.Text.{TextOutcome}
+
+-- The settings, number by number.
+abbrev pub givenSettings : ℕ → ℕ → ℕ → Settings
+givenSettings modulus variables order = record { modulus = modulus; variables = variables; order = order }
 
 -- Numbers in one, each 256 times higher than the one before it.
 abbrev pub packed : List ℕ → ℕ
@@ -59,5 +64,5 @@ pub record LeftReading : Type 0 where
 abbrev pub leftReading : ℕ → List ℕ → List ℕ → LeftReading
 leftReading a states values = record { number = a; states = states; values = values }
 
-unfoldable pub packedReading : ReadOutcome → LeftReading
+unfoldable pub packedReading : TextOutcome → LeftReading
 packedReading o = record { number = packedRead (o .answer); states = o .states; values = o .values }

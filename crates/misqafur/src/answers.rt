@@ -9,7 +9,7 @@ ghost use mathlib.Core.Path.{_≡_};
 ghost use Rattle.specification.specs.Tables.{fourTables};
 ghost use Rattle.specification.specs.Solving.{answering, interpolateOutcome, remainderOutcome, wiringOutcome};
 ghost use Rattle.misqafur.specs.Bytes.{signedBytes};
-ghost use Rattle.misqafur.specs.Packing.{leftList, packedList};
+ghost use Rattle.misqafur.specs.Packing.{givenSettings, leftList, packedList};
 
 // The interpolant of n values, in the order of the points.
 #[no_mangle]
@@ -26,7 +26,10 @@ pub extern "C" fn misqafur_interpolate(
     values: &[u8],
     out: &mut [u8],
 ) -> u32
-    ensures { λ a. ⌜ answering a (now (out .exit)) ≡ interpolateOutcome (record { modulus = modulus; variables = variables; order = order }) n r (fourTables (now (states .entry)) (now (standard .entry)) (now (leads .entry)) (now (coefficients .entry))) (signedBytes (now (values .entry))) (now (out .entry)) ⌝ }
+    ensures { λ a. ⌜ answering a (now (out .exit))
+        ≡ interpolateOutcome (givenSettings modulus variables order) n r
+        (fourTables (now (states .entry)) (now (standard .entry)) (now (leads .entry)) (now (coefficients .entry)))
+        (signedBytes (now (values .entry))) (now (out .entry)) ⌝ }
 {
     let settings = Settings {
         modulus,
@@ -79,7 +82,10 @@ pub extern "C" fn misqafur_remainder(
     exponents: &[u8],
     out: &mut [u8],
 ) -> u32
-    ensures { λ a. ⌜ answering a (now (out .exit)) ≡ remainderOutcome (record { modulus = modulus; variables = variables; order = order }) n r (fourTables (now (states .entry)) (now (standard .entry)) (now (leads .entry)) (now (coefficients .entry))) (signedBytes (now («term_coefficients» .entry))) (now (exponents .entry)) (now (out .entry)) ⌝ }
+    ensures { λ a. ⌜ answering a (now (out .exit))
+        ≡ remainderOutcome (givenSettings modulus variables order) n r
+        (fourTables (now (states .entry)) (now (standard .entry)) (now (leads .entry)) (now (coefficients .entry)))
+        (signedBytes (now («term_coefficients» .entry))) (now (exponents .entry)) (now (out .entry)) ⌝ }
 {
     let settings = Settings {
         modulus,
@@ -132,7 +138,10 @@ pub extern "C" fn misqafur_wiring(
     values: &[u8],
     out: &mut [u8],
 ) -> u32
-    ensures { λ a. ⌜ leftList a (now (out .exit)) ≡ packedList (wiringOutcome (record { modulus = modulus; variables = variables; order = order }) n r (fourTables (now (states .entry)) (now (standard .entry)) (now (leads .entry)) (now (coefficients .entry))) (signedBytes (now (values .entry))) (now (out .entry))) ⌝ }
+    ensures { λ a. ⌜ leftList a (now (out .exit))
+        ≡ packedList (wiringOutcome (givenSettings modulus variables order) n r
+        (fourTables (now (states .entry)) (now (standard .entry)) (now (leads .entry)) (now (coefficients .entry)))
+        (signedBytes (now (values .entry))) (now (out .entry))) ⌝ }
 {
     let settings = Settings {
         modulus,

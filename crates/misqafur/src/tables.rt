@@ -6,13 +6,16 @@ use basis::checking;
 use basis::drawing;
 use basis::settings::add_sizes;
 use basis::settings::draw_sizes;
+use basis::settings::withdraw_sizes;
+use basis::withdrawing;
 use specification::settings::Settings;
 ghost use mathlib.Core.Path.{_≡_};
 ghost use Rattle.specification.specs.Tables.{fourTables};
 ghost use Rattle.specification.specs.Adding.{addOutcome, drawOutcome};
+ghost use Rattle.specification.specs.Withdrawing.{withdrawOutcome};
 ghost use Rattle.specification.specs.Solving.{checkRefusal};
 ghost use Rattle.misqafur.specs.Bytes.{signedBytes};
-ghost use Rattle.misqafur.specs.Packing.{left, packedOutcome};
+ghost use Rattle.misqafur.specs.Packing.{givenSettings, left, packedOutcome};
 
 // Adding one point to the n points of the tables.
 #[no_mangle]
@@ -28,7 +31,9 @@ pub extern "C" fn misqafur_add_point(
     coefficients: &mut [u8],
     levels: &[u8],
 ) -> u32
-    ensures { λ a. ⌜ left a (now (states .exit)) (now (standard .exit)) (now (leads .exit)) (now (coefficients .exit)) ≡ packedOutcome (addOutcome (record { modulus = modulus; variables = variables; order = order }) n r (fourTables (now (states .entry)) (now (standard .entry)) (now (leads .entry)) (now (coefficients .entry))) (signedBytes (now (levels .entry)))) ⌝ }
+    ensures { λ a. ⌜ left a (now (states .exit)) (now (standard .exit)) (now (leads .exit)) (now (coefficients .exit))
+        ≡ packedOutcome (addOutcome (givenSettings modulus variables order) n r
+        (fourTables (now (states .entry)) (now (standard .entry)) (now (leads .entry)) (now (coefficients .entry))) (signedBytes (now (levels .entry)))) ⌝ }
 {
     let settings = Settings {
         modulus,
@@ -63,6 +68,57 @@ pub extern "C" fn misqafur_add_point(
     pack_answer(a)
 }
 
+// Withdrawing one of the n points of the tables.
+#[no_mangle]
+pub extern "C" fn misqafur_withdraw_point(
+    modulus: u64,
+    variables: u64,
+    order: u64,
+    n: u64,
+    r: u64,
+    states: &mut [u8],
+    standard: &mut [u8],
+    leads: &mut [u8],
+    coefficients: &mut [u8],
+    levels: &[u8],
+) -> u32
+    ensures { λ a. ⌜ left a (now (states .exit)) (now (standard .exit)) (now (leads .exit)) (now (coefficients .exit))
+        ≡ packedOutcome (withdrawOutcome (givenSettings modulus variables order) n r
+        (fourTables (now (states .entry)) (now (standard .entry)) (now (leads .entry)) (now (coefficients .entry))) (signedBytes (now (levels .entry)))) ⌝ }
+{
+    let settings = Settings {
+        modulus,
+        variables,
+        order,
+    };
+    let count = levels.len();
+    let refusal = withdraw_sizes(
+        settings,
+        states.len(),
+        standard.len(),
+        leads.len(),
+        coefficients.len(),
+        count,
+        n,
+    );
+    if refusal != 0 {
+        return refusal as u32;
+    }
+    let mut signed = [0i8; 8];
+    put_signed(levels, &mut signed);
+    let a = withdrawing::withdraw_point(
+        settings,
+        n,
+        r,
+        states,
+        standard,
+        leads,
+        coefficients,
+        &signed[..count],
+    );
+    pack_answer(a)
+}
+
 // Drawing up from all points at once.
 #[no_mangle]
 pub extern "C" fn misqafur_draw_up(
@@ -75,7 +131,9 @@ pub extern "C" fn misqafur_draw_up(
     coefficients: &mut [u8],
     levels: &[u8],
 ) -> u32
-    ensures { λ a. ⌜ left a (now (states .exit)) (now (standard .exit)) (now (leads .exit)) (now (coefficients .exit)) ≡ packedOutcome (drawOutcome (record { modulus = modulus; variables = variables; order = order }) (fourTables (now (states .entry)) (now (standard .entry)) (now (leads .entry)) (now (coefficients .entry))) (signedBytes (now (levels .entry)))) ⌝ }
+    ensures { λ a. ⌜ left a (now (states .exit)) (now (standard .exit)) (now (leads .exit)) (now (coefficients .exit))
+        ≡ packedOutcome (drawOutcome (givenSettings modulus variables order)
+        (fourTables (now (states .entry)) (now (standard .entry)) (now (leads .entry)) (now (coefficients .entry))) (signedBytes (now (levels .entry)))) ⌝ }
 {
     let settings = Settings {
         modulus,
@@ -120,7 +178,9 @@ pub extern "C" fn misqafur_check(
     leads: &[u8],
     coefficients: &[u8],
 ) -> u32
-    ensures { λ a. ⌜ a ≡ checkRefusal (record { modulus = modulus; variables = variables; order = order }) n r (fourTables (now (states .entry)) (now (standard .entry)) (now (leads .entry)) (now (coefficients .entry))) ⌝ }
+    ensures { λ a. ⌜ a
+        ≡ checkRefusal (givenSettings modulus variables order) n r
+        (fourTables (now (states .entry)) (now (standard .entry)) (now (leads .entry)) (now (coefficients .entry))) ⌝ }
 {
     let settings = Settings {
         modulus,

@@ -7,12 +7,13 @@ use Prim.Native.Nat.{ℕ, zero, suc, _+_, _*_, _-_, _%_, _<_, _≤_}
 use native.Mathlib.Nat.{mod-eq-of-lt, mul-le-mul}
 use native.Mathlib.Decide.{decLt}
 use native.Mathlib.Omega.{arith}
-use lib.ListN.{length, getD, take, drop, replicate, length-map, List·getD-eq-default}
+use lib.ListN.{length, getD, take, drop, replicate, length-map, length-append, List·getD-eq-default}
+use lib.Dec.{T}
 use lib.Seq.{length-take-le}
 use Rattle.residue.specs.Lists.{Among}
 use Rattle.residue.specs.Vector.{Below}
 use Rattle.residue.specs.Elimination.{eliminated}
-use Rattle.residue.specs.Layout.{groups, fill, inPlaces, over, rowAt}
+use Rattle.residue.specs.Layout.{groups, fill, inPlaces, over, withPlace, rowAt}
 use Rattle.residue.proofs.vector.Vectors.{below-take, map-same}
 use Rattle.residue.proofs.Tests.{true-of}
 use Rattle.residue.proofs.Layouts.{fill-exact, below-fill, length-fill}
@@ -28,6 +29,8 @@ use Rattle.specification.specs.BasisOf.{standardOf, leadsOf, rowOf, rowsOf, int
 use Rattle.specification.specs.Instance.{Monomial, Point, reduced, pointOf}
 use Rattle.specification.specs.Tables.{spaceUnder, pointsUnder, rowCount, tablesOf, pointsIn}
 use Rattle.specification.proofs.Repeats.{is-among}
+use Rattle.specification.proofs.agreement.Points.{IsPoint, Points, points-more}
+use Rattle.specification.proofs.agreement.Drawings as Drawings
 use Rattle.specification.proofs.Instance.{laws, point-of, lead-exponent}
 use Rattle.specification.proofs.ideal.Laws.{Laws}
 use Rattle.specification.proofs.ideal.Lists.{getD-among, among-map}
@@ -35,8 +38,8 @@ use Rattle.specification.proofs.ideal.Basis.{row-is}
 use Rattle.specification.proofs.ideal.Counts.{leads-length, standard-length}
 use Rattle.specification.proofs.ideal.Permutation.{basis-snoc}
 use Rattle.basis.specs.Drawing.{PointsGiven, Tabled, DrawnUp}
-use Rattle.basis.specs.Adding.{valueOfRow, firstFrom, Grown, grown, standardGrown, grownBy, NewPoint}
-use Rattle.basis.proofs.drawing.Given.{given-count}
+use Rattle.basis.specs.Adding.{valueOfRow, firstFrom, Grown, grown, standardGrown, grownBy, allPoints, NewPoint}
+use Rattle.basis.proofs.drawing.Given.{given-count, given-points}
 use Rattle.basis.proofs.drawing.Grounds.{ground, places-below}
 use Rattle.basis.proofs.adding.Corrections.{valuesAt}
 use Rattle.basis.proofs.adding.LostRow.{lost, lost-one}
@@ -114,12 +117,15 @@ module _ {s : Settings} {n r : ℕ} {points standard leads coefficients rows piv
   abbrev P : Point (suc q) m
   P = pointOf q m (take m point)
 
+  new-point : IsPoint s (take m point)
+  new-point = record {
+    long = length-take-le m point (omega (arith, ap length (new .filled), length-fill 8 (take m point), given .settings .few));
+    same = residues-kept q (take m point) (below-take (suc q) m point (subst (λ (z : ℕ). Below z point) raised (new .below)));
+  }
+
   coordinates : P .0 ≡ take m point
   unfolding pointOf
-  coordinates =
-      let e : length (take m point) ≡ m = length-take-le m point (omega (arith, ap length (new .filled), length-fill 8 (take m point), given .settings .few)) in
-      ap (reduced q) (fill-exact m (take m point) e)
-      ∙ residues-kept q (take m point) (below-take (suc q) m point (subst (λ (z : ℕ). Below z point) raised (new .below)))
+  coordinates = ap (reduced q) (fill-exact m (take m point) (new-point .long)) ∙ new-point .same
 
   lists : map (λ (Q : Point (suc q) m). Q .0) S ≡ K
   unfolding pointsIn
@@ -178,6 +184,17 @@ module _ {s : Settings} {n r : ℕ} {points standard leads coefficients rows piv
   lead-below : (a : List ℕ) → Among a (map (λ (a : Monomial m). a .0) (leadsOf D S)) → Below 255 a
   lead-below a mem i h = let w = among-map (λ (a : Monomial m). a .0) (leadsOf D S) a mem in
       rw (w .2) (omega (arith, lead-exponent q m (orderOf o) (ground given .prime) S d (w .0) (w .1) i, many))
+
+  -- how many points there are now, and that they have few rows
+  every : Points s (allPoints s n points point)
+  every =
+      points-more s K (take m point) (given-points given) new-point (λ w. subst T (new .new) (is-among (take m point) K w)) (omega (arith, given-count given, room))
+
+  pub all-count : n + 1 ≡ length (allPoints s n points point)
+  all-count = omega (arith, length-append K (take m point ∷ []), given-count given)
+
+  pub all-few : rowCount s (allPoints s n points point) ≤ 449
+  all-few = Drawings.few-rows s (given .settings) (allPoints s n points point) every
 
   -- what the functions of the addition ask
   pub record Sound : Type 0 where
@@ -244,7 +261,7 @@ module _ {s : Settings} {n r : ℕ} {points standard leads coefficients rows piv
     inside = rw (found, rows-many) (lost-one q m (orderOf o) (given .settings .few) L S d (short q m o (given .settings .few) L S d many (given .settings .some) fits P far) (most q m o (given .settings .few) L S d many (given .settings .some) fits P far) P far)
 
     pub added : (k : ℕ) (ns nl nc : List ℕ) → ns ≡ standardGrown o n standard (rowAt 8 j leads) → grown k nl nc ≡ grownBy p m o n r points standard leads coefficients rows pivots point vs j
-        → Tabled s (K ++ (take m point ∷ [])) k ns nl nc
+        → Tabled s (allPoints s n points point) k ns nl nc
     unfolding tablesOf rowCount
     added k ns nl nc es eg =
         let all : pointsUnder s (K ++ (take m point ∷ [])) ≡ S ++ (P ∷ []) = map-append (pointOf q m) K (take m point ∷ []) in
@@ -262,18 +279,14 @@ module _ {s : Settings} {n r : ℕ} {points standard leads coefficients rows piv
         }
 
 -- the table of points with the new one in its place
-pub states-more : (s : Settings) (n : ℕ) {points point : List ℕ} → PointsGiven s n points → n < 64 → NewPoint s (pointsIn s n points) point → (t ys : List ℕ) (k : ℕ) → t ≡ points → k ≡ 8
-    → ys ≡ over point (take k (drop (8 * n) t)) → take (8 * n) t ++ (ys ++ drop k (drop (8 * n) t)) ≡ tablesOf s (pointsIn s n points ++ (take (s .variables) point ∷ [])) .states
-unfolding tablesOf inPlaces
-states-more s n {points} {point} given room new t ys k et ek ey =
+pub states-more : (s : Settings) (n : ℕ) {points point : List ℕ} → PointsGiven s n points → n < 64 → NewPoint s (pointsIn s n points) point
+    → withPlace 8 n point points ≡ tablesOf s (allPoints s n points point) .states
+unfolding tablesOf inPlaces withPlace
+states-more s n {points} {point} given room new =
     let K : List (List ℕ) = pointsIn s n points in
     let P : List ℕ = take (s .variables) point in
     let count : length K ≡ n = given-count given in
     let long : length point ≡ 8 = ap length (new .filled) ∙ length-fill 8 P in
     let same : fill 8 point ≡ fill 8 P = fill-exact 8 point long ∙ new .filled in
-    place-more 8 512 K point t ys (8 * n) k (et ∙ given .table) (ap (λ (j : ℕ). 8 * j) (sym count)) ek (omega arith) (omega arith) ey
+    place-more 8 512 K point points (over point (take 8 (drop (8 * n) points))) (8 * n) 8 (given .table) (ap (λ (j : ℕ). 8 * j) (sym count)) refl (omega arith) (omega arith) refl
     ∙ ap (fill 512) (places-append 8 K (point ∷ []) ∙ ap (λ (z : List ℕ). inPlaces 8 K ++ (z ++ [])) same ∙ sym (places-append 8 K (P ∷ [])))
-
-pub states-long : (s : Settings) (S : List (List ℕ)) → length (tablesOf s S .states) ≡ 512
-unfolding tablesOf
-states-long s S = length-fill 512 (inPlaces 8 S)

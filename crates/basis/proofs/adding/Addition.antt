@@ -25,13 +25,12 @@ use Rattle.specification.proofs.agreement.Points.{IsPoint, Points, length-resid
 use Rattle.specification.proofs.agreement.Refusals.{Accepted, accepted, Large, large-of}
 use Rattle.specification.proofs.agreement.Drawings.{few-rows}
 use Rattle.basis.specs.Drawing.{PointsGiven, Solves, DrawnUp}
-use Rattle.basis.specs.Adding.{NewPoint}
+use Rattle.basis.specs.Adding.{allPoints, NewPoint}
 use Rattle.basis.proofs.drawing.Given.{table-points, given, drawn-of}
 use Rattle.basis.proofs.settings.BySize.{sizes, by-size, by-rest}
 use Rattle.specification.proofs.Recognised.{none-of}
 use Rattle.basis.proofs.settings.ByNumber.{when-accepted}
 use Rattle.basis.proofs.points.LevelLists.{residues-below}
-use Rattle.basis.proofs.drawing.Outcomes.{all-written}
 use Rattle.basis.proofs.checking.Recognised.{count, parts, points, standard-there, leads-there, coefficients-there}
 
 module _ (s : Settings) (n r : ℕ) (t : Tables) (levels : List ℤ) where
@@ -75,7 +74,7 @@ module _ (s : Settings) (n r : ℕ) (t : Tables) (levels : List ℤ) where
   -- Nothing refuses.
   record Open : Type 0 where
     settings : Accepted s
-    large : Large t
+    long-tables : tooShort t ≡ false
     long : length levels ≡ s .variables
     room : n < 64
     range : inRange (s .modulus) levels ≡ true
@@ -88,7 +87,7 @@ module _ (s : Settings) (n r : ℕ) (t : Tables) (levels : List ℤ) where
       let w = none-of s (sizes s (tooShort t) (not (eqb (length levels) (s .variables))) (leb 64 n) ++ tests) tt e in
       record {
         settings = accepted s (w .0);
-        large = large-of t (w .1 .0);
+        long-tables = w .1 .0;
         long = eqb-true (length levels) (s .variables) (not-false _ (w .1 .1 .0));
         room = leb-false 64 n (w .1 .1 .1 .0);
         range = not-false _ (w .1 .1 .1 .1 .0);
@@ -98,27 +97,18 @@ module _ (s : Settings) (n r : ℕ) (t : Tables) (levels : List ℤ) where
 
   -- What the writer of the new tables is handed: a table of the points, their pivot rows, and the place of the new point.
   module _ (table rows pivots place : List ℕ) where
-    abbrev pub all : List (List ℕ)
-    all = pointsIn s n table ++ (take (s .variables) place ∷ [])
-
     pub record Ready : Type 0 where
-      pub large : Large t
+      pub long : tooShort t ≡ false
       pub given : PointsGiven s n table
       pub drawn : DrawnUp s (pointsIn s n table) r (take 512 (t .standard)) (take 3592 (t .leads)) (take 28736 (t .coefficients)) rows pivots
       pub room : n < 64
       pub point : NewPoint s (pointsIn s n table) place
-      pub same : all ≡ old ++ (new ∷ [])
-      pub count : n + 1 ≡ length (old ++ (new ∷ []))
-      pub few : rowCount s all ≤ 449
+      pub same : allPoints s n table place ≡ old ++ (new ∷ [])
 
     -- what it leaves is the outcome
-    pub added : addRefusal s n r t levels ≡ 0 → Ready → (k : ℕ) (a b c d : List ℕ) → k ≡ rowCount s all → a ≡ over (tablesOf s all .states) (t .states)
-        → b ≡ over (tablesOf s all .standard) (t .standard) → c ≡ over (tablesOf s all .leads) (t .leads) → d ≡ over (tablesOf s all .coefficients) (t .coefficients)
-        → ended (record { refusal = 0; n = n + 1; r = k }) a b c d ≡ addOutcome s n r t levels
+    pub added : addRefusal s n r t levels ≡ 0 → Ready → holding s (allPoints s n table place) t ≡ addOutcome s n r t levels
     unfolding addOutcome
-    added e y k a b c d f g h i j =
-        all-written s all t (n + 1) k a b c d (y .count ∙ sym (ap length (y .same))) f g h i j
-        ∙ ap (λ (S : List (List ℕ)). holding s S t) (y .same) ∙ when-accepted t _ _ (sym e)
+    added e y = ap (λ (S : List (List ℕ)). holding s S t) (y .same) ∙ when-accepted t _ _ (sym e)
 
   -- the test for a repeat, in the table of the points
   module _ (ok : Accepted s) (long : length levels ≡ s .variables) (room : n < 64) (known : recognised s n r t ≡ true) where
@@ -154,15 +144,12 @@ module _ (s : Settings) (n r : ℕ) (t : Tables) (levels : List ℤ) where
     cut : take (s .variables) place ≡ new
     cut = ap (take (s .variables)) ep ∙ take-fill (s .variables) 8 new (is-new .long) (o .settings .few)
 
-    joined : all table rows pivots place ≡ old ++ (new ∷ [])
+    joined : allPoints s n table place ≡ old ++ (new ∷ [])
     joined = ap₂ (λ (K : List (List ℕ)) (P : List ℕ). K ++ (P ∷ [])) back cut
-
-    every : Points s (old ++ (new ∷ []))
-    every = points-more s old new of-old is-new (λ w. subst T (o .fresh) (is-among new old w)) (omega (arith, is, o .room))
 
     pub ready : Ready table rows pivots place
     ready = record {
-      large = o .large;
+      long = o .long-tables;
       given = subst (λ (k : ℕ). PointsGiven s k table) is (subst (PointsGiven s (length old)) (sym et) (given s (o .settings) old of-old));
       drawn = drawn-of (sym back) (record {
         tabled = record {
@@ -180,6 +167,4 @@ module _ (s : Settings) (n r : ℕ) (t : Tables) (levels : List ℤ) where
         new = ap₂ isAmong cut back ∙ o .fresh;
       };
       same = joined;
-      count = omega (arith, length-append old (new ∷ []), is);
-      few = rw joined (few-rows s (o .settings) (old ++ (new ∷ [])) every);
     }

@@ -6,7 +6,7 @@ use native.Mathlib.Omega.{arith}
 use lib.ListN.{length}
 use lib.Dec.{T}
 use Rattle.residue.specs.Lists.{Among}
-use Rattle.residue.specs.Layout.{groups, fill, inPlaces}
+use Rattle.residue.specs.Layout.{groups, fill, inPlaces, over}
 use Rattle.residue.proofs.Layouts.{over-all, length-fill}
 use Rattle.residue.proofs.Places.{table-groups}
 use Rattle.specification.specs.declared.settings.Settings.{Settings}
@@ -17,7 +17,7 @@ use Rattle.specification.proofs.agreement.Points.{IsPoint, Points, points-back}
 use Rattle.specification.proofs.agreement.Refusals.{Accepted}
 use Rattle.specification.proofs.agreement.Drawings.{few-rows}
 use Rattle.specification.proofs.Recognised.{length-read, read}
-use Rattle.basis.specs.Drawing.{PointsGiven, DrawnUp}
+use Rattle.basis.specs.Drawing.{PointsGiven, Tabled, DrawnUp}
 
 -- how many points there are
 pub given-count : {s : Settings} {n : ℕ} {points : List ℕ} → PointsGiven s n points → length (pointsIn s n points) ≡ n
@@ -25,7 +25,7 @@ given-count {s} {n} {points} g = length-read s (g .settings) n points
 
 -- its points, and that they have few rows
 module _ {s : Settings} {n : ℕ} {points : List ℕ} (g : PointsGiven s n points) where
-  given-points : Points s (pointsIn s n points)
+  pub given-points : Points s (pointsIn s n points)
   given-points = read s (g .settings) n points (g .most) (g .once)
 
   pub few-drawn : rowCount s (pointsIn s n points) ≤ 449
@@ -51,12 +51,28 @@ module _ (s : Settings) (ok : Accepted s) where
       once = subst (λ (S : List (List ℕ)). T (noRepeat S)) (sym table-points) (h .once);
     }
 
--- the sizes of the tables drawn up
-pub drawn-long : (s : Settings) (S : List (List ℕ)) (r : ℕ) (standard leads coefficients rows pivots : List ℕ) → DrawnUp s S r standard leads coefficients rows pivots
+-- the sizes of the tables
+pub tabled-long : {s : Settings} {S : List (List ℕ)} {r : ℕ} {standard leads coefficients : List ℕ} → Tabled s S r standard leads coefficients
     → (length standard ≡ 512) × ((length leads ≡ 3592) × (length coefficients ≡ 28736))
 unfolding tablesOf
-drawn-long s S r standard leads coefficients rows pivots h =
-    (ap length (h .tabled .standard-table) ∙ length-fill 512 _, (ap length (h .tabled .leads-table) ∙ length-fill 3592 _, ap length (h .tabled .coefficients-table) ∙ length-fill 28736 _))
+tabled-long h = (ap length (h .standard-table) ∙ length-fill 512 _, (ap length (h .leads-table) ∙ length-fill 3592 _, ap length (h .coefficients-table) ∙ length-fill 28736 _))
+
+-- written over tables of the same sizes
+pub tabled-over : {s : Settings} {S K : List (List ℕ)} {r k : ℕ} {a b c x y z x′ y′ z′ : List ℕ} → Tabled s K r a b c → Tabled s S k x y z → x′ ≡ over x a → y′ ≡ over y b → z′ ≡ over z c
+    → Tabled s S k x′ y′ z′
+tabled-over {a} {b} {c} {x} {y} {z} old h e f g =
+    let l = tabled-long old in
+    let m = tabled-long h in
+    record {
+      row-count = h .row-count;
+      standard-table = e ∙ over-all x a (m .0 ∙ sym (l .0)) ∙ h .standard-table;
+      leads-table = f ∙ over-all y b (m .1 .0 ∙ sym (l .1 .0)) ∙ h .leads-table;
+      coefficients-table = g ∙ over-all z c (m .1 .1 ∙ sym (l .1 .1)) ∙ h .coefficients-table;
+    }
+
+pub drawn-long : (s : Settings) (S : List (List ℕ)) (r : ℕ) (standard leads coefficients rows pivots : List ℕ) → DrawnUp s S r standard leads coefficients rows pivots
+    → (length standard ≡ 512) × ((length leads ≡ 3592) × (length coefficients ≡ 28736))
+drawn-long s S r standard leads coefficients rows pivots h = tabled-long (h .tabled)
 
 -- of the same points
 pub drawn-of : {s : Settings} {S K : List (List ℕ)} {r : ℕ} {standard leads coefficients rows pivots : List ℕ} → S ≡ K → DrawnUp s S r standard leads coefficients rows pivots

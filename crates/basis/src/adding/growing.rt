@@ -5,18 +5,19 @@ use monomial::insert;
 use monomial::value::values_at;
 use residue::bytes;
 use residue::inverse::inverse;
+use specification::settings::Answer;
 use specification::settings::Settings;
 ghost use mathlib.Core.Path.{_≡_};
-ghost use mathlib.Core.Bool.{true};
-ghost use mathlib.Core.List.{[], _∷_, _++_};
+ghost use mathlib.Core.Bool.{false};
 ghost use Prim.Native.Nat.{ℕ, _+_, _<_, _≤_};
 ghost use lib.ListN.{length, getD, take, replicate};
-ghost use Rattle.residue.specs.Modulus.{isModulus};
 ghost use Rattle.residue.specs.Vector.{Below};
-ghost use Rattle.residue.specs.Layout.{over, rowAt};
-ghost use Rattle.specification.specs.Tables.{rowCount, tablesOf, pointsIn};
-ghost use Rattle.basis.specs.Adding.{grown, othersOf, othersCorrected, standardGrown, grownBy, NewPoint};
-ghost use Rattle.basis.specs.Drawing.{settingsOf, PointsGiven, Tabled, DrawnUp};
+ghost use Rattle.residue.specs.Layout.{withPlace, rowAt};
+ghost use Rattle.specification.specs.Tables.{fourTables, tooShort, pointsIn};
+ghost use Rattle.specification.specs.Adding.{ended, holding};
+ghost use Rattle.specification.proofs.agreement.Refusals.{Accepted};
+ghost use Rattle.basis.specs.Adding.{grown, othersOf, othersCorrected, standardGrown, grownBy, allPoints, NewPoint};
+ghost use Rattle.basis.specs.Drawing.{PointsGiven, Tabled, DrawnUp};
 
 // The leads but that of row j, and their rows corrected.
 fn keep_others(
@@ -60,9 +61,7 @@ fn keep_others(
 
 // The tables of n points and r rows once row j, which is not 0 at the new point, is lost. Answers how many rows there are then.
 fn grow(
-    p: u16,
-    m: usize,
-    order: u8,
+    settings: Settings,
     n: usize,
     r: usize,
     points: &[u8],
@@ -78,19 +77,22 @@ fn grow(
     new_leads: &mut [u8],
     new_coefficients: &mut [u8],
 ) -> usize
-    requires { ⌜ (2 ≤ p) × (p ≤ 61) × (m ≤ 8) × (n < 64) × (isModulus p ≡ true) ⌝ }
-    requires { ⌜ (j < r) × (r ≤ 449) × (r + m ≤ 450) × (length (now points) ≡ 512) × (length (now rows) ≡ 8192) ⌝ }
+    requires { ⌜ Accepted settings × (n < 64) ⌝ }
+    requires { ⌜ (j < r) × (r ≤ 449) × (r + settings .variables ≤ 450) × (length (now points) ≡ 512) × (length (now rows) ≡ 8192) ⌝ }
     requires { ⌜ (length (now standard) ≡ 512) × (length (now leads) ≡ 3592) × (length (now coefficients) ≡ 28736) × (length (now point) ≡ 8)
         × (length (now values) ≡ 64) ⌝ }
-    requires { ⌜ Below p (now points) × Below p (now coefficients) × Below p (now rows) × Below p (now point) × Below p (now values) ⌝ }
+    requires { ⌜ Below (settings .modulus) (now points) × Below (settings .modulus) (now coefficients) × Below (settings .modulus) (now rows)
+        × Below (settings .modulus) (now point) × Below (settings .modulus) (now values) ⌝ }
     requires { ⌜ (length (now pivots) ≡ 64) × ((t : ℕ) → t < n → getD (now pivots) t 0 < n) ⌝ }
     requires { ⌜ ((i : ℕ) → getD (now leads) i 0 < 255) ⌝ }
     requires { ⌜ (now «new_standard» ≡ replicate 512 0) × (now «new_leads» ≡ replicate 3592 0) × (now «new_coefficients» ≡ replicate 28736 0) ⌝ }
-    ensures { λ _. ⌜ now («new_standard» .exit) ≡ standardGrown order n (now (standard .entry)) (rowAt 8 j (now (leads .entry))) ⌝ }
+    ensures { λ _. ⌜ now («new_standard» .exit) ≡ standardGrown (settings .order) n (now (standard .entry)) (rowAt 8 j (now (leads .entry))) ⌝ }
     ensures { λ k. ⌜ grown k (now («new_leads» .exit)) (now («new_coefficients» .exit))
-        ≡ grownBy p m order n r (now (points .entry)) (now (standard .entry)) (now (leads .entry)) (now (coefficients .entry)) (now (rows .entry))
+        ≡ grownBy (settings .modulus) (settings .variables) (settings .order) n r (now (points .entry)) (now (standard .entry)) (now (leads .entry)) (now (coefficients .entry)) (now (rows .entry))
         (now (pivots .entry)) (now (point .entry)) (now (values .entry)) j ⌝ }
 {
+    let p = settings.modulus as u16;
+    let order = settings.order as u8;
     let lead = &leads[8 * j..8 * j + 8];
     let mut gone = [0u16; 64];
     bytes::widen(&coefficients[64 * j..64 * j + 64], &mut gone);
@@ -112,9 +114,7 @@ fn grow(
         new_coefficients,
     );
     add_products(
-        p,
-        m,
-        order,
+        settings,
         n,
         points,
         rows,
@@ -133,9 +133,7 @@ fn grow(
 
 // The tables of n points and r rows with a new point: the first row that is not 0 there is lost. Answers how many rows there are then.
 fn add_to(
-    p: u16,
-    m: usize,
-    order: u8,
+    settings: Settings,
     n: usize,
     r: usize,
     points: &[u8],
@@ -149,22 +147,20 @@ fn add_to(
     new_leads: &mut [u8],
     new_coefficients: &mut [u8],
 ) -> usize
-    requires { ⌜ PointsGiven (settingsOf p m order) n (now points) ⌝ }
-    requires { ⌜ DrawnUp (settingsOf p m order) (pointsIn (settingsOf p m order) n (now points)) r (now standard) (now leads) (now coefficients) (now rows)
-        (now pivots) ⌝ }
+    requires { ⌜ PointsGiven settings n (now points) ⌝ }
+    requires { ⌜ DrawnUp settings (pointsIn settings n (now points)) r (now standard) (now leads) (now coefficients) (now rows) (now pivots) ⌝ }
     requires { ⌜ n < 64 ⌝ }
-    requires { ⌜ NewPoint (settingsOf p m order) (pointsIn (settingsOf p m order) n (now points)) (now point) ⌝ }
+    requires { ⌜ NewPoint settings (pointsIn settings n (now points)) (now point) ⌝ }
     requires { ⌜ (now «new_standard» ≡ replicate 512 0) × (now «new_leads» ≡ replicate 3592 0) × (now «new_coefficients» ≡ replicate 28736 0) ⌝ }
-    ensures { λ k. ⌜ Tabled (settingsOf p m order) (pointsIn (settingsOf p m order) n (now (points .entry)) ++ (take m (now (point .entry)) ∷ [])) k
-        (now («new_standard» .exit)) (now («new_leads» .exit)) (now («new_coefficients» .exit)) ⌝ }
+    ensures { λ k. ⌜ Tabled settings (allPoints settings n (now (points .entry)) (now (point .entry))) k (now («new_standard» .exit)) (now («new_leads» .exit))
+        (now («new_coefficients» .exit)) ⌝ }
 {
+    let p = settings.modulus as u16;
     let mut values = [0u16; 64];
     values_at(p, n, standard, point, &mut values);
     let j = correcting::first_row(p, n, r, point, &values, leads, coefficients);
     grow(
-        p,
-        m,
-        order,
+        settings,
         n,
         r,
         points,
@@ -182,32 +178,61 @@ fn add_to(
     )
 }
 
-// Four tables, written over the front of the lent ones.
-fn write(
-    new_states: &[u8],
-    new_standard: &[u8],
-    new_leads: &[u8],
-    new_coefficients: &[u8],
-    states: &mut [u8],
+// The tables of all points, over those of the points before. Answers how many rows there are then.
+fn add_tables(
+    settings: Settings,
+    n: usize,
+    r: usize,
+    points: &[u8],
+    rows: &[u16],
+    pivots: &[u8],
+    point: &[u8],
     standard: &mut [u8],
     leads: &mut [u8],
     coefficients: &mut [u8],
-)
-    requires { ⌜ (length (now «new_states») ≤ length (now states))
-        × ((length (now «new_standard») ≤ length (now standard))
-        × ((length (now «new_leads») ≤ length (now leads)) × (length (now «new_coefficients») ≤ length (now coefficients)))) ⌝ }
-    ensures { λ _. ⌜ now (states .exit) ≡ over (now («new_states» .entry)) (now (states .entry)) ⌝ }
-    ensures { λ _. ⌜ now (standard .exit) ≡ over (now («new_standard» .entry)) (now (standard .entry)) ⌝ }
-    ensures { λ _. ⌜ now (leads .exit) ≡ over (now («new_leads» .entry)) (now (leads .entry)) ⌝ }
-    ensures { λ _. ⌜ now (coefficients .exit) ≡ over (now («new_coefficients» .entry)) (now (coefficients .entry)) ⌝ }
+) -> usize
+    requires { ⌜ PointsGiven settings n (now points) ⌝ }
+    requires { ⌜ DrawnUp settings (pointsIn settings n (now points)) r (now standard) (now leads) (now coefficients) (now rows) (now pivots) ⌝ }
+    requires { ⌜ n < 64 ⌝ }
+    requires { ⌜ NewPoint settings (pointsIn settings n (now points)) (now point) ⌝ }
+    ensures { λ k. ⌜ Tabled settings (allPoints settings n (now (points .entry)) (now (point .entry))) k (now (standard .exit)) (now (leads .exit))
+        (now (coefficients .exit)) ⌝ }
 {
-    bytes::copy(new_states, states);
-    bytes::copy(new_standard, standard);
-    bytes::copy(new_leads, leads);
-    bytes::copy(new_coefficients, coefficients);
+    let mut new_standard = [0u8; 512];
+    let mut new_leads = [0u8; 3592];
+    let mut new_coefficients = [0u8; 28736];
+    let k = add_to(
+        settings,
+        n,
+        r,
+        points,
+        standard,
+        leads,
+        coefficients,
+        rows,
+        pivots,
+        point,
+        &mut new_standard,
+        &mut new_leads,
+        &mut new_coefficients,
+    );
+    bytes::copy(&new_standard, standard);
+    bytes::copy(&new_leads, leads);
+    bytes::copy(&new_coefficients, coefficients);
+    k
 }
 
-// The new point and the tables of all points, written to lent tables that hold those of the points before. Answers the row count.
+// The table of the points with the new one behind them.
+fn add_state(n: usize, points: &[u8], point: &[u8], states: &mut [u8])
+    requires { ⌜ (n < 64) × ((length (now points) ≡ 512) × ((length (now point) ≡ 8) × (length (now states) ≡ 512))) ⌝ }
+    ensures { λ _. ⌜ now (states .exit) ≡ withPlace 8 n (now (point .entry)) (now (points .entry)) ⌝ }
+{
+    bytes::copy(points, states);
+    let from = 8 * n;
+    bytes::copy(point, &mut states[from..from + 8]);
+}
+
+// The new point and the tables of all points, written to lent tables that hold those of the points before, and the answer that says so.
 pub fn add_accepted(
     settings: Settings,
     n: usize,
@@ -220,60 +245,33 @@ pub fn add_accepted(
     standard: &mut [u8],
     leads: &mut [u8],
     coefficients: &mut [u8],
-) -> usize
+) -> Answer
     requires { ⌜ PointsGiven settings n (now points) ⌝ }
-    requires { ⌜ (512 ≤ length (now states)) × (512 ≤ length (now standard)) × (3592 ≤ length (now leads)) × (28736 ≤ length (now coefficients)) ⌝ }
+    requires { ⌜ tooShort (fourTables (now states) (now standard) (now leads) (now coefficients)) ≡ false ⌝ }
     requires { ⌜ DrawnUp settings (pointsIn settings n (now points)) r (take 512 (now standard)) (take 3592 (now leads)) (take 28736 (now coefficients))
         (now rows) (now pivots) ⌝ }
     requires { ⌜ n < 64 ⌝ }
     requires { ⌜ NewPoint settings (pointsIn settings n (now points)) (now point) ⌝ }
-    ensures { λ k. ⌜ k ≡ rowCount settings (pointsIn settings n (now (points .entry)) ++ (take (settings .variables) (now (point .entry)) ∷ [])) ⌝ }
-    ensures { λ k. ⌜ now (states .exit)
-        ≡ over (tablesOf settings (pointsIn settings n (now (points .entry)) ++ (take (settings .variables) (now (point .entry)) ∷ [])) .states)
-        (now (states .entry)) ⌝ }
-    ensures { λ k. ⌜ now (standard .exit)
-        ≡ over (tablesOf settings (pointsIn settings n (now (points .entry)) ++ (take (settings .variables) (now (point .entry)) ∷ [])) .standard)
-        (now (standard .entry)) ⌝ }
-    ensures { λ k. ⌜ now (leads .exit)
-        ≡ over (tablesOf settings (pointsIn settings n (now (points .entry)) ++ (take (settings .variables) (now (point .entry)) ∷ [])) .leads)
-        (now (leads .entry)) ⌝ }
-    ensures { λ k. ⌜ now (coefficients .exit)
-        ≡ over (tablesOf settings (pointsIn settings n (now (points .entry)) ++ (take (settings .variables) (now (point .entry)) ∷ [])) .coefficients)
-        (now (coefficients .entry)) ⌝ }
+    ensures { λ a. ⌜ ended a (now (states .exit)) (now (standard .exit)) (now (leads .exit)) (now (coefficients .exit))
+        ≡ holding settings (allPoints settings n (now (points .entry)) (now (point .entry)))
+        (fourTables (now (states .entry)) (now (standard .entry)) (now (leads .entry)) (now (coefficients .entry))) ⌝ }
 {
-    let mut new_states = [0u8; 512];
-    bytes::copy(points, &mut new_states);
-    let from = 8 * n;
-    bytes::copy(point, &mut new_states[from..from + 8]);
-    let mut new_standard = [0u8; 512];
-    let mut new_leads = [0u8; 3592];
-    let mut new_coefficients = [0u8; 28736];
-    let k = add_to(
-        settings.modulus as u16,
-        settings.variables as usize,
-        settings.order as u8,
+    add_state(n, points, point, &mut states[..512]);
+    let k = add_tables(
+        settings,
         n,
         r,
         points,
-        &standard[..512],
-        &leads[..3592],
-        &coefficients[..28736],
         rows,
         pivots,
         point,
-        &mut new_standard,
-        &mut new_leads,
-        &mut new_coefficients,
+        &mut standard[..512],
+        &mut leads[..3592],
+        &mut coefficients[..28736],
     );
-    write(
-        &new_states,
-        &new_standard,
-        &new_leads,
-        &new_coefficients,
-        states,
-        standard,
-        leads,
-        coefficients,
-    );
-    k
+    Answer {
+        refusal: 0,
+        n: n as u8 + 1,
+        r: k as u16,
+    }
 }

@@ -4,11 +4,13 @@ use monomial::insert;
 use monomial::terms::put_term_values;
 use residue::bytes;
 use residue::elimination::eliminate;
+use specification::settings::Settings;
 ghost use mathlib.Core.Path.{_≡_};
 ghost use Prim.Native.Nat.{ℕ, _+_, _*_, _<_, _≤_};
 ghost use lib.ListN.{length, getD};
 ghost use Rattle.residue.specs.Vector.{Below};
 ghost use Rattle.monomial.specs.Insert.{withRowAt};
+ghost use Rattle.specification.proofs.agreement.Refusals.{Accepted};
 ghost use Rattle.basis.specs.Adding.{correctedRow, reducedRow, grown, productPut, productsPut};
 
 // The row of a monomial put into the table of coefficients before row i of k: its values at the n points are eliminated, and what they leave is corrected.
@@ -111,9 +113,7 @@ fn add_product(
 
 // The products of the lost lead with the m variables. Answers how many leads there are then; before, the k others alone.
 pub fn add_products(
-    p: u16,
-    m: usize,
-    order: u8,
+    settings: Settings,
     n: usize,
     points: &[u8],
     rows: &[u16],
@@ -128,17 +128,21 @@ pub fn add_products(
     leads: &mut [u8],
     coefficients: &mut [u8],
 ) -> usize
-    requires { ⌜ (2 ≤ p) × (p ≤ 61) × (n < 64) × (place < 64) × (inverse < p) ⌝ }
+    requires { ⌜ Accepted settings × ((n < 64) × (place < 64) × (inverse < settings .modulus)) ⌝ }
     requires { ⌜ (length (now points) ≡ 512) × (length (now rows) ≡ 8192) × (length (now pivots) ≡ 64) ⌝ }
     requires { ⌜ (length (now gone) ≡ 64) × (length (now point) ≡ 8) × (length (now values) ≡ 64) × (length (now lead) ≡ 8) ⌝ }
-    requires { ⌜ (m ≤ 8) × (k + m ≤ 449) × (length (now leads) ≡ 3592) × (length (now coefficients) ≡ 28736) ⌝ }
-    requires { ⌜ Below p (now points) × Below p (now rows) × Below p (now gone) × Below p (now point) × Below p (now values) ⌝ }
+    requires { ⌜ (k + settings .variables ≤ 449) × (length (now leads) ≡ 3592) × (length (now coefficients) ≡ 28736) ⌝ }
+    requires { ⌜ Below (settings .modulus) (now points) × Below (settings .modulus) (now rows) × Below (settings .modulus) (now gone)
+        × Below (settings .modulus) (now point) × Below (settings .modulus) (now values) ⌝ }
     requires { ⌜ ((t : ℕ) → t < n → getD (now pivots) t 0 < n) ⌝ }
     requires { ⌜ ((v : ℕ) → getD (now lead) v 0 < 255) ⌝ }
     ensures { λ r. ⌜ grown r (now (leads .exit)) (now (coefficients .exit))
-        ≡ productsPut p order n (now (points .entry)) (now (rows .entry)) (now (pivots .entry)) place inverse (now (gone .entry)) (now (point .entry))
-        (now (values .entry)) k (now (leads .entry)) (now (lead .entry)) m (grown k (now (leads .entry)) (now (coefficients .entry))) ⌝ }
+        ≡ productsPut (settings .modulus) (settings .order) n (now (points .entry)) (now (rows .entry)) (now (pivots .entry)) place inverse
+        (now (gone .entry)) (now (point .entry)) (now (values .entry)) k (now (leads .entry)) (now (lead .entry)) (settings .variables) (grown k (now (leads .entry)) (now (coefficients .entry))) ⌝ }
 {
+    let p = settings.modulus as u16;
+    let order = settings.order as u8;
+    let m = settings.variables as usize;
     let mut others = [0u8; 3592];
     bytes::copy(leads, &mut others);
     let mut count = k;

@@ -28,9 +28,9 @@ use Rattle.specification.proofs.agreement.Points.{Points}
 use Rattle.specification.proofs.agreement.Refusals.{Accepted}
 use Rattle.specification.proofs.agreement.Drawings.{laws-under, distinct-points, few-rows}
 use Rattle.specification.proofs.Wiring.{names-length, names-are}
-use Rattle.csv.specs.Printing.{linesOf}
-use Rattle.csv.specs.Appending.{inTable}
-use Rattle.csv.proofs.printing.LongestPrint.{Short, EachShort, printed-length}
+use Rattle.csv.specs.printing.Text.{linesOf}
+use Rattle.csv.specs.printing.Lines.{inTable}
+use Rattle.csv.proofs.printing.lines.LongestPrint.{Short, EachShort, printed-length}
 
 each-back : (m w : ℕ) (L : List (List ℕ)) → m ≤ w → ((a : List ℕ) → Among a L → length a ≡ m) → map (take m) (map (fill w) L) ≡ L
 each-back m w [] h e = refl

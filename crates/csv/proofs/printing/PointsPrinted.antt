@@ -19,8 +19,10 @@ use Rattle.basis.specs.Answers.{solution}
 use Rattle.basis.specs.Drawing.{PointsGiven, DrawnUp}
 use Rattle.basis.proofs.drawing.Given.{given-count}
 use Rattle.basis.proofs.answers.Interpolants.{length-interpolant, solution-is, names-in}
-use Rattle.csv.specs.Appending.{Room, Put, inTable}
-use Rattle.csv.specs.Printing.{basisLines, linesOf}
+use Rattle.csv.specs.Appending.{Room, Put}
+use Rattle.csv.specs.printing.Lines.{inTable}
+use Rattle.csv.specs.printing.Lines.{basisLines}
+use Rattle.csv.specs.printing.Text.{linesOf}
 use Rattle.csv.proofs.printing.DrawnTables.{standard-back, leads-back, rows-back, names-few, lines-length}
 
 module _ (s : Settings) (n : ℕ) (points values : List ℕ) (g : PointsGiven s n points) (lv : length values ≡ n) (bv : Below (s .modulus) values) where

@@ -12,14 +12,14 @@ use lib.Dec.{eqb}
 use borrow.Author.Tests.{eqb-true}
 use Rattle.residue.specs.Layout.{groups, fill, inPlaces, over}
 use Rattle.specification.proofs.agreement.Points.{length-residues}
-use Rattle.csv.specs.Fields.{recordsOf}
-use Rattle.csv.specs.Forms.{levelOf, together, levelsOf, entryOf}
-use Rattle.csv.specs.Reading.{entryIn, pointOf, valueOf, pointsOf, valuesOf, firstRepeat, ended, accepted}
-use Rattle.csv.specs.Records.{entriesAt, counted}
-use Rattle.csv.specs.Points.{levelsAt, saying}
-use Rattle.csv.specs.declared.records.Entries.the-variants as N
-use Rattle.csv.proofs.points.EntriesFilled.{all-entries}
-use Rattle.csv.proofs.tables.RepeatedRows.{AllLong, table-repeats}
+use Rattle.csv.specs.reading.Fields.{recordsOf}
+use Rattle.csv.specs.reading.Forms.{levelOf, together, levelsOf, entryOf}
+use Rattle.csv.specs.reading.Text.{entryIn, entryPoint, entryValue, entryPoints, entryValues, firstRepeat, textEnded, textAccepted}
+use Rattle.csv.specs.reading.Records.{entriesAt, counted}
+use Rattle.csv.specs.reading.Points.{levelsAt, saying}
+use Rattle.csv.specs.declared.reading.records.Entries.the-variants as N
+use Rattle.csv.proofs.reading.points.EntriesFilled.{all-entries}
+use Rattle.csv.proofs.reading.repeats.RepeatedRows.{AllLong, table-repeats}
 
 levels-length : (fields : List (List ℕ)) (zs : List ℤ) → levelsOf fields ≡ some zs → length zs ≡ length fields
 unfolding levelsOf together
@@ -50,8 +50,8 @@ entries-long m (some fields ∷ records) (s ∷ S) e =
     let k : map (entryIn m) records ≡ map some S = cc in
     (entry-length m fields s h, entries-long m records S k)
 
-pub points-long : (p m : ℕ) (S : List (List ℤ)) → AllLong (suc m) S → AllLong m (map (pointOf p m) S)
-unfolding pointOf
+pub points-long : (p m : ℕ) (S : List (List ℤ)) → AllLong (suc m) S → AllLong m (map (entryPoint p m) S)
+unfolding entryPoint
 points-long p m [] h = tt
 points-long p m (s ∷ S) h =
     let e = h .0 in
@@ -68,18 +68,18 @@ module _ (p m n : ℕ) (l : List ℕ) (c : counted 0 (entriesAt m l) ≡ N.Count
   unfolding levelsAt entriesAt
   long = entries-long m (recordsOf l) (levelsAt m l) (all-entries 0 n (entriesAt m l) c .0)
 
-  pub points-repeat : m ≤ 8 → n ≤ 64 → firstRepeat [] (groups 8 n (fill 512 (inPlaces 8 (map (pointOf p m) (levelsAt m l))))) ≡ firstRepeat [] (map (pointOf p m) (levelsAt m l))
+  pub points-repeat : m ≤ 8 → n ≤ 64 → firstRepeat [] (groups 8 n (fill 512 (inPlaces 8 (map (entryPoint p m) (levelsAt m l))))) ≡ firstRepeat [] (map (entryPoint p m) (levelsAt m l))
   points-repeat h k =
-      let e : length (map (pointOf p m) (levelsAt m l)) ≡ n = length-map (levelsAt m l) (pointOf p m) ∙ entries-count in
-      ap (λ (j : ℕ). firstRepeat [] (groups 8 j (fill 512 (inPlaces 8 (map (pointOf p m) (levelsAt m l)))))) (sym e)
-      ∙ table-repeats m h (map (pointOf p m) (levelsAt m l)) (points-long p m (levelsAt m l) long) (omega arith)
+      let e : length (map (entryPoint p m) (levelsAt m l)) ≡ n = length-map (levelsAt m l) (entryPoint p m) ∙ entries-count in
+      ap (λ (j : ℕ). firstRepeat [] (groups 8 j (fill 512 (inPlaces 8 (map (entryPoint p m) (levelsAt m l)))))) (sym e)
+      ∙ table-repeats m h (map (entryPoint p m) (levelsAt m l)) (points-long p m (levelsAt m l) long) (omega arith)
 
 -- what an accepted text leaves
 pub assembled : (p m order n : ℕ) (l states values s v : List ℕ) → length (levelsAt m l) ≡ n
-    → s ≡ over (fill 512 (inPlaces 8 (map (pointOf p m) (levelsAt m l)))) states
-    → v ≡ over (fill 64 (map (valueOf p m) (levelsAt m l))) values
-    → ended (record { refusal = 0; at = 0; modulus = p; variables = m; order = order; n = n }) s v ≡ accepted (saying p m order l) states values
-unfolding accepted saying pointsOf valuesOf
+    → s ≡ over (fill 512 (inPlaces 8 (map (entryPoint p m) (levelsAt m l)))) states
+    → v ≡ over (fill 64 (map (entryValue p m) (levelsAt m l))) values
+    → textEnded (record { refusal = 0; at = 0; modulus = p; variables = m; order = order; n = n }) s v ≡ textAccepted (saying p m order l) states values
+unfolding textAccepted saying entryPoints entryValues
 assembled p m order n l states values s v c e f =
-    ap (λ (k : ℕ). ended (record { refusal = 0; at = 0; modulus = p; variables = m; order = order; n = k }) s v) (sym c)
-    ∙ ap₂ (ended (record { refusal = 0; at = 0; modulus = p; variables = m; order = order; n = length (levelsAt m l) })) e f
+    ap (λ (k : ℕ). textEnded (record { refusal = 0; at = 0; modulus = p; variables = m; order = order; n = k }) s v) (sym c)
+    ∙ ap₂ (textEnded (record { refusal = 0; at = 0; modulus = p; variables = m; order = order; n = length (levelsAt m l) })) e f

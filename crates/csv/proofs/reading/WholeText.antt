@@ -8,16 +8,17 @@ use lib.IntN.{ℤ}
 use lib.ListN.{length, drop, length-map}
 use borrow.Author.Tests.{lt-ltb, le-ltb, eq-eqb, ne-eqb}
 use Rattle.residue.specs.Lists.{sameList}
-use Rattle.csv.specs.Fields.{Part, part, faulty, front, ending, unquoted, fieldOf, behindField, recordFrom, recordOf, behindRecord, recordsFrom, recordsOf}
-use Rattle.csv.specs.Forms.{Header, lastField, headerFrom, headerOf}
-use Rattle.csv.specs.Reading.{Entries, Outcome, further, firstFault, isNone, headerIn, entryIn, entriesIn, formFault, entriesOf, settingsCases, entriesCases, readCases, firstCase, accepted, refused, decided, readOutcome}
-use Rattle.csv.specs.Records.{kept, reads, headerPart, entriesAt, counted}
-use Rattle.csv.specs.Points.{levelsAt, saying}
+use Rattle.csv.specs.reading.Fields.{Part, part, faulty, front, ending, unquoted, fieldOf, behindField, recordFrom, recordOf, behindRecord, recordsFrom, recordsOf}
+use Rattle.csv.specs.reading.Forms.{Header, lastField, headerFrom, headerOf}
+use Rattle.specification.specs.Refusal.{firstOf}
+use Rattle.csv.specs.reading.Text.{Contents, TextOutcome, further, firstFault, isNone, headerIn, entryIn, entriesIn, formFault, contentsOf, headerCases, entriesCases, readCases, notRefused, textAccepted, textRefused, textDecided, readOutcome, refusalAt}
+use Rattle.csv.specs.reading.Records.{kept, reads, headerPart, entriesAt, counted}
+use Rattle.csv.specs.reading.Points.{levelsAt, saying}
 use Rattle.csv.specs.declared.reading.Refusal.{Refusal}
-use Rattle.csv.specs.declared.records.Entries.the-variants as N
-use Rattle.csv.proofs.fields.EnoughTurns.{records-unroll}
+use Rattle.csv.specs.declared.reading.records.Entries.the-variants as N
+use Rattle.csv.proofs.reading.fields.EnoughTurns.{records-unroll}
 use Rattle.csv.proofs.reading.RepeatedPoints.{entries-count}
-use Rattle.csv.proofs.reading.FirstCase.{when-refused, fault-le}
+use Rattle.csv.proofs.reading.TextCases.{text-refused, fault-le}
 
 -- the header is the first record
 first-none : (p : Part (List (List ℕ))) → reads headerOf p ≡ faulty → headerIn (behindRecord recordsOf p) ≡ none
@@ -105,78 +106,78 @@ unfolding entriesAt recordsOf
 entries-few m l = let e = length-map (recordsOf l) (entryIn m) in omega (arith, records-few (length l) l)
 
 -- the first two cases
-module _ (t : List ℕ) (f : ℕ) (e : Entries) (a b : ℕ) where
-  refuse-1 : 16384 < length t → _≡_ {A = Refusal} (record { refusal = 1; at = 0 }) (firstCase (readCases t f e a b))
-  unfolding firstCase readCases
+module _ (t : List ℕ) (f : ℕ) (e : Contents) (a b : ℕ) where
+  refuse-1 : 16384 < length t → refusalAt 1 0 ≡ (firstOf notRefused (readCases t f e a b))
+  unfolding firstOf readCases
   refuse-1 h = simp (lt-ltb 16384 (length t) h)
 
   module _ (h : length t ≤ 16384) where
-    refuse-2 : (f ≡ 0 → ⊥) → _≡_ {A = Refusal} (record { refusal = 2; at = f }) (firstCase (readCases t f e a b))
-    unfolding firstCase readCases
+    refuse-2 : (f ≡ 0 → ⊥) → refusalAt 2 f ≡ (firstOf notRefused (readCases t f e a b))
+    unfolding firstOf readCases
     refuse-2 n = simp (le-ltb 16384 (length t) h, ne-eqb f 0 n)
 
-    form-pass : f ≡ 0 → firstCase (readCases t f e a b) ≡ firstCase (settingsCases (e .header .modulus) (e .header .variables) (length (e .entries)) a b ++ entriesCases e)
-    unfolding firstCase readCases
+    form-pass : f ≡ 0 → firstOf notRefused (readCases t f e a b) ≡ firstOf notRefused (headerCases (e .header .modulus) (e .header .variables) (length (e .entries)) a b ++ entriesCases e)
+    unfolding firstOf readCases
     form-pass z = simp (le-ltb 16384 (length t) h, eq-eqb f 0 z)
 
 -- The outcome, case by case.
 module _ (t s v : List ℕ) where
-  pub too-long : 16384 < length t → refused (record { refusal = 1; at = 0 }) s v ≡ readOutcome t s v
+  pub too-long : 16384 < length t → textRefused (refusalAt 1 0) s v ≡ readOutcome t s v
   unfolding readOutcome
-  too-long h = when-refused _ _ s v _ (refuse-1 t _ _ (length s) (length v) h) (λ z. omega arith)
+  too-long h = text-refused _ _ s v _ (refuse-1 t _ _ (length s) (length v) h) (λ z. omega arith)
 
   module _ (h : length t ≤ 16384) where
-    pub header-broken : headerPart t ≡ faulty → refused (record { refusal = 2; at = 1 }) s v ≡ readOutcome t s v
+    pub header-broken : headerPart t ≡ faulty → textRefused (refusalAt 2 1) s v ≡ readOutcome t s v
     unfolding readOutcome formFault
     header-broken e =
         let r = recordsOf t in
         let k = Option·getD (headerIn r) (record { variables = 0; modulus = 0; order = 0 }) in
-        when-refused _ _ s v (record { refusal = 2; at = 1 })
-        (refuse-2 t 1 (entriesOf k r) (length s) (length v) h (λ z. omega arith)
-        ∙ ap (λ (o : Option Header). firstCase (readCases t (formFault o r) (entriesOf k r) (length s) (length v))) (sym (no-header t e)))
+        text-refused _ _ s v (refusalAt 2 1)
+        (refuse-2 t 1 (contentsOf k r) (length s) (length v) h (λ z. omega arith)
+        ∙ ap (λ (o : Option Header). firstOf notRefused (readCases t (formFault o r) (contentsOf k r) (length s) (length v))) (sym (no-header t e)))
         (λ z. omega arith)
 
     module _ (k : Header) (rest : List ℕ) (e : headerPart t ≡ part k rest) where
-      says : Entries
+      says : Contents
       says = saying (k .modulus) (k .variables) (k .order) rest
 
       behind : entriesIn (k .variables) (recordsOf t) ≡ entriesAt (k .variables) rest
       unfolding entriesIn entriesAt
       behind = ap (map (entryIn (k .variables))) (some-header k rest t e .1)
 
-      outcome : readOutcome t s v ≡ decided (firstCase (readCases t (further (firstFault isNone (entriesAt (k .variables) rest))) says (length s) (length v))) (accepted says s v) s v
-      unfolding readOutcome formFault entriesOf says saying levelsAt
+      outcome : readOutcome t s v ≡ textDecided (firstOf notRefused (readCases t (further (firstFault isNone (entriesAt (k .variables) rest))) says (length s) (length v))) (textAccepted says s v) s v
+      unfolding readOutcome formFault contentsOf says saying levelsAt
       outcome =
           ap (λ (o : Option Header). of-header o) (some-header k rest t e .0) ∙ ap of-entries behind
         where
-          of-header : Option Header → Outcome
-          of-header o = let f = entriesOf (Option·getD o (record { variables = 0; modulus = 0; order = 0 })) (recordsOf t) in
-              decided (firstCase (readCases t (formFault o (recordsOf t)) f (length s) (length v))) (accepted f s v) s v
+          of-header : Option Header → TextOutcome
+          of-header o = let f = contentsOf (Option·getD o (record { variables = 0; modulus = 0; order = 0 })) (recordsOf t) in
+              textDecided (firstOf notRefused (readCases t (formFault o (recordsOf t)) f (length s) (length v))) (textAccepted f s v) s v
 
-          of-entries : List (Option (List ℤ)) → Outcome
-          of-entries es = let f : Entries = record { header = k; entries = map (λ x. Option·getD x []) es } in
-              decided (firstCase (readCases t (further (firstFault isNone es)) f (length s) (length v))) (accepted f s v) s v
+          of-entries : List (Option (List ℤ)) → TextOutcome
+          of-entries es = let f : Contents = record { header = k; entries = map (λ x. Option·getD x []) es } in
+              textDecided (firstOf notRefused (readCases t (further (firstFault isNone es)) f (length s) (length v))) (textAccepted f s v) s v
 
-      pub entry-broken : (r a : ℕ) → N.Refused r a ≡ counted 0 (entriesAt (k .variables) rest) → refused (record { refusal = r; at = a }) s v ≡ readOutcome t s v
+      pub entry-broken : (r a : ℕ) → N.Refused r a ≡ counted 0 (entriesAt (k .variables) rest) → textRefused (refusalAt r a) s v ≡ readOutcome t s v
       entry-broken r a c =
           let f = counted-refused 0 r a (entriesAt (k .variables) rest) c in
           let g = further-some (firstFault isNone (entriesAt (k .variables) rest)) (f .found) in
           let q = f .at in
           let i : further (firstFault isNone (entriesAt (k .variables) rest)) ≡ a = omega arith in
-          ap₂ (λ (x y : ℕ). refused (record { refusal = x; at = y }) s v) (f .refusal) (sym i)
-          ∙ when-refused _ _ s v _ (refuse-2 t (further (firstFault isNone (entriesAt (k .variables) rest))) says (length s) (length v) h (λ z. omega arith)) (λ z. omega arith)
+          ap₂ (λ (x y : ℕ). textRefused (refusalAt x y) s v) (f .refusal) (sym i)
+          ∙ text-refused _ _ s v _ (refuse-2 t (further (firstFault isNone (entriesAt (k .variables) rest))) says (length s) (length v) h (λ z. omega arith)) (λ z. omega arith)
           ∙ sym outcome
 
       pub form-right : (n : ℕ) → N.Count n ≡ counted 0 (entriesAt (k .variables) rest)
-          → decided (firstCase (settingsCases (k .modulus) (k .variables) n (length s) (length v) ++ entriesCases (saying (k .modulus) (k .variables) (k .order) rest)))
-          (accepted (saying (k .modulus) (k .variables) (k .order) rest) s v) s v
+          → textDecided (firstOf notRefused (headerCases (k .modulus) (k .variables) n (length s) (length v) ++ entriesCases (saying (k .modulus) (k .variables) (k .order) rest)))
+          (textAccepted (saying (k .modulus) (k .variables) (k .order) rest) s v) s v
           ≡ readOutcome t s v
       unfolding says saying further
       form-right n c =
           let z = counted-none 0 n (entriesAt (k .variables) rest) c in
           let m = entries-count (k .modulus) (k .variables) n rest (sym c) in
-          ap (λ (x : Refusal). decided x (accepted says s v) s v)
-          (ap (λ (j : ℕ). firstCase (settingsCases (k .modulus) (k .variables) j (length s) (length v) ++ entriesCases says)) (sym m)
+          ap (λ (x : Refusal). textDecided x (textAccepted says s v) s v)
+          (ap (λ (j : ℕ). firstOf notRefused (headerCases (k .modulus) (k .variables) j (length s) (length v) ++ entriesCases says)) (sym m)
           ∙ sym (form-pass t (further (firstFault isNone (entriesAt (k .variables) rest))) says (length s) (length v) h (ap further z)))
           ∙ sym outcome
 

@@ -102,16 +102,7 @@ slice-aggregate-add-accepted-4 c = sym (c .before .before .before .before .befor
 add-accepted-requires : tie.Need-add-accepted-requires
 add-accepted-requires c κs =
     let y = handed (c .before .before .before .before .before .before .before .before) in
-    (y .given, ((y .large .states, y .large .standard, y .large .leads, y .large .coefficients), (y .drawn, (y .room, y .point))))
-
-cast-t50 : tie.Need-cast-t50
-cast-t50 c = omega (arith, handed (writing c) .room)
-
-add-t51 : tie.Need-add-t51
-add-t51 c = omega (arith, handed (writing c) .room)
-
-cast-t52 : tie.Need-cast-t52
-cast-t52 c = omega (arith, c .before .before .before .before .before .before .before .before .add-accepted .ensures .0, handed (writing c) .few)
+    (y .given, (y .long, (y .drawn, (y .room, y .point))))
 
 same-length-5 : tie.Need-same-length-5
 same-length-5 c = c .before .before .before .before .before .before .before .before .add-accepted .kept .1 .1 .1 .1 .1 .1 .1 .0
@@ -129,8 +120,8 @@ returns-2 : tie.Need-returns-2
 returns-2 c =
     let e = writing c in
     let z = s e in
-    let w = c .before .before .before .before .before .before .before .before .add-accepted .ensures in
-    added (z .args .settings) (z .args .n) (z .args .r) (tables z) (z .args .levels .now) (points e) (rows e) (pivots e) (point e) (none e) (handed e) _ _ _ _ _ (w .0) (w .1 .0) (w .1 .1 .0) (w .1 .1 .1 .0) (w .1 .1 .1 .1)
+    c .before .before .before .before .before .before .before .before .add-accepted .ensures
+    ∙ added (z .args .settings) (z .args .n) (z .args .r) (tables z) (z .args .levels .now) (points e) (rows e) (pivots e) (point e) (none e) (handed e)
 
 pub add-point-spec : {M : Type 1} → statement M
 add-point-spec =
@@ -152,9 +143,6 @@ add-point-spec =
     slice-aggregate-add-accepted-3
     slice-aggregate-add-accepted-4
     add-accepted-requires
-    cast-t50
-    add-t51
-    cast-t52
     same-length-5
     same-length-6
     same-length-7

@@ -1,7 +1,7 @@
 -- `printing::print_points` meets its contract: the tables, the interpolant and the wiring list are those of the points.
-use mathlib.Core.Path.{refl, sym, _∙_, ap}
+use mathlib.Core.Path.{_≡_, refl, sym, _∙_, ap}
 use mathlib.Core.List.{List}
-use Prim.Native.Nat.{ℕ}
+use Prim.Native.Nat.{ℕ, _≤_}
 use native.Mathlib.Omega.{arith}
 use lib.ListN.{length, take}
 use lib.Seq.{length-take-le}
@@ -9,12 +9,110 @@ use borrow.Author.Needs.{needs}
 use Rattle.residue.specs.Layout.{groups}
 use Rattle.residue.proofs.level.Moduli.{modulus-range}
 use Rattle.residue.proofs.Layouts.{length-fill}
+use Rattle.specification.specs.declared.settings.Settings.{Settings}
+use Rattle.specification.specs.Tables.{pointsIn}
+use Rattle.specification.specs.Solving.{wiringOf}
 use Rattle.specification.proofs.Wiring.{names-length}
+use Rattle.basis.specs.Drawing.{settingsOf}
 use Rattle.basis.proofs.drawing.Given.{drawn-long}
-use Rattle.csv.proofs.printing.Appends.{put-within}
+use Rattle.csv.specs.Appending.{Room, Put}
+use Rattle.csv.specs.printing.Lines.{basisLines, inTable}
+use Rattle.csv.specs.printing.Text.{linesOf}
+use Rattle.csv.proofs.appending.Appends.{put-within}
 use Rattle.csv.proofs.printing.PointsPrinted.{few, inside, told-room, told}
 use Rattle.csv.proofs.printing.print_points.Statement.{statement}
 use Rattle.csv.proofs.printing.print_points.Tie as tie
+
+-- The places: the tables are drawn up, the interpolant is solved, its wiring list is made. Each names the one before it.
+abbrev D : Type 0
+D = tie.After-draw
+
+abbrev start : D → tie.Start
+start d = d .before .before .before .before .before .before .before .before .before
+
+abbrev I : Type 0
+I = tie.After-solve-bytes
+
+abbrev drawn : I → D
+drawn v = v .before .before .before .before .before .before .before .before .before
+
+abbrev N : Type 0
+N = tie.After-put-names
+
+abbrev solved : N → I
+solved n = n .before .before .before .before .before
+
+module _ (d : D) where
+  abbrev under : Settings
+  under = settingsOf (start d .args .p) (start d .args .m) (start d .args .order)
+
+  abbrev points : List (List ℕ)
+  points = pointsIn under (start d .args .n) (start d .args .points .now)
+
+  abbrev standard : List ℕ
+  standard = d .draw .last .1 .1 .1 .1 .1 .0
+
+  abbrev leads : List ℕ
+  leads = d .draw .last .1 .1 .1 .1 .1 .1 .0
+
+  abbrev coefficients : List ℕ
+  coefficients = d .draw .last .1 .1 .1 .1 .1 .1 .1 .0
+
+  abbrev rows : List ℕ
+  rows = d .draw .last .1 .1 .1 .1 .1 .1 .1 .1 .0
+
+  abbrev pivots : List ℕ
+  pivots = d .draw .last .1 .1 .1 .1 .1 .1 .1 .1 .1 .0
+
+  long : (length standard ≡ 512) × ((length leads ≡ 3592) × (length coefficients ≡ 28736))
+  long = drawn-long under points (d .draw .result) standard leads coefficients rows pivots (d .draw .ensures)
+
+abbrev interpolant : I → List ℕ
+interpolant v = v .solve-bytes .last .1 .1 .1 .1 .1 .0
+
+interpolant-length : (v : I) → length (interpolant v) ≡ 64
+interpolant-length v = ap (λ (z : List ℕ). length z) (v .solve-bytes .ensures) ∙ length-fill 64 _
+
+-- the wiring list
+module _ (n : N) where
+  abbrev d : D
+  d = drawn (solved n)
+
+  abbrev s : tie.Start
+  s = start d
+
+  abbrev names : List ℕ
+  names = n .put-names .last .1 .1 .1 .1 .0
+
+  abbrev list : List ℕ
+  list = wiringOf (s .args .m) (take (s .args .n) (interpolant (solved n))) (groups 8 (s .args .n) (standard d))
+
+  names-long : length names ≡ 8
+  names-long = ap (λ (z : List ℕ). length z) (n .put-names .ensures .1) ∙ length-fill 8 list
+
+  names-few : n .put-names .result ≤ 8
+  names-few =
+      let e = n .put-names .ensures .0 in
+      let l = names-length (take (s .args .n) (interpolant (solved n))) (groups 8 (s .args .n) (standard d)) (s .args .m) in
+      let few = s .pre .0 .settings .few in
+      omega arith
+
+  abbrev lines : List ℕ
+  lines = basisLines (inTable 8 (s .args .n) (s .args .m) (standard d)) (inTable 8 (d .draw .result) (s .args .m) (leads d))
+      (inTable 64 (d .draw .result) (s .args .n) (coefficients d)) (take (s .args .n) (interpolant (solved n))) (take (n .put-names .result) names)
+
+  room : Room 0 lines (s .args .out .now)
+  room =
+      told-room (under d) (s .args .n) (s .args .points .now) (s .args .values .now) (s .pre .0) (s .pre .1 .0 .0) (s .pre .1 .0 .1)
+      (d .draw .result) (standard d) (leads d) (coefficients d) (rows d) (pivots d) (d .draw .ensures)
+      (interpolant (solved n)) (solved n .solve-bytes .ensures) (n .put-names .result) names (n .put-names .ensures .0) (n .put-names .ensures .1)
+      (s .args .out .now) (s .pre .1 .1)
+
+  printed : {after : List ℕ} {end : ℕ} → Put 0 lines (s .args .out .now) after end → Put 0 (linesOf (under d) (points d) (s .args .values .now)) (s .args .out .now) after end
+  printed p =
+      told (under d) (s .args .n) (s .args .points .now) (s .args .values .now) (s .pre .0) (s .pre .1 .0 .0) (s .pre .1 .0 .1)
+      (d .draw .result) (standard d) (leads d) (coefficients d) (rows d) (pivots d) (d .draw .ensures)
+      (interpolant (solved n)) (solved n .solve-bytes .ensures) (n .put-names .result) names (n .put-names .ensures .0) (n .put-names .ensures .1) p
 
 slice-aggregate-draw : tie.Need-slice-aggregate-draw
 slice-aggregate-draw c = search needs
@@ -46,9 +144,9 @@ slice-aggregate-solve-bytes-3 c = search needs
 solve-bytes-requires : tie.Need-solve-bytes-requires
 solve-bytes-requires c κs =
     let d = c .before .before .before .before .before .before .before .before in
-    let s = d .before .before .before .before .before .before .before .before .before in
+    let s = start d in
     let u = d .draw .ensures .pivot-rows in
-    (modulus-range _ (s .pre .0 .settings .modulus), (s .pre .1 .0, ((s .pre .0 .most, u .long-rows, u .long-pivots), ((u .below, inside _ _ _ (s .args .values .now) (s .pre .0) (s .pre .1 .0 .0) (s .pre .1 .0 .1) _ _ _ _ _ _ (d .draw .ensures)), refl))))
+    (modulus-range _ (s .pre .0 .settings .modulus), (s .pre .1 .0, ((s .pre .0 .most, u .long-rows, u .long-pivots), ((u .below, inside (under d) (s .args .n) (s .args .points .now) (s .args .values .now) (s .pre .0) (s .pre .1 .0 .0) (s .pre .1 .0 .1) (d .draw .result) (standard d) (leads d) (coefficients d) (rows d) (pivots d) (d .draw .ensures)), refl))))
 
 slice-aggregate-put-names : tie.Need-slice-aggregate-put-names
 slice-aggregate-put-names c = search needs
@@ -61,10 +159,11 @@ slice-aggregate-put-names-3 c = search needs
 
 put-names-requires : tie.Need-put-names-requires
 put-names-requires c κs =
-    let d = c .before .before .before .before .before .before .before .before .before .before .before .before .before in
-    let s = d .before .before .before .before .before .before .before .before .before in
-    let i = ap (λ (z : List ℕ). length z) (c .before .before .before .before .solve-bytes .ensures) ∙ length-fill 64 _ in
-    let l = drawn-long _ _ _ _ _ _ _ _ (d .draw .ensures) .0 in
+    let v = c .before .before .before .before in
+    let d = drawn v in
+    let s = start d in
+    let i = interpolant-length v in
+    let l = long d .0 in
     let most = s .pre .0 .most in
     ((s .pre .0 .settings .few, omega arith, omega arith), refl)
 
@@ -82,56 +181,51 @@ slice-aggregate-print-basis-3 c = search needs
 
 array-share-prefix-interpolant : tie.Need-array-share-prefix-interpolant
 array-share-prefix-interpolant c =
-    let i = ap (λ (z : List ℕ). length z) (c .before .before .before .before .before .before .before .before .before .solve-bytes .ensures) ∙ length-fill 64 _ in
-    let most = c .before .before .before .before .before .before .before .before .before .before .before .before .before .before .before .before .before .before .before .before .before .before .before .before .before .before .before .pre .0 .most in
+    let v = solved (c .before .before .before .before) in
+    let i = interpolant-length v in
+    let most = start (drawn v) .pre .0 .most in
     omega arith
 
 slice-aggregate-print-basis-4 : tie.Need-slice-aggregate-print-basis-4
 slice-aggregate-print-basis-4 c =
-    let i = ap (λ (z : List ℕ). length z) (c .before .before .before .before .before .before .before .before .before .before .solve-bytes .ensures) ∙ length-fill 64 _ in
-    let most = c .before .before .before .before .before .before .before .before .before .before .before .before .before .before .before .before .before .before .before .before .before .before .before .before .before .before .before .before .pre .0 .most in
+    let v = solved (c .before .before .before .before .before) in
+    let i = interpolant-length v in
+    let most = start (drawn v) .pre .0 .most in
     sym (length-take-le _ _ (omega arith))
 
 array-share-prefix-names : tie.Need-array-share-prefix-names
 array-share-prefix-names c =
-    let called = c .before .before .before .before .before .put-names in
-    let n = called .ensures .0 in
-    let l = ap (λ (z : List ℕ). length z) (called .ensures .1) ∙ length-fill 8 _ in
-    let s = c .before .before .before .before .before .before .before .before .before .before .before .before .before .before .before .before .before .before .before .before .before .before .before .before .before .before .before .before in
-    let m = names-length (take (s .args .n) (c .before .before .before .before .before .before .before .before .before .before .solve-bytes .last .1 .1 .1 .1 .1 .0)) (groups 8 (s .args .n) (c .before .before .before .before .before .before .before .before .before .before .before .before .before .before .before .before .before .before .before .draw .last .1 .1 .1 .0)) (s .args .m) in
-    let few = s .pre .0 .settings .few in
+    let n = c .before .before .before .before .before in
+    let k = names-few n in
+    let l = names-long n in
     omega arith
 
 slice-aggregate-print-basis-5 : tie.Need-slice-aggregate-print-basis-5
 slice-aggregate-print-basis-5 c =
-    let called = c .before .before .before .before .before .before .put-names in
-    let n = called .ensures .0 in
-    let l = ap (λ (z : List ℕ). length z) (called .ensures .1) ∙ length-fill 8 _ in
-    let s = c .before .before .before .before .before .before .before .before .before .before .before .before .before .before .before .before .before .before .before .before .before .before .before .before .before .before .before .before .before in
-    let m = names-length (take (s .args .n) (c .before .before .before .before .before .before .before .before .before .before .before .solve-bytes .last .1 .1 .1 .1 .1 .0)) (groups 8 (s .args .n) (c .before .before .before .before .before .before .before .before .before .before .before .before .before .before .before .before .before .before .before .before .draw .last .1 .1 .1 .0)) (s .args .m) in
-    let few = s .pre .0 .settings .few in
-    sym (length-take-le _ _ (omega arith))
+    let n = c .before .before .before .before .before .before in
+    let k = names-few n in
+    let l = names-long n in
+    sym (length-take-le (n .put-names .result) (names n) (omega arith))
 
 print-basis-requires : tie.Need-print-basis-requires
 print-basis-requires c κs =
-    let d = c .before .before .before .before .before .before .before .before .before .before .before .before .before .before .before .before .before .before .before .before .before in
-    let s = d .before .before .before .before .before .before .before .before .before in
-    let r = few _ _ _ (s .args .values .now) (s .pre .0) (s .pre .1 .0 .0) (s .pre .1 .0 .1) _ _ _ _ _ _ (d .draw .ensures) in
+    let n = c .before .before .before .before .before .before .before in
+    let d = drawn (solved n) in
+    let s = start d in
+    let r = few (under d) (s .args .n) (s .args .points .now) (s .args .values .now) (s .pre .0) (s .pre .1 .0 .0) (s .pre .1 .0 .1)
+    (d .draw .result) (standard d) (leads d) (coefficients d) (rows d) (pivots d) (d .draw .ensures) in
     let most = s .pre .0 .most in
-    let t = drawn-long _ _ _ _ _ _ _ _ (d .draw .ensures) in
-    ((s .pre .0 .settings .few, most, r), ((omega arith, omega arith, omega arith), told-room _ _ _ (s .args .values .now) (s .pre .0) (s .pre .1 .0 .0) (s .pre .1 .0 .1) _ _ _ _ _ _ (d .draw .ensures) _ (c .before .before .before .before .before .before .before .before .before .before .before .before .solve-bytes .ensures) _ _ (c .before .before .before .before .before .before .before .put-names .ensures .0) (c .before .before .before .before .before .before .before .put-names .ensures .1) (s .args .out .now) (s .pre .1 .1)))
+    let t = long d in
+    ((s .pre .0 .settings .few, most, r), ((omega arith, omega arith, omega arith), room n))
 
 same-length : tie.Need-same-length
 same-length c = search needs
 
 returns : tie.Need-returns
 returns c =
-    let d = c .before .before .before .before .before .before .before .before .before .before .before .before .before .before .before .before .before .before .before .before .before .before .before .before in
-    let s = d .before .before .before .before .before .before .before .before .before in
-    let i = c .before .before .before .before .before .before .before .before .before .before .before .before .before .before .before .solve-bytes .ensures in
-    let n = c .before .before .before .before .before .before .before .before .before .before .put-names .ensures in
+    let n = c .before .before .before .before .before .before .before .before .before .before in
     let p = c .before .before .print-basis .ensures in
-    (told _ _ _ (s .args .values .now) (s .pre .0) (s .pre .1 .0 .0) (s .pre .1 .0 .1) _ _ _ _ _ _ (d .draw .ensures) _ i _ _ (n .0) (n .1) p, put-within p (told-room _ _ _ (s .args .values .now) (s .pre .0) (s .pre .1 .0 .0) (s .pre .1 .0 .1) _ _ _ _ _ _ (d .draw .ensures) _ i _ _ (n .0) (n .1) (s .args .out .now) (s .pre .1 .1)))
+    (printed n p, put-within {a = lines n} p (room n))
 
 pub print-points-spec : {M : Type 1} → statement M
 print-points-spec =

@@ -1,13 +1,17 @@
 -- `printing::print_text` meets its contract.
-use mathlib.Core.Path.{refl, sym}
+use mathlib.Core.Path.{_≡_, refl, sym}
 use native.Mathlib.Omega.{arith}
-use Rattle.csv.specs.Reading.{ended}
-use Rattle.csv.proofs.printing.Appends.{put-within}
-use Rattle.csv.proofs.printing.LongestPrint.{refusal-length}
-use Rattle.csv.proofs.printing.AcceptedText.{fit, printed-refusal, printed-basis, print-short, print-long}
+use Rattle.csv.specs.reading.Text.{textEnded}
+use Rattle.csv.proofs.appending.Appends.{put-within}
+use Rattle.csv.proofs.printing.lines.LongestPrint.{refusal-length}
+use Rattle.csv.proofs.printing.AcceptedText.{Fit, fit, printed-refusal, printed-basis, print-short, print-long}
 use borrow.Author.Needs.{needs}
 use Rattle.csv.proofs.printing.print_text.Statement.{statement}
 use Rattle.csv.proofs.printing.print_text.Tie as tie
+
+-- what was read, where it was accepted, is as printing asks
+read-fits : (c : tie.After-read-text) → c .read-text .result .refusal ≡ 0 → Fit (textEnded (c .read-text .result) (c .read-text .last .1 .0) (c .read-text .last .1 .1 .0))
+read-fits c z = fit _ (textEnded (c .read-text .result) (c .read-text .last .1 .0) (c .read-text .last .1 .1 .0)) (c .read-text .ensures) z
 
 returns : tie.Need-returns
 returns c = (print-short _ _ (omega arith), (omega arith, refl))
@@ -48,18 +52,15 @@ slice-aggregate-print-points c = search needs
 
 array-share-prefix-values : tie.Need-array-share-prefix-values
 array-share-prefix-values c =
-    let r = c .before .before .before .before .before .before .read-text in
-    fit _ (ended (r .result) (r .last .1 .0) (r .last .1 .1 .0)) (r .ensures) (omega arith) .3
+    read-fits (c .before .before .before .before .before .before) (omega arith) .3
 
 slice-aggregate-print-points-2 : tie.Need-slice-aggregate-print-points-2
 slice-aggregate-print-points-2 c =
-    let r = c .before .before .before .before .before .before .before .read-text in
-    sym (fit _ (ended (r .result) (r .last .1 .0) (r .last .1 .1 .0)) (r .ensures) (omega arith) .1)
+    sym (read-fits (c .before .before .before .before .before .before .before) (omega arith) .1)
 
 print-points-requires : tie.Need-print-points-requires
 print-points-requires c κs =
-    let r = c .before .before .before .before .before .before .before .before .read-text in
-    let f = fit _ (ended (r .result) (r .last .1 .0) (r .last .1 .1 .0)) (r .ensures) (omega arith) in
+    let f = read-fits (c .before .before .before .before .before .before .before .before) (omega arith) in
     (f .0, ((f .1, f .2), omega arith))
 
 same-length-2 : tie.Need-same-length-2

@@ -6,7 +6,7 @@ use native.Mathlib.Omega.{arith}
 use lib.ListN.{length}
 use borrow.Author.Needs.{needs}
 use Rattle.residue.specs.Vector.{Below}
-use Rattle.residue.specs.Layout.{fill}
+use Rattle.residue.specs.Layout.{fill, over}
 use Rattle.residue.proofs.Layouts.{length-fill, over-all, below-fill}
 use Rattle.residue.proofs.Places.{over-zeros}
 use Rattle.basis.specs.Answers.{solution}
@@ -43,10 +43,12 @@ same-length c = search needs
 
 returns : tie.Need-returns
 returns c =
-    let s = c .before .before .before .before .before .before .before .before .before .before .before .before .before in
-    let w = c .before .before .before .before .before .before .before .widen .ensures ∙ over-zeros (s .args .values .now) 128 (omega arith) in
+    let widened = c .before .before .before .before .before .before .before in
+    let s = widened .before .before .before .before .before .before in
+    let w = widened .widen .ensures ∙ over-zeros (s .args .values .now) 128 (omega arith) in
     let o = ap (λ (z : List ℕ). length z) (s .pre .1 .1 .1 .1) in
-    c .before .before .before .solve .ensures .1 ∙ over-all _ (s .args .out .now) (length-fill 64 _ ∙ sym o)
+    let solved = fill 64 (solution (s .args .p) (s .args .n) (s .args .rows .now) (s .args .pivots .now) (widened .widen .last .1 .0)) in
+    _∙_ {b = over solved (s .args .out .now)} (c .before .before .before .solve .ensures .1) (over-all solved (s .args .out .now) (length-fill 64 _ ∙ sym o))
     ∙ ap (λ (z : List ℕ). fill 64 (solution (s .args .p) (s .args .n) (s .args .rows .now) (s .args .pivots .now) z)) w
 
 pub solve-bytes-spec : {M : Type 1} → statement M

@@ -5,10 +5,11 @@ use mathlib.Core.List.{List}
 use Prim.Native.Nat.{ℕ, _≤_}
 use native.Mathlib.Omega.{arith}
 use lib.ListN.{length, drop, length-drop}
-use Rattle.csv.specs.Fields.{part}
-use Rattle.csv.specs.Forms.{Header}
-use Rattle.csv.specs.Reading.{ended, refused}
-use Rattle.csv.specs.Records.{headerPart, headerSaid, HeaderWithin}
+use Rattle.csv.specs.reading.Fields.{part}
+use Rattle.csv.specs.reading.Forms.{Header}
+use Rattle.csv.specs.reading.Text.{textEnded, textRefused}
+use Rattle.csv.specs.reading.Records.{headerPart, headerSaid, HeaderWithin}
+use Rattle.csv.specs.reading.Points.{entriesOutcome}
 use Rattle.csv.specs.declared.reading.Read.{Read}
 use Rattle.csv.proofs.reading.WholeText.{too-long, header-broken, entry-broken, form-right, record-small}
 use Rattle.csv.proofs.reading.read_text.Statement.{statement}
@@ -21,27 +22,30 @@ text s = s .args .text .now
 abbrev K : Type 0
 K = tie.After-known-told
 
+abbrev start : K → tie.Start
+start c = c .before .before .before .before .before .before .before .before
+
 abbrev next : K → ℕ
 next c = c .before .modulus .given .0 .1 .1 .1 .0
 
 abbrev header : K → Header
 header c = record { variables = c .before .modulus .given .0 .1 .0; modulus = c .before .modulus .given .0 .0; order = c .before .modulus .given .0 .1 .1 .0 }
 
-said : (c : K) → headerPart (text (c .before .before .before .before .before .before .before .before)) ≡ part (header c) (drop (next c) (text (c .before .before .before .before .before .before .before .before)))
+said : (c : K) → headerPart (text (start c)) ≡ part (header c) (drop (next c) (text (start c)))
 unfolding headerSaid
-said c = sym (ap (headerSaid (text (c .before .before .before .before .before .before .before .before))) (sym (c .before .modulus .given .1)) ∙ c .before .before .before .read-header .ensures .0)
+said c = sym (ap (headerSaid (text (start c))) (sym (c .before .modulus .given .1)) ∙ c .before .before .before .read-header .ensures .said)
 
-within : (c : K) → next c ≤ length (text (c .before .before .before .before .before .before .before .before))
-within c = subst (HeaderWithin (length (text (c .before .before .before .before .before .before .before .before)))) (c .before .modulus .given .1) (c .before .before .before .read-header .ensures .1)
+within : (c : K) → next c ≤ length (text (start c))
+within c = subst (HeaderWithin (length (text (start c)))) (c .before .modulus .given .1) (c .before .before .before .read-header .ensures .within)
 
 refused-requires : tie.Need-refused-requires
 refused-requires c κs = search needs
 
 returns : tie.Need-returns
-unfolding refused
+unfolding textRefused
 returns c =
     let s = c .before .before .before .before .before in
-    ap (λ (x : Read). ended x (s .args .states .now) (s .args .values .now)) (c .refused .ensures) ∙ too-long (text s) (s .args .states .now) (s .args .values .now) (c .before .if1 .taken)
+    ap (λ (x : Read). textEnded x (s .args .states .now) (s .args .values .now)) (c .refused .ensures) ∙ too-long (text s) (s .args .states .now) (s .args .values .now) (c .before .if1 .taken)
 
 read-header-requires : tie.Need-read-header-requires
 read-header-requires c κs = search needs
@@ -56,12 +60,12 @@ refused-requires-2 : tie.Need-refused-requires-2
 refused-requires-2 c κs = search needs
 
 returns-2 : tie.Need-returns-2
-unfolding refused headerSaid
+unfolding textRefused headerSaid
 returns-2 c =
     let s = c .before .before .before .before .before .before .before .before in
-    ap (λ (x : Read). ended x (s .args .states .now) (s .args .values .now)) (c .refused2 .ensures)
+    ap (λ (x : Read). textEnded x (s .args .states .now) (s .args .values .now)) (c .refused2 .ensures)
     ∙ header-broken (text s) (s .args .states .now) (s .args .values .now) (c .before .before .before .before .if1 .left)
-    (sym (ap (headerSaid (text s)) (sym (c .before .enum-told .given .1)) ∙ c .before .before .before .read-header .ensures .0))
+    (sym (ap (headerSaid (text s)) (sym (c .before .enum-told .given .1)) ∙ c .before .before .before .read-header .ensures .said))
 
 check-entries-requires : tie.Need-check-entries-requires
 check-entries-requires c κs = (within c, c .before .before .before .before .if1 .left)
@@ -72,7 +76,7 @@ enum-known-refusal c = search needs
 cast-refused : tie.Need-cast-refused
 cast-refused c =
     let d = c .before .before .before .before in
-    let s = d .before .before .before .before .before .before .before .before in
+    let s = start d in
     let l = length-drop (next d) (text s) in
     let b = d .before .before .before .before .if1 .left in
     let h = record-small (header d .variables) (c .before .refusal .given .0 .0) (c .before .refusal .given .0 .1 .0) (drop (next d) (text s)) (omega arith)
@@ -89,11 +93,11 @@ read-entries-requires : tie.Need-read-entries-requires
 read-entries-requires c κs = (within (c .before .before .before .before .before .before), sym (c .before .before .before .before .before .check-entries .ensures) ∙ c .before .before .before .n .given .1)
 
 returns-3 : tie.Need-returns-3
-unfolding refused
+unfolding textRefused
 returns-3 c =
     let d = c .before .before .before .before .before in
-    let s = d .before .before .before .before .before .before .before .before in
-    ap (λ (x : Read). ended x (s .args .states .now) (s .args .values .now)) (c .refused3 .ensures)
+    let s = start d in
+    ap (λ (x : Read). textEnded x (s .args .states .now) (s .args .values .now)) (c .refused3 .ensures)
     ∙ entry-broken (text s) (s .args .states .now) (s .args .values .now) (d .before .before .before .before .if1 .left) (header d) (drop (next d) (text s)) (said d) _ _
     (sym (c .before .before .refusal .given .1) ∙ c .before .before .before .before .check-entries .ensures)
 
@@ -106,10 +110,12 @@ same-length-2 c = search needs
 returns-4 : tie.Need-returns-4
 returns-4 c =
     let d = c .before .before .before .before .before .before .before .before .before .before .before in
-    let s = d .before .before .before .before .before .before .before .before in
-    c .before .before .before .before .read-entries .ensures
-    ∙ form-right (text s) (s .args .states .now) (s .args .values .now) (d .before .before .before .before .if1 .left) (header d) (drop (next d) (text s)) (said d) _
-    (sym (c .before .before .before .before .before .before .before .before .n .given .1) ∙ c .before .before .before .before .before .before .before .before .before .before .check-entries .ensures)
+    let s = start d in
+    let n = c .before .before .before .before .before .before .before .before .n .given .0 .0 in
+    _∙_ {b = entriesOutcome (header d .modulus) (header d .variables) (header d .order) n (drop (next d) (text s)) (s .args .states .now) (s .args .values .now)}
+    (c .before .before .before .before .read-entries .ensures)
+    (form-right (text s) (s .args .states .now) (s .args .values .now) (d .before .before .before .before .if1 .left) (header d) (drop (next d) (text s)) (said d) n
+    (sym (c .before .before .before .before .before .before .before .before .n .given .1) ∙ c .before .before .before .before .before .before .before .before .before .before .check-entries .ensures))
 
 pub read-text-spec : {M : Type 1} → statement M
 read-text-spec =

@@ -14,7 +14,7 @@ use Rattle.basis.proofs.adding.growing.add_to.Tie as tie
 
 -- the calls, one from the next
 abbrev start : tie.After-values-at → tie.Start
-start d = d .before .before .before .before .before .before .before .before .before .before .before .before
+start d = d .before .before .before .before .before .before .before .before .before .before .before .before .before
 
 abbrev valued : tie.After-first-row → tie.After-values-at
 valued d = d .before .before .before
@@ -23,24 +23,27 @@ module _ (s : tie.Start) where
   fine : Sound (s .pre .0) (s .pre .1 .0) (s .pre .1 .1 .0) (s .pre .1 .1 .1 .0)
   fine = sound (s .pre .0) (s .pre .1 .0) (s .pre .1 .1 .0) (s .pre .1 .1 .1 .0)
 
-  low : 2 ≤ s .args .p
-  low = omega (arith, modulus-range (s .args .p) (s .pre .0 .settings .modulus))
+  low : 2 ≤ s .args .settings .modulus
+  low = omega (arith, modulus-range (s .args .settings .modulus) (s .pre .0 .settings .modulus))
 
-  high : s .args .p ≤ 61
-  high = omega (arith, modulus-range (s .args .p) (s .pre .0 .settings .modulus))
+  high : s .args .settings .modulus ≤ 61
+  high = omega (arith, modulus-range (s .args .settings .modulus) (s .pre .0 .settings .modulus))
 
 -- the values are residues
-small : (d : tie.After-values-at) → Below (start d .args .p) (d .values-at .last .1 .1 .1 .1 .0)
+small : (d : tie.After-values-at) → Below (start d .args .settings .modulus) (d .values-at .last .1 .1 .1 .1 .0)
 small d =
     let s = start d in
-    subst (Below (s .args .p)) (sym (d .values-at .ensures)) (remainders-below (s .args .p) (valueAt (s .args .point .now)) (groups 8 (s .args .n) (s .args .standard .now)) 64 (omega (arith, low s)))
+    subst (Below (s .args .settings .modulus)) (sym (d .values-at .ensures)) (remainders-below (s .args .settings .modulus) (valueAt (s .args .point .now)) (groups 8 (s .args .n) (s .args .standard .now)) 64 (omega (arith, low s)))
+
+cast-p : tie.Need-cast-p
+cast-p c = omega (arith, high (c .before .before .before .before .before .before .before .before .before .before .before))
 
 slice-aggregate-values-at : tie.Need-slice-aggregate-values-at
 slice-aggregate-values-at c = refl
 
 values-at-requires : tie.Need-values-at-requires
 values-at-requires c κs =
-    let s = c .before .before .before .before .before .before .before .before .before .before .before in
+    let s = c .before .before .before .before .before .before .before .before .before .before .before .before in
     let h = fine s in
     ((low s, high s), ((omega (arith, s .pre .1 .1 .0, h .standard-size), omega (arith, s .pre .1 .1 .0)), (h .point-size, s .pre .1 .1 .1 .0 .below)))
 
@@ -68,7 +71,7 @@ grow-requires c κs =
     let d = valued r in
     let s = start d in
     let h = fine s in (
-      (low s, high s, s .pre .0 .settings .few, s .pre .1 .1 .0, s .pre .0 .settings .modulus),
+      (s .pre .0 .settings, s .pre .1 .1 .0),
       (
         (inside (s .pre .0) (s .pre .1 .0) (s .pre .1 .1 .0) (s .pre .1 .1 .1 .0) _ (d .values-at .ensures) _ (r .first-row .ensures), h .most, h .few, points-long (s .pre .0), s .pre .1 .0 .pivot-rows .long-rows),
         (
@@ -82,13 +85,13 @@ grow-requires c κs =
     )
 
 same-length : tie.Need-same-length
-same-length c = c .before .before .before .before .before .before .grow .kept .1 .1 .1 .1 .1 .1 .1 .1 .1 .1 .1 .1 .1 .1 .0
+same-length c = c .before .before .before .before .before .before .grow .kept .1 .1 .1 .1 .1 .1 .1 .1 .1 .1 .1 .1 .0
 
 same-length-2 : tie.Need-same-length-2
-same-length-2 c = c .before .before .before .before .before .before .grow .kept .1 .1 .1 .1 .1 .1 .1 .1 .1 .1 .1 .1 .1 .1 .1 .0
+same-length-2 c = c .before .before .before .before .before .before .grow .kept .1 .1 .1 .1 .1 .1 .1 .1 .1 .1 .1 .1 .1 .0
 
 same-length-3 : tie.Need-same-length-3
-same-length-3 c = c .before .before .before .before .before .before .grow .kept .1 .1 .1 .1 .1 .1 .1 .1 .1 .1 .1 .1 .1 .1 .1 .1 .0
+same-length-3 c = c .before .before .before .before .before .before .grow .kept .1 .1 .1 .1 .1 .1 .1 .1 .1 .1 .1 .1 .1 .1 .0
 
 returns : tie.Need-returns
 returns c =
@@ -102,6 +105,7 @@ pub add-to-spec : {M : Type 1} → statement M
 add-to-spec =
     tie.close
     (tie.spec
+    cast-p
     slice-aggregate-values-at
     values-at-requires
     slice-aggregate-first-row

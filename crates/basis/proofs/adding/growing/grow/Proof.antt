@@ -10,6 +10,7 @@ use Rattle.residue.specs.Inverse.{inverseOf}
 use Rattle.residue.specs.Layout.{groups, over, rowAt}
 use Rattle.residue.proofs.vector.Vectors.{below-take, below-drop, part-small}
 use Rattle.residue.proofs.inverse.Inverses.{inverse-below}
+use Rattle.residue.proofs.level.Moduli.{modulus-range}
 use Rattle.residue.proofs.Layouts.{over-all}
 use Rattle.residue.proofs.Replaced.{zeros-long}
 use Rattle.monomial.specs.Order.{orderOf, cmp}
@@ -23,7 +24,7 @@ use Rattle.basis.proofs.adding.growing.grow.Tie as tie
 
 -- the calls, one from the next
 abbrev start : tie.After-widen → tie.Start
-start d = d .before .before .before .before .before .before .before .before .before .before .before .before .before .before .before
+start d = d .before .before .before .before .before .before .before .before .before .before .before .before .before .before .before .before .before
 
 abbrev widened : tie.After-put-in → tie.After-widen
 widened d = d .before .before .before .before .before .before .before .before .before .before
@@ -39,6 +40,12 @@ placed d = d .before .before .before .before .before .before
 
 -- the lead of row j, and its coefficients
 module _ (s : tie.Start) where
+  low : 2 ≤ s .args .settings .modulus
+  low = modulus-range (s .args .settings .modulus) (s .pre .0 .0 .modulus) .0
+
+  high : s .args .settings .modulus ≤ 61
+  high = modulus-range (s .args .settings .modulus) (s .pre .0 .0 .modulus) .1
+
   abbrev lead : List ℕ
   lead = take (8 * s .args .j + 8 - 8 * s .args .j) (drop (8 * s .args .j) (s .args .leads .now))
 
@@ -67,8 +74,8 @@ module _ (w : tie.After-widen) where
   gone-long : length gone ≡ 64
   gone-long = ap length gone-is ∙ row-long s
 
-  gone-below : Below (s .args .p) gone
-  gone-below = subst (Below (s .args .p)) (sym gone-is) (below-take (s .args .p) 64 (drop (64 * s .args .j) (s .args .coefficients .now)) (below-drop (s .args .p) (64 * s .args .j) (s .args .coefficients .now) (s .pre .1 .1 .1 .0 .1)))
+  gone-below : Below (s .args .settings .modulus) gone
+  gone-below = subst (Below (s .args .settings .modulus)) (sym gone-is) (below-take (s .args .settings .modulus) 64 (drop (64 * s .args .j) (s .args .coefficients .now)) (below-drop (s .args .settings .modulus) (64 * s .args .j) (s .args .coefficients .now) (s .pre .1 .1 .1 .0 .1)))
 
 -- the inverse of its value, and its place among the standard monomials
 module _ (d : tie.After-put-in) where
@@ -76,22 +83,22 @@ module _ (d : tie.After-put-in) where
   o = start (widened d)
 
   abbrev value : ℕ
-  value = rowValueAt (o .args .p) (o .args .point .now) (o .args .values .now) (lead o) (gone (widened d))
+  value = rowValueAt (o .args .settings .modulus) (o .args .point .now) (o .args .values .now) (lead o) (gone (widened d))
 
-  inverse-is : inverted d .inverse .result ≡ inverseOf (o .args .p) value
-  inverse-is = inverted d .inverse .ensures ∙ ap (inverseOf (o .args .p)) (inverted d .before .row-value .ensures)
+  inverse-is : inverted d .inverse .result ≡ inverseOf (o .args .settings .modulus) value
+  inverse-is = inverted d .inverse .ensures ∙ ap (inverseOf (o .args .settings .modulus)) (inverted d .before .row-value .ensures)
 
-  below : inverted d .inverse .result < o .args .p
-  below = omega (arith, inverse-is, inverse-below (o .args .p) value (o .pre .0 .4) (value-below _ _ _ _ _ (omega (arith, o .pre .0))))
+  below : inverted d .inverse .result < o .args .settings .modulus
+  below = omega (arith, inverse-is, inverse-below (o .args .settings .modulus) value (o .pre .0 .0 .modulus) (value-below _ _ _ _ _ (omega (arith, low o))))
 
   old : copied d .copy .last .1 .0 ≡ o .args .standard .now
   old = copied d .copy .ensures ∙ over-all (o .args .standard .now) (o .args .new-standard .now) (o .pre .1 .1 .0 .0 ∙ sym (zeros-long _ 512 (o .pre .1 .1 .1 .1 .1 .1 .0)))
 
-  place-is : d .put-in .result ≡ placeOf (cmp (orderOf (o .args .order))) (lead o) (groups 8 (o .args .n) (o .args .standard .now))
-  place-is = d .put-in .ensures .0 ∙ ap (λ (t : List ℕ). placeOf (cmp (orderOf (o .args .order))) (lead o) (groups 8 (o .args .n) t)) old
+  place-is : d .put-in .result ≡ placeOf (cmp (orderOf (o .args .settings .order))) (lead o) (groups 8 (o .args .n) (o .args .standard .now))
+  place-is = d .put-in .ensures .0 ∙ ap (λ (t : List ℕ). placeOf (cmp (orderOf (o .args .settings .order))) (lead o) (groups 8 (o .args .n) t)) old
 
   within : d .put-in .result ≤ o .args .n
-  within = omega (arith, place-is, place-within (cmp (orderOf (o .args .order))) (lead o) (o .args .standard .now) (o .args .n))
+  within = omega (arith, place-is, place-within (cmp (orderOf (o .args .settings .order))) (lead o) (o .args .standard .now) (o .args .n))
 
 -- the tables of the other leads and their rows keep their sizes
 module _ (k : tie.After-keep-others) where
@@ -100,6 +107,12 @@ module _ (k : tie.After-keep-others) where
 
   rows-long : length (k .keep-others .last .1 .1 .1 .1 .1 .1 .1 .1 .1 .1 .1 .0) ≡ 28736
   rows-long = k .keep-others .kept .1 .1 .1 .1 .1 .1 .1 .1 .1 .1 .1 .0 ∙ zeros-long _ 28736 (o (placed k) .pre .1 .1 .1 .1 .1 .1 .2)
+
+cast-p : tie.Need-cast-p
+cast-p c = omega (arith, high (c .before .before .before .before .before .before .before .before .before .before .before .before))
+
+cast-order : tie.Need-cast-order
+cast-order c = omega (arith, c .before .before .before .before .before .before .before .before .before .before .before .before .before .pre .0 .0 .order)
 
 mul-lead : tie.Need-mul-lead
 mul-lead c = omega arith
@@ -117,7 +130,7 @@ part-lead-start : tie.Need-part-lead-start
 part-lead-start c = omega arith
 
 part-lead-end : tie.Need-part-lead-end
-part-lead-end c = let s = c .before .before .before .before .before .before .before .before .before .before .before in omega (arith, s .pre .1 .0, s .pre .1 .1 .0)
+part-lead-end c = let s = c .before .before .before .before .before .before .before .before .before .before .before .before .before in omega (arith, s .pre .1 .0, s .pre .1 .1 .0)
 
 mul-widen : tie.Need-mul-widen
 mul-widen c = omega arith
@@ -135,7 +148,7 @@ part-widen-start : tie.Need-part-widen-start
 part-widen-start c = omega arith
 
 part-widen-end : tie.Need-part-widen-end
-part-widen-end c = let s = c .before .before .before .before .before .before .before .before .before .before .before .before in omega (arith, s .pre .1 .0, s .pre .1 .1 .0)
+part-widen-end c = let s = c .before .before .before .before .before .before .before .before .before .before .before .before .before .before in omega (arith, s .pre .1 .0, s .pre .1 .1 .0)
 
 slice-aggregate-widen : tie.Need-slice-aggregate-widen
 slice-aggregate-widen c = refl
@@ -150,7 +163,7 @@ row-value-requires : tie.Need-row-value-requires
 row-value-requires c κs =
     let w = c .before .before in
     let s = start w in
-    ((s .pre .0 .0, s .pre .0 .1), ((s .pre .1 .1 .0 .3, lead-long s), ((gone-long w ∙ sym (s .pre .1 .1 .0 .4), omega (arith, gone-long w)), (s .pre .1 .1 .1 .0 .3, (s .pre .1 .1 .1 .0 .4, gone-below w)))))
+    ((low s, high s), ((s .pre .1 .1 .0 .3, lead-long s), ((gone-long w ∙ sym (s .pre .1 .1 .0 .4), omega (arith, gone-long w)), (s .pre .1 .1 .1 .0 .3, (s .pre .1 .1 .1 .0 .4, gone-below w)))))
 
 inverse-requires : tie.Need-inverse-requires
 inverse-requires c κs = tt
@@ -161,7 +174,7 @@ copy-requires c κs = let s = start (c .before .before .before .before .before) 
 put-in-requires : tie.Need-put-in-requires
 put-in-requires c κs =
     let s = start (c .before .before .before .before .before .before .before .before .before) in
-    ((omega (arith, s .pre .0 .3, c .before .before .before .copy .kept .1 .0, zeros-long _ 512 (s .pre .1 .1 .1 .1 .1 .1 .0)), omega (arith, s .pre .0 .3)), lead-long s)
+    ((omega (arith, s .pre .0 .1, c .before .before .before .copy .kept .1 .0, zeros-long _ 512 (s .pre .1 .1 .1 .1 .1 .1 .0)), omega (arith, s .pre .0 .1)), lead-long s)
 
 slice-aggregate-keep-others : tie.Need-slice-aggregate-keep-others
 slice-aggregate-keep-others c = sym (gone-long (widened (c .before .before .before)))
@@ -171,7 +184,7 @@ keep-others-requires c κs =
     let d = c .before .before .before .before .before in
     let w = widened d in
     let s = start w in (
-      (s .pre .0 .0, s .pre .0 .1, omega (arith, s .pre .0 .3, within d), below d),
+      (low s, high s, omega (arith, s .pre .0 .1, within d), below d),
       (
         (gone-long w, s .pre .1 .1 .0 .3, s .pre .1 .1 .0 .4),
         ((s .pre .1 .0 .0, s .pre .1 .0 .1, s .pre .1 .1 .0 .1, s .pre .1 .1 .0 .2), ((gone-below w, s .pre .1 .1 .1 .0 .3, s .pre .1 .1 .1 .0 .4, s .pre .1 .1 .1 .0 .1), (s .pre .1 .1 .1 .1 .1 .1 .1, s .pre .1 .1 .1 .1 .1 .1 .2))),
@@ -190,13 +203,13 @@ add-products-requires c κs =
     let d = placed k in
     let w = widened d in
     let s = start w in (
-      (s .pre .0 .0, s .pre .0 .1, s .pre .0 .3, omega (arith, s .pre .0 .3, within d), below d),
+      (s .pre .0 .0, (s .pre .0 .1, omega (arith, s .pre .0 .1, within d), below d)),
       (
         (s .pre .1 .0 .3, s .pre .1 .0 .4, s .pre .1 .1 .1 .1 .0 .0),
         (
           (gone-long w, s .pre .1 .1 .0 .3, s .pre .1 .1 .0 .4, lead-long s),
           (
-            (s .pre .0 .2, omega (arith, s .pre .1 .0), leads-long k, rows-long k),
+            (omega (arith, s .pre .1 .0), leads-long k, rows-long k),
             ((s .pre .1 .1 .1 .0 .0, s .pre .1 .1 .1 .0 .2, gone-below w, s .pre .1 .1 .1 .0 .3, s .pre .1 .1 .1 .0 .4), (s .pre .1 .1 .1 .1 .0 .1, part-small 255 (8 * s .args .j + 8 - 8 * s .args .j) (8 * s .args .j) (s .args .leads .now) (omega arith) (s .pre .1 .1 .1 .1 .1 .0))),
           ),
         ),
@@ -207,10 +220,10 @@ same-length : tie.Need-same-length
 same-length c = let d = placed (c .before .before .before .before .before .before .before .before .before .before .before .before) in d .put-in .kept .1 .1 .0 ∙ copied d .copy .kept .1 .0
 
 same-length-2 : tie.Need-same-length-2
-same-length-2 c = c .before .before .before .before .add-products .kept .1 .1 .1 .1 .1 .1 .1 .1 .1 .1 .1 .1 .1 .1 .0 ∙ c .before .before .before .before .before .before .before .before .before .before .before .before .keep-others .kept .1 .1 .1 .1 .1 .1 .1 .1 .1 .1 .0
+same-length-2 c = c .before .before .before .before .add-products .kept .1 .1 .1 .1 .1 .1 .1 .1 .1 .1 .1 .1 .0 ∙ c .before .before .before .before .before .before .before .before .before .before .before .before .keep-others .kept .1 .1 .1 .1 .1 .1 .1 .1 .1 .1 .0
 
 same-length-3 : tie.Need-same-length-3
-same-length-3 c = c .before .before .before .before .add-products .kept .1 .1 .1 .1 .1 .1 .1 .1 .1 .1 .1 .1 .1 .1 .1 .0 ∙ c .before .before .before .before .before .before .before .before .before .before .before .before .keep-others .kept .1 .1 .1 .1 .1 .1 .1 .1 .1 .1 .1 .0
+same-length-3 c = c .before .before .before .before .add-products .kept .1 .1 .1 .1 .1 .1 .1 .1 .1 .1 .1 .1 .1 .0 ∙ c .before .before .before .before .before .before .before .before .before .before .before .before .keep-others .kept .1 .1 .1 .1 .1 .1 .1 .1 .1 .1 .1 .0
 
 returns : tie.Need-returns
 unfolding standardGrown
@@ -218,9 +231,9 @@ returns c =
     let k = c .before .before .before .before .before .before .before .before .before .before .before .before in
     let d = placed k in
     let s = o d in (
-      d .put-in .ensures .1 ∙ ap₂ (λ (i : ℕ) (t : List ℕ). withRowAt 8 (s .args .n) i (lead s) t) (place-is d) (old d) ∙ ap (standardGrown (s .args .order) (s .args .n) (s .args .standard .now)) (lead-is s),
+      d .put-in .ensures .1 ∙ ap₂ (λ (i : ℕ) (t : List ℕ). withRowAt 8 (s .args .n) i (lead s) t) (place-is d) (old d) ∙ ap (standardGrown (s .args .settings .order) (s .args .n) (s .args .standard .now)) (lead-is s),
       c .before .before .before .before .add-products .ensures
-          ∙ grown-by (s .args .p) (s .args .m) (s .args .order) (s .args .n) (s .args .r) (s .args .points .now) (s .args .standard .now) (s .args .leads .now) (s .args .coefficients .now) (s .args .rows .now) (s .args .pivots .now) (s .args .point .now) (s .args .values .now) (s .args .j)
+          ∙ grown-by (s .args .settings .modulus) (s .args .settings .variables) (s .args .settings .order) (s .args .n) (s .args .r) (s .args .points .now) (s .args .standard .now) (s .args .leads .now) (s .args .coefficients .now) (s .args .rows .now) (s .args .pivots .now) (s .args .point .now) (s .args .values .now) (s .args .j)
           _ _ _ _ _ _ (lead-is s) (gone-is (widened d)) (place-is d) (inverse-is d) (k .keep-others .ensures .0) (k .keep-others .ensures .1),
     )
 
@@ -228,6 +241,8 @@ pub grow-spec : {M : Type 1} → statement M
 grow-spec =
     tie.close
     (tie.spec
+    cast-p
+    cast-order
     mul-lead
     mul-lead-2
     add-lead

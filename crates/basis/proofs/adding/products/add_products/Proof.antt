@@ -5,6 +5,7 @@ use Prim.Native.Nat.{ℕ, _+_, _-_, _≤_}
 use native.Mathlib.Omega.{arith}
 use lib.ListN.{length, getD, set, replicate, length-set, length-replicate}
 use Rattle.residue.specs.Layout.{over}
+use Rattle.residue.proofs.level.Moduli.{modulus-range}
 use Rattle.residue.proofs.Layouts.{over-all}
 use Rattle.monomial.specs.Monomial.{timesVariable}
 use Rattle.basis.specs.Adding.{Grown, grown, productsPut, productPut}
@@ -13,13 +14,13 @@ use Rattle.basis.proofs.adding.products.add_products.Statement.{stateme
 use Rattle.basis.proofs.adding.products.add_products.Tie as tie
 
 abbrev Inv-loop : tie.InvT-loop
-Inv-loop p m order n points rows pivots place inverse gone point values k lead leads₀ coefficients₀ others count₀ v₀ leads coefficients count v = (v ≤ m) × (grown count leads coefficients ≡ productsPut p order n points rows pivots place inverse gone point values k others lead v (grown k leads₀ coefficients₀))
+Inv-loop n points rows pivots place inverse gone point values k lead leads₀ coefficients₀ p order m others count₀ v₀ leads coefficients count v = (v ≤ m) × (grown count leads coefficients ≡ productsPut p order n points rows pivots place inverse gone point values k others lead v (grown k leads₀ coefficients₀))
 
 abbrev μ-loop : tie.MeasureT-loop
-μ-loop p m order n points rows pivots place inverse gone point values k lead leads₀ coefficients₀ others count₀ v₀ leads coefficients count v = m - v
+μ-loop n points rows pivots place inverse gone point values k lead leads₀ coefficients₀ p order m others count₀ v₀ leads coefficients count v = m - v
 
 abbrev start : tie.At-loop Inv-loop μ-loop → tie.Start Inv-loop μ-loop
-start l = l .before .before .before .before .before .before .before .before .before .before .before .before .before .before
+start l = l .before .before .before .before .before .before .before .before .before .before .before .before .before .before .before .before
 
 -- the others are the leads as they were
 module _ (l : tie.At-loop Inv-loop μ-loop) where
@@ -27,7 +28,7 @@ module _ (l : tie.At-loop Inv-loop μ-loop) where
   others = l .before .before .copy .last .1 .0
 
   others-are : others ≡ start l .args .leads .now
-  others-are = l .before .before .copy .ensures ∙ over-all (start l .args .leads .now) (replicate 3592 0) (start l .pre .1 .1 .1 .0 .2 ∙ sym (length-replicate {A = ℕ} 3592 0))
+  others-are = l .before .before .copy .ensures ∙ over-all (start l .args .leads .now) (replicate 3592 0) (start l .pre .1 .1 .1 .0 .1 ∙ sym (length-replicate {A = ℕ} 3592 0))
 
 -- the copy is the lead
 copied : (s : tie.Start Inv-loop μ-loop) (a : List ℕ) → a ≡ over (s .args .lead .now) (replicate 8 0) → a ≡ s .args .lead .now
@@ -36,7 +37,20 @@ copied s a e = e ∙ over-all (s .args .lead .now) (replicate 8 0) (s .pre .1 .1
 sized : (l : tie.At-loop Inv-loop μ-loop) → Sized (start l .args .k) (l .loop .v) (grown (l .loop .count) (l .loop .leads) (l .loop .coefficients))
 sized l =
     let s = start l in
-    rw (l .loop .inv .1) (products-sized (s .args .p) (s .args .order) (s .args .n) (s .args .points .now) (s .args .rows .now) (s .args .pivots .now) (s .args .place) (s .args .inverse) (s .args .gone .now) (s .args .point .now) (s .args .values .now) (s .args .k) (others l) (s .args .lead .now) (s .args .leads .now) (s .args .coefficients .now) (s .pre .1 .1 .0 .3) (s .pre .1 .1 .1 .0 .2) (s .pre .1 .1 .1 .0 .3) (l .loop .v) (omega arith))
+    rw (l .loop .inv .1) (products-sized (s .args .settings .modulus) (s .args .settings .order) (s .args .n) (s .args .points .now) (s .args .rows .now) (s .args .pivots .now) (s .args .place) (s .args .inverse) (s .args .gone .now) (s .args .point .now) (s .args .values .now) (s .args .k) (others l) (s .args .lead .now) (s .args .leads .now) (s .args .coefficients .now) (s .pre .1 .1 .0 .3) (s .pre .1 .1 .1 .0 .1) (s .pre .1 .1 .1 .0 .2) (l .loop .v) (omega arith))
+
+module _ (s : tie.Start Inv-loop μ-loop) where
+  low : 2 ≤ s .args .settings .modulus
+  low = modulus-range (s .args .settings .modulus) (s .pre .0 .0 .modulus) .0
+
+  high : s .args .settings .modulus ≤ 61
+  high = modulus-range (s .args .settings .modulus) (s .pre .0 .0 .modulus) .1
+
+cast-p : tie.Need-cast-p Inv-loop μ-loop
+cast-p c = omega (arith, high (c .before .before .before .before .before .before .before .before .before .before))
+
+cast-order : tie.Need-cast-order Inv-loop μ-loop
+cast-order c = omega (arith, c .before .before .before .before .before .before .before .before .before .before .before .pre .0 .0 .order)
 
 slice-aggregate-copy : tie.Need-slice-aggregate-copy Inv-loop μ-loop
 slice-aggregate-copy c = omega arith
@@ -79,13 +93,13 @@ add-product-requires c κs =
     let s = start l in
     let z = sized l in
     let e = copied s _ (c .before .before .before .before .before .copy2 .ensures) in (
-      s .pre .0,
+      (low s, high s, s .pre .0 .1 .0, s .pre .0 .1 .1, s .pre .0 .1 .2),
       (
         s .pre .1 .0,
         (
           (s .pre .1 .1 .0 .0, s .pre .1 .1 .0 .1, s .pre .1 .1 .0 .2, simp length-set (ap length e ∙ s .pre .1 .1 .0 .3)),
           (
-            (omega (arith, l .before .before .copy .kept .1 .0), omega arith, z .leads, z .coefficients),
+            (omega (arith, l .before .before .copy .kept .1 .0, s .pre .1 .1 .1 .0), omega (arith, z .most, s .pre .1 .1 .1 .0, c .before .before .before .before .before .before .before .loop-test .taken), z .leads, z .coefficients),
             (s .pre .1 .1 .1 .1 .0, s .pre .1 .1 .1 .1 .1 .0),
           ),
         ),
@@ -93,7 +107,7 @@ add-product-requires c κs =
     )
 
 add-v : tie.Need-add-v Inv-loop μ-loop
-add-v c = omega (arith, c .before .before .before .before .before .before .before .before .before .before .before .before .loop-test .taken, start (c .before .before .before .before .before .before .before .before .before .before .before .before .before) .pre .1 .1 .1 .0 .0)
+add-v c = omega (arith, c .before .before .before .before .before .before .before .before .before .before .before .before .loop-test .taken, start (c .before .before .before .before .before .before .before .before .before .before .before .before .before) .pre .0 .0 .few)
 
 loop-less : tie.Need-loop-less Inv-loop μ-loop
 loop-less c = omega arith
@@ -105,22 +119,22 @@ loop-again c =
     let v : ℕ = l .loop .v in
     let e : set (c .before .before .before .before .before .before .before .before .before .before .copy2 .last .1 .0) v (getD (c .before .before .before .before .before .before .before .before .before .before .copy2 .last .1 .0) v 0 + 1) ≡ timesVariable v (s .args .lead .now) = ap (timesVariable v) (copied s _ (c .before .before .before .before .before .before .before .before .before .before .copy2 .ensures)) in (
       omega (arith, c .before .before .before .before .before .before .before .before .before .before .before .before .loop-test .taken),
-      c .before .before .before .before .add-product .ensures ∙ ap₂ (λ (a : List ℕ) (g : Grown). productPut (s .args .p) (s .args .order) (s .args .n) (s .args .points .now) (s .args .rows .now) (s .args .pivots .now) (s .args .place) (s .args .inverse) (s .args .gone .now) (s .args .point .now) (s .args .values .now) (s .args .k) (others l) a g) e (l .loop .inv .1)
-          ∙ sym (products-more (s .args .p) (s .args .order) (s .args .n) (s .args .points .now) (s .args .rows .now) (s .args .pivots .now) (s .args .place) (s .args .inverse) (s .args .gone .now) (s .args .point .now) (s .args .values .now) (s .args .k) (others l) (s .args .lead .now) (grown (s .args .k) (s .args .leads .now) (s .args .coefficients .now)) v),
+      c .before .before .before .before .add-product .ensures ∙ ap₂ (λ (a : List ℕ) (g : Grown). productPut (s .args .settings .modulus) (s .args .settings .order) (s .args .n) (s .args .points .now) (s .args .rows .now) (s .args .pivots .now) (s .args .place) (s .args .inverse) (s .args .gone .now) (s .args .point .now) (s .args .values .now) (s .args .k) (others l) a g) e (l .loop .inv .1)
+          ∙ sym (products-more (s .args .settings .modulus) (s .args .settings .order) (s .args .n) (s .args .points .now) (s .args .rows .now) (s .args .pivots .now) (s .args .place) (s .args .inverse) (s .args .gone .now) (s .args .point .now) (s .args .values .now) (s .args .k) (others l) (s .args .lead .now) (grown (s .args .k) (s .args .leads .now) (s .args .coefficients .now)) v),
     )
 
 same-length : tie.Need-same-length Inv-loop μ-loop
-same-length c = sized (c .before) .leads ∙ sym (start (c .before) .pre .1 .1 .1 .0 .2)
+same-length c = sized (c .before) .leads ∙ sym (start (c .before) .pre .1 .1 .1 .0 .1)
 
 same-length-2 : tie.Need-same-length-2 Inv-loop μ-loop
-same-length-2 c = sized (c .before) .coefficients ∙ sym (start (c .before) .pre .1 .1 .1 .0 .3)
+same-length-2 c = sized (c .before) .coefficients ∙ sym (start (c .before) .pre .1 .1 .1 .0 .2)
 
 returns : tie.Need-returns Inv-loop μ-loop
 returns c =
     let l = c .before in
     let s = start l in
-    let e : l .loop .v ≡ s .args .m = omega arith in
-    l .loop .inv .1 ∙ ap₂ (λ (o : List ℕ) (v : ℕ). productsPut (s .args .p) (s .args .order) (s .args .n) (s .args .points .now) (s .args .rows .now) (s .args .pivots .now) (s .args .place) (s .args .inverse) (s .args .gone .now) (s .args .point .now) (s .args .values .now) (s .args .k) o (s .args .lead .now) v (grown (s .args .k) (s .args .leads .now) (s .args .coefficients .now))) (others-are l) e
+    let e : l .loop .v ≡ s .args .settings .variables = omega arith in
+    l .loop .inv .1 ∙ ap₂ (λ (o : List ℕ) (v : ℕ). productsPut (s .args .settings .modulus) (s .args .settings .order) (s .args .n) (s .args .points .now) (s .args .rows .now) (s .args .pivots .now) (s .args .place) (s .args .inverse) (s .args .gone .now) (s .args .point .now) (s .args .values .now) (s .args .k) o (s .args .lead .now) v (grown (s .args .k) (s .args .leads .now) (s .args .coefficients .now))) (others-are l) e
 
 pub add-products-spec : {M : Type 1} → statement M
 add-products-spec =
@@ -128,6 +142,8 @@ add-products-spec =
     (tie.spec
     Inv-loop
     μ-loop
+    cast-p
+    cast-order
     slice-aggregate-copy
     copy-requires
     loop-holds

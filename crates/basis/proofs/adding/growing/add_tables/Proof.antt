@@ -1,0 +1,101 @@
+-- `adding::growing::add_tables` meets its contract: the new tables are made beside the old ones, and copied over them.
+use mathlib.Core.Path.{_≡_, refl}
+use Prim.Native.Nat.{ℕ}
+use native.Mathlib.Omega.{arith}
+use borrow.Author.Needs.{needs}
+use Rattle.basis.proofs.drawing.Given.{tabled-long, tabled-over}
+use Rattle.basis.proofs.adding.growing.add_tables.Statement.{statement}
+use Rattle.basis.proofs.adding.growing.add_tables.Tie as tie
+
+-- the calls, one from the next
+abbrev start : tie.After-add-to → tie.Start
+start d = d .before .before .before .before .before .before .before .before .before .before .before .before .before .before
+
+abbrev first : tie.After-copy2 → tie.After-copy
+first d = d .before .before .before .before .before
+
+abbrev second : tie.After-copy3 → tie.After-copy2
+second d = d .before .before .before .before .before
+
+abbrev added : tie.After-copy → tie.After-add-to
+added d = d .before .before .before .before .before .before
+
+slice-aggregate-add-to : tie.Need-slice-aggregate-add-to
+slice-aggregate-add-to c = refl
+
+slice-aggregate-add-to-2 : tie.Need-slice-aggregate-add-to-2
+slice-aggregate-add-to-2 c = refl
+
+slice-aggregate-add-to-3 : tie.Need-slice-aggregate-add-to-3
+slice-aggregate-add-to-3 c = refl
+
+add-to-requires : tie.Need-add-to-requires
+add-to-requires c κs =
+    let s = c .before .before .before .before .before .before .before .before .before .before .before .before .before in
+    (s .pre .0, (s .pre .1 .0, (s .pre .1 .1 .0, (s .pre .1 .1 .1, (refl, refl, refl)))))
+
+slice-aggregate-copy : tie.Need-slice-aggregate-copy
+slice-aggregate-copy c = search needs
+
+copy-requires : tie.Need-copy-requires
+copy-requires c κs =
+    let a = c .before .before .before .before .before in
+    let l = tabled-long (start a .pre .1 .0 .tabled) in
+    let m = tabled-long (a .add-to .ensures) in
+    omega (arith, l .0, m .0)
+
+slice-aggregate-copy-2 : tie.Need-slice-aggregate-copy-2
+slice-aggregate-copy-2 c = search needs
+
+copy-requires-2 : tie.Need-copy-requires-2
+copy-requires-2 c κs =
+    let a = added (c .before .before .before .before) in
+    let l = tabled-long (start a .pre .1 .0 .tabled) in
+    let m = tabled-long (a .add-to .ensures) in
+    omega (arith, l .1 .0, m .1 .0)
+
+slice-aggregate-copy-3 : tie.Need-slice-aggregate-copy-3
+slice-aggregate-copy-3 c = search needs
+
+copy-requires-3 : tie.Need-copy-requires-3
+copy-requires-3 c κs =
+    let a = added (first (c .before .before .before .before)) in
+    let l = tabled-long (start a .pre .1 .0 .tabled) in
+    let m = tabled-long (a .add-to .ensures) in
+    omega (arith, l .1 .1, m .1 .1)
+
+same-length : tie.Need-same-length
+same-length c = search needs
+
+same-length-2 : tie.Need-same-length-2
+same-length-2 c = search needs
+
+same-length-3 : tie.Need-same-length-3
+same-length-3 c = search needs
+
+returns : tie.Need-returns
+returns c =
+    let z = c .before .before in
+    let y = second z in
+    let x = first y in
+    let a = added x in
+    tabled-over (start a .pre .1 .0 .tabled) (a .add-to .ensures) (x .copy .ensures) (y .copy2 .ensures) (z .copy3 .ensures)
+
+pub add-tables-spec : {M : Type 1} → statement M
+add-tables-spec =
+    tie.close
+    (tie.spec
+    slice-aggregate-add-to
+    slice-aggregate-add-to-2
+    slice-aggregate-add-to-3
+    add-to-requires
+    slice-aggregate-copy
+    copy-requires
+    slice-aggregate-copy-2
+    copy-requires-2
+    slice-aggregate-copy-3
+    copy-requires-3
+    same-length
+    same-length-2
+    same-length-3
+    returns)

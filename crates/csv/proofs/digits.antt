@@ -1,0 +1,3 @@
+-- Numbers in decimal, read and written.
+pub mod NumberDigits
+pub mod DecimalDigits

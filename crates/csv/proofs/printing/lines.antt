@@ -1,0 +1,3 @@
+-- The lines of a basis, and how long they are.
+pub mod TableLines
+pub mod LongestPrint

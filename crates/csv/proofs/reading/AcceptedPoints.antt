@@ -1,0 +1,127 @@
+-- What an accepted text says meets what printing asks of points and values.
+use mathlib.Core.Path.{_≡_, refl, sym, ap, subst}
+use mathlib.Core.Bool.{Bool, true, false, not, cond}
+use mathlib.Core.List.{List, [], _∷_, map}
+use mathlib.Core.Logic.{inl, inr}
+use mathlib.Core.Option.{Option, some, none, Option·getD}
+use Prim.Native.Nat.{ℕ, zero, suc, _≤_}
+use native.Mathlib.Omega.{arith}
+use lib.IntN.{ℤ}
+use lib.ListN.{take, drop}
+use lib.Dec.{T, eqb·suc-zero}
+use borrow.Author.Tests.{not-false}
+use Rattle.residue.specs.Lists.{Among, sameList}
+use Rattle.residue.proofs.Tests.{true-of, of-true, and-both}
+use Rattle.specification.specs.Levels.{inRange, isAmong, noRepeat}
+use Rattle.specification.proofs.Repeats.{among-is, is-among}
+use Rattle.csv.specs.reading.Fields.{front}
+use Rattle.csv.specs.Digits.{isDigit, numberOf}
+use Rattle.csv.specs.reading.Forms.{lex-word, grlex-word, grevlex-word, mod-word, orderWord, Header, header, modulusAndOrder, lastField, headerFrom, headerOf}
+use Rattle.specification.specs.Refusal.{firstOf}
+use Rattle.csv.specs.reading.Text.{TextCase, further, firstFault, isNone, headerIn, entryIn, entriesIn, formFault, isOutside, firstRepeat, notRefused, refusalAt}
+pub use Rattle.csv.proofs.reading.repeats.RepeatedRows.{AllLong}
+use Rattle.csv.proofs.reading.RepeatedPoints.{entries-long}
+
+-- A case that refuses and does not hold.
+pub passed : (b : Bool) (k at : ℕ) (l : List TextCase) → firstOf notRefused ((b, refusalAt (suc k) at) ∷ l) .refusal ≡ 0 → (b ≡ false) × (firstOf notRefused l .refusal ≡ 0)
+unfolding firstOf
+passed true k at l h = absurd (omega arith)
+passed false k at l h = (refl, h)
+
+-- no fault before, none behind
+fault-step : (b : Bool) (k : ℕ) → cond b 1 (further k) ≡ 0 → (b ≡ false) × (k ≡ 0)
+unfolding further
+fault-step true k h = absurd (omega arith)
+fault-step false zero h = (refl, refl)
+fault-step false (suc k) h = let z = rw (eqb·suc-zero k) at h in absurd (omega arith)
+
+-- The order's number is at most 2.
+abbrev Small : Option ℕ → Type 0
+Small none = Unit {0}
+Small (some k) = k ≤ 2
+
+abbrev SmallOrder : Option Header → Type 0
+SmallOrder none = Unit {0}
+SmallOrder (some h) = h .order ≤ 2
+
+either : (b : Bool) (x y : Option ℕ) → Small x → Small y → Small (cond b x y)
+either true x y h k = h
+either false x y h k = k
+
+word-small : (l : List ℕ) → Small (orderWord l)
+unfolding orderWord
+word-small l =
+    either (sameList l []) (some 0) _ (omega arith)
+    (either (sameList l lex-word) (some 0) _ (omega arith)
+    (either (sameList l grlex-word) (some 1) _ (omega arith) (either (sameList l grevlex-word) (some 2) none (omega arith) tt)))
+
+header-small : (m : ℕ) (p o : Option ℕ) → Small o → SmallOrder (header m p o)
+unfolding header
+header-small m none o h = tt
+header-small m (some p) none h = tt
+header-small m (some p) (some k) h = h
+
+last-small : (m : ℕ) (l : List ℕ) → SmallOrder (lastField m l)
+unfolding lastField modulusAndOrder
+last-small m l = go (sameList (take 4 l) mod-word)
+  where
+    go : (b : Bool) → SmallOrder (cond b (header m (numberOf (take (front isDigit (drop 4 l)) (drop 4 l))) (orderWord (drop (front isDigit (drop 4 l)) (drop 4 l)))) none)
+    go true = header-small m (numberOf (take (front isDigit (drop 4 l)) (drop 4 l))) (orderWord (drop (front isDigit (drop 4 l)) (drop 4 l))) (word-small _)
+    go false = tt
+
+from-small : (m : ℕ) (fields : List (List ℕ)) → SmallOrder (headerFrom m fields)
+unfolding headerFrom
+from-small m [] = tt
+from-small m (last ∷ []) = last-small m last
+from-small m (name ∷ f ∷ fields) = from-small (suc m) (f ∷ fields)
+
+pub in-small : (t : List (Option (List (List ℕ)))) → SmallOrder (headerIn t)
+unfolding headerIn headerOf
+in-small [] = tt
+in-small (none ∷ t) = tt
+in-small (some fields ∷ t) = from-small 0 fields
+
+pub or-small : (o : Option Header) (d : Header) → SmallOrder o → d .order ≤ 2 → Option·getD o d .order ≤ 2
+or-small none d h k = k
+or-small (some x) d h k = h
+
+-- Every record behind the header is an entry.
+pub no-fault : (o : Option Header) (d : Header) (t : List (Option (List (List ℕ)))) → formFault o t ≡ 0 → firstFault isNone (entriesIn (Option·getD o d .variables) t) ≡ 0
+unfolding formFault
+no-fault none d t h = absurd (omega arith)
+no-fault (some x) d t h = fault-step false (firstFault isNone (entriesIn (x .variables) t)) h .1
+
+all-some : {A : Type 0} (l : List (Option (List A))) → firstFault isNone l ≡ 0 → l ≡ map some (map (λ e. Option·getD e []) l)
+unfolding firstFault isNone
+all-some [] h = refl
+all-some (none ∷ l) h = absurd (omega arith)
+all-some (some a ∷ l) h = ap (λ (z : List (Option _)). some a ∷ z) (all-some l (fault-step false (firstFault isNone l) h .1))
+
+pub all-long : (m : ℕ) (t : List (Option (List (List ℕ)))) → firstFault isNone (entriesIn m t) ≡ 0 → AllLong (suc m) (map (λ e. Option·getD e []) (entriesIn m t))
+unfolding entriesIn
+all-long m t h = entries-long m (drop 1 t) (map (λ e. Option·getD e []) (map (entryIn m) (drop 1 t))) (all-some (map (entryIn m) (drop 1 t)) h)
+
+-- Every entry is in range, and no point repeats.
+pub all-inside : (p : ℕ) (S : List (List ℤ)) → firstFault (isOutside p) S ≡ 0 → (zs : List ℤ) → Among zs S → T (inRange p zs)
+unfolding firstFault isOutside
+all-inside p (z ∷ S) h zs (inl e) = subst (λ (y : List ℤ). T (inRange p y)) (sym e) (of-true (not-false (inRange p z) (fault-step (not (inRange p z)) (firstFault (isOutside p) S) h .0)))
+all-inside p (z ∷ S) h zs (inr q) = all-inside p S (fault-step (not (inRange p z)) (firstFault (isOutside p) S) h .1) zs q
+
+pub none-again : (seen S : List (List ℕ)) → firstRepeat seen S ≡ 0 → T (noRepeat S) × ((P : List ℕ) → Among P seen → ¬ Among P S)
+unfolding firstRepeat noRepeat
+none-again seen [] h = (tt, λ P w q. q)
+none-again seen (P ∷ S) h =
+    let c = fault-step (isAmong P seen) (firstRepeat (P ∷ seen) S) h in
+    let r = none-again (P ∷ seen) S (c .1) in
+    (and-both (not (isAmong P S)) (noRepeat S) (fresh (isAmong P S) refl (r .1 P (inl refl))) (r .0), λ Q w q. apart c r Q w q)
+  where
+    fresh : (b : Bool) → isAmong P S ≡ b → ¬ Among P S → T (not b)
+    fresh true e n = absurd (n (among-is P S (of-true e)))
+    fresh false e n = tt
+
+    apart : (isAmong P seen ≡ false) × (firstRepeat (P ∷ seen) S ≡ 0) → T (noRepeat S) × ((Q : List ℕ) → Among Q (P ∷ seen) → ¬ Among Q S) → (Q : List ℕ) → Among Q seen → Among Q (P ∷ S) → ⊥
+    apart c r Q w (inl e) =
+        let t : isAmong P seen ≡ true = true-of (isAmong P seen) (is-among P seen (subst (λ (Z : List ℕ). Among Z seen) e w)) in
+        let z : _≡_ {A = ℕ} 0 1 = cc in
+        absurd (omega arith)
+    apart c r Q w (inr q) = r .1 Q (inr w) q

@@ -1,0 +1,162 @@
+-- `records::read_header` meets its contract. The header from `at` on, behind the names so far, is the whole one; each name takes a byte.
+use borrow.Author.Needs.{needs}
+use mathlib.Core.Path.{_≡_, refl, sym, ap, _∙_, subst}
+use mathlib.Core.Bool.{Bool, true}
+use mathlib.Core.List.{List}
+use Prim.Native.Nat.{ℕ, _-_, _<_, _≤_}
+use native.Mathlib.Omega.{arith}
+use lib.ListN.{length, take, drop, length-drop}
+use borrow.Author.Tests.{not-true, not-false}
+use Rattle.csv.specs.reading.Fields.{field, fieldOf}
+use Rattle.csv.specs.reading.Forms.{headerOf}
+use Rattle.csv.specs.reading.Spans.{undoubled, spanned, SpanWithin}
+use Rattle.csv.specs.reading.Said.{lastSaid}
+use Rattle.csv.specs.reading.Records.{kept, headerPart, headerSaid}
+use Rattle.csv.specs.declared.reading.forms.Last.{Last}
+use Rattle.csv.proofs.reading.records.Numbers.{header-read}
+use Rattle.csv.proofs.reading.records.HeaderFields.{headed, head-broken, head-more, head-last, field-shorter}
+use Rattle.csv.proofs.reading.records.read_header.Statement.{statement}
+use Rattle.csv.proofs.reading.records.read_header.Tie as tie
+
+abbrev Inv-loop : tie.InvT-loop
+Inv-loop text at₀ variables₀ at variables = (at ≤ length text) × (variables ≤ at) × (headed variables (drop at text) ≡ headerPart text)
+
+abbrev μ-loop : tie.MeasureT-loop
+μ-loop text at₀ variables₀ at variables = length text - at
+
+abbrev text : tie.Start Inv-loop μ-loop → List ℕ
+text s = s .args .text .now
+
+abbrev K : Type 0
+K = tie.After-known-told Inv-loop μ-loop
+
+-- The places: the loop, a field that was read in it, the last field.
+abbrev L : Type 0
+L = tie.At-loop Inv-loop μ-loop
+
+abbrev start : L → tie.Start Inv-loop μ-loop
+start l = l .before .before
+
+abbrev turn : K → L
+turn c = c .before .before .before .before
+
+abbrev known : tie.After-read-last Inv-loop μ-loop → K
+known c = c .before .before .before
+
+-- the field's places, which lie within the text
+within : (c : K)
+    → (c .before .from .given .0 .0 ≤ c .before .from .given .0 .1 .0) × (c .before .from .given .0 .1 .0 ≤ length (text (start (turn c)))) × (c .before .from .given .0 .1 .1 .1 .0 ≤ length (text (start (turn c))))
+within c = subst (SpanWithin (length (text (start (turn c))))) (c .before .from .given .1) (c .before .before .before .read-field .ensures .within)
+
+abbrev raw : K → List ℕ
+raw c = take (c .before .from .given .0 .1 .0 - c .before .from .given .0 .0) (drop (c .before .from .given .0 .0) (text (start (turn c))))
+
+abbrev rest : K → List ℕ
+rest c = drop (c .before .from .given .0 .1 .1 .1 .0) (text (start (turn c)))
+
+here : (c : K) (more : Bool) → c .before .from .given .0 .1 .1 .0 ≡ more → field (undoubled (raw c)) more (rest c) ≡ fieldOf (drop (turn c .loop .at) (text (start (turn c))))
+unfolding spanned
+here c more e =
+    ap (λ (b : Bool). field (undoubled (raw c)) b (rest c)) (sym e) ∙ ap (spanned (text (start (turn c)))) (sym (c .before .from .given .1)) ∙ c .before .before .before .read-field .ensures .said
+
+-- the last field
+last : (c : tie.After-read-last Inv-loop μ-loop) → kept (lastSaid (turn (known c) .loop .variables) (c .read-last .result)) (rest (known c)) ≡ headerPart (text (start (turn (known c))))
+last c =
+    head-last (turn (known c) .loop .variables) (drop (turn (known c) .loop .at) (text (start (turn (known c))))) (raw (known c)) (rest (known c)) (c .read-last .result)
+    (here (known c) _ (not-true _ (c .before .before .if1 .taken))) (c .read-last .ensures (turn (known c) .loop .variables))
+    ∙ turn (known c) .loop .inv .2
+
+next : (c : tie.Else1 Inv-loop μ-loop) → turn (c .before) .loop .at < c .before .before .from .given .0 .1 .1 .1 .0
+next c =
+    let h = field-shorter (turn (c .before) .loop .variables) (drop (turn (c .before) .loop .at) (text (start (turn (c .before))))) (undoubled (raw (c .before))) (rest (c .before)) (here (c .before) true (not-false _ (c .if1 .left))) in
+    let w = within (c .before) in
+    omega (arith, length-drop (turn (c .before) .loop .at) (text (start (turn (c .before)))), length-drop (c .before .before .from .given .0 .1 .1 .1 .0) (text (start (turn (c .before)))))
+
+loop-holds : tie.Need-loop-holds Inv-loop μ-loop
+unfolding headed headerPart headerOf
+loop-holds c = (omega arith, omega arith, refl)
+
+read-field-requires : tie.Need-read-field-requires Inv-loop μ-loop
+read-field-requires c κs = c .loop .inv .0
+
+enum-known-from : tie.Need-enum-known-from Inv-loop μ-loop
+enum-known-from c = search needs
+
+enum-told : tie.Need-enum-told Inv-loop μ-loop
+enum-told c = search needs
+
+returns : tie.Need-returns Inv-loop μ-loop
+unfolding headerSaid spanned
+returns c =
+    let l = c .before .before .before in
+    let t = text (start l) in
+    header-read _ _ (head-broken (l .loop .variables) (drop (l .loop .at) t) (ap (spanned t) (sym (c .enum-told .given .1)) ∙ c .before .before .read-field .ensures .said) ∙ l .loop .inv .2) tt
+
+sub-read-last : tie.Need-sub-read-last Inv-loop μ-loop
+sub-read-last c = within (c .before) .0
+
+part-read-last-start : tie.Need-part-read-last-start Inv-loop μ-loop
+part-read-last-start c = within (c .before) .0
+
+part-read-last-end : tie.Need-part-read-last-end Inv-loop μ-loop
+part-read-last-end c = within (c .before) .1
+
+read-last-requires : tie.Need-read-last-requires Inv-loop μ-loop
+read-last-requires c κs = tt
+
+enum-known-modulus : tie.Need-enum-known-modulus Inv-loop μ-loop
+enum-known-modulus c = search needs
+
+enum-told-2 : tie.Need-enum-told-2 Inv-loop μ-loop
+enum-told-2 c = search needs
+
+returns-2 : tie.Need-returns-2 Inv-loop μ-loop
+unfolding headerSaid lastSaid kept
+returns-2 c =
+    let d = c .before .before in
+    header-read _ _ (ap (λ (s : Last). kept (lastSaid (turn (known d) .loop .variables) s) (rest (known d))) (sym (c .enum-told2 .given .1)) ∙ last d) tt
+
+returns-3 : tie.Need-returns-3 Inv-loop μ-loop
+unfolding headerSaid lastSaid kept
+returns-3 c =
+    let d = c .before .before .before in
+    header-read _ _ (ap (λ (s : Last). kept (lastSaid (turn (known d) .loop .variables) s) (rest (known d))) (sym (c .before .modulus .given .1)) ∙ last d) (within (known d) .2)
+
+add-variables : tie.Need-add-variables Inv-loop μ-loop
+add-variables c = omega arith
+
+loop-less : tie.Need-loop-less Inv-loop μ-loop
+loop-less c = let h = next c in let w = within (c .before) in omega arith
+
+loop-again : tie.Need-loop-again Inv-loop μ-loop
+loop-again c =
+    let h = next c in
+    let l = turn (c .before) in (
+      within (c .before) .2,
+      omega arith,
+      head-more (l .loop .variables) (drop (l .loop .at) (text (start l))) (undoubled (raw (c .before))) (rest (c .before)) (here (c .before) true (not-false _ (c .if1 .left)))
+          ∙ l .loop .inv .2,
+    )
+
+pub read-header-spec : {M : Type 1} → statement M
+read-header-spec =
+    tie.close
+    (tie.spec
+    Inv-loop
+    μ-loop
+    loop-holds
+    read-field-requires
+    enum-known-from
+    enum-told
+    returns
+    sub-read-last
+    part-read-last-start
+    part-read-last-end
+    read-last-requires
+    enum-known-modulus
+    enum-told-2
+    returns-2
+    returns-3
+    add-variables
+    loop-less
+    loop-again)

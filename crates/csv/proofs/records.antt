@@ -1,4 +1,0 @@
--- The header and the entries, field by field.
-pub mod EntryLevels
-pub mod EntriesChecked
-pub mod HeaderFields

@@ -1,0 +1,34 @@
+-- Numbers in decimal: one to three digits as a text has them (docs/SCOPE.md, 'Reading text'), and as many as a printed number takes.
+use mathlib.Core.Bool.{Bool, cond, _&&_}
+use mathlib.Core.List.{List, [], _∷_, _++_}
+use mathlib.Core.Option.{Option, some, none}
+use Prim.Native.Nat.{ℕ, zero, suc, _+_, _*_, _-_, _/_, _%_}
+use lib.ListN.{length}
+use lib.Dec.{leb, ltb}
+use Rattle.csv.specs.declared.digits.Number.{Number}
+use Rattle.csv.specs.declared.digits.Number.the-variants as N
+
+unfoldable pub isDigit : ℕ → Bool
+isDigit b = leb 48 b && leb b 57
+
+-- the number that digits write, behind `value`
+unfoldable pub digitsFrom : ℕ → List ℕ → Option ℕ
+digitsFrom value [] = some value
+digitsFrom value (b ∷ l) = cond (isDigit b) (digitsFrom (10 * value + (b - 48)) l) none
+
+-- one to three digits
+unfoldable pub numberOf : List ℕ → Option ℕ
+numberOf l = cond (leb 1 (length l) && leb (length l) 3) (digitsFrom 0 l) none
+
+-- what the reader of digits answers
+unfoldable pub numberSaid : Number → Option ℕ
+numberSaid (N.Size k) = some k
+numberSaid N.Broken = none
+
+-- a number in decimal, with more turns than it has digits
+unfoldable pub digitsOf : ℕ → ℕ → List ℕ
+digitsOf zero n = []
+digitsOf (suc turns) n = cond (ltb n 10) ((48 + n) ∷ []) (digitsOf turns (n / 10) ++ ((48 + n % 10) ∷ []))
+
+unfoldable pub decimal : ℕ → List ℕ
+decimal n = digitsOf (suc n) n

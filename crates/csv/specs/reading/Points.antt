@@ -1,0 +1,72 @@
+-- What the readers of residues answer, in the terms of the definitions.
+use mathlib.Core.Path.{_≡_}
+use mathlib.Core.Bool.{Bool, cond}
+use mathlib.Core.List.{List, [], _∷_, _++_, map}
+use mathlib.Core.Option.{Option·getD}
+use Prim.Native.Nat.{ℕ, zero, suc, _≤_}
+use lib.IntN.{ℤ, pos}
+use lib.ListN.{length, drop}
+use lib.Dec.{eqb}
+use Rattle.residue.specs.Level.{residueOf}
+use Rattle.residue.specs.Layout.{rowAt}
+use Rattle.specification.specs.Levels.{isResidue, residueOr0, inRange}
+use Rattle.csv.specs.reading.Fields.{Field, field, broken, Part, part, faulty}
+use Rattle.specification.specs.Refusal.{firstOf}
+use Rattle.csv.specs.reading.Text.{Contents, TextOutcome, entryValue, notRefused, headerCases, entriesCases, textAccepted, textDecided}
+use Rattle.csv.specs.reading.Records.{entriesAt}
+use Rattle.csv.specs.declared.reading.points.Placed.{Placed}
+use Rattle.csv.specs.declared.reading.points.Filled.{Filled}
+
+-- the level in a field that has one, and the text behind it
+unfoldable pub levelIn : Field ℤ → ℤ
+levelIn (field level more rest) = level
+levelIn broken = pos 0
+
+unfoldable pub behindLevel : Field ℤ → List ℕ
+behindLevel (field level more rest) = rest
+behindLevel broken = []
+
+-- the residue of that level, 0 where it is out of range
+pub record PlacedAs (p : ℕ) (text : List ℕ) (f : Field ℤ) (r : Placed) : Type 0 where
+  pub inside : r .inside ≡ isResidue (residueOf p (levelIn f))
+  pub residue : r .residue ≡ residueOr0 (residueOf p (levelIn f))
+  pub rest : drop (r .next) text ≡ behindLevel f
+  pub within : r .next ≤ length text
+
+-- the levels of an entry, and the text behind it
+unfoldable pub levelsIn : Part (List ℤ) → List ℤ
+levelsIn (part levels rest) = levels
+levelsIn faulty = []
+
+unfoldable pub behindEntry : Part (List ℤ) → List ℕ
+behindEntry (part levels rest) = rest
+behindEntry faulty = []
+
+-- whether all of them are in range, and the value
+pub record FilledAs (p m : ℕ) (text : List ℕ) (e : Part (List ℤ)) (r : Filled) : Type 0 where
+  pub inside : r .inside ≡ inRange p (levelsIn e)
+  pub value : r .value ≡ entryValue p m (levelsIn e)
+  pub rest : drop (r .next) text ≡ behindEntry e
+  pub within : r .next ≤ length text
+
+-- the levels of all entries
+unfoldable pub levelsAt : ℕ → List ℕ → List (List ℤ)
+levelsAt m l = map (λ e. Option·getD e []) (entriesAt m l)
+
+-- what a text says with these settings in its header and these entries behind it
+unfoldable pub saying : ℕ → ℕ → ℕ → List ℕ → Contents
+saying p m order l = record { header = record { variables = m; modulus = p; order = order }; entries = levelsAt m l }
+
+-- what is left of a text of right form, by its settings and its n entries
+abbrev pub entriesOutcome : (p m order n : ℕ) → List ℕ → List ℕ → List ℕ → TextOutcome
+entriesOutcome p m order n l states values = let said = saying p m order l in
+    textDecided (firstOf notRefused (headerCases p m n (length states) (length values) ++ entriesCases said)) (textAccepted said states values) states values
+
+-- the first place found, or this one if it has a fault
+unfoldable pub firstPlace : ℕ → Bool → ℕ → ℕ
+firstPlace found inside place = cond (eqb found 0) (cond inside 0 place) found
+
+-- the rows before the jth of a table of rows of 8, the last first
+unfoldable pub earlier : ℕ → List ℕ → List (List ℕ)
+earlier zero t = []
+earlier (suc j) t = rowAt 8 j t ∷ earlier j t

@@ -1,0 +1,125 @@
+// The forms of a field's content.
+use crate::digits::Number;
+use crate::digits::is_digit;
+use crate::digits::read_number;
+ghost use mathlib.Core.Path.{_≡_};
+ghost use Prim.Native.Nat.{ℕ};
+ghost use Rattle.residue.specs.Lists.{sameList};
+ghost use Rattle.csv.specs.reading.Fields.{front};
+ghost use Rattle.csv.specs.Digits.{isDigit};
+ghost use Rattle.csv.specs.reading.Forms.{levelOf, orderWord, modulusAndOrder, lastField};
+ghost use Rattle.csv.specs.reading.Said.{orderSaid, levelSaid, lastSaid};
+
+// Whether two runs of bytes are the same.
+pub fn same(a: &[u8], b: &[u8]) -> bool
+    ensures { λ r. ⌜ r ≡ sameList (now (a .entry)) (now (b .entry)) ⌝ }
+{
+    if a.len() != b.len() {
+        return false;
+    }
+    for i in 0..a.len() {
+        if a[i] != b[i] {
+            return false;
+        }
+    }
+    true
+}
+
+// How many digits stand at the front.
+fn digit_end(content: &[u8]) -> usize
+    ensures { λ r. ⌜ r ≡ front isDigit (now (content .entry)) ⌝ }
+{
+    let mut i = 0;
+    while i < content.len() {
+        if !is_digit(content[i]) {
+            return i;
+        }
+        i += 1;
+    }
+    i
+}
+
+pub enum Signed {
+    Level { negative: bool, size: u16 },
+    Broken,
+}
+
+// A level or a value: an optional minus sign and one to three digits.
+pub fn read_level(content: &[u8]) -> Signed
+    ensures { λ r. ⌜ levelSaid r ≡ levelOf (now (content .entry)) ⌝ }
+{
+    if 0 < content.len() {
+        if content[0] == 45 {
+            let Number::Size(size) = read_number(&content[1..]) else {
+                return Signed::Broken;
+            };
+            return Signed::Level {
+                negative: true,
+                size,
+            };
+        }
+    }
+    let Number::Size(size) = read_number(content) else {
+        return Signed::Broken;
+    };
+    Signed::Level {
+        negative: false,
+        size,
+    }
+}
+
+pub enum Word {
+    Order(u8),
+    Broken,
+}
+
+// The order's number, by what stands behind the digits.
+fn read_order(word: &[u8]) -> Word
+    ensures { λ r. ⌜ orderSaid r ≡ orderWord (now (word .entry)) ⌝ }
+{
+    if word.len() == 0 {
+        return Word::Order(0);
+    }
+    if same(word, b" lex") {
+        return Word::Order(0);
+    }
+    if same(word, b" grlex") {
+        return Word::Order(1);
+    }
+    if same(word, b" grevlex") {
+        return Word::Order(2);
+    }
+    Word::Broken
+}
+
+pub enum Last {
+    Settings { modulus: u16, order: u8 },
+    Broken,
+}
+
+// Digits, and the order word if there is one.
+fn read_settings(content: &[u8]) -> Last
+    ensures { λ r. ⌜ ((m : ℕ) → lastSaid m r ≡ modulusAndOrder m (now (content .entry))) ⌝ }
+{
+    let k = digit_end(content);
+    let Number::Size(modulus) = read_number(&content[..k]) else {
+        return Last::Broken;
+    };
+    let Word::Order(order) = read_order(&content[k..]) else {
+        return Last::Broken;
+    };
+    Last::Settings { modulus, order }
+}
+
+// The last field of the header.
+pub fn read_last(content: &[u8]) -> Last
+    ensures { λ r. ⌜ ((m : ℕ) → lastSaid m r ≡ lastField m (now (content .entry))) ⌝ }
+{
+    if content.len() < 4 {
+        return Last::Broken;
+    }
+    if !same(&content[..4], b"mod ") {
+        return Last::Broken;
+    }
+    read_settings(&content[4..])
+}

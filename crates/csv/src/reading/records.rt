@@ -1,0 +1,158 @@
+// The records of a text: the header, and behind it the entries, each of m levels and one value.
+ghost use mathlib.Core.Path.{_≡_};
+ghost use Prim.Native.Nat.{_≤_};
+ghost use lib.ListN.{length, drop};
+ghost use Rattle.csv.specs.reading.Records.{LevelRead, HeaderRead, EntryRead, entriesAt, counted};
+use crate::reading::fields;
+use crate::reading::fields::Span;
+use crate::reading::forms;
+use crate::reading::forms::Last;
+use crate::reading::forms::Signed;
+
+pub enum LevelAt {
+    Level {
+        negative: bool,
+        size: u16,
+        more: bool,
+        next: usize,
+    },
+    Broken,
+}
+
+// The level or value in the field at `at`.
+pub fn level_at(text: &[u8], at: usize) -> LevelAt
+    requires { ⌜ at ≤ length (now text) ⌝ }
+    ensures { λ r. ⌜ LevelRead (now (text .entry)) at r ⌝ }
+{
+    let Span::Content {
+        from,
+        to,
+        more,
+        next,
+    } = fields::read_field(text, at)
+    else {
+        return LevelAt::Broken;
+    };
+    let Signed::Level { negative, size } = forms::read_level(&text[from..to]) else {
+        return LevelAt::Broken;
+    };
+    LevelAt::Level {
+        negative,
+        size,
+        more,
+        next,
+    }
+}
+
+pub enum HeaderAt {
+    Header {
+        modulus: u16,
+        variables: usize,
+        order: u8,
+        next: usize,
+    },
+    Broken,
+}
+
+// The header of a text.
+pub fn read_header(text: &[u8]) -> HeaderAt
+    ensures { λ r. ⌜ HeaderRead (now (text .entry)) r ⌝ }
+{
+    let mut at = 0;
+    let mut variables = 0;
+    loop {
+        let Span::Content {
+            from,
+            to,
+            more,
+            next,
+        } = fields::read_field(text, at)
+        else {
+            return HeaderAt::Broken;
+        };
+        if !more {
+            let Last::Settings { modulus, order } = forms::read_last(&text[from..to]) else {
+                return HeaderAt::Broken;
+            };
+            return HeaderAt::Header {
+                modulus,
+                variables,
+                order,
+                next,
+            };
+        }
+        variables += 1;
+        at = next;
+    }
+}
+
+pub enum Entry {
+    Ends(usize),
+    Refused { refusal: u8, at: usize },
+}
+
+// Whether the record at `at`, whose number is `record`, is an entry of so many variables, and where it ends.
+fn check_entry(text: &[u8], at: usize, variables: usize, record: usize) -> Entry
+    requires { ⌜ at ≤ length (now text) ⌝ }
+    ensures { λ r. ⌜ EntryRead (now (text .entry)) at variables «record» r ⌝ }
+{
+    let mut from = at;
+    let mut left = variables;
+    loop {
+        let LevelAt::Level {
+            negative: _,
+            size: _,
+            more,
+            next,
+        } = level_at(text, from)
+        else {
+            return Entry::Refused {
+                refusal: 2,
+                at: record,
+            };
+        };
+        if left == 0 {
+            if more {
+                return Entry::Refused {
+                    refusal: 2,
+                    at: record,
+                };
+            }
+            return Entry::Ends(next);
+        }
+        if !more {
+            return Entry::Refused {
+                refusal: 2,
+                at: record,
+            };
+        }
+        left -= 1;
+        from = next;
+    }
+}
+
+pub enum Entries {
+    Count(usize),
+    Refused { refusal: u8, at: usize },
+}
+
+// Whether all records from `at` on, behind the header, are entries of so many variables, and how many there are.
+pub fn check_entries(text: &[u8], at: usize, variables: usize) -> Entries
+    requires { ⌜ (at ≤ length (now text)) × (length (now text) ≤ 16384) ⌝ }
+    ensures { λ r. ⌜ r ≡ counted 0 (entriesAt variables (drop at (now (text .entry)))) ⌝ }
+{
+    let mut from = at;
+    let mut n = 0;
+    while from < text.len() {
+        match check_entry(text, from, variables, n + 2) {
+            Entry::Refused { refusal, at } => {
+                return Entries::Refused { refusal, at };
+            }
+            Entry::Ends(next) => {
+                from = next;
+                n += 1;
+            }
+        }
+    }
+    Entries::Count(n)
+}
