@@ -1,6 +1,6 @@
 -- Refusals 3 to 8 look at lengths alone, and signed bytes are as many as the plain ones; where none holds, the local copies have room.
 use mathlib.Core.Path.{_≡_, sym, ap, _∙_}
-use mathlib.Core.Bool.{not, _||_}
+use mathlib.Core.Bool.{Bool, not, _||_}
 use mathlib.Core.List.{List, _++_}
 use Prim.Native.Nat.{ℕ, _+_, _*_, _/_, _%_, _≤_}
 use native.Mathlib.Nat.{div-add-mod', mul-le-mul}
@@ -14,11 +14,13 @@ use Rattle.specification.specs.Refusal.{firstOf}
 use Rattle.specification.specs.Settings.{settingsCases}
 use Rattle.specification.specs.Tables.{Tables, tooShort}
 use Rattle.specification.specs.Adding.{Outcome, refused, addOutcome, drawOutcome}
+use Rattle.specification.specs.Withdrawing.{withdrawOutcome}
 use Rattle.specification.specs.Solving.{valuesCases, remainderCases, wiringOutcome}
 use Rattle.basis.proofs.adding.Addition.{add-size}
 use Rattle.specification.proofs.Wiring.{list-refused}
 use Rattle.basis.proofs.settings.BySize.{sizes, passed}
 use Rattle.basis.proofs.settings.ByNumber.{when-refused}
+use Rattle.basis.proofs.withdrawing.Withdrawal.{withdraw-size, withdraw-refused}
 use Rattle.basis.proofs.drawing.Outcomes.{draw-size}
 use Rattle.basis.proofs.answers.Refusals.{values-size, remainder-size}
 use Rattle.misqafur.specs.Bytes.{signedBytes}
