@@ -1,8 +1,6 @@
 -- `adding::growing::add_tables` meets its contract: the new tables are made beside the old ones, and copied over them.
-use mathlib.Core.Path.{_≡_, refl}
-use Prim.Native.Nat.{ℕ}
+use mathlib.Core.Path.{refl, sym}
 use native.Mathlib.Omega.{arith}
-use borrow.Author.Needs.{needs}
 use Rattle.basis.proofs.drawing.Given.{tabled-long, tabled-over}
 use Rattle.basis.proofs.adding.growing.add_tables.Statement.{statement}
 use Rattle.basis.proofs.adding.growing.add_tables.Tie as tie
@@ -35,7 +33,7 @@ add-to-requires c κs =
     (s .pre .0, (s .pre .1 .0, (s .pre .1 .1 .0, (s .pre .1 .1 .1, (refl, refl, refl)))))
 
 slice-aggregate-copy : tie.Need-slice-aggregate-copy
-slice-aggregate-copy c = search needs
+slice-aggregate-copy c = sym (c .before .before .before .before .add-to .kept .1 .1 .1 .1 .1 .1 .1 .1 .1 .1 .0)
 
 copy-requires : tie.Need-copy-requires
 copy-requires c κs =
@@ -45,7 +43,7 @@ copy-requires c κs =
     omega (arith, l .0, m .0)
 
 slice-aggregate-copy-2 : tie.Need-slice-aggregate-copy-2
-slice-aggregate-copy-2 c = search needs
+slice-aggregate-copy-2 c = sym (added (c .before .before .before) .add-to .kept .1 .1 .1 .1 .1 .1 .1 .1 .1 .1 .1 .0)
 
 copy-requires-2 : tie.Need-copy-requires-2
 copy-requires-2 c κs =
@@ -55,7 +53,7 @@ copy-requires-2 c κs =
     omega (arith, l .1 .0, m .1 .0)
 
 slice-aggregate-copy-3 : tie.Need-slice-aggregate-copy-3
-slice-aggregate-copy-3 c = search needs
+slice-aggregate-copy-3 c = sym (added (first (c .before .before .before)) .add-to .kept .1 .1 .1 .1 .1 .1 .1 .1 .1 .1 .1 .1 .0)
 
 copy-requires-3 : tie.Need-copy-requires-3
 copy-requires-3 c κs =
@@ -65,13 +63,13 @@ copy-requires-3 c κs =
     omega (arith, l .1 .1, m .1 .1)
 
 same-length : tie.Need-same-length
-same-length c = search needs
+same-length c = first (second (c .before .before)) .copy .kept .1 .0
 
 same-length-2 : tie.Need-same-length-2
-same-length-2 c = search needs
+same-length-2 c = second (c .before .before) .copy2 .kept .1 .0
 
 same-length-3 : tie.Need-same-length-3
-same-length-3 c = search needs
+same-length-3 c = c .before .before .copy3 .kept .1 .0
 
 returns : tie.Need-returns
 returns c =
