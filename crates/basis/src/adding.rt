@@ -11,7 +11,7 @@ use crate::settings::refused;
 use specification::settings::Answer;
 use specification::settings::Settings;
 ghost use mathlib.Core.Path.{_≡_};
-ghost use lib.ListN.{length, replicate};
+ghost use lib.ListN.{replicate};
 ghost use Rattle.residue.specs.Layout.{fill, inPlaces};
 ghost use Rattle.specification.specs.Levels.{residues};
 ghost use Rattle.specification.specs.Tables.{fourTables, pointsIn};

@@ -5,11 +5,11 @@ use mathlib.Core.List.{List, [], _∷_, _++_}
 use Prim.Native.Nat.{ℕ, _+_, _<_, _≤_}
 use native.Mathlib.Omega.{arith}
 use lib.IntN.{ℤ}
-use lib.ListN.{length, take, length-append}
-use lib.Dec.{T, eqb, leb}
+use lib.ListN.{length, take}
+use lib.Dec.{eqb, leb}
 use borrow.Author.Tests.{eqb-true, leb-false, not-false}
 use Rattle.residue.specs.Vector.{Below}
-use Rattle.residue.specs.Layout.{groups, fill, inPlaces, over}
+use Rattle.residue.specs.Layout.{groups, fill, inPlaces}
 use Rattle.residue.proofs.level.Moduli.{modulus-range}
 use Rattle.residue.proofs.Tests.{of-true}
 use Rattle.residue.proofs.Layouts.{take-fill, below-fill}
@@ -18,12 +18,11 @@ use Rattle.specification.specs.declared.settings.Settings.{Settings}
 use Rattle.specification.specs.Refusal.{Case, firstOf}
 use Rattle.specification.specs.Settings.{settingsCases}
 use Rattle.specification.specs.Levels.{inRange, residues, isAmong}
-use Rattle.specification.specs.Tables.{Tables, rowCount, tablesOf, tooShort, pointsIn, recognised}
-use Rattle.specification.specs.Adding.{ended, holding, addCases, addRefusal, addOutcome}
-use Rattle.specification.proofs.Repeats.{is-among, among-filled}
-use Rattle.specification.proofs.agreement.Points.{IsPoint, Points, length-residues, levels-point, points-more}
-use Rattle.specification.proofs.agreement.Refusals.{Accepted, accepted, Large, large-of}
-use Rattle.specification.proofs.agreement.Drawings.{few-rows}
+use Rattle.specification.specs.Tables.{Tables, tooShort, pointsIn, recognised}
+use Rattle.specification.specs.Adding.{holding, addCases, addRefusal, addOutcome}
+use Rattle.specification.proofs.Repeats.{among-filled}
+use Rattle.specification.proofs.agreement.Points.{IsPoint, Points, length-residues, levels-point}
+use Rattle.specification.proofs.agreement.Refusals.{Accepted, accepted}
 use Rattle.basis.specs.Drawing.{PointsGiven, Solves, DrawnUp}
 use Rattle.basis.specs.Adding.{allPoints, NewPoint}
 use Rattle.basis.proofs.drawing.Given.{table-points, given, drawn-of}

@@ -20,8 +20,8 @@ use Rattle.residue.proofs.Places.{table-groups}
 use Rattle.monomial.specs.Monomial.{valueAt as valueOf}
 use Rattle.monomial.specs.Order.{orderOf}
 use Rattle.specification.specs.declared.settings.Settings.{Settings}
-use Rattle.specification.specs.BasisOf.{standardOf, valueAt, interpolantOf, remainderOf}
-use Rattle.specification.specs.Tables.{spaceUnder, pointsUnder, tablesOf}
+use Rattle.specification.specs.BasisOf.{valueAt, interpolantOf, remainderOf}
+use Rattle.specification.specs.Tables.{standardUnder, spaceUnder, pointsUnder, tablesOf}
 use Rattle.specification.specs.Polynomial.{Polynomial, eval}
 use Rattle.specification.specs.Instance.{Point, pointOf}
 use Rattle.specification.specs.Levels.{residues}
@@ -132,9 +132,9 @@ module _ (s : Settings) (ok : Accepted s) (S : List (List ℕ)) (h : Points s S)
   pub names-in : (vs : List ℕ) → wiringOf (s .variables) (take (length S) (fill 64 (interpolant vs))) (groups 8 (length S) (tablesOf s S .standard)) ≡ wiringUnder s S vs
   unfolding tablesOf wiringUnder
   names-in vs =
-      let M : List (List ℕ) = map (λ a. a .0) (standardOf (spaceUnder s) (pointsUnder s S)) in
+      let M : List (List ℕ) = map (λ a. a .0) (standardUnder s S) in
       let n : length M ≡ length S =
-      length-map (standardOf (spaceUnder s) (pointsUnder s S)) _ ∙ standard-length (spaceUnder s) (laws-under s ok) (pointsUnder s S) (distinct-points s ok S h) ∙ length-map S _ in
+      length-map (standardUnder s S) _ ∙ standard-length (spaceUnder s) (laws-under s ok) (pointsUnder s S) (distinct-points s ok S h) ∙ length-map S _ in
       let k = length-interpolant vs in
       let few = h .few in
       ap₂ (wiringOf (s .variables))

@@ -125,7 +125,7 @@ draw-requires c κs =
     (ready g, ((refl, (refl, refl)), (s g .pre .1 .1 .1 .0, s g .pre .1 .1 .1 .1)))
 
 same-length-2 : tie.Need-same-length-2
-same-length-2 c = c .before .before .before .before .before .before .before .before .before .before .before .before .before .before .before .before .before .before .before .before .read-points .kept .1 .1 .1 .0
+same-length-2 c = w (g (c .before .before .before .before .before .before .before .before)) .read-points .kept .1 .1 .1 .0
 
 same-length-3 : tie.Need-same-length-3
 same-length-3 c = c .before .before .before .before .before .before .before .before .draw .kept .1 .1 .1 .1 .1 .1 .0
@@ -155,7 +155,7 @@ agree-requires c κs =
     ((long (w (g d)), t), s (g d) .pre .1 .0)
 
 same-length-5 : tie.Need-same-length-5
-same-length-5 c = c .before .before .before .before .before .before .before .before .before .before .before .before .before .before .before .before .before .before .before .before .before .before .before .before .before .read-points .kept .1 .1 .1 .0
+same-length-5 c = w (g (c .before .before .before .before .before .before .before .before .before .before .before .before .before)) .read-points .kept .1 .1 .1 .0
 
 same-length-6 : tie.Need-same-length-6
 same-length-6 c = c .before .before .before .before .before .before .before .before .before .before .before .before .before .draw .kept .1 .1 .1 .1 .1 .1 .0

@@ -2,7 +2,6 @@
 use mathlib.Core.Path.{_≡_, refl, ap, _∙_}
 use mathlib.Core.List.{List}
 use Prim.Native.Nat.{ℕ}
-use borrow.Author.Needs.{needs}
 use lib.ListN.{length, replicate}
 use Rattle.basis.proofs.drawing.draw_anew.Statement.{statement}
 use Rattle.basis.proofs.drawing.draw_anew.Tie as tie
@@ -43,14 +42,18 @@ draw-requires c κs =
     let o = s k in
     (o .pre .0, ((blank 512 (o .args .standard .now) _ (o .pre .1 .0) (first k .clear .ensures), (blank 3592 (o .args .leads .now) _ (o .pre .1 .1 .0) (second k .clear2 .ensures), blank 28736 (o .args .coefficients .now) _ (o .pre .1 .1 .1) (k .clear3 .ensures))), (refl, refl)))
 
+-- the clearing before the drawing
+abbrev cleared : tie.After-draw → tie.After-clear3
+cleared d = d .before .before .before .before .before .before .before .before
+
 same-length : tie.Need-same-length
-same-length c = search needs
+same-length c = let d = c .before .before .before .before .before .before .before .before in d .draw .kept .1 .1 .1 .0 ∙ first (cleared d) .clear .kept .0
 
 same-length-2 : tie.Need-same-length-2
-same-length-2 c = search needs
+same-length-2 c = let d = c .before .before .before .before .before .before .before .before in d .draw .kept .1 .1 .1 .1 .0 ∙ second (cleared d) .clear2 .kept .0
 
 same-length-3 : tie.Need-same-length-3
-same-length-3 c = search needs
+same-length-3 c = let d = c .before .before .before .before .before .before .before .before in d .draw .kept .1 .1 .1 .1 .1 .0 ∙ cleared d .clear3 .kept .0
 
 returns : tie.Need-returns
 returns c = c .before .before .before .before .before .before .before .before .draw .ensures .tabled

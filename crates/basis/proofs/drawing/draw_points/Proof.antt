@@ -1,5 +1,5 @@
 -- `drawing::draw_points` meets its contract: the points are copied, and the fronts of the other lent tables drawn up.
-use mathlib.Core.Path.{_≡_, refl, ap, _∙_, sym}
+use mathlib.Core.Path.{ap, _∙_, sym}
 use mathlib.Core.List.{List}
 use Prim.Native.Nat.{ℕ}
 use native.Mathlib.Omega.{arith}

@@ -1,5 +1,5 @@
 -- `adding::growing::add_accepted` meets its contract: the fronts of the lent tables are those of all points.
-use mathlib.Core.Path.{_≡_, refl, ap, _∙_, sym}
+use mathlib.Core.Path.{ap, _∙_, sym}
 use mathlib.Core.List.{List}
 use Prim.Native.Nat.{ℕ}
 use native.Mathlib.Omega.{arith}

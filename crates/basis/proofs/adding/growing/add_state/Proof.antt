@@ -1,6 +1,5 @@
 -- `adding::growing::add_state` meets its contract.
-use mathlib.Core.Path.{_≡_, ap, _∙_, sym}
-use mathlib.Core.List.{List}
+use mathlib.Core.Path.{ap, _∙_}
 use Prim.Native.Nat.{ℕ, _+_, _*_, _-_}
 use native.Mathlib.Omega.{arith}
 use native.Mathlib.Nat.{add-sub-cancel-left}
@@ -12,22 +11,22 @@ use Rattle.basis.proofs.adding.growing.add_state.Statement.{statement}
 use Rattle.basis.proofs.adding.growing.add_state.Tie as tie
 
 copy-requires : tie.Need-copy-requires
-copy-requires c κs = search needs
+copy-requires c κs = omega arith
 
 mul-from : tie.Need-mul-from
-mul-from c = search needs
+mul-from c = omega arith
 
 add-copy : tie.Need-add-copy
-add-copy c = search needs
+add-copy c = omega arith
 
 sub-copy : tie.Need-sub-copy
-sub-copy c = search needs
+sub-copy c = omega arith
 
 part-copy-start : tie.Need-part-copy-start
-part-copy-start c = search needs
+part-copy-start c = omega arith
 
 part-copy-end : tie.Need-part-copy-end
-part-copy-end c = search needs
+part-copy-end c = omega arith
 
 copy-requires-2 : tie.Need-copy-requires-2
 copy-requires-2 c κs = search needs

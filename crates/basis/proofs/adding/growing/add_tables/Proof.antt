@@ -1,8 +1,7 @@
 -- `adding::growing::add_tables` meets its contract: the new tables are made beside the old ones, and copied over them.
-use mathlib.Core.Path.{_≡_, refl}
-use Prim.Native.Nat.{ℕ}
+use mathlib.Core.Path.{_≡_, refl, sym}
 use native.Mathlib.Omega.{arith}
-use borrow.Author.Needs.{needs}
+use lib.ListN.{length}
 use Rattle.basis.proofs.drawing.Given.{tabled-long, tabled-over}
 use Rattle.basis.proofs.adding.growing.add_tables.Statement.{statement}
 use Rattle.basis.proofs.adding.growing.add_tables.Tie as tie
@@ -20,6 +19,10 @@ second d = d .before .before .before .before .before
 abbrev added : tie.After-copy → tie.After-add-to
 added d = d .before .before .before .before .before .before
 
+-- the sizes of the old tables
+sizes : (d : tie.After-add-to) → let s = start d in (length (s .args .standard .now) ≡ 512) × ((length (s .args .leads .now) ≡ 3592) × (length (s .args .coefficients .now) ≡ 28736))
+sizes d = tabled-long (start d .pre .1 .0 .tabled)
+
 slice-aggregate-add-to : tie.Need-slice-aggregate-add-to
 slice-aggregate-add-to c = refl
 
@@ -35,43 +38,37 @@ add-to-requires c κs =
     (s .pre .0, (s .pre .1 .0, (s .pre .1 .1 .0, (s .pre .1 .1 .1, (refl, refl, refl)))))
 
 slice-aggregate-copy : tie.Need-slice-aggregate-copy
-slice-aggregate-copy c = search needs
+slice-aggregate-copy c = sym (c .before .before .before .before .add-to .kept .1 .1 .1 .1 .1 .1 .1 .1 .1 .1 .0)
 
 copy-requires : tie.Need-copy-requires
 copy-requires c κs =
     let a = c .before .before .before .before .before in
-    let l = tabled-long (start a .pre .1 .0 .tabled) in
-    let m = tabled-long (a .add-to .ensures) in
-    omega (arith, l .0, m .0)
+    omega (arith, sizes a, a .add-to .kept .1 .1 .1 .1 .1 .1 .1 .1 .1 .1 .0)
 
 slice-aggregate-copy-2 : tie.Need-slice-aggregate-copy-2
-slice-aggregate-copy-2 c = search needs
+slice-aggregate-copy-2 c = sym (added (c .before .before .before) .add-to .kept .1 .1 .1 .1 .1 .1 .1 .1 .1 .1 .1 .0)
 
 copy-requires-2 : tie.Need-copy-requires-2
 copy-requires-2 c κs =
     let a = added (c .before .before .before .before) in
-    let l = tabled-long (start a .pre .1 .0 .tabled) in
-    let m = tabled-long (a .add-to .ensures) in
-    omega (arith, l .1 .0, m .1 .0)
+    omega (arith, sizes a, a .add-to .kept .1 .1 .1 .1 .1 .1 .1 .1 .1 .1 .1 .0)
 
 slice-aggregate-copy-3 : tie.Need-slice-aggregate-copy-3
-slice-aggregate-copy-3 c = search needs
+slice-aggregate-copy-3 c = sym (added (first (c .before .before .before)) .add-to .kept .1 .1 .1 .1 .1 .1 .1 .1 .1 .1 .1 .1 .0)
 
 copy-requires-3 : tie.Need-copy-requires-3
 copy-requires-3 c κs =
     let a = added (first (c .before .before .before .before)) in
-    let l = tabled-long (start a .pre .1 .0 .tabled) in
-    let m = tabled-long (a .add-to .ensures) in
-    omega (arith, l .1 .1, m .1 .1)
+    omega (arith, sizes a, a .add-to .kept .1 .1 .1 .1 .1 .1 .1 .1 .1 .1 .1 .1 .0)
 
 same-length : tie.Need-same-length
-same-length c = search needs
+same-length c = first (second (c .before .before)) .copy .kept .1 .0
 
 same-length-2 : tie.Need-same-length-2
-same-length-2 c = search needs
+same-length-2 c = second (c .before .before) .copy2 .kept .1 .0
 
 same-length-3 : tie.Need-same-length-3
-same-length-3 c = search needs
+same-length-3 c = c .before .before .copy3 .kept .1 .0
 
 returns : tie.Need-returns
 returns c =

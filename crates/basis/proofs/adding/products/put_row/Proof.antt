@@ -58,7 +58,7 @@ eliminate-requires : tie.Need-eliminate-requires
 eliminate-requires c κs =
     let d = c .before .before in
     let s = start d in
-    ((s .pre .0 .0, s .pre .0 .1, omega arith), (λ t j h l m. absurd (omega arith), (d .put-term-values .kept .1 .1 .1 .1 .1 .0, ((omega arith, omega arith), ((s .pre .1 .1 .1 .1 .0 .1, below d), λ t h. omega (arith, s .pre .1 .1 .1 .1 .1 t h))))))
+    ((s .pre .0 .0, s .pre .0 .1, omega arith), (λ t j h l m. absurd (omega arith), (d .put-term-values .kept .1 .1 .1 .1 .1 .0, ((omega arith, omega arith), ((s .pre .1 .1 .1 .1 .0 .1, below d), λ t h. omega (arith, s .pre .1 .1 .1 .1 .1 t (omega (arith, h))))))))
 
 mul-from : tie.Need-mul-from
 mul-from c = omega arith
