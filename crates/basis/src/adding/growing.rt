@@ -88,8 +88,8 @@ fn grow(
     requires { ⌜ (now «new_standard» ≡ replicate 512 0) × (now «new_leads» ≡ replicate 3592 0) × (now «new_coefficients» ≡ replicate 28736 0) ⌝ }
     ensures { λ _. ⌜ now («new_standard» .exit) ≡ standardGrown (settings .order) n (now (standard .entry)) (rowAt 8 j (now (leads .entry))) ⌝ }
     ensures { λ k. ⌜ grown k (now («new_leads» .exit)) (now («new_coefficients» .exit))
-        ≡ grownBy (settings .modulus) (settings .variables) (settings .order) n r (now (points .entry)) (now (standard .entry)) (now (leads .entry)) (now (coefficients .entry)) (now (rows .entry))
-        (now (pivots .entry)) (now (point .entry)) (now (values .entry)) j ⌝ }
+        ≡ grownBy (settings .modulus) (settings .variables) (settings .order) n r (now (points .entry)) (now (standard .entry)) (now (leads .entry))
+        (now (coefficients .entry)) (now (rows .entry)) (now (pivots .entry)) (now (point .entry)) (now (values .entry)) j ⌝ }
 {
     let p = settings.modulus as u16;
     let order = settings.order as u8;

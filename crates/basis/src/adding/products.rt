@@ -138,7 +138,8 @@ pub fn add_products(
     requires { ⌜ ((v : ℕ) → getD (now lead) v 0 < 255) ⌝ }
     ensures { λ r. ⌜ grown r (now (leads .exit)) (now (coefficients .exit))
         ≡ productsPut (settings .modulus) (settings .order) n (now (points .entry)) (now (rows .entry)) (now (pivots .entry)) place inverse
-        (now (gone .entry)) (now (point .entry)) (now (values .entry)) k (now (leads .entry)) (now (lead .entry)) (settings .variables) (grown k (now (leads .entry)) (now (coefficients .entry))) ⌝ }
+        (now (gone .entry)) (now (point .entry)) (now (values .entry)) k (now (leads .entry)) (now (lead .entry))
+        (settings .variables) (grown k (now (leads .entry)) (now (coefficients .entry))) ⌝ }
 {
     let p = settings.modulus as u16;
     let order = settings.order as u8;
