@@ -5,6 +5,7 @@ mod buffers;
 mod counts;
 mod refused;
 mod stored;
+mod written;
 
 use libc::STDIN_FILENO;
 

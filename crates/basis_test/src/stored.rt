@@ -3,6 +3,7 @@ use crate::answered;
 use crate::buffers;
 use crate::counts;
 use crate::refused;
+use crate::written;
 use specification::settings::Settings;
 
 // The head of a case: settings, the refusal due, counts, and how many bytes of it follow.
@@ -63,10 +64,10 @@ fn try_points(
     coefficients: &[u8; 28736],
     counts: &mut [u64; 16],
 ) {
-    let drawn = answered::drawn(head, levels, states, standard, leads, coefficients);
+    let drawn = written::drawn(head, levels, states, standard, leads, coefficients);
     counts::count(counts, counts::DRAWN, drawn);
     if head.n != 0 {
-        let added = answered::added(head, levels, states, standard, leads, coefficients);
+        let added = written::added(head, levels, states, standard, leads, coefficients);
         counts::count(counts, counts::ADDED, added);
     }
 }

@@ -31,7 +31,7 @@ use Rattle.specification.specs.Instance.{monomialOf, pointOf}
 use Rattle.specification.specs.Tables.{standardUnder, leadsUnder, rowsUnder, statesSize, standardSize, leadsSize, coefficientsSize}
 use Rattle.specification.specs.Solving.{occurs, wiringOf, wiringUnder, polynomialOf}
 use Rattle.specification.specs.Reference.{referenceAnswer, pointsAfter, referenceAfter, addition, Held, heldAfter, numbers, fed, dueAt, due, RefusesAt, Refuses}
-use Rattle.specification.specs.Examples.{Example, Holds, Tabled, under, anyOrder, fresh, A, examples}
+use Rattle.specification.specs.Examples.{Example, Holds, LaidOut, under, anyOrder, fresh, A, examples}
 use Rattle.residue.proofs.Tests.{true-of}
 use Rattle.specification.proofs.agreement.Claim.{agreement}
 
@@ -66,7 +66,7 @@ module _ (s : Settings) (S standard leads rows : List (List ℕ)) where
   tested : Bool
   tested = on-standard && (on-leads && on-rows)
 
-  of-test : T tested → Tabled s S standard leads rows
+  of-test : T tested → LaidOut s S standard leads rows
   unfolding tested
   of-test t =
       let u = and-right on-standard (on-leads && on-rows) t in
@@ -82,7 +82,7 @@ each-tested p m [] S standard leads rows = true
 each-tested p m (o ∷ orders) S standard leads rows = tested (under p m o) S standard leads rows && each-tested p m orders S standard leads rows
 
 under-each : (p m : ℕ) (orders : List ℕ) (S standard leads rows : List (List ℕ)) → T (each-tested p m orders S standard leads rows)
-    → (order : ℕ) → Among order orders → Tabled (under p m order) S standard leads rows
+    → (order : ℕ) → Among order orders → LaidOut (under p m order) S standard leads rows
 unfolding each-tested
 under-each p m (o ∷ orders) S standard leads rows t order (inl e) = rw e (of-test (under p m o) S standard leads rows (and-left (tested (under p m o) S standard leads rows) _ t))
 under-each p m (o ∷ orders) S standard leads rows t order (inr q) = under-each p m orders S standard leads rows (and-right (tested (under p m o) S standard leads rows) _ t) order q
@@ -138,7 +138,7 @@ all = (under-each 5 2 (1 ∷ []) A _ _ _ tt, (under-each 5 2 (0 ∷ []) A _ _ _ 
     one order a b = tested (under 5 2 order) ((a ∷ b ∷ []) ∷ []) ((0 ∷ 0 ∷ []) ∷ []) ((0 ∷ 1 ∷ []) ∷ (1 ∷ 0 ∷ []) ∷ []) (((5 - b) % 5 ∷ []) ∷ ((5 - a) % 5 ∷ []) ∷ [])
 
     single : (order a b : ℕ) → Among order anyOrder → a < 5 → b < 5
-        → Tabled (under 5 2 order) ((a ∷ b ∷ []) ∷ []) ((0 ∷ 0 ∷ []) ∷ []) ((0 ∷ 1 ∷ []) ∷ (1 ∷ 0 ∷ []) ∷ []) (((5 - b) % 5 ∷ []) ∷ ((5 - a) % 5 ∷ []) ∷ [])
+        → LaidOut (under 5 2 order) ((a ∷ b ∷ []) ∷ []) ((0 ∷ 0 ∷ []) ∷ []) ((0 ∷ 1 ∷ []) ∷ (1 ∷ 0 ∷ []) ∷ []) (((5 - b) % 5 ∷ []) ∷ ((5 - a) % 5 ∷ []) ∷ [])
     single order a b ho ha hb = of-test (under 5 2 order) ((a ∷ b ∷ []) ∷ []) ((0 ∷ 0 ∷ []) ∷ []) ((0 ∷ 1 ∷ []) ∷ (1 ∷ 0 ∷ []) ∷ []) (((5 - b) % 5 ∷ []) ∷ ((5 - a) % 5 ∷ []) ∷ [])
         (below-at (one order a) 5 (below-at (λ c. below (one order c) 5) 5 (below-at (λ o. below (λ c. below (one o c) 5) 5) 3 tt order (known-order order ho)) a ha) b hb)
 

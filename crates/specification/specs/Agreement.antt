@@ -15,7 +15,9 @@ use Rattle.specification.specs.Levels.{inRange, noRepeat, residues}
 use Rattle.specification.specs.Polynomial.{eval}
 use Rattle.specification.specs.Basis.{IsBasis, Fits}
 use Rattle.specification.specs.BasisOf.{valueAt}
-use Rattle.specification.specs.Tables.{Tables, spaceUnder, pointsUnder, standardUnder, leadsUnder, rowsUnder, rowCount, tablesOf, written, tooShort, pointsIn, statesSize, standardSize, leadsSize, coefficientsSize}
+use Rattle.specification.specs.Tables.{Tables, rowCount, tablesOf, written, tooShort, pointsIn}
+use Rattle.specification.specs.Tables.{spaceUnder, pointsUnder, standardUnder, leadsUnder, rowsUnder}
+use Rattle.specification.specs.Tables.{statesSize, standardSize, leadsSize, coefficientsSize}
 use Rattle.specification.specs.Adding.{Outcome, pointsOffered, drawOutcome}
 use Rattle.specification.specs.Solving.{valuesCases, polynomialUnder, remainderCases, remainderOutcome, Names, Listed, wiringOutcome}
 use Rattle.specification.specs.Reference.{Event, Held, numbers, due}

@@ -12,7 +12,8 @@ use Rattle.specification.specs.declared.settings.Settings.{Settings}
 use Rattle.specification.specs.Levels.{inRange}
 use Rattle.specification.specs.Polynomial.{Polynomial}
 use Rattle.specification.specs.BasisOf.{interpolantOf, remainderOf}
-use Rattle.specification.specs.Tables.{spaceUnder, pointsUnder, standardUnder, leadsUnder, rowsUnder, statesSize, standardSize, leadsSize, coefficientsSize}
+use Rattle.specification.specs.Tables.{spaceUnder, pointsUnder, standardUnder, leadsUnder, rowsUnder, fourTables}
+use Rattle.specification.specs.Tables.{statesSize, standardSize, leadsSize, coefficientsSize}
 use Rattle.specification.specs.Solving.{polynomialOf, wiringUnder}
 use Rattle.specification.specs.Reference.{addition, Held, numbers}
 use Rattle.specification.specs.Agreement.{freshly}
@@ -33,7 +34,7 @@ pub data Example : Type 0 where
   -- a level that is taken and one that is refused with 9
   range : (p : ℕ) (taken outside : ℤ) → Example
 
-pub record Tabled (s : Settings) (S standard leads rows : List (List ℕ)) : Type 0 where
+pub record LaidOut (s : Settings) (S standard leads rows : List (List ℕ)) : Type 0 where
   pub standard-are : map (λ a. a .0) (standardUnder s S) ≡ standard
   pub leads-are : map (λ a. a .0) (leadsUnder s S) ≡ leads
   pub rows-are : rowsUnder s S ≡ rows
@@ -46,16 +47,16 @@ abbrev pub anyOrder : List ℕ
 anyOrder = 0 ∷ 1 ∷ 2 ∷ []
 
 abbrev pub fresh : Held
-fresh = freshly (record { states = replicate statesSize 0; standard = replicate standardSize 0; leads = replicate leadsSize 0; coefficients = replicate coefficientsSize 0 })
+fresh = freshly (fourTables (replicate statesSize 0) (replicate standardSize 0) (replicate leadsSize 0) (replicate coefficientsSize 0))
 
 unfoldable pub Holds : Example → Type 0
-Holds (basis p m orders S standard leads rows) = (order : ℕ) → Among order orders → Tabled (under p m order) S standard leads rows
+Holds (basis p m orders S standard leads rows) = (order : ℕ) → Among order orders → LaidOut (under p m order) S standard leads rows
 -- under any settings: one row, 1, and every remainder and interpolant has no term
-Holds no-points = (s : Settings) → Tabled s [] [] (replicate (s .variables) 0 ∷ []) ([] ∷ [])
+Holds no-points = (s : Settings) → LaidOut s [] [] (replicate (s .variables) 0 ∷ []) ([] ∷ [])
     × ((values : List ℕ) → interpolantOf (spaceUnder s) [] values ≡ []) × ((f : Polynomial (spaceUnder s)) → remainderOf (spaceUnder s) [] f ≡ [])
 -- p = 5, orders 0 to 2: rows y - b, then x - a
 Holds one-point = (order a b : ℕ) → Among order anyOrder → a < 5 → b < 5
-    → Tabled (under 5 2 order) ((a ∷ b ∷ []) ∷ []) ((0 ∷ 0 ∷ []) ∷ []) ((0 ∷ 1 ∷ []) ∷ (1 ∷ 0 ∷ []) ∷ []) (((5 - b) % 5 ∷ []) ∷ ((5 - a) % 5 ∷ []) ∷ [])
+    → LaidOut (under 5 2 order) ((a ∷ b ∷ []) ∷ []) ((0 ∷ 0 ∷ []) ∷ []) ((0 ∷ 1 ∷ []) ∷ (1 ∷ 0 ∷ []) ∷ []) (((5 - b) % 5 ∷ []) ∷ ((5 - a) % 5 ∷ []) ∷ [])
 Holds (interpolant s S values coefficients names) =
     (interpolantOf (spaceUnder s) (pointsUnder s S) values ≡ coefficients) × (wiringUnder s S values ≡ names)
 Holds (remainder s S coefficients exponents left) = remainderOf (spaceUnder s) (pointsUnder s S) (polynomialOf (s .variables) coefficients exponents) ≡ left

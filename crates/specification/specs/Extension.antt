@@ -62,4 +62,8 @@ module _ (D : Space) where
   grow P b = let a = first b P (b .leads) in
       let ν = b .interpolant (val a) in
       let i = inv (gap (b .standard) P (val a P) ν) in
-      record { standard = inserted cmp a (b .standard); leads = extended (b .leads) a m; interpolant = λ φ. newton (b .standard) P a ν i (φ P) (b .interpolant φ) }
+      record {
+        standard = inserted cmp a (b .standard);
+        leads = extended (b .leads) a m;
+        interpolant = λ φ. newton (b .standard) P a ν i (φ P) (b .interpolant φ);
+      }

@@ -24,15 +24,15 @@ module _ (D : Space) where
   Factor = List (ℕ × List Variable)
 
   -- a factor times a polynomial
-  abbrev pub product : Factor → Polynomial D → Polynomial D
-  product [] f = []
-  product (t ∷ h) f = multiple (t .0) (t .1) f ++ product h f
+  abbrev pub multiplied : Factor → Polynomial D → Polynomial D
+  multiplied [] f = []
+  multiplied (t ∷ h) f = multiple (t .0) (t .1) f ++ multiplied h f
 
   -- the sum of the products of factors, one after the other, with polynomials; those left over count for nothing
   abbrev pub combination : List Factor → List (Polynomial D) → Polynomial D
   combination [] fs = []
   combination (h ∷ hs) [] = []
-  combination (h ∷ hs) (f ∷ fs) = product h f ++ combination hs fs
+  combination (h ∷ hs) (f ∷ fs) = multiplied h f ++ combination hs fs
 
   -- f is such a sum: it has the same coefficient at every monomial
   abbrev pub Generated : List (Polynomial D) → Polynomial D → Type 0

@@ -75,7 +75,8 @@ written new old = record {
 
 -- a lent table is shorter than its size
 unfoldable pub tooShort : Tables → Bool
-tooShort t = ltb (length (t .states)) statesSize || ltb (length (t .standard)) standardSize || ltb (length (t .leads)) leadsSize || ltb (length (t .coefficients)) coefficientsSize
+tooShort t = ltb (length (t .states)) statesSize || ltb (length (t .standard)) standardSize || ltb (length (t .leads)) leadsSize
+    || ltb (length (t .coefficients)) coefficientsSize
 
 -- the first n points of a table of points
 unfoldable pub pointsIn : Settings → ℕ → List ℕ → List (List ℕ)

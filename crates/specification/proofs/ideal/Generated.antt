@@ -10,7 +10,7 @@ use Rattle.residue.proofs.Congruence.{rfl, of, flip, _then_, _plus_, zero-left,
 use Rattle.residue.proofs.Sums.{sum-append}
 use Rattle.specification.specs.Space.{Space}
 use Rattle.specification.specs.Polynomial.{Polynomial, hit, coefficient, Vanishes}
-use Rattle.specification.specs.Ideal.{Variable, multiple, Factor, product, combination, Generated}
+use Rattle.specification.specs.Ideal.{Variable, multiple, Factor, multiplied, combination, Generated}
 use Rattle.specification.proofs.ideal.Laws.{Laws}
 use Rattle.specification.proofs.ideal.Polynomials.{pair, support}
 use Rattle.specification.proofs.ideal.Multiples.{multiple-pair, multiple-vanishes}
@@ -31,12 +31,12 @@ module _ (D : Space) where
   added (h ∷ hs) [] = h ∷ hs
   added (h ∷ hs) (g ∷ gs) = (h ++ g) ∷ added hs gs
 
-  product-sum : (h g : Factor D) (f : Polynomial D) (φ : Mono → ℕ) → pair D (product D (h ++ g) f) φ ≡ pair D (product D h f) φ + pair D (product D g f) φ
+  product-sum : (h g : Factor D) (f : Polynomial D) (φ : Mono → ℕ) → pair D (multiplied D (h ++ g) f) φ ≡ pair D (multiplied D h f) φ + pair D (multiplied D g f) φ
   product-sum [] g f φ = omega arith
   product-sum (t ∷ h) g f φ = omega (
     arith,
-    pair-append (multiple D (t .0) (t .1) f) (product D (h ++ g) f) φ,
-    pair-append (multiple D (t .0) (t .1) f) (product D h f) φ,
+    pair-append (multiple D (t .0) (t .1) f) (multiplied D (h ++ g) f) φ,
+    pair-append (multiple D (t .0) (t .1) f) (multiplied D h f) φ,
     product-sum h g f φ,
   )
 
@@ -48,9 +48,9 @@ module _ (D : Space) where
   combination-sum (h ∷ hs) (g ∷ gs) [] φ = refl
   combination-sum (h ∷ hs) (g ∷ gs) (f ∷ fs) φ = omega (
     arith,
-    pair-append (product D (h ++ g) f) (combination D (added hs gs) fs) φ,
-    pair-append (product D h f) (combination D hs fs) φ,
-    pair-append (product D g f) (combination D gs fs) φ,
+    pair-append (multiplied D (h ++ g) f) (combination D (added hs gs) fs) φ,
+    pair-append (multiplied D h f) (combination D hs fs) φ,
+    pair-append (multiplied D g f) (combination D gs fs) φ,
     product-sum h g f φ,
     combination-sum hs gs fs φ,
   )
@@ -80,15 +80,15 @@ module _ (D : Space) where
       pub sum-vanishes : (f g : Polynomial D) → Vanishes D f S → Vanishes D g S → Vanishes D (f ++ g) S
       sum-vanishes f g u v P mem = of (pair-append f g (λ a. val a P)) then u P mem plus v P mem
 
-      product-vanishes : (h : Factor D) (f : Polynomial D) → Vanishes D f S → Vanishes D (product D h f) S
+      product-vanishes : (h : Factor D) (f : Polynomial D) → Vanishes D f S → Vanishes D (multiplied D h f) S
       product-vanishes [] f v = λ P mem. rfl
-      product-vanishes (t ∷ h) f v = sum-vanishes (multiple D (t .0) (t .1) f) (product D h f) (multiple-vanishes D L (t .0) (t .1) f S v) (product-vanishes h f v)
+      product-vanishes (t ∷ h) f v = sum-vanishes (multiple D (t .0) (t .1) f) (multiplied D h f) (multiple-vanishes D L (t .0) (t .1) f S v) (product-vanishes h f v)
 
       combination-vanishes : (hs : List (Factor D)) (fs : List (Polynomial D)) → ((f : Polynomial D) → Among f fs → Vanishes D f S) → Vanishes D (combination D hs fs) S
       combination-vanishes [] fs v = λ P mem. rfl
       combination-vanishes (h ∷ hs) [] v = λ P mem. rfl
       combination-vanishes (h ∷ hs) (f ∷ fs) v =
-          sum-vanishes (product D h f) (combination D hs fs) (product-vanishes h f (v f (inl refl))) (combination-vanishes hs fs (λ g z. v g (inr z)))
+          sum-vanishes (multiplied D h f) (combination D hs fs) (product-vanishes h f (v f (inl refl))) (combination-vanishes hs fs (λ g z. v g (inr z)))
 
       pub generated-vanishes : (fs : List (Polynomial D)) (f : Polynomial D) → ((g : Polynomial D) → Among g fs → Vanishes D g S) → Generated D fs f → Vanishes D f S
       generated-vanishes fs f v (hs, e) P mem = same-values f (combination D hs fs) e (λ a. val a P) then combination-vanishes hs fs v P mem
