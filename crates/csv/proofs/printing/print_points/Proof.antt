@@ -50,19 +50,19 @@ module _ (d : D) where
   points = pointsIn under (start d .args .n) (start d .args .points .now)
 
   abbrev standard : List ℕ
-  standard = d .draw .last .1 .1 .1 .1 .1 .0
+  standard = d .draw .last .1 .1 .1 .0
 
   abbrev leads : List ℕ
-  leads = d .draw .last .1 .1 .1 .1 .1 .1 .0
+  leads = d .draw .last .1 .1 .1 .1 .0
 
   abbrev coefficients : List ℕ
-  coefficients = d .draw .last .1 .1 .1 .1 .1 .1 .1 .0
+  coefficients = d .draw .last .1 .1 .1 .1 .1 .0
 
   abbrev rows : List ℕ
-  rows = d .draw .last .1 .1 .1 .1 .1 .1 .1 .1 .0
+  rows = d .draw .last .1 .1 .1 .1 .1 .1 .0
 
   abbrev pivots : List ℕ
-  pivots = d .draw .last .1 .1 .1 .1 .1 .1 .1 .1 .1 .0
+  pivots = d .draw .last .1 .1 .1 .1 .1 .1 .1 .0
 
   long : (length standard ≡ 512) × ((length leads ≡ 3592) × (length coefficients ≡ 28736))
   long = drawn-long under points (d .draw .result) standard leads coefficients rows pivots (d .draw .ensures)
