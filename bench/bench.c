@@ -18,13 +18,17 @@
 struct measured {
     __typeof__(misqafur_draw_up) *draw_up;
     __typeof__(misqafur_add_point) *add_point;
+    __typeof__(misqafur_withdraw_point) *withdraw_point;
     __typeof__(misqafur_check) *check;
     __typeof__(misqafur_remainder) *remainder;
 };
 
-static const struct measured archive = {misqafur_draw_up, misqafur_add_point, misqafur_check, misqafur_remainder};
-static const struct measured plain = {plain_draw_up, plain_add_point, plain_check, plain_remainder};
+static const struct measured archive = {misqafur_draw_up, misqafur_add_point, misqafur_withdraw_point, misqafur_check,
+                                        misqafur_remainder};
+static const struct measured plain = {plain_draw_up, plain_add_point, plain_withdraw_point, plain_check,
+                                      plain_remainder};
 static const struct measured same_method = {.draw_up = rows_draw_up};
+static const struct measured archive_drawing = {.draw_up = misqafur_draw_up};
 
 /* What an operation leaves. */
 struct result {
@@ -53,6 +57,17 @@ static void run_add(const struct measured *by, const struct input *in, struct re
                                in->levels + in->m * (in->n - 1), in->m);
 }
 
+/* The first point goes, so that every other one moves. Who cannot withdraw draws up the points that remain. */
+static void run_withdraw(const struct measured *by, const struct input *in, struct result *to)
+{
+    to->lent = in->whole;
+    if (by->withdraw_point != NULL)
+        to->answer = by->withdraw_point(in->p, in->m, in->order, to->lent.n, to->lent.r, LENT(&to->lent), in->levels,
+                                        in->m);
+    else
+        to->answer = by->draw_up(in->p, in->m, in->order, LENT(&to->lent), in->levels + in->m, in->m * (in->n - 1));
+}
+
 static void run_check(const struct measured *by, const struct input *in, struct result *to)
 {
     to->answer = by->check(in->p, in->m, in->order, in->whole.n, in->whole.r, LENT(&in->whole));
@@ -68,12 +83,15 @@ struct operation {
     const char *name;
     void (*run)(const struct measured *, const struct input *, struct result *);
     uint64_t least; /* fewest points that it is measured with */
+    const struct measured *third; /* who takes part beside the archive and plain C, if anyone */
+    const char *third_is;
 };
 
-static const struct operation operations[] = {{"draw up", run_draw, 0},
-                                              {"add", run_add, 64},
-                                              {"check", run_check, 64},
-                                              {"remainder", run_remainder, 64}};
+static const struct operation operations[] = {{"draw up", run_draw, 0, &same_method, "the same method in C"},
+                                              {"add", run_add, 64, NULL, NULL},
+                                              {"withdraw", run_withdraw, 64, &archive_drawing, "drawing up the rest"},
+                                              {"check", run_check, 64, NULL, NULL},
+                                              {"remainder", run_remainder, 64, NULL, NULL}};
 
 #define OPERATIONS (sizeof operations / sizeof *operations)
 #define MOST_RATIOS 256
@@ -104,12 +122,15 @@ static double time_once(const struct operation *op, const struct measured *by, c
     return 1e6 * (end - begin) / runs;
 }
 
-/* Who takes part: the archive, plain C, and for drawing up plain C by the archive's method. */
-static const struct measured *const sides[] = {&archive, &plain, &same_method};
+/* Who takes part: the archive, plain C, and perhaps a third. */
+static const struct measured *side_of(const struct operation *op, int side)
+{
+    return side == 0 ? &archive : side == 1 ? &plain : op->third;
+}
 
 static int side_count(const struct operation *op)
 {
-    return op->run == run_draw ? 3 : 2;
+    return op->third != NULL ? 3 : 2;
 }
 
 /* The best of several rounds in which the sides take turns. */
@@ -119,7 +140,7 @@ static void time_all(const struct operation *op, const struct input *in, double 
         best[side] = 1e30;
     for (int round = 0; round < 5; round++)
         for (int side = 0; side < side_count(op); side++) {
-            double time = time_once(op, sides[side], in);
+            double time = time_once(op, side_of(op, side), in);
             best[side] = time < best[side] ? time : best[side];
         }
 }
@@ -131,7 +152,7 @@ static int same(const struct operation *op, const struct input *in)
     int agree = 1;
     memset(results, 0, sizeof results);
     for (int side = 0; side < side_count(op); side++) {
-        op->run(sides[side], in, &results[side]);
+        op->run(side_of(op, side), in, &results[side]);
         agree &= memcmp(&results[side], &results[0], sizeof results[0]) == 0;
     }
     if (agree && misqafur_refusal(results[0].answer) == 0)
@@ -205,7 +226,9 @@ static void print_medians(void)
 {
     for (size_t i = 0; i < OPERATIONS; i++)
         print_median(i, 1, "plain C");
-    print_median(0, 2, "the same method in C");
+    for (size_t i = 0; i < OPERATIONS; i++)
+        if (operations[i].third != NULL)
+            print_median(i, 2, operations[i].third_is);
 }
 
 /* Makes every input in turn and hands it on; gives the sum of what comes back. */
@@ -255,7 +278,7 @@ static int full_run(void)
 {
     static const uint64_t points[] = {8, 16, 32, 48, 64};
     printf("%-10s %3s %3s  %-8s %3s %4s %10s %10s %6s %10s %6s\n", "operation", "p", "m", "order", "n", "r",
-           "archive us", "plain us", "ratio", "same us", "ratio");
+           "archive us", "plain us", "ratio", "third us", "ratio");
     int differing = for_all_inputs(points, sizeof points / sizeof *points, measure);
     print_medians();
     return report(differing);

@@ -1,4 +1,4 @@
-/* Drawing up, checking and remainders in plain C over the tableau. */
+/* Drawing up, withdrawing, checking and remainders in plain C over the tableau. */
 #include "plain.h"
 
 #include "redrawn.h"
@@ -19,6 +19,33 @@ uint32_t plain_draw_up(uint64_t modulus, uint64_t variables, uint64_t order,
     tableau_begin(&t, p, m, (unsigned)order, n, states);
     tableau_draw(&t, &to);
     return 256 * n + 65536 * to.r;
+}
+
+/* The rest is drawn up anew: nothing of the old basis serves. */
+uint32_t plain_withdraw_point(uint64_t modulus, uint64_t variables, uint64_t order, uint64_t n, uint64_t r,
+                              uint8_t *states, size_t states_length, uint8_t *standard, size_t standard_length,
+                              uint8_t *leads, size_t leads_length, uint8_t *coefficients, size_t coefficients_length,
+                              const uint8_t *levels, size_t levels_length)
+{
+    struct tableau t;
+    struct redrawn old;
+    struct drawn to = {.standard = standard, .leads = leads, .coefficients = coefficients};
+    uint8_t point[8] = {0};
+    unsigned p = (unsigned)modulus, left = (unsigned)n - 1, place = 0;
+    (void)states_length, (void)standard_length, (void)leads_length, (void)coefficients_length;
+    if (!good_tables(&t, &old, modulus, variables, order, n, r, states, standard, leads, coefficients))
+        return 10;
+    for (size_t k = 0; k < levels_length; k++)
+        point[k] = residue(p, levels[k]);
+    while (place < n && memcmp(states + 8 * place, point, 8) != 0)
+        place++;
+    if (place == n)
+        return 12;
+    memmove(states + 8 * place, states + 8 * place + 8, 8 * (left - place));
+    memset(states + 8 * left, 0, 8);
+    tableau_begin(&t, p, (unsigned)variables, (unsigned)order, left, states);
+    tableau_draw(&t, &to);
+    return 256 * left + 65536 * to.r;
 }
 
 uint32_t plain_check(uint64_t modulus, uint64_t variables, uint64_t order, uint64_t n, uint64_t r,

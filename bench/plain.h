@@ -1,6 +1,6 @@
-/* Four of the calls in plain C, tuned for speed and with no proof: the measure that the archive is
+/* Five of the calls in plain C, tuned for speed and with no proof: the measure that the archive is
  * held against. Each has the type of the exported call; settings and lengths must be good ones, and
- * of the refusals only 10 and 11 are looked for. */
+ * of the refusals only 10, 11 and 12 are looked for. */
 #ifndef PLAIN_H
 #define PLAIN_H
 
@@ -8,6 +8,7 @@
 
 __typeof__(misqafur_draw_up) plain_draw_up;
 __typeof__(misqafur_add_point) plain_add_point;
+__typeof__(misqafur_withdraw_point) plain_withdraw_point;
 __typeof__(misqafur_check) plain_check;
 __typeof__(misqafur_remainder) plain_remainder;
 

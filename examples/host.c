@@ -1,5 +1,6 @@
-/* An example host: points one after another into a basis, then an interpolant, a wiring list and a
- * remainder. Build: cc host.c $(pkg-config --cflags --libs misqafur) -o host */
+/* An example host: points one after another into a basis, of which one was mislabelled and is withdrawn;
+ * then an interpolant, a wiring list and a remainder.
+ * Build: cc host.c $(pkg-config --cflags --libs misqafur) -o host */
 #include <misqafur.h>
 
 #include <stdio.h>
@@ -22,18 +23,28 @@ static struct basis basis = {.r = 1};
     basis.states, sizeof basis.states, basis.standard, sizeof basis.standard, basis.leads,                \
         sizeof basis.leads, basis.coefficients, sizeof basis.coefficients
 
-/* Adds a point and says what became of it. */
-static void add(int x1, int x2)
+/* Keeps the counts of an answer and says what became of the point. */
+static void keep(uint32_t answer, const char *done, int x1, int x2)
 {
-    const uint8_t levels[VARIABLES] = {misqafur_level(x1), misqafur_level(x2)};
-    uint32_t answer = misqafur_add_point(SETTINGS, basis.n, basis.r, TABLES, levels, VARIABLES);
     if (misqafur_refusal(answer) != 0) {
         printf("point (%d, %d) refused with %u\n", x1, x2, misqafur_refusal(answer));
         return;
     }
     basis.n = misqafur_points(answer);
     basis.r = misqafur_elements(answer);
-    printf("point (%d, %d) taken: %u points, %u elements\n", x1, x2, basis.n, basis.r);
+    printf("point (%d, %d) %s: %u points, %u elements\n", x1, x2, done, basis.n, basis.r);
+}
+
+static void add(int x1, int x2)
+{
+    const uint8_t levels[VARIABLES] = {misqafur_level(x1), misqafur_level(x2)};
+    keep(misqafur_add_point(SETTINGS, basis.n, basis.r, TABLES, levels, VARIABLES), "taken", x1, x2);
+}
+
+static void withdraw(int x1, int x2)
+{
+    const uint8_t levels[VARIABLES] = {misqafur_level(x1), misqafur_level(x2)};
+    keep(misqafur_withdraw_point(SETTINGS, basis.n, basis.r, TABLES, levels, VARIABLES), "withdrawn", x1, x2);
 }
 
 /* Prints a polynomial over the standard monomials. */
@@ -93,9 +104,12 @@ int main(void)
 {
     add(0, 0);
     add(1, 2);
+    add(4, 0);
     add(2, -4);
     add(-3, 1);
     add(5, 0);
+    withdraw(-1, 0);
+    withdraw(4, 0);
     print_elements();
     return interpolate() != 0 || remainder_of_term() != 0;
 }

@@ -43,6 +43,7 @@
  *       exponent that is not 0
  *   10  n, r and the tables are not the basis of their points under these settings
  *   11  a point equals an earlier one (compared by residues)
+ *   12  a point that is to be withdrawn is not there (compared by residues)
  * Beside each call stand the refusals that it can answer.
  *
  * Calls use no heap, open no files, keep nothing between them and share nothing: any number of
@@ -117,6 +118,19 @@ uint32_t misqafur_add_point(uint64_t modulus, uint64_t variables, uint64_t order
                             uint8_t *states, size_t states_length, uint8_t *standard, size_t standard_length,
                             uint8_t *leads, size_t leads_length, uint8_t *coefficients, size_t coefficients_length,
                             const uint8_t *levels, size_t levels_length);
+
+/* Withdraws one point, named by its levels, from a basis: later points move up one place, the tables
+ * become those of the remaining points, and every byte given up is 0. A point that is added again
+ * arrives last.
+ * Reads: the settings, n, r, the four tables, m levels (a copy: states itself is written).
+ * Writes: the four tables, to their sizes.
+ * Answers n - 1 and the new r (misqafur_points, misqafur_elements); without points n = 0 and r = 1.
+ * Refusals: 3, 4, 5, 6, 7 (levels_length is not m), 8 (n is above 64), 9, 10, 12. */
+uint32_t misqafur_withdraw_point(uint64_t modulus, uint64_t variables, uint64_t order, uint64_t n, uint64_t r,
+                                 uint8_t *states, size_t states_length, uint8_t *standard, size_t standard_length,
+                                 uint8_t *leads, size_t leads_length,
+                                 uint8_t *coefficients, size_t coefficients_length,
+                                 const uint8_t *levels, size_t levels_length);
 
 /* Draws up the basis of all points at once: m levels for each point, point after point, or none.
  * Reads: the settings, the levels; of the tables their lengths alone.
@@ -230,7 +244,7 @@ static inline uint32_t misqafur_refusal(uint32_t answer)
     return answer & 255u;
 }
 
-/* n and r in the answer of misqafur_add_point and misqafur_draw_up. */
+/* n and r in the answer of misqafur_add_point, misqafur_withdraw_point and misqafur_draw_up. */
 static inline uint32_t misqafur_points(uint32_t answer)
 {
     return (answer >> 8) & 255u;

@@ -3,14 +3,15 @@
 
 #include "reference.h"
 
-const char *const kind_names[KINDS] = {"add_point", "draw_up", "check",    "interpolate",
-                                       "remainder", "wiring",  "read_text"};
+const char *const kind_names[KINDS] = {"add_point",   "withdraw_point", "draw_up", "check",
+                                       "interpolate", "remainder",      "wiring",  "read_text"};
 
-/* Those that every call over tables can answer, and those of one that is handed values or terms. */
+/* Those that every call over tables can answer, and those of one that is handed levels, values or terms beside. */
 #define EARLY (1 << 3 | 1 << 4 | 1 << 5 | 1 << 6)
 #define ANSWERING (EARLY | 1 << 7 | 1 << 8 | 1 << 9 | 1 << 10)
 
 const uint32_t possible_refusals[KINDS] = {[ADD_POINT] = ANSWERING | 1 << 11,
+                                           [WITHDRAW_POINT] = ANSWERING | 1 << 12,
                                            [DRAW_UP] = EARLY | 1 << 7 | 1 << 8 | 1 << 9 | 1 << 11,
                                            [CHECK] = EARLY | 1 << 8 | 1 << 10,
                                            [INTERPOLATE] = ANSWERING,
@@ -22,11 +23,13 @@ const uint32_t possible_refusals[KINDS] = {[ADD_POINT] = ANSWERING | 1 << 11,
 const size_t table_sizes[4] = {MISQAFUR_STATES_SIZE, MISQAFUR_STANDARD_SIZE, MISQAFUR_LEADS_SIZE,
                                MISQAFUR_COEFFICIENTS_SIZE};
 
-const struct calls archive = {misqafur_add_point, misqafur_draw_up, misqafur_check, misqafur_interpolate,
-                              misqafur_remainder, misqafur_wiring,  misqafur_read_text};
+const struct calls archive = {misqafur_add_point, misqafur_withdraw_point, misqafur_draw_up,
+                              misqafur_check,     misqafur_interpolate,    misqafur_remainder,
+                              misqafur_wiring,    misqafur_read_text};
 
-const struct calls reference = {reference_add_point, reference_draw_up, reference_check, reference_interpolate,
-                                reference_remainder, reference_wiring,  reference_read_text};
+const struct calls reference = {reference_add_point, reference_withdraw_point, reference_draw_up,
+                                reference_check,     reference_interpolate,    reference_remainder,
+                                reference_wiring,    reference_read_text};
 
 size_t buffer_size(enum kind kind, enum buffer which)
 {
@@ -49,6 +52,8 @@ uint64_t perform(const struct calls *by, const struct call *c)
     switch (c->kind) {
     case ADD_POINT:
         return by->add_point(SETTINGS, c->n, c->r, TABLES, LENT(GIVEN));
+    case WITHDRAW_POINT:
+        return by->withdraw_point(SETTINGS, c->n, c->r, TABLES, LENT(GIVEN));
     case DRAW_UP:
         return by->draw_up(SETTINGS, TABLES, LENT(GIVEN));
     case CHECK:

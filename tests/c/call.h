@@ -4,13 +4,14 @@
 
 #include "misqafur.h"
 
-enum kind { ADD_POINT, DRAW_UP, CHECK, INTERPOLATE, REMAINDER, WIRING, READ_TEXT, KINDS };
+enum kind { ADD_POINT, WITHDRAW_POINT, DRAW_UP, CHECK, INTERPOLATE, REMAINDER, WIRING, READ_TEXT, KINDS };
 
 extern const char *const kind_names[KINDS];
 
-/* The seven calls of one implementation. */
+/* The eight calls of one implementation. */
 struct calls {
     __typeof__(misqafur_add_point) *add_point;
+    __typeof__(misqafur_withdraw_point) *withdraw_point;
     __typeof__(misqafur_draw_up) *draw_up;
     __typeof__(misqafur_check) *check;
     __typeof__(misqafur_interpolate) *interpolate;
@@ -32,6 +33,9 @@ enum buffer {
     OUT,       /* interpolant, remainder, wiring list, or the values read */
     BUFFERS
 };
+
+/* The refusals are numbered from 1 on and below this. */
+#define REFUSALS 13
 
 /* Bit k of a kind's entry: the call can answer refusal k. */
 extern const uint32_t possible_refusals[KINDS];

@@ -9,13 +9,13 @@
 #include <string.h>
 
 /* The calls that read tables. */
-static const enum kind readers[] = {ADD_POINT, CHECK, INTERPOLATE, REMAINDER, WIRING};
+static const enum kind readers[] = {ADD_POINT, WITHDRAW_POINT, CHECK, INTERPOLATE, REMAINDER, WIRING};
 #define READERS (sizeof readers / sizeof *readers)
 
 /* Bytes past each size. */
 #define SURPLUS 8
 
-/* The basis of these points, and what else any call over it is handed: the point of p - 1 everywhere, or zeros. */
+/* The basis of these points. */
 static void make_basis(struct made *made, uint64_t p, uint64_t m, uint64_t order, const uint8_t *levels, size_t n)
 {
     memset(made, 0, sizeof *made);
@@ -32,13 +32,16 @@ static void make_basis(struct made *made, uint64_t p, uint64_t m, uint64_t order
         abort();
 }
 
-/* Turns the call over a basis into one of this kind. */
+/* Turns the call over a basis into one of this kind. What it is handed beside: to be added the point of p - 1
+ * everywhere, to be withdrawn the first point, and else zeros. */
 static void set_kind(struct made *made, enum kind kind)
 {
     struct call *call = &made->call;
-    size_t given = kind == ADD_POINT ? call->variables : call->n;
+    size_t given = kind == ADD_POINT || kind == WITHDRAW_POINT ? call->variables : call->n;
     call->kind = kind;
     memset(made->bytes[GIVEN], kind == ADD_POINT ? (int)call->modulus - 1 : 0, given);
+    if (kind == WITHDRAW_POINT)
+        memcpy(made->bytes[GIVEN], made->bytes[STATES], given);
     memset(made->bytes[OUT], 170, MISQAFUR_RESIDUES_SIZE + SURPLUS);
     call->buffer[GIVEN] = (struct bytes){made->bytes[GIVEN], given};
     call->buffer[EXPONENTS] = (struct bytes){made->bytes[EXPONENTS], 8 * given};

@@ -150,10 +150,8 @@ static void repeat_point(struct made *made)
     uint8_t *given = made->bytes[GIVEN];
     if (m == 0 || m > 8)
         return;
-    if (made->call.kind == ADD_POINT && 0 < n && n <= 64) {
-        size_t i = below(c, n);
-        for (size_t k = 0; k < m; k++)
-            given[k] = random_level(c, p, made->bytes[STATES][8 * i + k]);
+    if ((made->call.kind == ADD_POINT || made->call.kind == WITHDRAW_POINT) && 0 < n && n <= 64) {
+        random_levels(c, p, m, made->bytes[STATES] + 8 * below(c, n), 1, given);
     } else if (made->call.kind == DRAW_UP && made->call.buffer[GIVEN].length >= 2 * m) {
         size_t points = made->call.buffer[GIVEN].length / m, from = below(c, points), to = below(c, points);
         for (size_t k = 0; k < m; k++) {

@@ -28,15 +28,24 @@ static void fresh(struct tables *t)
     t->r = 1;
 }
 
-/* Adds a point and keeps the counts; gives the refusal. */
-static uint32_t add(struct tables *t, uint64_t p, uint64_t m, const uint8_t *levels)
+/* Keeps the counts of an answer; gives the refusal. */
+static uint32_t keep(struct tables *t, uint32_t answer)
 {
-    uint32_t answer = misqafur_add_point(p, m, MISQAFUR_GREVLEX, t->n, t->r, LENT(t), levels, m);
     if (misqafur_refusal(answer) == 0) {
         t->n = misqafur_points(answer);
         t->r = misqafur_elements(answer);
     }
     return misqafur_refusal(answer);
+}
+
+static uint32_t add(struct tables *t, uint64_t p, uint64_t m, const uint8_t *levels)
+{
+    return keep(t, misqafur_add_point(p, m, MISQAFUR_GREVLEX, t->n, t->r, LENT(t), levels, m));
+}
+
+static uint32_t withdraw(struct tables *t, uint64_t p, uint64_t m, const uint8_t *levels)
+{
+    return keep(t, misqafur_withdraw_point(p, m, MISQAFUR_GREVLEX, t->n, t->r, LENT(t), levels, m));
 }
 
 static uint32_t draw(struct tables *t, uint64_t p, uint64_t m, const uint8_t *levels, size_t length)
@@ -107,6 +116,39 @@ static void points(struct score *score, struct tables *t)
     say(score, "refused without a trace", memcmp(t, &before, sizeof before) == 0);
 }
 
+/* The 65 points again: 64 of them are full, and one that goes makes room for the last, which arrives last. */
+static void full(struct score *score, struct tables *t)
+{
+    static struct tables before;
+    uint8_t levels[130];
+    many_points(levels);
+    say(score, "64 points drawn up", keep(t, misqafur_draw_up(61, 2, MISQAFUR_GREVLEX, LENT(t), levels, 128)) == 0);
+    before = *t;
+    say(score, "of 64 points none is the 65th", withdraw(t, 61, 2, levels + 128) == 12);
+    say(score, "refused without a trace", memcmp(t, &before, sizeof before) == 0);
+    say(score, "one of 64 points withdrawn", withdraw(t, 61, 2, levels) == 0 && t->n == 63);
+    say(score, "room for one more", add(t, 61, 2, levels + 128) == 0 && t->n == 64);
+    before = *t;
+    say(score, "the later ones and then it", draw(t, 61, 2, levels + 2, 128) == 0);
+    say(score, "the same tables both ways", memcmp(t, &before, sizeof before) == 0);
+    t->n = 65;
+    say(score, "one of 65 points withdrawn", withdraw(t, 61, 2, levels + 2) == 8);
+}
+
+/* A point named by another level of its residue; with it the last one goes, and from no points none can. */
+static void last_point(struct score *score, struct tables *t)
+{
+    static struct tables none;
+    const uint8_t four = 4, minus_one = 255, minus_five = 251;
+    fresh(&none);
+    fresh(t);
+    say(score, "withdrawn from no points", withdraw(t, 5, 1, &four) == 12);
+    say(score, "the point 4", add(t, 5, 1, &four) == 0);
+    say(score, "withdrawn as -5", withdraw(t, 5, 1, &minus_five) == 9);
+    say(score, "withdrawn as -1", withdraw(t, 5, 1, &minus_one) == 0);
+    say(score, "a fresh basis is left", memcmp(t, &none, sizeof none) == 0);
+}
+
 /* The same in text: a header and so many records, the last with the given level. */
 static uint64_t read_records(int records, int last)
 {
@@ -149,6 +191,8 @@ struct score examples(const struct options *options)
     settings(&score, &tables);
     numbers_of_points(&score, &tables);
     points(&score, &tables);
+    full(&score, &tables);
+    last_point(&score, &tables);
     texts(&score);
     no_points(&score);
     return score;

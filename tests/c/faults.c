@@ -40,7 +40,7 @@ struct score all_faults(const struct options *options)
     if (made == NULL)
         abort();
     for (int kind = 0; kind < KINDS; kind++)
-        for (uint32_t faults = 0; faults < 1 << 12; faults++)
+        for (uint32_t faults = 0; faults < 1 << REFUSALS; faults++)
             for (uint32_t variant = 0; variant < FAULT_VARIANTS; variant++)
                 if ((faults & ~possible_refusals[kind]) == 0)
                     count(&score, faults_hold(guard, made, (enum kind)kind, faults, variant));

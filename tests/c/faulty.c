@@ -68,15 +68,21 @@ static uint8_t bad_level(uint32_t variant)
     return (uint8_t)levels[variant % 4];
 }
 
-/* The point (3, 4), or (1, 2) again. */
-static void set_new_point(struct made *made, uint32_t faults, uint32_t variant)
+/* Counts that are too great for any basis, some of which would not be if they were cut to fewer bits. */
+static const uint64_t many[8] = {65, 66, 128, 255, 256 + 3, 65536 + 3, 0x100000000 + 3, UINT64_MAX};
+
+/* The point (3, 4), which is not there, or (1, 2), which is. It is to be added, or withdrawn: then 64 points may be
+ * claimed. */
+static void set_point(struct made *made, uint32_t faults, uint32_t variant)
 {
-    made->bytes[GIVEN][0] = has_fault(faults, 11) ? (uint8_t)-10 : 3;
-    made->bytes[GIVEN][1] = has_fault(faults, 11) ? 2 : 4;
+    int withdrawn = made->call.kind == WITHDRAW_POINT;
+    int there = withdrawn ? !has_fault(faults, 12) : has_fault(faults, 11);
+    made->bytes[GIVEN][0] = there ? (uint8_t)-10 : 3;
+    made->bytes[GIVEN][1] = there ? 2 : 4;
     if (has_fault(faults, 9))
         made->bytes[GIVEN][variant % 2] = bad_level(variant);
     if (has_fault(faults, 8))
-        made->call.n = 64 + variant % 8;
+        made->call.n = withdrawn || variant % 8 > 0 ? many[variant % 8] : MISQAFUR_MAX_POINTS;
     set_length(made, GIVEN, 2, faults, variant);
 }
 
@@ -128,7 +134,6 @@ static void set_terms(struct made *made, uint32_t faults, uint32_t variant)
 
 void make_faulty_call(struct made *made, enum kind kind, uint32_t faults, uint32_t variant)
 {
-    static const uint64_t many[8] = {65, 66, 128, 255, 256 + 3, 65536 + 3, 0x100000000 + 3, UINT64_MAX};
     made->call = (struct call){.kind = kind};
     memset(made->bytes[GIVEN], 0, 600);
     memset(made->bytes[EXPONENTS], 0, 8 * 300);
@@ -136,8 +141,8 @@ void make_faulty_call(struct made *made, enum kind kind, uint32_t faults, uint32
     set_settings(&made->call, faults, variant);
     set_tables(made, faults, variant);
     set_faulty_sizes(made, faults, variant);
-    if (kind == ADD_POINT)
-        set_new_point(made, faults, variant);
+    if (kind == ADD_POINT || kind == WITHDRAW_POINT)
+        set_point(made, faults, variant);
     else if (kind == DRAW_UP)
         set_all_points(made, faults, variant);
     else if (kind == REMAINDER)

@@ -93,9 +93,9 @@ uint64_t make_faulty_text(struct made *made, uint32_t faults, uint32_t variant)
     }
     if (has_fault(faults, 1))
         put_too_much(made);
-    const uint64_t at[12] = {[2] = (uint64_t)broken + (*how == '\n' ? 2 : 1), [3] = 1, [4] = 1, [8] = 66,
+    const uint64_t at[REFUSALS] = {[2] = (uint64_t)broken + (*how == '\n' ? 2 : 1), [3] = 1, [4] = 1, [8] = 66,
                              [9] = (uint64_t)outside + 2, [11] = (uint64_t)records + 1};
-    for (uint64_t refusal = 1; refusal < 12; refusal++)
+    for (uint64_t refusal = 1; refusal < REFUSALS; refusal++)
         if (has_fault(faults, (int)refusal))
             return refusal + 256 * at[refusal];
     return 0;

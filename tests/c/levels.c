@@ -10,21 +10,25 @@
 #include <stdlib.h>
 #include <string.h>
 
-static void lend(struct made *made, enum buffer which, size_t length)
+/* The residue of a number in range, 0 for any other. */
+static int residue_of(int p, int number)
 {
-    made->call.buffer[which] = (struct bytes){made->bytes[which], length};
+    return -p < number && number < p ? (number + p) % p : 0;
 }
 
-/* A call with one number: over the basis of no points where a point is handed in, else over that of the point 0. */
+/* A call with one number, over the basis of no points where a point is to be added, else over that of the point 0 or of
+ * the one to be withdrawn. */
 static void make_single(struct made *made, enum kind kind, int p, int number)
 {
-    int on_point = kind != ADD_POINT && kind != DRAW_UP;
+    int on_point = kind != ADD_POINT && kind != DRAW_UP, point = kind == WITHDRAW_POINT ? residue_of(p, number) : 0;
     made->call = (struct call){.kind = kind, .modulus = (uint64_t)p, .variables = 1, .n = (uint64_t)on_point, .r = 1};
     for (int i = 0; i < BUFFERS; i++)
         lend(made, (enum buffer)i, buffer_size(kind, (enum buffer)i));
     for (int t = STATES; t <= COEFFICIENTS; t++)
         memset(made->bytes[t], 0, table_sizes[t]);
+    made->bytes[STATES][0] = (uint8_t)point;
     made->bytes[LEADS][0] = (uint8_t)on_point;
+    made->bytes[COEFFICIENTS][0] = (uint8_t)((p - point) % p);
     made->bytes[GIVEN][0] = misqafur_level(number);
     memset(made->bytes[EXPONENTS], 0, 8);
     lend(made, GIVEN, 1);
@@ -43,13 +47,15 @@ static int level_holds(struct made *made, enum kind kind, int p, int number)
         return 0;
     if (!in_range || kind == WIRING)
         return 1;
-    return made->bytes[kind == ADD_POINT || kind == DRAW_UP ? STATES : OUT][0] == (number + p) % p;
+    if (kind == WITHDRAW_POINT)
+        return answer == 65536 && made->bytes[STATES][0] == 0 && made->bytes[LEADS][0] == 0;
+    return made->bytes[kind == ADD_POINT || kind == DRAW_UP ? STATES : OUT][0] == residue_of(p, number);
 }
 
 /* One number with every modulus, through every call that takes levels, values or coefficients. */
 static void try_level(struct score *score, struct made *made, int number)
 {
-    static const enum kind kinds[] = {ADD_POINT, DRAW_UP, INTERPOLATE, REMAINDER, WIRING};
+    static const enum kind kinds[] = {ADD_POINT, WITHDRAW_POINT, DRAW_UP, INTERPOLATE, REMAINDER, WIRING};
     for (size_t k = 0; k < sizeof kinds / sizeof *kinds; k++)
         for (int i = 0; i < 18; i++) {
             int holds = level_holds(made, kinds[k], primes[i], number);

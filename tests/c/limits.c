@@ -99,6 +99,7 @@ struct score long_buffers(const struct options *options)
     long_call(&score, zeros, DRAW_UP, FOUR_GIB + 8, 0, 0, 8);
     long_call(&score, zeros, DRAW_UP, FOUR_GIB + 1, 0, 0, 7);
     long_call(&score, zeros, ADD_POINT, FOUR_GIB + 8, 0, 0, 7);
+    long_call(&score, zeros, WITHDRAW_POINT, FOUR_GIB + 8, 0, 0, 7);
     long_call(&score, zeros, CHECK, 0, 0, 0, 0);
     long_call(&score, zeros, INTERPOLATE, FOUR_GIB, 0, 0, 7);
     long_call(&score, zeros, INTERPOLATE, FOUR_GIB, 0, FOUR_GIB, 8);
@@ -169,7 +170,7 @@ struct score stack_depth(const struct options *options)
     }
     free(made);
     for (int kind = 0; kind < KINDS; kind++) {
-        printf("  %-11s took %zu bytes of stack; the header promises %d\n", kind_names[kind], deepest[kind],
+        printf("  %-14s took %zu bytes of stack; the header promises %d\n", kind_names[kind], deepest[kind],
                MISQAFUR_STACK);
         count(&score, 0 < deepest[kind] && deepest[kind] <= MISQAFUR_STACK);
     }

@@ -62,8 +62,7 @@ static void random_settings(struct made *made)
     made->call.order = below(c, 3);
 }
 
-/* A buffer of so many bytes. */
-static void set_length(struct made *made, enum buffer which, size_t length)
+void lend(struct made *made, enum buffer which, size_t length)
 {
     made->call.buffer[which] = (struct bytes){made->bytes[which], length};
 }
@@ -91,7 +90,7 @@ static void set_tables(struct made *made, const uint8_t *levels, size_t count)
         fill(made, (enum buffer)t, 304);
         memcpy(made->bytes[t] + table_sizes[t], made->bytes[t], 304);
         memset(made->bytes[t], 170, table_sizes[t]);
-        set_length(made, (enum buffer)t, table_sizes[t] + surplus(&made->chance));
+        lend(made, (enum buffer)t, table_sizes[t] + surplus(&made->chance));
     }
     if (call->kind == DRAW_UP)
         return;
@@ -103,13 +102,11 @@ static void set_tables(struct made *made, const uint8_t *levels, size_t count)
     call->r = misqafur_elements(answer);
 }
 
-/* Levels of the points, in either sign. */
-static size_t levels_of(struct made *made, const uint8_t *points, size_t n, uint8_t *levels)
+size_t random_levels(struct chance *c, int p, size_t m, const uint8_t *points, size_t n, uint8_t *levels)
 {
-    size_t m = made->call.variables;
     for (size_t i = 0; i < n; i++)
         for (size_t k = 0; k < m; k++)
-            levels[m * i + k] = random_level(&made->chance, (int)made->call.modulus, points[8 * i + k]);
+            levels[m * i + k] = random_level(c, p, points[8 * i + k]);
     return m * n;
 }
 
@@ -118,7 +115,7 @@ static void set_levels_in_range(struct made *made, size_t count)
     uint64_t p = made->call.modulus;
     for (size_t i = 0; i < count; i++)
         made->bytes[GIVEN][i] = random_level(&made->chance, (int)p, (uint8_t)below(&made->chance, p));
-    set_length(made, GIVEN, count);
+    lend(made, GIVEN, count);
 }
 
 /* Mostly few terms of small degree, now and then many or great ones. */
@@ -130,7 +127,14 @@ static void set_terms(struct made *made)
     set_levels_in_range(made, count);
     for (size_t i = 0; i < 8 * count; i++)
         made->bytes[EXPONENTS][i] = i % 8 < made->call.variables ? (uint8_t)below(c, limit) : 0;
-    set_length(made, EXPONENTS, 8 * count);
+    lend(made, EXPONENTS, 8 * count);
+}
+
+/* The levels of one of the points. */
+static void name_point(struct made *made)
+{
+    const uint8_t *point = made->bytes[STATES] + 8 * below(&made->chance, made->call.n);
+    random_levels(&made->chance, (int)made->call.modulus, made->call.variables, point, 1, made->bytes[GIVEN]);
 }
 
 /* What a call is handed beside settings, counts and tables. */
@@ -141,12 +145,14 @@ static void set_given(struct made *made)
         set_levels_in_range(made, made->call.n);
     if (kind == REMAINDER)
         set_terms(made);
-    if (kind == ADD_POINT)
+    if (kind == ADD_POINT || kind == WITHDRAW_POINT)
         set_levels_in_range(made, made->call.variables);
+    if (kind == WITHDRAW_POINT && made->call.n > 0 && !once_in(&made->chance, 4))
+        name_point(made);
     size_t size = buffer_size(kind, OUT);
     if (size > 0) {
         fill(made, OUT, 400);
-        set_length(made, OUT, size + surplus(&made->chance));
+        lend(made, OUT, size + surplus(&made->chance));
     }
 }
 
@@ -157,10 +163,10 @@ void make_call(struct made *made, enum kind kind)
     random_settings(made);
     int p = (int)made->call.modulus, m = (int)made->call.variables;
     size_t n = random_points(&made->chance, p, m, random_count(&made->chance), points);
-    size_t count = levels_of(made, points, n, levels);
+    size_t count = random_levels(&made->chance, p, (size_t)m, points, n, levels);
     if (kind == DRAW_UP) {
         memcpy(made->bytes[GIVEN], levels, count);
-        set_length(made, GIVEN, count);
+        lend(made, GIVEN, count);
     }
     set_tables(made, levels, count);
     set_given(made);

@@ -14,8 +14,11 @@ struct made {
 
 extern const uint8_t primes[18];
 
+/* A buffer of the call: the first bytes of its own. */
+void lend(struct made *made, enum buffer which, size_t length);
+
 /* The settings, points and tables of a random basis, and the rest of a call of this kind that is to
- * succeed, or to be refused because of a point that repeats. */
+ * succeed, or to be refused because of a point that repeats or is not there. */
 void make_call(struct made *made, enum kind kind);
 
 /* A random text that is to be read; now and then one that is refused. */
@@ -36,6 +39,9 @@ void set_faulty_sizes(struct made *made, uint32_t faults, uint32_t variant);
 
 /* At most n distinct random points of m residues, 8 bytes each; gives how many were found. */
 size_t random_points(struct chance *c, int p, int m, size_t n, uint8_t points[512]);
+
+/* The levels, in either sign, of n points of m residues, 8 bytes each; gives their number. */
+size_t random_levels(struct chance *c, int p, size_t m, const uint8_t *points, size_t n, uint8_t *levels);
 
 /* A signed byte with this residue. */
 uint8_t random_level(struct chance *c, int p, uint8_t residue);

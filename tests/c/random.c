@@ -18,7 +18,7 @@ struct worker {
     const struct options *options;
     int number;
     struct score score;
-    long returned[KINDS][12]; /* how often each refusal came, and 0 */
+    long returned[KINDS][REFUSALS]; /* how often each refusal came, and 0 */
 };
 
 static int random_case(struct guard *guard, struct made *made, uint64_t seed, enum kind kind, uint64_t index,
@@ -51,7 +51,7 @@ static void *work(void *of)
         for (int kind = 0; kind < KINDS && worker->score.failed < 10; kind++) {
             uint64_t number = 0;
             count(&worker->score, random_case(guard, made, options->seed, (enum kind)kind, i, &number));
-            worker->returned[kind][(number & 255) < 12 ? number & 255 : 0]++;
+            worker->returned[kind][(number & 255) < REFUSALS ? number & 255 : 0]++;
         }
     free(made);
     guard_free(guard);
@@ -59,13 +59,13 @@ static void *work(void *of)
 }
 
 /* Says how often each refusal came up; whether every kind succeeded and was refused in each way it can be. */
-static int all_came_up(long returned[KINDS][12])
+static int all_came_up(long returned[KINDS][REFUSALS])
 {
     int all = 1;
     for (int kind = 0; kind < KINDS; kind++) {
-        printf("  %-11s taken %ld; refused", kind_names[kind], returned[kind][0]);
+        printf("  %-14s taken %ld; refused", kind_names[kind], returned[kind][0]);
         all &= returned[kind][0] > 0;
-        for (int k = 1; k < 12; k++) {
+        for (int k = 1; k < REFUSALS; k++) {
             if ((possible_refusals[kind] >> k & 1) == 0)
                 continue;
             printf(" %d: %ld", k, returned[kind][k]);
@@ -81,7 +81,7 @@ struct score random_calls(const struct options *options)
     pthread_t threads[MOST_THREADS];
     struct worker workers[MOST_THREADS];
     struct score score = {0, 0};
-    long returned[KINDS][12] = {{0}};
+    long returned[KINDS][REFUSALS] = {{0}};
     for (int i = 0; i < options->threads; i++) {
         workers[i] = (struct worker){.options = options, .number = i};
         if (pthread_create(&threads[i], NULL, work, &workers[i]) != 0)
@@ -92,7 +92,7 @@ struct score random_calls(const struct options *options)
         score.passed += workers[i].score.passed;
         score.failed += workers[i].score.failed;
         for (int kind = 0; kind < KINDS; kind++)
-            for (int k = 0; k < 12; k++)
+            for (int k = 0; k < REFUSALS; k++)
                 returned[kind][k] += workers[i].returned[kind][k];
     }
     if (options->cases >= ENOUGH)

@@ -7,6 +7,7 @@
 #include "misqafur.h"
 
 __typeof__(misqafur_add_point) reference_add_point;
+__typeof__(misqafur_withdraw_point) reference_withdraw_point;
 __typeof__(misqafur_draw_up) reference_draw_up;
 __typeof__(misqafur_check) reference_check;
 __typeof__(misqafur_interpolate) reference_interpolate;

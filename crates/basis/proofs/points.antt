@@ -1,3 +1,4 @@
 -- Levels, and tables of points.
 pub mod LevelLists
 pub mod PointTables
+pub mod PointPlaces

@@ -237,7 +237,7 @@ fn draw_anew(
 }
 
 // The basis of the n points of a table, written to lent tables, and the answer that says so.
-fn draw_points(
+pub(crate) fn draw_points(
     settings: Settings,
     n: usize,
     points: &[u8],

@@ -5,3 +5,4 @@ pub mod checking;
 pub mod drawing;
 mod points;
 pub mod settings;
+pub mod withdrawing;

@@ -12,6 +12,7 @@ ghost use Rattle.residue.specs.Layout.{groups, fill, inPlaces, over};
 ghost use Rattle.residue.specs.Lists.{keyOf};
 ghost use Rattle.specification.specs.Levels.{residueOr0, inRange, residues, isAmong, noRepeat};
 ghost use Rattle.specification.specs.Tables.{pointsIn};
+ghost use Rattle.basis.specs.Points.{placeIn};
 
 // Whether each level has a residue.
 pub fn in_range(p: u8, levels: &[i8]) -> bool
@@ -100,20 +101,29 @@ fn key(point: &[u8]) -> u64
     4294967296 * high + low
 }
 
+// Where a point first stands among the first n of a table, or n.
+pub fn place_of(n: usize, states: &[u8], point: &[u8]) -> usize
+    requires { ⌜ 8 * n ≤ length (now states) ⌝ }
+    requires { ⌜ length (now point) ≡ 8 ⌝ }
+    ensures { λ i. ⌜ i ≡ placeIn (now (point .entry)) (groups 8 n (now (states .entry))) ⌝ }
+{
+    let own = key(point);
+    for i in 0..n {
+        let place = 8 * i;
+        if own == key(&states[place..place + 8]) {
+            return i;
+        }
+    }
+    n
+}
+
 // Whether a point is among the first n of a table.
 pub fn is_among(n: usize, states: &[u8], point: &[u8]) -> bool
     requires { ⌜ 8 * n ≤ length (now states) ⌝ }
     requires { ⌜ length (now point) ≡ 8 ⌝ }
     ensures { λ r. ⌜ r ≡ isAmong (now (point .entry)) (groups 8 n (now (states .entry))) ⌝ }
 {
-    let own = key(point);
-    for i in 0..n {
-        let place = 8 * i;
-        if own == key(&states[place..place + 8]) {
-            return true;
-        }
-    }
-    false
+    place_of(n, states, point) < n
 }
 
 // Whether no point of the first n of a table equals an earlier one.

@@ -118,6 +118,24 @@ pub fn add_sizes(
     )
 }
 
+// Withdrawing the one of n points that has this many levels.
+pub fn withdraw_sizes(
+    settings: Settings,
+    states: usize,
+    standard: usize,
+    leads: usize,
+    coefficients: usize,
+    levels: usize,
+    n: u64,
+) -> u8
+    ensures { λ k. ⌜ k ≡ firstOf 0 (settingsCases settings
+        ++ ((ltb states 512 || ltb standard 512 || ltb leads 3592 || ltb coefficients 28736, 6) ∷ (not (eqb levels (settings .variables)), 7) ∷ (ltb 64 n, 8)
+        ∷ [])) ⌝ }
+{
+    let short = too_short(states, standard, leads, coefficients);
+    by_sizes(settings, short, levels as u64 != settings.variables, 64 < n)
+}
+
 // Drawing up from this many levels.
 pub fn draw_sizes(
     settings: Settings,

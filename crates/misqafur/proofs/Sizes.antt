@@ -1,6 +1,6 @@
 -- Refusals 3 to 8 look at lengths alone, and signed bytes are as many as the plain ones; where none holds, the local copies have room.
 use mathlib.Core.Path.{_≡_, sym, ap, _∙_}
-use mathlib.Core.Bool.{not, _||_}
+use mathlib.Core.Bool.{Bool, not, _||_}
 use mathlib.Core.List.{List, _++_}
 use Prim.Native.Nat.{ℕ, _+_, _*_, _/_, _%_, _≤_}
 use native.Mathlib.Nat.{div-add-mod', mul-le-mul}
@@ -14,11 +14,13 @@ use Rattle.specification.specs.Refusal.{firstOf}
 use Rattle.specification.specs.Settings.{settingsCases}
 use Rattle.specification.specs.Tables.{Tables, tooShort}
 use Rattle.specification.specs.Adding.{Outcome, refused, addOutcome, drawOutcome}
+use Rattle.specification.specs.Withdrawing.{withdrawOutcome}
 use Rattle.specification.specs.Solving.{valuesCases, remainderCases, wiringOutcome}
 use Rattle.basis.proofs.adding.Addition.{add-size}
 use Rattle.specification.proofs.Wiring.{list-refused}
 use Rattle.basis.proofs.settings.BySize.{sizes, passed}
 use Rattle.basis.proofs.settings.ByNumber.{when-refused}
+use Rattle.basis.proofs.withdrawing.Withdrawal.{withdraw-size, withdraw-refused}
 use Rattle.basis.proofs.drawing.Outcomes.{draw-size}
 use Rattle.basis.proofs.answers.Refusals.{values-size, remainder-size}
 use Rattle.misqafur.specs.Bytes.{signedBytes}
@@ -33,19 +35,24 @@ alone k t o e =
     let n : k ≡ k + 0 = omega arith in
     ap (λ (j : ℕ). record { number = j; tables = t }) n ∙ ap packedOutcome e
 
--- Adding a point.
-abbrev pub addBySize : Settings → ℕ → Tables → ℕ → ℕ
-addBySize s n t count = firstOf 0 (settingsCases s ++ sizes s (tooShort t) (not (eqb count (s .variables))) (leb 64 n))
+-- A call that is handed one point.
+abbrev pub pointBySize : Settings → Bool → Tables → ℕ → ℕ
+pointBySize s many t count = firstOf 0 (settingsCases s ++ sizes s (tooShort t) (not (eqb count (s .variables))) many)
+
+pub point-few : (s : Settings) (many : Bool) (t : Tables) (levels : List ℕ) → pointBySize s many t (length levels) ≡ 0 → length levels ≤ 8
+point-few s many t levels e =
+    let ok = passed s (tooShort t) (not (eqb (length levels) (s .variables))) many e in
+    omega (arith, eqb-true (length levels) (s .variables) (not-false _ (ok .right)), ok .settings .few)
 
 module _ (s : Settings) (n r : ℕ) (t : Tables) (levels : List ℕ) where
-  pub add-refused : (k : ℕ) → k ≡ addBySize s n t (length levels) → (k ≡ 0 → ⊥) → _≡_ {A = Left} (record { number = k; tables = t }) (packedOutcome (addOutcome s n r t (signedBytes levels)))
+  pub add-refused : (k : ℕ) → k ≡ pointBySize s (leb 64 n) t (length levels) → (k ≡ 0 → ⊥) → _≡_ {A = Left} (record { number = k; tables = t }) (packedOutcome (addOutcome s n r t (signedBytes levels)))
   unfolding addOutcome
-  add-refused k e z = alone k t _ (when-refused t _ _ k (add-size s n r t (signedBytes levels) k (e ∙ ap (addBySize s n t) (sym (length-signed levels))) z) z)
+  add-refused k e z = alone k t _ (when-refused t _ _ k (add-size s n r t (signedBytes levels) k (e ∙ ap (pointBySize s (leb 64 n) t) (sym (length-signed levels))) z) z)
 
-  pub add-few : addBySize s n t (length levels) ≡ 0 → length levels ≤ 8
-  add-few e =
-      let ok = passed s (tooShort t) (not (eqb (length levels) (s .variables))) (leb 64 n) e in
-      omega (arith, eqb-true (length levels) (s .variables) (not-false _ (ok .right)), ok .settings .few)
+  pub withdrawal-refused : (k : ℕ) → k ≡ pointBySize s (ltb 64 n) t (length levels) → (k ≡ 0 → ⊥) → _≡_ {A = Left} (record { number = k; tables = t }) (packedOutcome (withdrawOutcome s n r t (signedBytes levels)))
+  withdrawal-refused k e z =
+      let size = withdraw-size s n r t (signedBytes levels) k (e ∙ ap (pointBySize s (ltb 64 n) t) (sym (length-signed levels))) z in
+      alone k t _ (withdraw-refused s n r t (signedBytes levels) k size z)
 
 -- Drawing up.
 abbrev pub drawBySize : Settings → Tables → ℕ → ℕ

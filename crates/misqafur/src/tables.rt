@@ -6,10 +6,13 @@ use basis::checking;
 use basis::drawing;
 use basis::settings::add_sizes;
 use basis::settings::draw_sizes;
+use basis::settings::withdraw_sizes;
+use basis::withdrawing;
 use specification::settings::Settings;
 ghost use mathlib.Core.Path.{_≡_};
 ghost use Rattle.specification.specs.Tables.{fourTables};
 ghost use Rattle.specification.specs.Adding.{addOutcome, drawOutcome};
+ghost use Rattle.specification.specs.Withdrawing.{withdrawOutcome};
 ghost use Rattle.specification.specs.Solving.{checkRefusal};
 ghost use Rattle.misqafur.specs.Bytes.{signedBytes};
 ghost use Rattle.misqafur.specs.Packing.{givenSettings, left, packedOutcome};
@@ -53,6 +56,57 @@ pub extern "C" fn misqafur_add_point(
     let mut signed = [0i8; 8];
     put_signed(levels, &mut signed);
     let a = adding::add_point(
+        settings,
+        n,
+        r,
+        states,
+        standard,
+        leads,
+        coefficients,
+        &signed[..count],
+    );
+    pack_answer(a)
+}
+
+// Withdrawing one of the n points of the tables.
+#[no_mangle]
+pub extern "C" fn misqafur_withdraw_point(
+    modulus: u64,
+    variables: u64,
+    order: u64,
+    n: u64,
+    r: u64,
+    states: &mut [u8],
+    standard: &mut [u8],
+    leads: &mut [u8],
+    coefficients: &mut [u8],
+    levels: &[u8],
+) -> u32
+    ensures { λ a. ⌜ left a (now (states .exit)) (now (standard .exit)) (now (leads .exit)) (now (coefficients .exit))
+        ≡ packedOutcome (withdrawOutcome (givenSettings modulus variables order) n r
+        (fourTables (now (states .entry)) (now (standard .entry)) (now (leads .entry)) (now (coefficients .entry))) (signedBytes (now (levels .entry)))) ⌝ }
+{
+    let settings = Settings {
+        modulus,
+        variables,
+        order,
+    };
+    let count = levels.len();
+    let refusal = withdraw_sizes(
+        settings,
+        states.len(),
+        standard.len(),
+        leads.len(),
+        coefficients.len(),
+        count,
+        n,
+    );
+    if refusal != 0 {
+        return refusal as u32;
+    }
+    let mut signed = [0i8; 8];
+    put_signed(levels, &mut signed);
+    let a = withdrawing::withdraw_point(
         settings,
         n,
         r,

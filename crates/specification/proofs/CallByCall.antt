@@ -20,7 +20,9 @@ use Rattle.specification.specs.Basis.{IsBasis}
 use Rattle.specification.specs.BasisOf.{remainderOf, interpolantOf, valueAt}
 use Rattle.specification.specs.Instance.{pointOf}
 use Rattle.specification.specs.Tables.{Tables, spaceUnder, pointsUnder, standardUnder, leadsUnder, rowsUnder, rowCount, tablesOf, written, pointsIn, recognised}
-use Rattle.specification.specs.Adding.{holding, byRefusal, pointsOffered, addCases, addRefusal, addOutcome, drawCases, drawRefusal, drawOutcome}
+use Rattle.specification.specs.Adding.{Outcome, holding, byRefusal, pointsOffered, addOutcome, drawCases, drawRefusal, drawOutcome}
+use Rattle.specification.specs.Withdrawing.{remaining, withdrawOutcome}
+use Rattle.specification.specs.Reference.{Operation, adding, withdrawing, outcomeOf, refusalOf, referenceAnswer, pointsAfter}
 use Rattle.specification.specs.Solving.{checkRefusal, filling, valuesCases, interpolantIn, interpolateOutcome, polynomialUnder, remainderCases, remainderIn, remainderOutcome, wiringUnder, Listed, listing, wiringOutcome}
 use Rattle.specification.specs.Agreement.{Remains, Wires}
 use Rattle.specification.specs.CallByCall.{HoldsBasis, Interpolates}
@@ -32,6 +34,7 @@ use Rattle.specification.proofs.ideal.Basis.{basis-is, interpolant-fits
 use Rattle.specification.proofs.ideal.Division.{basis-reduced}
 use Rattle.specification.proofs.agreement.Points.{IsPoint, Points, no-points, point-same, length-residues, levels-point, of-once, points-more}
 use Rattle.specification.proofs.agreement.Refusals.{Accepted, accepted, over-begins, written-recognised}
+use Rattle.specification.proofs.agreement.Operations.{lawful}
 use Rattle.specification.proofs.agreement.Run.{number-of, same-tables}
 use Rattle.specification.proofs.agreement.Drawings.{laws-under, among-under, distinct-points, few-rows}
 use Rattle.specification.proofs.Recognised.{none-of, offered, length-read, is-read, read, Parts, recognised-parts}
@@ -72,7 +75,7 @@ module _ (s : Settings) (ok : Accepted s) (n r : ℕ) (t : Tables) (few : n ≤ 
   pub known-points : Points s (pointsIn s n (t .states))
   known-points = read s ok n (t .states) few (of-true (parts .once))
 
-  known-tables : t ≡ written (tablesOf s (pointsIn s n (t .states))) t
+  pub known-tables : t ≡ written (tablesOf s (pointsIn s n (t .states))) t
   unfolding written
   known-tables = sym (same-tables (over-begins _ (t .states) (of-true (parts .states))) (over-begins _ (t .standard) (of-true (parts .standard))) (over-begins _ (t .leads) (of-true (parts .leads))) (over-begins _ (t .coefficients) (of-true (parts .coefficients))))
 
@@ -110,20 +113,29 @@ draw-leaves s t levels e =
     (of-true (not-false (noRepeat (pointsOffered s levels)) (n .1 .1 .1 .1 .0))) in
     written-basis s ok (pointsOffered s levels) h (drawRefusal s t levels) t e
 
--- Adding leaves the basis of the points of the tables with the new one at their end.
+-- Every operation on lent tables leaves the basis of the points after it.
+pub operation-leaves : (o : Operation) (s : Settings) (n r : ℕ) (t : Tables) → let w = outcomeOf o s n r t in w .answer .refusal ≡ 0
+    → HoldsBasis s (pointsAfter o s (pointsIn s n (t .states))) t (w .answer .n) (w .answer .r) (w .tables)
+operation-leaves o s n r t e =
+    let S = pointsIn s n (t .states) in
+    let is = lawful o .outcome s n r t in
+    let zero = sym (number-of (refusalOf o s n r t) t s (pointsAfter o s S)) ∙ sym (ap (λ (w : Outcome). w .answer .refusal) is) ∙ e in
+    let z = lawful o .passed s n r t zero in
+    let ok = accepted s (z .fine) in
+    let answer : referenceAnswer o s S ≡ 0 = sym (lawful o .number s (z .fine) n r t (z .few) (z .large) (z .known)) ∙ zero in
+    let h = lawful o .points s ok S (known-points s ok n r t (z .few) (z .known)) answer in
+    rw is (written-basis s ok (pointsAfter o s S) h (refusalOf o s n r t) t (sym (ap (λ (w : Outcome). w .answer .refusal) is) ∙ e))
+
+-- Adding: of the points of the tables with the new one at their end. Withdrawing: of those without the named one.
 pub add-leaves : (s : Settings) (n r : ℕ) (t : Tables) (levels : List ℤ) → let o = addOutcome s n r t levels in o .answer .refusal ≡ 0
     → HoldsBasis s (pointsIn s n (t .states) ++ (residues (s .modulus) levels ∷ [])) t (o .answer .n) (o .answer .r) (o .tables)
-unfolding addOutcome addRefusal addCases
-add-leaves s n r t levels e =
-    let S = pointsIn s n (t .states) in
-    let P = residues (s .modulus) levels in
-    let z = none-of s _ tt (sym (number-of (addRefusal s n r t levels) t s (S ++ (P ∷ []))) ∙ e) in
-    let ok = accepted s (z .0) in
-    let room = leb-false 64 n (z .1 .1 .1 .0) in
-    let known = not-false (recognised s n r t) (z .1 .1 .1 .1 .1 .0) in
-    let point = levels-point s levels (omega (arith, modulus-range (s .modulus) (ok .modulus))) (eqb-true (length levels) (s .variables) (not-false _ (z .1 .1 .0))) (of-true (not-false (inRange (s .modulus) levels) (z .1 .1 .1 .1 .0))) in
-    let h = points-more s S P (known-points s ok n r t (omega arith) known) point (λ q. subst T (z .1 .1 .1 .1 .1 .1 .0) (is-among P S q)) (omega (arith, length-read s ok n (t .states))) in
-    written-basis s ok (S ++ (P ∷ [])) h (addRefusal s n r t levels) t e
+unfolding outcomeOf pointsAfter
+add-leaves s n r t levels e = operation-leaves (adding levels) s n r t e
+
+pub withdraw-leaves : (s : Settings) (n r : ℕ) (t : Tables) (levels : List ℤ) → let o = withdrawOutcome s n r t levels in o .answer .refusal ≡ 0
+    → HoldsBasis s (remaining (residues (s .modulus) levels) (pointsIn s n (t .states))) t (o .answer .n) (o .answer .r) (o .tables)
+unfolding outcomeOf pointsAfter
+withdraw-leaves s n r t levels e = operation-leaves (withdrawing levels) s n r t e
 
 -- Tables that are checked are the basis of their points.
 pub check-passes : (s : Settings) (n r : ℕ) (t : Tables) → checkRefusal s n r t ≡ 0 → HoldsBasis s (pointsIn s n (t .states)) t n r t

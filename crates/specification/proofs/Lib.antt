@@ -7,4 +7,5 @@ pub mod agreement
 pub mod Instance
 pub mod Recognised
 pub mod CallByCall
+pub mod Withdrawing
 pub mod Examples

@@ -11,6 +11,7 @@ pub mod BasisOf
 pub mod Instance
 pub mod Tables
 pub mod Adding
+pub mod Withdrawing
 pub mod Solving
 pub mod Reference
 pub mod Agreement

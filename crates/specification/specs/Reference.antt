@@ -11,17 +11,21 @@ use Rattle.specification.specs.Refusal.{firstOf}
 use Rattle.specification.specs.Levels.{inRange, residues, isAmong}
 use Rattle.specification.specs.Tables.{Tables, fourTables}
 use Rattle.specification.specs.Adding.{Outcome, addOutcome, addRefusal}
+use Rattle.specification.specs.Withdrawing.{remaining, withdrawRefusal, withdrawOutcome}
 
 -- An operation, with what it is handed beside settings, counts and tables: 'its levels may be anything, and of any number'.
 pub data Operation : Type 0 where
   adding : (levels : List ℤ) → Operation
+  withdrawing : (levels : List ℤ) → Operation
 
 -- its outcome, and its number of 'Refused, in this order of checking', whatever it is handed
 unfoldable pub outcomeOf : Operation → Settings → ℕ → ℕ → Tables → Outcome
 outcomeOf (adding levels) s n r t = addOutcome s n r t levels
+outcomeOf (withdrawing levels) s n r t = withdrawOutcome s n r t levels
 
 unfoldable pub refusalOf : Operation → Settings → ℕ → ℕ → Tables → ℕ
 refusalOf (adding levels) s n r t = addRefusal s n r t levels
+refusalOf (withdrawing levels) s n r t = withdrawRefusal s n r t levels
 
 -- what the reference list answers to it: 'the first number here whose case holds'
 unfoldable pub referenceAnswer : Operation → Settings → List (List ℕ) → ℕ
@@ -30,10 +34,15 @@ referenceAnswer (adding levels) s L = firstOf 0
     ∷ (leb 64 (length L), 8)
     ∷ (not (inRange (s .modulus) levels), 9)
     ∷ (isAmong (residues (s .modulus) levels) L, 11) ∷ [])
+referenceAnswer (withdrawing levels) s L = firstOf 0
+    ((not (eqb (length levels) (s .variables)), 7)
+    ∷ (not (inRange (s .modulus) levels), 9)
+    ∷ (not (isAmong (residues (s .modulus) levels) L), 12) ∷ [])
 
--- the points after it, where the answer is 0: the list 'appends these residues'
+-- the points after it, where the answer is 0: the list 'appends these residues', or takes the point out
 unfoldable pub pointsAfter : Operation → Settings → List (List ℕ) → List (List ℕ)
 pointsAfter (adding levels) s L = L ++ (residues (s .modulus) levels ∷ [])
+pointsAfter (withdrawing levels) s L = remaining (residues (s .modulus) levels) L
 
 -- the reference list after it: with any other answer 'it does not change'
 unfoldable pub referenceAfter : Operation → Settings → List (List ℕ) → List (List ℕ)

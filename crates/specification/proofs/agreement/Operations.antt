@@ -7,7 +7,7 @@ use native.Mathlib.Omega.{arith}
 use lib.IntN.{ℤ}
 use lib.ListN.{length}
 use lib.Dec.{T}
-use borrow.Author.Tests.{eqb-true, leb-false, not-false}
+use borrow.Author.Tests.{eqb-true, leb-false, not-false, le-ltb, ltb-false}
 use Rattle.residue.proofs.level.Moduli.{modulus-range}
 use Rattle.residue.proofs.Tests.{of-true}
 use Rattle.specification.specs.declared.settings.Settings.{Settings}
@@ -16,12 +16,21 @@ use Rattle.specification.specs.Settings.{settingsCases}
 use Rattle.specification.specs.Levels.{inRange, residues}
 use Rattle.specification.specs.Tables.{Tables, tooShort, pointsIn, recognised}
 use Rattle.specification.specs.Adding.{holding, byRefusal, addCases, addRefusal, addOutcome}
-use Rattle.specification.specs.Reference.{Operation, adding, outcomeOf, refusalOf, referenceAnswer, pointsAfter}
+use Rattle.specification.specs.Withdrawing.{withdrawCases, withdrawRefusal, withdrawOutcome}
+use Rattle.specification.specs.Reference.{Operation, adding, withdrawing, outcomeOf, refusalOf, referenceAnswer, pointsAfter}
 use Rattle.specification.proofs.Cases.{none-holds}
 use Rattle.specification.proofs.Repeats.{is-among}
-use Rattle.specification.proofs.Recognised.{length-read}
+use Rattle.specification.proofs.Recognised.{length-read, none-of}
 use Rattle.specification.proofs.agreement.Points.{Points, levels-point, points-more}
 use Rattle.specification.proofs.agreement.Refusals.{Accepted, accepted, settings-pass}
+use Rattle.specification.proofs.agreement.Removal.{points-left}
+
+-- What an operation has found that it does not refuse.
+pub record Passed (s : Settings) (n r : ℕ) (t : Tables) : Type 0 where
+  pub fine : firstOf 0 (settingsCases s) ≡ 0
+  pub few : n ≤ 64
+  pub large : tooShort t ≡ false
+  pub known : recognised s n r t ≡ true
 
 pub record Lawful (o : Operation) : Type 0 where
   -- it is refused, or the tables are now those of the points after it
@@ -32,6 +41,7 @@ pub record Lawful (o : Operation) : Type 0 where
       → refusalOf o s n r t ≡ referenceAnswer o s (pointsIn s n (t .states))
   -- and what it makes of distinct points are distinct points
   pub points : (s : Settings) → Accepted s → (L : List (List ℕ)) → Points s L → referenceAnswer o s L ≡ 0 → Points s (pointsAfter o s L)
+  pub passed : (s : Settings) (n r : ℕ) (t : Tables) → refusalOf o s n r t ≡ 0 → Passed s n r t
 
 -- Adding: a point that the reference list takes is m residues, is not among its points, and finds room.
 adding-points : (levels : List ℤ) (s : Settings) → Accepted s → (L : List (List ℕ)) → Points s L → referenceAnswer (adding levels) s L ≡ 0 → Points s (pointsAfter (adding levels) s L)
@@ -49,7 +59,21 @@ adding-lawful levels = record {
   outcome = λ s n r t. refl;
   number = λ s fine n r t few large known. settings-pass s fine _ ∙ rw (large, known, length-read s (accepted s fine) n (t .states));
   points = adding-points levels;
+  passed = λ s n r t e. let z = none-of s _ tt e in
+      record { fine = z .0; few = omega (arith, leb-false 64 n (z .1 .1 .1 .0)); large = z .1 .0; known = not-false (recognised s n r t) (z .1 .1 .1 .1 .1 .0) };
+}
+
+-- Withdrawing: what is left of distinct points are distinct points.
+withdrawing-lawful : (levels : List ℤ) → Lawful (withdrawing levels)
+unfolding outcomeOf refusalOf referenceAnswer pointsAfter withdrawOutcome withdrawRefusal withdrawCases firstOf
+withdrawing-lawful levels = record {
+  outcome = λ s n r t. refl;
+  number = λ s fine n r t few large known. settings-pass s fine _ ∙ rw (large, known, le-ltb 64 n few);
+  points = λ s ok L h e. points-left s (residues (s .modulus) levels) L h;
+  passed = λ s n r t e. let z = none-of s _ tt e in
+      record { fine = z .0; few = ltb-false 64 n (z .1 .1 .1 .0); large = z .1 .0; known = not-false (recognised s n r t) (z .1 .1 .1 .1 .1 .0) };
 }
 
 pub lawful : (o : Operation) → Lawful o
 lawful (adding levels) = adding-lawful levels
+lawful (withdrawing levels) = withdrawing-lawful levels

@@ -37,7 +37,7 @@ same-tables {t} {u} a b c d =
     ∙ ap₂ (λ (y z : List ℕ). record { states = u .states; standard = u .standard; leads = y; coefficients = z }) c d
 
 -- tables written twice are those of the second time
-written-twice : (s : Settings) (L L′ : List (List ℕ)) (t : Tables) → written (tablesOf s L′) (written (tablesOf s L) t) ≡ written (tablesOf s L′) t
+pub written-twice : (s : Settings) (L L′ : List (List ℕ)) (t : Tables) → written (tablesOf s L′) (written (tablesOf s L) t) ≡ written (tablesOf s L′) t
 unfolding written tablesOf
 written-twice s L L′ t = same-tables (twice statesSize _ _ (t .states)) (twice standardSize _ _ (t .standard)) (twice leadsSize _ _ (t .leads)) (twice coefficientsSize _ _ (t .coefficients))
   where

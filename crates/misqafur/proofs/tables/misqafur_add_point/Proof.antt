@@ -6,6 +6,7 @@ use Prim.Native.Nat.{ℕ, _≤_}
 use native.Mathlib.Omega.{arith}
 use lib.IntN.{ℤ}
 use lib.ListN.{length}
+use lib.Dec.{leb}
 use lib.Seq.{length-take-le}
 use Rattle.specification.specs.declared.settings.Settings.{Settings}
 use Rattle.specification.specs.Tables.{Tables, fourTables, tooShort}
@@ -13,7 +14,7 @@ use Rattle.specification.specs.Adding.{addOutcome}
 use Rattle.misqafur.specs.Packing.{packedOutcome}
 use Rattle.misqafur.proofs.SignedBytes.{signed-part}
 use Rattle.misqafur.proofs.Packed.{packs}
-use Rattle.misqafur.proofs.Sizes.{addBySize, add-refused, add-few}
+use Rattle.misqafur.proofs.Sizes.{pointBySize, add-refused, point-few}
 use Rattle.misqafur.proofs.tables.misqafur_add_point.Statement.{statement}
 use Rattle.misqafur.proofs.tables.misqafur_add_point.Tie as tie
 
@@ -32,12 +33,12 @@ module _ (d : tie.After-add-sizes) where
   abbrev levels : List ℕ
   levels = start .args .levels .now
 
-  sized : d .add-sizes .result ≡ addBySize (settings start) (start .args .n) (tables start) (length levels)
+  sized : d .add-sizes .result ≡ pointBySize (settings start) (leb 64 (start .args .n)) (tables start) (length levels)
   unfolding tooShort
   sized = d .add-sizes .ensures
 
 few : (e : tie.Else1) → length (levels (e .before)) ≤ 8
-few e = add-few _ (start (e .before) .args .n) (start (e .before) .args .r) (tables (start (e .before))) (levels (e .before)) (sym (sized (e .before)) ∙ e .if1 .left)
+few e = point-few _ _ (tables (start (e .before))) (levels (e .before)) (sym (sized (e .before)) ∙ e .if1 .left)
 
 -- the signed bytes in the local copy
 module _ (w : tie.After-put-signed) where

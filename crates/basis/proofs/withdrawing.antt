@@ -1,0 +1,2 @@
+-- Withdrawing a point.
+pub mod Withdrawal

@@ -1,0 +1,118 @@
+-- `withdrawing::withdraw_point` meets its contract: refused, or the points that remain are drawn up.
+use borrow.Author.Needs.{needs}
+use mathlib.Core.Path.{_≡_, sym, _∙_}
+use mathlib.Core.List.{List}
+use Prim.Native.Nat.{ℕ}
+use native.Mathlib.Omega.{arith}
+use Rattle.specification.specs.Tables.{Tables, fourTables}
+use Rattle.specification.specs.Withdrawing.{withdrawRefusal}
+use Rattle.specification.proofs.agreement.Refusals.{not-short}
+use Rattle.basis.proofs.settings.ByNumber.{alone}
+use Rattle.basis.proofs.withdrawing.Withdrawal.{open-of, left-given, left-points, withdraw-refused, withdraw-done}
+use Rattle.basis.proofs.withdrawing.withdraw_point.Statement.{statement}
+use Rattle.basis.proofs.withdrawing.withdraw_point.Tie as tie
+
+-- the lent tables
+abbrev tables : tie.Start → Tables
+tables s = fourTables (s .args .states .now) (s .args .standard .now) (s .args .leads .now) (s .args .coefficients .now)
+
+abbrev start : tie.After-withdraw-refusal → tie.Start
+start w = w .before .before .before .before .before .before .before .before .before .before
+
+-- nothing refuses
+module _ (e : tie.Else1) where
+  abbrev w : tie.After-withdraw-refusal
+  w = e .before .before
+
+  abbrev s : tie.Start
+  s = start w
+
+  abbrev left : List ℕ
+  left = w .withdraw-refusal .last .1 .1 .1 .1 .1 .1 .1 .1 .0
+
+  none : withdrawRefusal (s .args .settings) (s .args .n) (s .args .r) (tables s) (s .args .levels .now) ≡ 0
+  none = sym (w .withdraw-refusal .ensures .0) ∙ e .if1 .left
+
+slice-aggregate-withdraw-refusal : tie.Need-slice-aggregate-withdraw-refusal
+slice-aggregate-withdraw-refusal c = search needs
+
+withdraw-refusal-requires : tie.Need-withdraw-refusal-requires
+withdraw-refusal-requires c κs = search needs
+
+refused-requires : tie.Need-refused-requires
+refused-requires c κs = search needs
+
+same-length : tie.Need-same-length
+same-length c = search needs
+
+same-length-2 : tie.Need-same-length-2
+same-length-2 c = search needs
+
+same-length-3 : tie.Need-same-length-3
+same-length-3 c = search needs
+
+same-length-4 : tie.Need-same-length-4
+same-length-4 c = search needs
+
+returns : tie.Need-returns
+returns c =
+    let w = c .before .before .before in
+    let s = start w in
+    alone (c .refused .ensures) (tables s)
+    ∙ withdraw-refused (s .args .settings) (s .args .n) (s .args .r) (tables s) (s .args .levels .now) (w .withdraw-refusal .result) (w .withdraw-refusal .ensures .0) (c .before .if1 .taken)
+
+sub-draw-points : tie.Need-sub-draw-points
+sub-draw-points c = let s = s c in open-of (s .args .settings) (s .args .n) (s .args .r) (tables s) (s .args .levels .now) (none c) .some
+
+slice-aggregate-draw-points : tie.Need-slice-aggregate-draw-points
+slice-aggregate-draw-points c = search needs
+
+draw-points-requires : tie.Need-draw-points-requires
+draw-points-requires c κs =
+    let e = c .before .before .before .before .before in
+    let s = s e in (
+      left-given (s .args .settings) (s .args .n) (s .args .r) (tables s) (s .args .levels .now) (none e) (left e) (w e .withdraw-refusal .ensures .1 (e .if1 .left)),
+      not-short (tables s) (open-of (s .args .settings) (s .args .n) (s .args .r) (tables s) (s .args .levels .now) (none e) .large),
+    )
+
+same-length-5 : tie.Need-same-length-5
+same-length-5 c = search needs
+
+same-length-6 : tie.Need-same-length-6
+same-length-6 c = search needs
+
+same-length-7 : tie.Need-same-length-7
+same-length-7 c = search needs
+
+same-length-8 : tie.Need-same-length-8
+same-length-8 c = search needs
+
+returns-2 : tie.Need-returns-2
+returns-2 c =
+    let d = c .before .before .before .before .before .before .before .before in
+    let e = d .before .before .before .before .before .before in
+    let s = s e in
+    d .draw-points .ensures
+    ∙ withdraw-done (s .args .settings) (s .args .n) (s .args .r) (tables s) (s .args .levels .now) (none e) _
+    (left-points (s .args .settings) (s .args .n) (s .args .r) (tables s) (s .args .levels .now) (none e) (left e) (w e .withdraw-refusal .ensures .1 (e .if1 .left)))
+
+pub withdraw-point-spec : {M : Type 1} → statement M
+withdraw-point-spec =
+    tie.close
+    (tie.spec
+    slice-aggregate-withdraw-refusal
+    withdraw-refusal-requires
+    refused-requires
+    same-length
+    same-length-2
+    same-length-3
+    same-length-4
+    returns
+    sub-draw-points
+    slice-aggregate-draw-points
+    draw-points-requires
+    same-length-5
+    same-length-6
+    same-length-7
+    same-length-8
+    returns-2)

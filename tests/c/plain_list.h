@@ -1,0 +1,31 @@
+/* The plain list of points that lists of additions and withdrawals are held against, and tables beside it. */
+#ifndef PLAIN_LIST_H
+#define PLAIN_LIST_H
+
+#include "made.h"
+
+/* The plain list: it is fed settings and levels alone. */
+struct list {
+    int p, m;
+    size_t n;
+    uint8_t points[512];
+};
+
+/* An empty list modulo p in m variables, and a call on fresh tables under these settings. */
+void list_begin(struct list *list, struct made *made, int p, int m, uint64_t order);
+
+/* Has the archive add or withdraw, by the call's kind, and keeps the counts. Whether the list's own answer came back,
+ * which is *answer, and the states are the list's points. */
+int operation(struct made *made, struct list *list, uint32_t *answer);
+
+/* Whether drawing up the list's points, in another order, gives the counts and three tables of the call. */
+int drawn_alike(struct made *made, struct made *drawn, const struct list *list);
+
+/* Whether a remainder over either set of tables has the number due, which is *due, and leaves the same bytes. */
+int remainders_alike(struct made *made, struct made *drawn, uint32_t *due);
+
+/* Whether the wiring call, handed values that are equal at each point, each in the order of its own points, answers
+ * the same over either set of tables, and as the reference does; values of another number than the points, too. */
+int wirings_alike(struct guard *guard, struct made *made, struct made *drawn, const struct list *list);
+
+#endif

@@ -1,0 +1,110 @@
+/* Interpolants, remainders and wiring lists, by docs/SCOPE.md: the refusals in their order, then the answer. */
+#include "reference_handed.h"
+
+#include <string.h>
+
+/* The interpolant of the values, and b; or the refusal, out_size being that of the caller's answer. */
+static int interpolant(const struct handed *h, struct basis *b, const uint8_t *values, size_t values_length,
+                       size_t out_length, size_t out_size, uint8_t answer[64])
+{
+    int residues[64] = {0};
+    int refusal = reference_early_refusal(h, out_length, out_size);
+    if (refusal != 0)
+        return refusal;
+    if (values_length != h->n)
+        return 7;
+    if (h->n > 64)
+        return 8;
+    if (!reference_all_in_range(h->modulus, values, values_length))
+        return 9;
+    if (reference_table_refusal(h, b) != 0)
+        return 10;
+    for (int q = 0; q < b->n; q++)
+        residues[q] = reference_residue(b->p, (int8_t)values[q]);
+    reference_solve(b, residues, answer);
+    return 0;
+}
+
+uint32_t reference_interpolate(uint64_t modulus, uint64_t variables, uint64_t order, uint64_t n, uint64_t r,
+                               const uint8_t *states, size_t states_length,
+                               const uint8_t *standard, size_t standard_length,
+                               const uint8_t *leads, size_t leads_length,
+                               const uint8_t *coefficients, size_t coefficients_length,
+                               const uint8_t *values, size_t values_length, uint8_t *out, size_t out_length)
+{
+    HANDED(h);
+    struct basis b;
+    uint8_t answer[64];
+    int refusal = interpolant(&h, &b, values, values_length, out_length, 64, answer);
+    if (refusal == 0)
+        memcpy(out, answer, 64);
+    return (uint32_t)refusal;
+}
+
+/* Variables in increasing order. */
+uint32_t reference_wiring(uint64_t modulus, uint64_t variables, uint64_t order, uint64_t n, uint64_t r,
+                          const uint8_t *states, size_t states_length,
+                          const uint8_t *standard, size_t standard_length,
+                          const uint8_t *leads, size_t leads_length,
+                          const uint8_t *coefficients, size_t coefficients_length,
+                          const uint8_t *values, size_t values_length, uint8_t *out, size_t out_length)
+{
+    HANDED(h);
+    struct basis b;
+    uint8_t answer[64];
+    uint32_t count = 0;
+    int refusal = interpolant(&h, &b, values, values_length, out_length, 8, answer);
+    if (refusal != 0)
+        return (uint32_t)refusal;
+    memset(out, 0, 8);
+    for (int k = 0; k < b.m; k++) {
+        int occurs = 0;
+        for (int t = 0; t < b.n; t++)
+            occurs |= answer[t] != 0 && b.standard[8 * t + k] != 0;
+        if (occurs)
+            out[count++] = (uint8_t)(k + 1);
+    }
+    return 256 * count;
+}
+
+/* Whether every coefficient is in range and every exponent above the m-th is 0. */
+static int terms_are_good(uint64_t p, uint64_t m, const uint8_t *coefficients, const uint8_t *exponents, size_t count)
+{
+    for (size_t i = 0; i < 8 * count; i++)
+        if (i % 8 >= m && exponents[i] != 0)
+            return 0;
+    return reference_all_in_range(p, coefficients, count);
+}
+
+uint32_t reference_remainder(uint64_t modulus, uint64_t variables, uint64_t order, uint64_t n, uint64_t r,
+                             const uint8_t *states, size_t states_length,
+                             const uint8_t *standard, size_t standard_length,
+                             const uint8_t *leads, size_t leads_length,
+                             const uint8_t *coefficients, size_t coefficients_length,
+                             const uint8_t *term_coefficients, size_t term_coefficients_length,
+                             const uint8_t *exponents, size_t exponents_length, uint8_t *out, size_t out_length)
+{
+    HANDED(h);
+    struct basis b;
+    int values[64] = {0};
+    size_t count = term_coefficients_length;
+    int refusal = reference_early_refusal(&h, out_length, 64);
+    if (refusal != 0)
+        return (uint32_t)refusal;
+    if (exponents_length % 8 != 0 || exponents_length / 8 != count)
+        return 7;
+    if (n > 64 || count > 256)
+        return 8;
+    if (!terms_are_good(modulus, variables, term_coefficients, exponents, count))
+        return 9;
+    if (reference_table_refusal(&h, &b) != 0)
+        return 10;
+    for (int q = 0; q < b.n; q++)
+        for (size_t i = 0; i < count; i++)
+            values[q] += reference_residue(b.p, (int8_t)term_coefficients[i]) *
+                         reference_value(b.p, exponents + 8 * i, b.states + 8 * q);
+    for (int q = 0; q < b.n; q++)
+        values[q] %= b.p;
+    reference_solve(&b, values, out);
+    return 0;
+}

@@ -1,0 +1,85 @@
+/* The refusals that several of the calls over tables have. */
+#include "reference_handed.h"
+
+#include <string.h>
+
+static const size_t sizes[4] = {512, 512, 3592, 28736};
+
+int reference_settings_refusal(uint64_t modulus, uint64_t variables, uint64_t order)
+{
+    static const uint64_t primes[18] = {2, 3, 5, 7, 11, 13, 17, 19, 23, 29, 31, 37, 41, 43, 47, 53, 59, 61};
+    int known = 0;
+    for (int i = 0; i < 18; i++)
+        known |= modulus == primes[i];
+    if (!known)
+        return 3;
+    if (variables < 1 || variables > 8)
+        return 4;
+    return order > 2 ? 5 : 0;
+}
+
+int reference_in_range(int p, int level)
+{
+    return -(p - 1) <= level && level <= p - 1;
+}
+
+uint8_t reference_residue(int p, int level)
+{
+    return (uint8_t)(level < 0 ? level + p : level);
+}
+
+int reference_all_in_range(uint64_t p, const uint8_t *levels, size_t count)
+{
+    for (size_t i = 0; i < count; i++)
+        if (!reference_in_range((int)p, (int8_t)levels[i]))
+            return 0;
+    return 1;
+}
+
+int reference_early_refusal(const struct handed *h, size_t out_length, size_t out_size)
+{
+    int refusal = reference_settings_refusal(h->modulus, h->variables, h->order);
+    if (refusal != 0)
+        return refusal;
+    for (int t = 0; t < 4; t++)
+        if (h->length[t] < sizes[t])
+            return 6;
+    return out_length < out_size ? 6 : 0;
+}
+
+int reference_first_repeat(const uint8_t *states, int n)
+{
+    for (int i = 0; i < n; i++)
+        for (int j = 0; j < i; j++)
+            if (memcmp(states + 8 * i, states + 8 * j, 8) == 0)
+                return i;
+    return n;
+}
+
+static int points_are_good(const uint8_t *states, int p, int m, int n)
+{
+    for (int i = 0; i < 8 * n; i++)
+        if (states[i] > (i % 8 < m ? p - 1 : 0))
+            return 0;
+    return reference_first_repeat(states, n) == n;
+}
+
+int reference_table_refusal(const struct handed *h, struct basis *b)
+{
+    b->p = (int)h->modulus;
+    b->m = (int)h->variables;
+    b->order = (int)h->order;
+    b->n = (int)h->n;
+    memset(b->states, 0, sizeof b->states);
+    memcpy(b->states, h->table[0], 8 * (size_t)b->n);
+    if (!points_are_good(b->states, b->p, b->m, b->n))
+        return 10;
+    reference_basis(b);
+    if (h->r != (uint64_t)b->r)
+        return 10;
+    const uint8_t *expected[4] = {b->states, b->standard, b->leads, b->coefficients};
+    for (int t = 0; t < 4; t++)
+        if (memcmp(h->table[t], expected[t], sizes[t]) != 0)
+            return 10;
+    return 0;
+}

@@ -1,0 +1,107 @@
+/* Tables that a list of calls has left, and those of the same points drawn up in another order. */
+#include "plain_list.h"
+
+#include <string.h>
+
+/* The list's points in another order, as levels. */
+static size_t shuffled(struct chance *c, const struct list *list, uint8_t *levels)
+{
+    size_t order[64];
+    for (size_t i = 0; i < list->n; i++) {
+        size_t j = below(c, i + 1);
+        order[i] = order[j];
+        order[j] = i;
+    }
+    size_t m = (size_t)list->m;
+    for (size_t i = 0; i < list->n; i++)
+        random_levels(c, list->p, m, list->points + 8 * order[i], 1, levels + m * i);
+    return m * list->n;
+}
+
+int drawn_alike(struct made *made, struct made *drawn, const struct list *list)
+{
+    memset(drawn->bytes, 170, sizeof drawn->bytes);
+    drawn->call = made->call;
+    drawn->call.kind = DRAW_UP;
+    for (int t = 0; t < 4; t++)
+        lend(drawn, (enum buffer)t, table_sizes[t]);
+    lend(drawn, GIVEN, shuffled(&made->chance, list, drawn->bytes[GIVEN]));
+    uint32_t answer = (uint32_t)perform(&archive, &drawn->call);
+    if (misqafur_refusal(answer) != 0 || misqafur_points(answer) != made->call.n ||
+        misqafur_elements(answer) != made->call.r)
+        return 0;
+    for (int t = STANDARD; t <= COEFFICIENTS; t++)
+        if (memcmp(made->bytes[t], drawn->bytes[t], table_sizes[t]) != 0)
+            return 0;
+    return 1;
+}
+
+/* Terms for a remainder, and the number due: now and then a coefficient is out of range or an exponent missing. */
+static uint32_t set_terms(struct made *made)
+{
+    struct chance *c = &made->chance;
+    uint64_t p = made->call.modulus, fault = below(c, 8);
+    size_t terms = 1 + below(c, 16);
+    for (size_t i = 0; i < terms; i++)
+        made->bytes[GIVEN][i] = random_level(c, (int)p, (uint8_t)below(c, p));
+    for (size_t i = 0; i < 8 * terms; i++)
+        made->bytes[EXPONENTS][i] = i % 8 < made->call.variables ? (uint8_t)any_number(c) : 0;
+    if (fault == 0)
+        made->bytes[GIVEN][below(c, terms)] = once_in(c, 2) ? (uint8_t)p : 128;
+    lend(made, GIVEN, terms);
+    lend(made, EXPONENTS, 8 * terms - (fault == 1));
+    lend(made, OUT, MISQAFUR_RESIDUES_SIZE + below(c, 4));
+    return fault == 0 ? 9 : fault == 1 ? 7 : 0;
+}
+
+int remainders_alike(struct made *made, struct made *drawn, uint32_t *due)
+{
+    *due = set_terms(made);
+    made->call.kind = drawn->call.kind = REMAINDER;
+    drawn->call.n = made->call.n;
+    drawn->call.r = made->call.r;
+    for (int i = GIVEN; i < BUFFERS; i++)
+        drawn->call.buffer[i] = made->call.buffer[i];
+    lend(drawn, OUT, made->call.buffer[OUT].length);
+    memset(made->bytes[OUT], 170, ROOM);
+    memset(drawn->bytes[OUT], 170, ROOM);
+    uint64_t first = perform(&archive, &made->call), second = perform(&archive, &drawn->call);
+    return first == *due && second == *due && memcmp(made->bytes[OUT], drawn->bytes[OUT], ROOM) == 0;
+}
+
+/* The value of a residue below p, or for p itself one that is out of range. */
+static uint8_t value_of(struct chance *c, int p, int residue)
+{
+    if (residue < p)
+        return random_level(c, p, (uint8_t)residue);
+    return (uint8_t)(once_in(c, 2) ? p : -p);
+}
+
+int wirings_alike(struct guard *guard, struct made *made, struct made *drawn, const struct list *list)
+{
+    struct chance *c = &made->chance;
+    uint64_t number;
+    int residues[64], outside = once_in(c, 4);
+    size_t count = once_in(c, 8) ? below(c, 65) : list->n, length = MISQAFUR_WIRING_SIZE + below(c, 4);
+    for (size_t i = 0; i < list->n; i++)
+        residues[i] = outside && once_in(c, 8) ? list->p : (int)below(c, once_in(c, 2) ? 1 : (uint64_t)list->p);
+    for (size_t i = 0; i < 64; i++)
+        made->bytes[GIVEN][i] = drawn->bytes[GIVEN][i] = 0;
+    for (size_t i = 0; i < list->n; i++) {
+        made->bytes[GIVEN][i] = value_of(c, list->p, residues[i]);
+        for (size_t j = 0; j < list->n; j++)
+            if (memcmp(drawn->bytes[STATES] + 8 * j, list->points + 8 * i, 8) == 0)
+                drawn->bytes[GIVEN][j] = value_of(c, list->p, residues[i]);
+    }
+    struct made *both[2] = {made, drawn};
+    for (int k = 0; k < 2; k++) {
+        both[k]->call.kind = WIRING;
+        lend(both[k], GIVEN, count);
+        lend(both[k], OUT, length);
+        memset(both[k]->bytes[OUT], 170, length);
+        if (!agrees(guard, &both[k]->call, 0, "wiring list in a list", &number))
+            return 0;
+    }
+    return perform(&archive, &made->call) == perform(&archive, &drawn->call) &&
+           memcmp(made->bytes[OUT], drawn->bytes[OUT], length) == 0;
+}
