@@ -194,7 +194,7 @@ uint32_t misqafur_wiring(uint64_t modulus, uint64_t variables, uint64_t order, u
 
 /* Reads settings, points and values from a text of comma-separated records (RFC 4180; LF or CRLF).
  * The header holds m names and a last field: mod, a space, one to three digits, and optionally a
- * space and lex, grlex or grevlex (without the word: lex). Each further record has m levels and a
+ * space and lex, grlex or grevlex (without the word: grevlex). Each further record has m levels and a
  * value, each an optional minus sign and one to three digits.
  * Reads: the text; of the other buffers their lengths alone.
  * Writes: 512 bytes of states, the points' residues in the layout of that table, then zeros;

@@ -13,7 +13,7 @@ modulus (2), variables, order and count (1 each).
 """
 import csv, io, os, re, sys
 
-ORDERS = {"": 0, "lex": 0, "grlex": 1, "grevlex": 2}
+ORDERS = {"": 2, "lex": 0, "grlex": 1, "grevlex": 2}
 TESTS = os.path.join(os.path.dirname(os.path.abspath(__file__)), "..", "tests")
 
 
@@ -99,7 +99,7 @@ def write(cases, stdout):
 
 
 def main():
-    cases = [c for name in ("vectors", "refusals", "edges") for c in stored(os.path.join(TESTS, "texts", name))]
+    cases = [c for name in ("vectors", "refusals", "edges", "lex-word", "M-104") for c in stored(os.path.join(TESTS, "texts", name))]
     cases += fuzz(os.path.join(TESTS, "c", "data", "fuzz.txt"))
     cases += lengths()
     cases = cases[:: int(sys.argv[3]) if len(sys.argv) > 3 else 1]

@@ -166,7 +166,7 @@ static void texts(struct score *score)
     uint64_t answer = read_records(64, 60);
     say(score, "64 records", misqafur_read_refusal(answer) == 0 && misqafur_read_points(answer) == 64 &&
                                  misqafur_read_modulus(answer) == 61 && misqafur_read_variables(answer) == 2 &&
-                                 misqafur_read_order(answer) == MISQAFUR_LEX);
+                                 misqafur_read_order(answer) == MISQAFUR_GREVLEX);
     answer = read_records(65, 999);
     say(score, "65 records, one outside the range",
         misqafur_read_refusal(answer) == 8 && misqafur_read_record(answer) == 66);

@@ -122,10 +122,11 @@ static int read_level(const struct records *from, size_t field, int *level)
     return number >= 0;
 }
 
-/* `mod`, a space, one to three digits, and optionally a space and an order's word. */
+/* `mod`, a space, one to three digits, and optionally a space and an order's word; without it grevlex. */
 static int read_settings(const struct records *from, size_t field, int *modulus, int *order)
 {
     static const char *const words[4] = {" lex", " grlex", " grevlex", ""};
+    static const int orders[4] = {0, 1, 2, 2};
     const uint8_t *bytes = from->bytes + from->fields[field].start;
     size_t length = from->fields[field].length;
     if (length < 4 || memcmp(bytes, "mod ", 4) != 0)
@@ -135,7 +136,7 @@ static int read_settings(const struct records *from, size_t field, int *modulus,
         if (length < 4 + word || memcmp(bytes + length - word, words[i], word) != 0)
             continue;
         *modulus = digits(bytes + 4, length - 4 - word);
-        *order = i % 3;
+        *order = orders[i];
         if (*modulus >= 0)
             return 1;
     }

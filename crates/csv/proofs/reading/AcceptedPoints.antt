@@ -16,7 +16,7 @@ use Rattle.specification.specs.Levels.{inRange, isAmong, noRepeat}
 use Rattle.specification.proofs.Repeats.{among-is, is-among}
 use Rattle.csv.specs.reading.Fields.{front}
 use Rattle.csv.specs.Digits.{isDigit, numberOf}
-use Rattle.csv.specs.reading.Forms.{lex-word, grlex-word, grevlex-word, mod-word, orderWord, Header, header, modulusAndOrder, lastField, headerFrom, headerOf}
+use Rattle.csv.specs.reading.Forms.{lex-word, grlex-word, grevlex-word, mod-word, defaultOrder, orderWord, Header, header, modulusAndOrder, lastField, headerFrom, headerOf}
 use Rattle.specification.specs.Refusal.{firstOf}
 use Rattle.csv.specs.reading.Text.{TextCase, further, firstFault, isNone, headerIn, entryIn, entriesIn, formFault, isOutside, firstRepeat, notRefused, refusalAt}
 pub use Rattle.csv.proofs.reading.repeats.RepeatedRows.{AllLong}
@@ -51,7 +51,7 @@ either false x y h k = k
 word-small : (l : List ℕ) → Small (orderWord l)
 unfolding orderWord
 word-small l =
-    either (sameList l []) (some 0) _ (omega arith)
+    either (sameList l []) (some defaultOrder) _ (omega arith)
     (either (sameList l lex-word) (some 0) _ (omega arith)
     (either (sameList l grlex-word) (some 1) _ (omega arith) (either (sameList l grevlex-word) (some 2) none (omega arith) tt)))
 

@@ -46,9 +46,13 @@ grlex-word = 32 ∷ 103 ∷ 114 ∷ 108 ∷ 101 ∷ 120 ∷ []
 abbrev pub grevlex-word : List ℕ
 grevlex-word = 32 ∷ 103 ∷ 114 ∷ 101 ∷ 118 ∷ 108 ∷ 101 ∷ 120 ∷ []
 
--- the order's number, by what stands behind the digits; without the word the order is lex
+-- without the word the order is grevlex (M-104)
+abbrev pub defaultOrder : ℕ
+defaultOrder = 2
+
+-- the order's number, by what stands behind the digits
 unfoldable pub orderWord : List ℕ → Option ℕ
-orderWord l = cond (sameList l []) (some 0)
+orderWord l = cond (sameList l []) (some defaultOrder)
     (cond (sameList l lex-word) (some 0) (cond (sameList l grlex-word) (some 1) (cond (sameList l grevlex-word) (some 2) none)))
 
 -- what the header says

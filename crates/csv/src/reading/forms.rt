@@ -73,12 +73,15 @@ pub enum Word {
     Broken,
 }
 
+// The order of a text without the word: grevlex.
+const DEFAULT_ORDER: u8 = 2;
+
 // The order's number, by what stands behind the digits.
 fn read_order(word: &[u8]) -> Word
     ensures { λ r. ⌜ orderSaid r ≡ orderWord (now (word .entry)) ⌝ }
 {
     if word.len() == 0 {
-        return Word::Order(0);
+        return Word::Order(DEFAULT_ORDER);
     }
     if same(word, b" lex") {
         return Word::Order(0);

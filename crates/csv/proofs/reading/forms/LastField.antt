@@ -10,7 +10,7 @@ use lib.Seq.{take-all}
 use Rattle.residue.specs.Lists.{sameList}
 use Rattle.csv.specs.reading.Fields.{front}
 use Rattle.csv.specs.Digits.{isDigit, numberOf}
-use Rattle.csv.specs.reading.Forms.{mod-word, lex-word, grlex-word, grevlex-word, orderWord, header, modulusAndOrder, lastField}
+use Rattle.csv.specs.reading.Forms.{mod-word, lex-word, grlex-word, grevlex-word, defaultOrder, orderWord, header, modulusAndOrder, lastField}
 use Rattle.csv.specs.Digits.{numberSaid}
 use Rattle.csv.specs.reading.Said.{orderSaid, lastSaid}
 use Rattle.csv.specs.declared.digits.Number.{Number}
@@ -22,11 +22,11 @@ use Rattle.csv.proofs.reading.forms.SameFrom.{same-length}
 
 -- the order word
 module _ (l : List ℕ) where
-  pub word-none : length l ≡ 0 → orderWord l ≡ some 0
+  pub word-none : length l ≡ 0 → orderWord l ≡ some defaultOrder
   unfolding orderWord sameList
   word-none e = none-of l e
     where
-      none-of : (l : List ℕ) → length l ≡ 0 → orderWord l ≡ some 0
+      none-of : (l : List ℕ) → length l ≡ 0 → orderWord l ≡ some defaultOrder
       none-of [] e = refl
       none-of (b ∷ l) e = absurd (omega arith)
 
