@@ -29,7 +29,7 @@ fn add_refusal(
     coefficients: &[u8],
     levels: &[i8],
     points: &mut [u8],
-    rows: &mut [u16],
+    rows: &mut [u8],
     pivots: &mut [u8],
     point: &mut [u8],
 ) -> u8
@@ -94,7 +94,7 @@ pub fn add_point(
         (now (levels .entry)) ⌝ }
 {
     let mut points = [0u8; 512];
-    let mut rows = [0u16; 8192];
+    let mut rows = [0u8; 73728];
     let mut pivots = [0u8; 64];
     let mut point = [0u8; 8];
     let refusal = add_refusal(

@@ -55,7 +55,7 @@ pub(crate) fn recognise(
     leads: &[u8],
     coefficients: &[u8],
     points: &mut [u8],
-    rows: &mut [u16],
+    rows: &mut [u8],
     pivots: &mut [u8],
 ) -> bool
     requires { ⌜ (firstOf 0 (settingsCases settings) ≡ 0) × (n ≤ 64) ⌝ }
@@ -123,7 +123,7 @@ pub fn check(
         return refusal;
     }
     let mut points = [0u8; 512];
-    let mut rows = [0u16; 8192];
+    let mut rows = [0u8; 73728];
     let mut pivots = [0u8; 64];
     let known = recognise(
         settings,
