@@ -103,7 +103,7 @@
 #define MISQAFUR_GREVLEX 2
 
 /* Bytes of stack that are enough for any call. */
-#define MISQAFUR_STACK 106496
+#define MISQAFUR_STACK 163840
 
 #ifdef __cplusplus
 extern "C" {

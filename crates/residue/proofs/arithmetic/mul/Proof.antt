@@ -1,4 +1,6 @@
 -- `arithmetic::mul` meets its contract.
+use Prim.Native.Nat.{_*_}
+use native.Mathlib.Nat.{mod-lt}
 use native.Mathlib.Omega.{arith}
 use borrow.Author.Needs.{needs}
 use Rattle.residue.proofs.arithmetic.Reduction.{product-small}
@@ -11,8 +13,11 @@ mul-result c = omega (arith, product-small _ _ _ (c .pre .0) (c .pre .1 .0) (c .
 rem-result : tie.Need-rem-result
 rem-result c = search needs
 
+cast-result : tie.Need-cast-result
+cast-result c = omega (arith, mod-lt (c .args .x * c .args .y) {m = c .args .p} (omega arith))
+
 returns : tie.Need-returns
 returns c = search needs
 
 pub mul-spec : {M : Type 1} → statement M
-mul-spec = tie.close (tie.spec mul-result rem-result returns)
+mul-spec = tie.close (tie.spec mul-result rem-result cast-result returns)
