@@ -26,12 +26,9 @@ rowWith values = fill 128 values
 abbrev pub RowOf : ℕ → List ℕ → Type 0
 RowOf p work = (length work ≡ 128) × Below p work
 
--- The pivot rows and their pivots: of their sizes, and none.
+-- The pivot rows and their pivots: of their sizes.
 abbrev pub RowsLong : List ℕ → List ℕ → Type 0
 RowsLong rows pivots = (length rows ≡ 73728) × (length pivots ≡ 64)
-
-abbrev pub NoRows : List ℕ → List ℕ → Type 0
-NoRows rows pivots = (rows ≡ replicate 73728 0) × (length pivots ≡ 64)
 
 -- the pivot row of a working row whose first number that is not 0, of n, is at q
 abbrev pub pivotOf : ℕ → ℕ → ℕ → ℕ → List ℕ → List ℕ

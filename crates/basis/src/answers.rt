@@ -16,7 +16,7 @@ ghost use Rattle.specification.specs.Refusal.{firstOf};
 ghost use Rattle.specification.specs.Tables.{fourTables, pointsIn};
 ghost use Rattle.specification.specs.Solving.{answering, valuesCases, interpolantIn, interpolateOutcome, listed, wiringOutcome};
 ghost use Rattle.specification.specs.Solving.{withinVariables, remainderCases, remainderOutcome};
-ghost use Rattle.basis.specs.Drawing.{NoRows, Solves};
+ghost use Rattle.basis.specs.Drawing.{RowsLong, Solves};
 
 // The refusal of a call that answers n values in an output of so many bytes, or 0; their interpolant is then left in 64 bytes.
 fn interpolant(
@@ -194,7 +194,7 @@ fn remainder_refusal(
     rows: &mut [u8],
     pivots: &mut [u8],
 ) -> u8
-    requires { ⌜ (now points ≡ replicate 512 0) × NoRows (now rows) (now pivots) ⌝ }
+    requires { ⌜ (now points ≡ replicate 512 0) × RowsLong (now rows) (now pivots) ⌝ }
     ensures { λ k. ⌜ k ≡ firstOf 0 (remainderCases settings n r
         (fourTables (now (states .entry)) (now (standard .entry)) (now (leads .entry)) (now (coefficients .entry))) (now («term_coefficients» .entry))
         (now (exponents .entry)) (now (out .entry))) ⌝ }

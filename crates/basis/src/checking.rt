@@ -13,7 +13,7 @@ ghost use Rattle.specification.specs.Refusal.{firstOf};
 ghost use Rattle.specification.specs.Settings.{settingsCases};
 ghost use Rattle.specification.specs.Tables.{fourTables, pointsIn, recognised};
 ghost use Rattle.specification.specs.Solving.{checkRefusal};
-ghost use Rattle.basis.specs.Drawing.{NoRows, Solves};
+ghost use Rattle.basis.specs.Drawing.{RowsLong, Solves};
 
 // Whether the lent tables begin with these.
 fn agree(
@@ -60,7 +60,7 @@ pub(crate) fn recognise(
 ) -> bool
     requires { ⌜ (firstOf 0 (settingsCases settings) ≡ 0) × (n ≤ 64) ⌝ }
     requires { ⌜ (512 ≤ length (now states)) × ((512 ≤ length (now standard)) × ((3592 ≤ length (now leads)) × (28736 ≤ length (now coefficients)))) ⌝ }
-    requires { ⌜ (now points ≡ replicate 512 0) × NoRows (now rows) (now pivots) ⌝ }
+    requires { ⌜ (now points ≡ replicate 512 0) × RowsLong (now rows) (now pivots) ⌝ }
     ensures { λ b. ⌜ b ≡ recognised settings n r
         (fourTables (now (states .entry)) (now (standard .entry)) (now (leads .entry)) (now (coefficients .entry))) ⌝ }
     ensures { λ b. ⌜ now (points .exit) ≡ fill 512 (inPlaces 8 (pointsIn settings n (now (states .entry)))) ⌝ }

@@ -24,7 +24,7 @@ ghost use Rattle.residue.specs.Rows.{firstNonzero};
 ghost use Rattle.monomial.specs.Monomial.{timesVariable};
 ghost use Rattle.specification.specs.Tables.{pointsIn, fourTables, tooShort};
 ghost use Rattle.specification.specs.Adding.{ended, holding, drawOutcome};
-ghost use Rattle.basis.specs.Drawing.{emptyRow, rowWith, RowOf, RowsLong, NoRows, pivotOf, productValues, PointsGiven, Tabled, DrawnUp};
+ghost use Rattle.basis.specs.Drawing.{emptyRow, rowWith, RowOf, RowsLong, pivotOf, productValues, PointsGiven, Tabled, DrawnUp};
 
 // The working row of given values after it met the pivot rows: the first point where it is not 0, or n.
 fn reduce(
@@ -147,7 +147,7 @@ pub fn draw(
 ) -> usize
     requires { ⌜ PointsGiven settings n (now points) ⌝ }
     requires { ⌜ (now standard ≡ replicate 512 0) × ((now leads ≡ replicate 3592 0) × (now coefficients ≡ replicate 28736 0)) ⌝ }
-    requires { ⌜ NoRows (now rows) (now pivots) ⌝ }
+    requires { ⌜ RowsLong (now rows) (now pivots) ⌝ }
     ensures { λ r. ⌜ DrawnUp settings (pointsIn settings n (now (points .entry))) r (now (standard .exit)) (now (leads .exit)) (now (coefficients .exit))
         (now (rows .exit)) (now (pivots .exit)) ⌝ }
 {
@@ -197,7 +197,7 @@ pub fn draw(
     }
 }
 
-// The tables of the points' basis, over three lent tables of their sizes; how many rows it has.
+// The tables of the points' basis, over three lent tables of their sizes and over lent pivot rows; how many rows it has.
 fn draw_anew(
     settings: Settings,
     n: usize,
@@ -205,16 +205,17 @@ fn draw_anew(
     standard: &mut [u8],
     leads: &mut [u8],
     coefficients: &mut [u8],
+    rows: &mut [u8],
+    pivots: &mut [u8],
 ) -> usize
     requires { ⌜ PointsGiven settings n (now points) ⌝ }
     requires { ⌜ (length (now standard) ≡ 512) × ((length (now leads) ≡ 3592) × (length (now coefficients) ≡ 28736)) ⌝ }
+    requires { ⌜ RowsLong (now rows) (now pivots) ⌝ }
     ensures { λ r. ⌜ Tabled settings (pointsIn settings n (now (points .entry))) r (now (standard .exit)) (now (leads .exit)) (now (coefficients .exit)) ⌝ }
 {
     bytes::clear(standard);
     bytes::clear(leads);
     bytes::clear(coefficients);
-    let mut rows = [0u8; 73728];
-    let mut pivots = [0u8; 64];
     draw(
         settings,
         n,
@@ -222,12 +223,12 @@ fn draw_anew(
         standard,
         leads,
         coefficients,
-        &mut rows,
-        &mut pivots,
+        rows,
+        pivots,
     )
 }
 
-// The basis of the n points of a table, written to lent tables, and the answer that says so.
+// The basis of the n points of a table, written to lent tables over lent pivot rows, and the answer that says so.
 pub(crate) fn draw_points(
     settings: Settings,
     n: usize,
@@ -236,9 +237,12 @@ pub(crate) fn draw_points(
     standard: &mut [u8],
     leads: &mut [u8],
     coefficients: &mut [u8],
+    rows: &mut [u8],
+    pivots: &mut [u8],
 ) -> Answer
     requires { ⌜ PointsGiven settings n (now points) ⌝ }
     requires { ⌜ tooShort (fourTables (now states) (now standard) (now leads) (now coefficients)) ≡ false ⌝ }
+    requires { ⌜ RowsLong (now rows) (now pivots) ⌝ }
     ensures { λ a. ⌜ ended a (now (states .exit)) (now (standard .exit)) (now (leads .exit)) (now (coefficients .exit))
         ≡ holding settings (pointsIn settings n (now (points .entry)))
         (fourTables (now (states .entry)) (now (standard .entry)) (now (leads .entry)) (now (coefficients .entry))) ⌝ }
@@ -251,6 +255,8 @@ pub(crate) fn draw_points(
         &mut standard[..512],
         &mut leads[..3592],
         &mut coefficients[..28736],
+        rows,
+        pivots,
     );
     Answer {
         refusal: 0,
@@ -294,5 +300,17 @@ pub fn draw_up(
     if !points::no_repeat(n, &points) {
         return refused(11);
     }
-    draw_points(settings, n, &points, states, standard, leads, coefficients)
+    let mut rows = [0u8; 73728];
+    let mut pivots = [0u8; 64];
+    draw_points(
+        settings,
+        n,
+        &points,
+        states,
+        standard,
+        leads,
+        coefficients,
+        &mut rows,
+        &mut pivots,
+    )
 }

@@ -99,7 +99,7 @@ module _ {s : Settings} {n : ℕ} {points : List ℕ} where
     residues-of l b = subst (λ (z : ℕ). Below z l) (sym (G .modulus)) b
 
     pub head-start : {standard leads coefficients rows pivots steps : List ℕ} → standard ≡ replicate 512 0 → leads ≡ replicate 3592 0 → coefficients ≡ replicate 28736 0
-        → rows ≡ replicate 73728 0 → length pivots ≡ 64 → steps ≡ stepsOf o
+        → length rows ≡ 73728 → length pivots ≡ 64 → steps ≡ stepsOf o
         → Head s n points 0 0 standard leads coefficients rows pivots (replicate 4096 0) (replicate 64 0) steps (replicate 8 0) (replicate 8 0) 0 (replicate 64 1)
     head-start {standard} {leads} {coefficients} {rows} {pivots} a b c d e f = record {
       std = [];

@@ -148,7 +148,7 @@ same-length-4 : tie.Need-same-length-4 Inv-loop μ-loop
 same-length-4 c =
     let j = c .before .before .before .before .before .before .before .before in
     let t = start (above j) in
-    sizes j .rows-long ∙ sym (zeros-long (t .args .rows .now) 73728 (t .pre .1 .1 .0))
+    sizes j .rows-long ∙ sym (t .pre .1 .1 .0)
 
 same-length-5 : tie.Need-same-length-5 Inv-loop μ-loop
 same-length-5 c =
