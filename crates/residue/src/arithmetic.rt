@@ -1,6 +1,6 @@
 // Sums, products and powers of residues.
 ghost use mathlib.Core.Path.{_≡_};
-ghost use Prim.Native.Nat.{_+_, _-_, _*_, _%_, _^_, _<_, _≤_};
+ghost use Prim.Native.Nat.{_+_, _-_, _*_, _/_, _%_, _^_, _<_, _≤_};
 
 // The sum of two residues before its reduction: the greatest number that stands in an addition's way.
 fn sum(p: u8, x: u8, y: u8) -> u8
@@ -23,6 +23,19 @@ pub fn add(p: u8, x: u8, y: u8) -> u8
     s - p
 }
 
+// Twice a residue.
+fn double(p: u8, x: u8) -> u8
+    requires { ⌜ p ≤ 61 ⌝ }
+    requires { ⌜ x < p ⌝ }
+    ensures { λ r. ⌜ r ≡ (2 * x) % p ⌝ }
+{
+    let twice = sum(p, x, x);
+    if twice < p {
+        return twice;
+    }
+    twice - p
+}
+
 pub fn neg(p: u8, x: u8) -> u8
     requires { ⌜ p ≤ 61 ⌝ }
     requires { ⌜ x < p ⌝ }
@@ -34,12 +47,36 @@ pub fn neg(p: u8, x: u8) -> u8
     p - x
 }
 
+// x where bit k of y is 1, else 0.
+fn chosen(x: u8, y: u8, k: u8) -> u8
+    requires { ⌜ k < 8 ⌝ }
+    ensures { λ r. ⌜ r ≡ y / 2 ^ k % 2 * x ⌝ }
+{
+    if y >> k & 1 == 1 {
+        return x;
+    }
+    0
+}
+
+// The product with a number of so many bits, by doubling and adding from its highest bit on: no number in its way is greater than a sum of two residues.
+fn product(p: u8, bits: u8, x: u8, y: u8) -> u8
+    requires { ⌜ (p ≤ 61) × (bits ≤ 8) ⌝ }
+    requires { ⌜ (x < p) × (y < 2 ^ bits) ⌝ }
+    ensures { λ r. ⌜ r ≡ (x * y) % p ⌝ }
+{
+    let mut sum = 0;
+    for i in 0..bits {
+        sum = add(p, double(p, sum), chosen(x, y, bits - 1 - i));
+    }
+    sum
+}
+
 pub fn mul(p: u8, x: u8, y: u8) -> u8
     requires { ⌜ p ≤ 61 ⌝ }
     requires { ⌜ (x < p) × (y < p) ⌝ }
     ensures { λ r. ⌜ r ≡ (x * y) % p ⌝ }
 {
-    (x as u16 * y as u16 % p as u16) as u8
+    product(p, 6, x, y)
 }
 
 // Any byte, reduced.
@@ -47,7 +84,7 @@ pub fn reduce(p: u8, x: u8) -> u8
     requires { ⌜ (2 ≤ p) × (p ≤ 61) ⌝ }
     ensures { λ r. ⌜ r ≡ x % p ⌝ }
 {
-    x % p
+    product(p, 8, 1, x)
 }
 
 // x to the power e by squares; anything to the power 0 is 1.

@@ -1,6 +1,7 @@
 // Vectors of residues, the inner loops of the whole: flat, so that they are compiled to packed instructions.
 use crate::arithmetic::add;
 use crate::arithmetic::mul;
+use crate::bytes::copy;
 ghost use mathlib.Core.Path.{_≡_};
 ghost use Prim.Native.Nat.{_%_, _<_, _≤_};
 ghost use lib.ListN.{length};
@@ -74,7 +75,7 @@ pub fn multiply_powers(p: u8, dst: &mut [u8], base: &mut [u8], e: u8)
     }
 }
 
-// The sum of the products.
+// The sum of the products, which are made first, packed.
 pub fn dot(p: u8, a: &[u8], b: &[u8]) -> u8
     requires { ⌜ (2 ≤ p) × (p ≤ 61) ⌝ }
     requires { ⌜ length (now a) ≡ length (now b) ⌝ }
@@ -83,9 +84,13 @@ pub fn dot(p: u8, a: &[u8], b: &[u8]) -> u8
     requires { ⌜ Below p (now b) ⌝ }
     ensures { λ r. ⌜ r ≡ dotOf (now (a .entry)) (now (b .entry)) % p ⌝ }
 {
+    let n = a.len();
+    let mut products = [0u8; 256];
+    copy(a, &mut products);
+    multiply(p, &mut products[..n], b);
     let mut total = 0;
-    for i in 0..a.len() {
-        total = add(p, total, mul(p, a[i], b[i]));
+    for i in 0..n {
+        total = add(p, total, products[i]);
     }
     total
 }
