@@ -5,34 +5,25 @@ use mathlib.Core.List.{List, _++_, map}
 use Prim.Native.Nat.{ℕ, _+_, _-_, _%_, _<_, _≤_}
 use lib.ListN.{length, getD, take, replicate}
 use lib.Dec.{T}
-use Rattle.residue.specs.Inverse.{inverseOf}
 use Rattle.residue.specs.Vector.{Below, pointwise}
 use Rattle.residue.specs.Elimination.{eliminated, Multiplied}
 use Rattle.residue.specs.Layout.{fill, inPlaces, over}
-use Rattle.residue.specs.Rows.{pivotRow}
 use Rattle.specification.specs.declared.settings.Settings.{Settings}
 use Rattle.specification.specs.Levels.{noRepeat}
 use Rattle.specification.specs.BasisOf.{interpolantOf}
 use Rattle.specification.specs.Tables.{spaceUnder, pointsUnder, rowCount, tablesOf, pointsIn}
 use Rattle.specification.proofs.agreement.Refusals.{Accepted}
 
--- A working row: empty, with values at its front, and of residues.
+-- A working row: empty, and with values at its front.
 abbrev pub emptyRow : List ℕ
 emptyRow = replicate 128 0
 
 abbrev pub rowWith : List ℕ → List ℕ
 rowWith values = fill 128 values
 
-abbrev pub RowOf : ℕ → List ℕ → Type 0
-RowOf p work = (length work ≡ 128) × Below p work
-
 -- The pivot rows and their pivots: of their sizes.
 abbrev pub RowsLong : List ℕ → List ℕ → Type 0
 RowsLong rows pivots = (length rows ≡ 73728) × (length pivots ≡ 64)
-
--- the pivot row of a working row whose first number that is not 0, of n, is at q
-abbrev pub pivotOf : ℕ → ℕ → ℕ → ℕ → List ℕ → List ℕ
-pivotOf p n found q work = pivotRow p (n + found) (inverseOf p (getD work q 0)) work
 
 -- the values of a variable times a monomial, from the n of the variable and those of the monomial
 unfoldable pub productValues : ℕ → ℕ → List ℕ → List ℕ → List ℕ

@@ -6,33 +6,34 @@ use Rattle.residue.proofs.level.Moduli.{modulus-range}
 use Rattle.residue.proofs.Replaced.{zeros-long}
 use Rattle.basis.proofs.drawing.Grounds.{points-long}
 use Rattle.basis.proofs.drawing.Loop.{head-start, own-below, kept-few, ends, next-small, next-exponent, goes-on}
-use Rattle.basis.proofs.drawing.draw.Proof.Turn.{Inv-loop, μ-loop, start, given, head-sizes, exponents-8, range, top, work-128, work-residues, lead-fits, inside, standard-fits, above, kept, one-more, sizes, steps-8, steps-small, columns-512, column-small, values-are}
+use Rattle.basis.proofs.drawing.draw.Proof.Turn.{Inv-loop, μ-loop, opened, stepped, start, given, head-sizes, exponents-8, range, top, work-128, work-residues, reduced, head, lead-fits, inside, standard-fits, as-lead, as-standard, found-64, with-values, above, kept, one-more, sizes, steps-8, steps-small, columns-512, column-small, values-are, joined, sought, onward, chosen}
 use Rattle.basis.proofs.drawing.draw.Statement.{statement}
 use Rattle.basis.proofs.drawing.draw.Tie as tie
 mod Turn
 
 cast-p : tie.Need-cast-p Inv-loop μ-loop
-cast-p c = let g = c .before .before .before .before .before .before .before .pre .0 in omega (arith, modulus-range _ (g .settings .modulus))
+cast-p c = let g = opened c .pre .0 in omega (arith, modulus-range _ (g .settings .modulus))
 
 cast-put-steps : tie.Need-cast-put-steps Inv-loop μ-loop
-cast-put-steps c = omega (arith, c .before .before .before .before .before .before .before .before .pre .0 .settings .order)
+cast-put-steps c = omega (arith, opened (c .before) .pre .0 .settings .order)
 
 slice-aggregate-put-steps : tie.Need-slice-aggregate-put-steps Inv-loop μ-loop
 slice-aggregate-put-steps c = refl
 
 put-steps-requires : tie.Need-put-steps-requires Inv-loop μ-loop
-put-steps-requires c κs = (c .before .before .before .before .before .before .before .before .before .pre .0 .settings .order, refl)
+put-steps-requires c κs = (opened (c .before .before) .pre .0 .settings .order, refl)
 
 slice-aggregate-put-columns : tie.Need-slice-aggregate-put-columns Inv-loop μ-loop
 slice-aggregate-put-columns c = refl
 
 put-columns-requires : tie.Need-put-columns-requires Inv-loop μ-loop
-put-columns-requires c κs = let g = c .before .before .before .before .before .before .before .before .before .before .before .before .pre .0 in ((points-long g, g .most), refl)
+put-columns-requires c κs = let g = opened (stepped (c .before .before)) .pre .0 in ((points-long g, g .most), refl)
 
 loop-holds : tie.Need-loop-holds Inv-loop μ-loop
 loop-holds c =
-    let s = c .before .before .before .before .before .before .before .before .before .before .before .before .before .before in
-    head-start (s .pre .0) (s .pre .1 .0 .0) (s .pre .1 .0 .1 .0) (s .pre .1 .0 .1 .1) (s .pre .1 .1 .0) (s .pre .1 .1 .1) (c .before .before .before .before .put-steps .ensures)
+    let w = c .before .before .before .before in
+    let s = opened (stepped w) in
+    head-start (s .pre .0) (s .pre .1 .0 .0) (s .pre .1 .0 .1 .0) (s .pre .1 .0 .1 .1) (s .pre .1 .1 .0) (s .pre .1 .1 .1) (w .put-steps .ensures)
 
 slice-aggregate-reduce : tie.Need-slice-aggregate-reduce Inv-loop μ-loop
 slice-aggregate-reduce c = sym (c .before .loop .inv .in-hand .own-long)
@@ -54,53 +55,73 @@ reduce-requires c κs =
       ),
     )
 
+slice-aggregate-first-nonzero : tie.Need-slice-aggregate-first-nonzero Inv-loop μ-loop
+slice-aggregate-first-nonzero c = sym (work-128 (c .before .before))
+
+first-nonzero-requires : tie.Need-first-nonzero-requires Inv-loop μ-loop
+first-nonzero-requires c κs = let e = c .before .before in omega (arith, work-128 e, given (top e) .most)
+
 slice-aggregate-keep-lead : tie.Need-slice-aggregate-keep-lead Inv-loop μ-loop
-slice-aggregate-keep-lead c = sym (exponents-8 (c .before .before .before .before .before .before .before .before))
+slice-aggregate-keep-lead c = sym (exponents-8 (head (c .before .before)))
 
 slice-aggregate-keep-lead-2 : tie.Need-slice-aggregate-keep-lead-2 Inv-loop μ-loop
-slice-aggregate-keep-lead-2 c = sym (work-128 (c .before .before .before .before))
+slice-aggregate-keep-lead-2 c = sym (work-128 (reduced (c .before .before .before)))
 
 keep-lead-requires : tie.Need-keep-lead-requires Inv-loop μ-loop
 keep-lead-requires c κs =
-    let q = c .before .before .before .before .before .before in
-    let l = top q in
+    let t = c .before .before .before .before in
+    let l = head (t .before) in
     let z = head-sizes l in (
-      (given l .most, (z .found-room, lead-fits q (c .before .before .before .before .if1 .taken))),
-      ((exponents-8 l, (z .leads-long, z .coefficients-long)), work-128 q),
+      (given l .most, (z .found-room, lead-fits (t .before) (t .if1 .taken))),
+      ((exponents-8 l, (z .leads-long, z .coefficients-long)), work-128 (reduced (t .before))),
     )
 
 add-r : tie.Need-add-r Inv-loop μ-loop
-add-r c =
-    let q = c .before .before .before .before .before .before .before .before .before .before .before in
-    omega (arith, lead-fits q (c .before .before .before .before .before .before .before .before .before .if1 .taken))
+add-r c = let t = as-lead (c .before .before .before .before) in omega (arith, lead-fits (t .before) (t .if1 .taken))
 
 slice-aggregate-keep-standard : tie.Need-slice-aggregate-keep-standard Inv-loop μ-loop
-slice-aggregate-keep-standard c = sym (exponents-8 (c .before .before .before .before .before .before .before .before))
+slice-aggregate-keep-standard c = sym (exponents-8 (head (c .before .before)))
 
 slice-aggregate-keep-standard-2 : tie.Need-slice-aggregate-keep-standard-2 Inv-loop μ-loop
-slice-aggregate-keep-standard-2 c = sym (c .before .before .before .before .before .before .before .before .before .loop .inv .in-hand .own-long)
+slice-aggregate-keep-standard-2 c = sym (head (c .before .before .before) .loop .inv .in-hand .own-long)
 
 slice-aggregate-keep-standard-3 : tie.Need-slice-aggregate-keep-standard-3 Inv-loop μ-loop
-slice-aggregate-keep-standard-3 c = sym (work-128 (c .before .before .before .before .before))
-
-slice-aggregate-keep-standard-4 : tie.Need-slice-aggregate-keep-standard-4 Inv-loop μ-loop
-slice-aggregate-keep-standard-4 c = sym (head-sizes (top (c .before .before .before .before .before .before .before)) .ranks-long)
-
-slice-aggregate-keep-standard-5 : tie.Need-slice-aggregate-keep-standard-5 Inv-loop μ-loop
-slice-aggregate-keep-standard-5 c = sym (head-sizes (top (c .before .before .before .before .before .before .before .before)) .values-long)
+slice-aggregate-keep-standard-3 c = sym (head-sizes (head (c .before .before .before .before .before)) .values-long)
 
 keep-standard-requires : tie.Need-keep-standard-requires Inv-loop μ-loop
 keep-standard-requires c κs =
-    let e = c .before .before .before .before .before .before .before .before in
-    let q = e .before .before in
-    let l = top q in
+    let e = c .before .before .before .before in
+    let l = head (e .before) in
     let z = head-sizes l in (
-      (range l, (given l .most, (inside q (e .if1 .left), standard-fits q (e .if1 .left)))),
+      found-64 e,
+      ((exponents-8 l, l .loop .inv .in-hand .own-long), (z .standard-long, z .values-long)),
+    )
+
+mul-ranks : tie.Need-mul-ranks Inv-loop μ-loop
+mul-ranks c = omega (arith, found-64 (as-standard (c .before .before .before)))
+
+array-write-ranks : tie.Need-array-write-ranks Inv-loop μ-loop
+array-write-ranks c = let e = as-standard (c .before .before .before) in omega (arith, found-64 e, head-sizes (head (e .before)) .ranks-long)
+
+slice-aggregate-keep : tie.Need-slice-aggregate-keep Inv-loop μ-loop
+slice-aggregate-keep c = sym (work-128 (reduced (as-standard (c .before .before .before .before) .before)))
+
+keep-requires : tie.Need-keep-requires Inv-loop μ-loop
+keep-requires c κs =
+    let e = as-standard (c .before .before .before .before .before .before) in
+    let l = head (e .before) in
+    let z = head-sizes l in
+    let f = standard-fits (e .before) (e .if1 .left) in
+    let n = given l .most in (
+      range l,
       (
-        (exponents-8 l, (l .loop .inv .in-hand .own-long, (work-128 q, work-residues q))),
-        ((z .standard-long, (z .ranks-long, z .values-long)), (z .rows-long, z .pivots-long)),
+        (inside (e .before) (e .if1 .left), (omega (arith, f, n), work-128 (reduced (e .before)))),
+        ((omega (arith, f, n, z .rows-long), omega (arith, f, n, z .pivots-long)), work-residues (reduced (e .before))),
       ),
     )
+
+add-found : tie.Need-add-found Inv-loop μ-loop
+add-found c = omega (arith, found-64 (as-standard (with-values (c .before .before .before .before .before))))
 
 slice-aggregate-next : tie.Need-slice-aggregate-next Inv-loop μ-loop
 slice-aggregate-next c = sym (sizes (c .before .before) .ranks-long)
@@ -128,63 +149,65 @@ enum-told c = search needs
 
 same-length : tie.Need-same-length Inv-loop μ-loop
 same-length c =
-    let j = c .before .before .before .before .before .before .before .before in
+    let j = joined (c .before .before .before) in
     let t = start (above j) in
     sizes j .standard-long ∙ sym (zeros-long (t .args .standard .now) 512 (t .pre .1 .0 .0))
 
 same-length-2 : tie.Need-same-length-2 Inv-loop μ-loop
 same-length-2 c =
-    let j = c .before .before .before .before .before .before .before .before in
+    let j = joined (c .before .before .before) in
     let t = start (above j) in
     sizes j .leads-long ∙ sym (zeros-long (t .args .leads .now) 3592 (t .pre .1 .0 .1 .0))
 
 same-length-3 : tie.Need-same-length-3 Inv-loop μ-loop
 same-length-3 c =
-    let j = c .before .before .before .before .before .before .before .before in
+    let j = joined (c .before .before .before) in
     let t = start (above j) in
     sizes j .coefficients-long ∙ sym (zeros-long (t .args .coefficients .now) 28736 (t .pre .1 .0 .1 .1))
 
 same-length-4 : tie.Need-same-length-4 Inv-loop μ-loop
 same-length-4 c =
-    let j = c .before .before .before .before .before .before .before .before in
+    let j = joined (c .before .before .before) in
     let t = start (above j) in
     sizes j .rows-long ∙ sym (t .pre .1 .1 .0)
 
 same-length-5 : tie.Need-same-length-5 Inv-loop μ-loop
 same-length-5 c =
-    let j = c .before .before .before .before .before .before .before .before in
+    let j = joined (c .before .before .before) in
     sizes j .pivots-long ∙ sym (start (above j) .pre .1 .1 .1)
 
 returns : tie.Need-returns Inv-loop μ-loop
 returns c =
-    let j = c .before .before .before .before .before .before .before .before in
-    ends (given (above j)) (kept j) (c .enum-told .given .1) (c .before .before .before .next .ensures)
+    let s = c .before .before .before in
+    ends (given (above (joined s))) (kept (joined s)) (c .enum-told .given .1) (s .next .ensures)
 
 slice-aggregate-put-exponents : tie.Need-slice-aggregate-put-exponents Inv-loop μ-loop
-slice-aggregate-put-exponents c = sym (exponents-8 (above (c .before .before .before .before .before .before .before .before .before .before .before)))
+slice-aggregate-put-exponents c = sym (exponents-8 (above (onward (c .before .before .before))))
 
 put-exponents-requires : tie.Need-put-exponents-requires Inv-loop μ-loop
 put-exponents-requires c κs =
-    let j = c .before .before .before .before .before .before .before .before .before .before .before in
-    let z = c .before .before .before .k .given .1 in
-    let e = c .before .before .before .before .before .before .next .ensures in
+    let u = c .before .before .before in
+    let j = onward u in
+    let z = u .k .given .1 in
+    let e = sought u .next .ensures in
     let f = next-small (given (above j)) (kept j) z e in
     ((f .0, (f .1, (sizes j .standard-long, exponents-8 (above j)))), next-exponent (given (above j)) (kept j) z e)
 
 slice-aggregate-put-values : tie.Need-slice-aggregate-put-values Inv-loop μ-loop
-slice-aggregate-put-values c = sym (columns-512 (c .before .before .before .before .before .before .before .before .before .before .before .before .before .before))
+slice-aggregate-put-values c = sym (columns-512 (onward (chosen (c .before .before))))
 
 slice-aggregate-put-values-2 : tie.Need-slice-aggregate-put-values-2 Inv-loop μ-loop
-slice-aggregate-put-values-2 c = sym (sizes (c .before .before .before .before .before .before .before .before .before .before .before .before .before .before .before) .values-long)
+slice-aggregate-put-values-2 c = sym (sizes (onward (chosen (c .before .before .before))) .values-long)
 
 slice-aggregate-put-values-3 : tie.Need-slice-aggregate-put-values-3 Inv-loop μ-loop
-slice-aggregate-put-values-3 c = sym (above (c .before .before .before .before .before .before .before .before .before .before .before .before .before .before .before .before) .loop .inv .in-hand .own-long)
+slice-aggregate-put-values-3 c = sym (above (onward (chosen (c .before .before .before .before))) .loop .inv .in-hand .own-long)
 
 put-values-requires : tie.Need-put-values-requires Inv-loop μ-loop
 put-values-requires c κs =
-    let j = c .before .before .before .before .before .before .before .before .before .before .before .before .before .before .before .before in
+    let u = chosen (c .before .before .before .before) in
+    let j = onward u in
     let l = above j in
-    let f = next-small (given l) (kept j) (c .before .before .before .before .before .before .before .before .k .given .1) (c .before .before .before .before .before .before .before .before .before .before .before .next .ensures) in (
+    let f = next-small (given l) (kept j) (u .k .given .1) (sought u .next .ensures) in (
       (range l, (given l .most, (f .0, f .1))),
       (
         (columns-512 j, (sizes j .values-long, l .loop .inv .in-hand .own-long)),
@@ -194,15 +217,17 @@ put-values-requires c κs =
 
 loop-less : tie.Need-loop-less Inv-loop μ-loop
 loop-less c =
-    let j = c .before .before .before .before .before .before .before .before .before .before .before .before .before .before .before .before .before .before in
+    let j = onward (chosen (c .before .before .before .before .before .before)) in
     omega (arith, one-more j, kept-few (given (above j)) (kept j))
 
 loop-again : tie.Need-loop-again Inv-loop μ-loop
 loop-again c =
-    let j = c .before .before .before .before .before .before .before .before .before .before .before .before .before .before .before .before .before .before in
-    let z = c .before .before .before .before .before .before .before .before .before .before .k .given .1 in
-    let e = c .before .before .before .before .before .before .before .before .before .before .before .before .before .next .ensures in
-    goes-on (given (above j)) (kept j) z e (c .before .before .before .before .before .before .put-exponents .ensures) (values-are j _ (next-small (given (above j)) (kept j) z e .0) _ (c .before .put-values .ensures))
+    let w = c .before .before .before .before .before .before in
+    let u = chosen w in
+    let j = onward u in
+    let z = u .k .given .1 in
+    let e = sought u .next .ensures in
+    goes-on (given (above j)) (kept j) z e (w .put-exponents .ensures) (values-are j _ (next-small (given (above j)) (kept j) z e .0) _ (c .before .put-values .ensures))
 
 pub draw-spec : {M : Type 1} → statement M
 draw-spec =
@@ -220,6 +245,8 @@ draw-spec =
     slice-aggregate-reduce
     slice-aggregate-reduce-2
     reduce-requires
+    slice-aggregate-first-nonzero
+    first-nonzero-requires
     slice-aggregate-keep-lead
     slice-aggregate-keep-lead-2
     keep-lead-requires
@@ -227,9 +254,12 @@ draw-spec =
     slice-aggregate-keep-standard
     slice-aggregate-keep-standard-2
     slice-aggregate-keep-standard-3
-    slice-aggregate-keep-standard-4
-    slice-aggregate-keep-standard-5
     keep-standard-requires
+    mul-ranks
+    array-write-ranks
+    slice-aggregate-keep
+    keep-requires
+    add-found
     slice-aggregate-next
     slice-aggregate-next-2
     slice-aggregate-next-3

@@ -1,5 +1,5 @@
 -- A turn of the loop of `drawing::draw`, place by place: its head, the working row reduced, the monomial kept.
-use mathlib.Core.Path.{_≡_, sym, ap, subst, _∙_}
+use mathlib.Core.Path.{_≡_, refl, sym, ap, subst, _∙_}
 use mathlib.Core.Logic.{⊎-elim}
 use mathlib.Core.List.{List}
 use Prim.Native.Nat.{ℕ, _+_, _*_, _-_, _<_, _≤_}
@@ -27,10 +27,17 @@ abbrev pub μ-loop : tie.MeasureT-loop
 μ-loop settings n points standard₀ leads₀ coefficients₀ rows₀ pivots₀ p steps columns values₀ ranks₀ at₀ found₀ r₀ exponents₀ rank₀ own₀ standard leads coefficients rows pivots values ranks at found r exponents rank own =
     513 - (found + r)
 
+-- before the loop, where the settings are read and the steps of the ranks are written
+abbrev pub opened : tie.After-struct-known Inv-loop μ-loop → tie.Start Inv-loop μ-loop
+opened c = c .before .before .before .before .before .before .before
+
+abbrev pub stepped : tie.After-put-steps Inv-loop μ-loop → tie.After-struct-known Inv-loop μ-loop
+stepped c = c .before .before .before
+
 -- at the loop's head
 module _ (l : tie.At-loop Inv-loop μ-loop) where
   abbrev pub start : tie.Start Inv-loop μ-loop
-  start = l .before .before .before .before .before .before .before .before .before .before .before .before .before .before .before
+  start = opened (stepped (l .before .before .before .before .before))
 
   pub given : PointsGiven (start .args .settings) (start .args .n) (start .args .points .now)
   given = start .pre .0
@@ -53,28 +60,47 @@ module _ (c : tie.After-reduce Inv-loop μ-loop) where
   work = c .reduce .last .1 .1 .1 .1 .1 .1 .0
 
   pub work-128 : length work ≡ 128
-  work-128 = worked-long (given top) (top .loop .inv) (c .reduce .ensures .0)
+  work-128 = worked-long (given top) (top .loop .inv) (c .reduce .ensures)
 
   pub work-residues : Below (start top .args .settings .modulus) work
-  work-residues = worked-below (given top) (top .loop .inv) (c .reduce .ensures .0)
+  work-residues = worked-below (given top) (top .loop .inv) (c .reduce .ensures)
 
-  pub lead-fits : c .reduce .result ≡ start top .args .n → top .loop .r < 449
-  lead-fits e = room-lead (given top) (top .loop .inv) (c .reduce .ensures .0) (sym (c .reduce .ensures .1) ∙ e)
+-- its first value that is not 0 is sought
+module _ (f : tie.After-first-nonzero Inv-loop μ-loop) where
+  abbrev pub reduced : tie.After-reduce Inv-loop μ-loop
+  reduced = f .before .before .before
 
-  pub inside : (c .reduce .result ≡ start top .args .n → ⊥) → c .reduce .result < start top .args .n
-  inside ne = omega (arith, first-most (start top .args .n) work, c .reduce .ensures .1, ne)
+  abbrev pub head : tie.At-loop Inv-loop μ-loop
+  head = top reduced
 
-  pub standard-fits : (c .reduce .result ≡ start top .args .n → ⊥) → top .loop .found < start top .args .n
+  pub lead-fits : f .first-nonzero .result ≡ start head .args .n → head .loop .r < 449
+  lead-fits e = room-lead (given head) (head .loop .inv) (reduced .reduce .ensures) (sym (f .first-nonzero .ensures) ∙ e)
+
+  pub inside : (f .first-nonzero .result ≡ start head .args .n → ⊥) → f .first-nonzero .result < start head .args .n
+  inside ne = omega (arith, first-most (start head .args .n) (work reduced), f .first-nonzero .ensures, ne)
+
+  pub standard-fits : (f .first-nonzero .result ≡ start head .args .n → ⊥) → head .loop .found < start head .args .n
   standard-fits ne =
-      room-standard (given top) (top .loop .inv) (c .reduce .ensures .0) (omega (arith, inside ne, c .reduce .ensures .1))
+      room-standard (given head) (head .loop .inv) (reduced .reduce .ensures) (omega (arith, inside ne, f .first-nonzero .ensures))
+
+-- it is kept as a lead, or as a standard monomial
+abbrev pub as-lead : tie.After-keep-lead Inv-loop μ-loop → tie.Then1 Inv-loop μ-loop
+as-lead c = c .before .before .before .before .before
+
+abbrev pub as-standard : tie.After-keep-standard Inv-loop μ-loop → tie.Else1 Inv-loop μ-loop
+as-standard c = c .before .before .before .before .before
+
+pub found-64 : (e : tie.Else1 Inv-loop μ-loop) → head (e .before) .loop .found < 64
+found-64 e = omega (arith, standard-fits (e .before) (e .if1 .left), given (head (e .before)) .most)
+
+-- and with its pivot row
+abbrev pub with-values : tie.After-keep Inv-loop μ-loop → tie.After-keep-standard Inv-loop μ-loop
+with-values c = c .before .before .before .before .before .before .before
 
 -- the monomial is kept
 module _ (j : tie.Joined1 Inv-loop μ-loop) where
-  abbrev pub reduced : tie.After-reduce Inv-loop μ-loop
-  reduced = j .before .before
-
   abbrev pub above : tie.At-loop Inv-loop μ-loop
-  above = top reduced
+  above = head (j .before)
 
   abbrev gathered : tie.After-put-columns Inv-loop μ-loop
   gathered = above .before .before
@@ -91,17 +117,17 @@ module _ (j : tie.Joined1 Inv-loop μ-loop) where
   pub kept : Kept (start above .args .settings) (start above .args .n) (start above .args .points .now) (j .if1 .found) (j .if1 .r)
       (j .if1 .standard) (j .if1 .leads) (j .if1 .coefficients) (j .if1 .rows) (j .if1 .pivots) (j .if1 .values) (j .if1 .ranks) steps (above .loop .at)
   kept =
+      let q = j .before .first-nonzero .ensures in
+      let left = reduced (j .before) .reduce .ensures in
       ⊎-elim
       (λ w. kept-as (w .17) (w .18) (w .10) (w .11) (w .12) (w .13) (w .14) (w .15) (w .16)
-      (keeps-lead (given above) (above .loop .inv) (reduced .reduce .ensures .0) (sym (reduced .reduce .ensures .1) ∙ w .0 .taken)
-      (w .5 .ensures .0) (w .5 .ensures .1)))
-      (λ w. let e = w .9 .ensures in kept-as (w .26 ∙ e .0) (w .27) (w .19) (w .20) (w .21) (w .22) (w .23) (w .24) (w .25)
-      (keeps-standard (given above) (above .loop .inv) (reduced .reduce .ensures .0) (reduced .reduce .ensures .1) (inside reduced (w .0 .left))
-      (e .1 .1 .0) (e .1 .1 .1 .0) (e .1 .1 .1 .1) (e .1 .0 .1) (e .1 .0 .2)))
+      (keeps-lead (given above) (above .loop .inv) left (sym q ∙ w .0 .taken) (w .5 .ensures .0) (w .5 .ensures .1)))
+      (λ w. let e = w .5 .ensures in let k = w .12 .ensures in kept-as (w .25) (w .26) (w .18) (w .19) (w .20) (w .21) (w .22) (w .23) (w .24)
+      (keeps-standard (given above) (above .loop .inv) left q (inside (j .before) (w .0 .left)) (e .0) refl (e .1) (k .1 .0) (k .1 .1)))
       (j .if1 .came)
 
   pub one-more : j .if1 .found + j .if1 .r ≡ above .loop .found + above .loop .r + 1
-  one-more = ⊎-elim (λ w. omega (arith, w .17, w .18)) (λ w. omega (arith, w .9 .ensures .0, w .26, w .27)) (j .if1 .came)
+  one-more = ⊎-elim (λ w. omega (arith, w .17, w .18)) (λ w. omega (arith, w .25, w .26)) (j .if1 .came)
 
   pub sizes : Sized (start above .args .settings .modulus) (start above .args .n) (j .if1 .found) (j .if1 .standard) (j .if1 .leads) (j .if1 .coefficients) (j .if1 .rows) (j .if1 .pivots) (j .if1 .values) (j .if1 .ranks)
   sizes = kept-sized (given above) kept
@@ -127,3 +153,19 @@ module _ (j : tie.Joined1 Inv-loop μ-loop) where
     pub values-are : (values : List ℕ) {own : List ℕ} → own ≡ productValues (start above .args .settings .modulus) (start above .args .n) (take (start above .args .n) (drop (64 * k) columns)) values
         → own ≡ productValues (start above .args .settings .modulus) (start above .args .n) (columnOf k (start above .args .n) (start above .args .points .now)) values
     values-are values e = e ∙ ap (λ (l : List ℕ). productValues (start above .args .settings .modulus) (start above .args .n) l values) column
+
+-- the next one has been sought
+abbrev pub joined : tie.After-next Inv-loop μ-loop → tie.Joined1 Inv-loop μ-loop
+joined c = c .before .before .before .before .before
+
+-- it is x_(k+1) times standard monomial t
+module _ (c : tie.After-k Inv-loop μ-loop) where
+  abbrev pub sought : tie.After-next Inv-loop μ-loop
+  sought = c .before .before .before
+
+  abbrev pub onward : tie.Joined1 Inv-loop μ-loop
+  onward = joined sought
+
+-- and its exponents are written
+abbrev pub chosen : tie.After-put-exponents Inv-loop μ-loop → tie.After-k Inv-loop μ-loop
+chosen c = c .before .before .before .before

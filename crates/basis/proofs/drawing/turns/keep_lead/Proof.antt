@@ -1,4 +1,4 @@
--- `drawing::keep_lead` meets its contract.
+-- `drawing::turns::keep_lead` meets its contract.
 use mathlib.Core.Path.{_≡_, ap, _∙_}
 use mathlib.Core.List.{List}
 use Prim.Native.Nat.{ℕ, _+_, _*_, _-_, _<_, _≤_}
@@ -8,8 +8,8 @@ use borrow.Rule.Slice.PartMut.{same-len-mid}
 use lib.ListN.{length, take, drop}
 use Rattle.residue.specs.Layout.{over}
 use Rattle.residue.proofs.Replaced.{put-place, part-long}
-use Rattle.basis.proofs.drawing.keep_lead.Statement.{statement}
-use Rattle.basis.proofs.drawing.keep_lead.Tie as tie
+use Rattle.basis.proofs.drawing.turns.keep_lead.Statement.{statement}
+use Rattle.basis.proofs.drawing.turns.keep_lead.Tie as tie
 
 -- the coefficients found fit a row
 row-fits : (n found r : ℕ) (work table : List ℕ) → n ≤ 64 → found ≤ n → r < 449 → length work ≡ 128 → length table ≡ 28736

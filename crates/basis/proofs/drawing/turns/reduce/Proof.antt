@@ -1,4 +1,4 @@
--- `drawing::reduce` meets its contract.
+-- `drawing::turns::reduce` meets its contract.
 use mathlib.Core.Path.{_≡_, sym, ap, subst, _∙_}
 use mathlib.Core.List.{_++_}
 use native.Mathlib.Omega.{arith}
@@ -11,8 +11,8 @@ use Rattle.residue.specs.Layout.{fill}
 use Rattle.residue.proofs.vector.Vectors.{below-take}
 use Rattle.residue.proofs.Layouts.{below-fill, length-fill}
 use Rattle.residue.proofs.Replaced.{zeros-long, load}
-use Rattle.basis.proofs.drawing.reduce.Statement.{statement}
-use Rattle.basis.proofs.drawing.reduce.Tie as tie
+use Rattle.basis.proofs.drawing.turns.reduce.Statement.{statement}
+use Rattle.basis.proofs.drawing.turns.reduce.Tie as tie
 
 -- the row is loaded
 module _ (q : tie.After-copy) where
@@ -61,19 +61,15 @@ eliminate-requires c κs =
       ),
     )
 
-first-nonzero-requires : tie.Need-first-nonzero-requires
-first-nonzero-requires c κs =
-    let q = c .before .before .before .before .before .before .before in
-    omega (arith, c .before .before .before .eliminate .kept .1 .1 .1 .1 .1 .0, ap length (loaded q) ∙ length-fill 128 (take (start q .args .n) (start q .args .own .now)))
-
 same-length : tie.Need-same-length
 same-length c = search needs
 
 returns : tie.Need-returns
 returns c =
-    let q = c .before .before .before .before .before .before .before .before in
+    let e = c .before .before in
+    let q = e .before .before .before .before in
     let a = start q .args in
-    (c .before .before .before .before .eliminate .ensures ∙ ap (eliminated (a .p) (a .rows .now) (a .pivots .now) (a .found)) (loaded q), c .first-nonzero .ensures)
+    e .eliminate .ensures ∙ ap (eliminated (a .p) (a .rows .now) (a .pivots .now) (a .found)) (loaded q)
 
 pub reduce-spec : {M : Type 1} → statement M
 reduce-spec =
@@ -84,6 +80,5 @@ reduce-spec =
     slice-aggregate-copy-2
     copy-requires
     eliminate-requires
-    first-nonzero-requires
     same-length
     returns)

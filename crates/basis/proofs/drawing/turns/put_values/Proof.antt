@@ -1,4 +1,4 @@
--- `drawing::put_values` meets its contract.
+-- `drawing::turns::put_values` meets its contract.
 use mathlib.Core.Path.{_≡_, refl, sym, ap, subst, _∙_}
 use mathlib.Core.List.{List}
 use Prim.Native.Nat.{ℕ, _+_, _*_, _-_}
@@ -12,8 +12,8 @@ use Rattle.residue.proofs.vector.Vectors.{below-take, below-drop}
 use Rattle.residue.proofs.Replaced.{part-long}
 use Rattle.basis.specs.Drawing.{productValues}
 use Rattle.basis.proofs.drawing.ProductValues.{product-made}
-use Rattle.basis.proofs.drawing.put_values.Statement.{statement}
-use Rattle.basis.proofs.drawing.put_values.Tie as tie
+use Rattle.basis.proofs.drawing.turns.put_values.Statement.{statement}
+use Rattle.basis.proofs.drawing.turns.put_values.Tie as tie
 
 -- the values of the standard monomial
 module _ (r : tie.After-copy) where

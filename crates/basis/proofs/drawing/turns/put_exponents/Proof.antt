@@ -1,4 +1,4 @@
--- `drawing::put_exponents` meets its contract.
+-- `drawing::turns::put_exponents` meets its contract.
 use mathlib.Core.Path.{_≡_, ap, _∙_}
 use mathlib.Core.List.{List}
 use Prim.Native.Nat.{ℕ, _+_, _*_, _-_}
@@ -8,8 +8,8 @@ use lib.ListN.{getD, take, drop}
 use lib.Seq.{getD-take, getD-drop}
 use Rattle.residue.proofs.Replaced.{read-whole}
 use Rattle.monomial.specs.Monomial.{timesVariable}
-use Rattle.basis.proofs.drawing.put_exponents.Statement.{statement}
-use Rattle.basis.proofs.drawing.put_exponents.Tie as tie
+use Rattle.basis.proofs.drawing.turns.put_exponents.Statement.{statement}
+use Rattle.basis.proofs.drawing.turns.put_exponents.Tie as tie
 
 -- the standard monomial's exponents
 module _ (q : tie.After-copy) where
