@@ -6,6 +6,7 @@ pub mod Growth
 pub mod Insertion
 pub mod Corrections
 pub mod LostRow
+pub mod Negatives
 pub mod NewRows
 pub mod NewTables
 pub mod Added

@@ -1,7 +1,4 @@
 -- Drawing up from all points by elimination over value columns: what it is handed, its loop, and its outcome.
-pub mod Pivots
-pub mod Span
-pub mod UpTo
 pub mod Positions
 pub mod ReducedRows
 pub mod Candidates

@@ -2,6 +2,7 @@
 pub mod Cases
 pub mod Repeats
 pub mod ideal
+pub mod drawing
 pub mod Wiring
 pub mod agreement
 pub mod Instance

@@ -28,7 +28,7 @@ use Rattle.specification.proofs.ideal.Laws.{Laws}
 use Rattle.specification.proofs.ideal.Lists.{index-of}
 use Rattle.specification.proofs.ideal.Basis.{value-at, interpolant-fits, interpolant-agree}
 use Rattle.basis.specs.Adding.{reducedRow}
-use Rattle.basis.proofs.drawing.Pivots.{interpolant-minus}
+use Rattle.basis.proofs.adding.Negatives.{interpolant-minus}
 
 -- the values of one term with coefficient 1 are those of its monomial
 pub one-term : (p n : ℕ) (a points : List ℕ) → length a ≡ 8 → termValues p (1 ∷ []) a n points ≡ map (λ point. valueAt point a % p) (groups 8 n points)

@@ -35,8 +35,8 @@ use Rattle.specification.specs.Instance.{Monomial, Point, spaceOf}
 use Rattle.specification.proofs.Instance.{monomial-path, laws, standard-total}
 use Rattle.specification.proofs.ideal.Laws.{Laws}
 use Rattle.specification.proofs.ideal.Lists.{getD-among}
-use Rattle.basis.proofs.drawing.UpTo as drawing
-use Rattle.basis.proofs.drawing.UpTo.{Drawn, Bordered, drawn-standard, drawn-leads, bordered, standard-room}
+use Rattle.specification.proofs.drawing.UpTo as drawing
+use Rattle.specification.proofs.drawing.UpTo.{Drawn, Bordered, drawn-standard, drawn-leads, bordered, standard-room}
 use Rattle.basis.proofs.drawing.Positions.{productAt, Positions, Lowest, Advances, none-left, next-at, bordered-at, at-bordered, advanced}
 
 module _ (q m : ℕ) (order : Order) where

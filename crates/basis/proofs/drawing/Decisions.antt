@@ -33,7 +33,7 @@ use Rattle.specification.specs.BasisOf.{standardOf, leadsOf}
 use Rattle.specification.specs.Instance.{Monomial, Point, spaceOf, pointOf}
 use Rattle.specification.proofs.Instance.{laws, standard-total}
 use Rattle.specification.proofs.ideal.Laws.{Laws}
-use Rattle.basis.proofs.drawing.UpTo.{Drawn, is-lead, is-standard, standard-room, leads-room}
+use Rattle.specification.proofs.drawing.UpTo.{Drawn, is-lead, is-standard, standard-room, leads-room}
 use Rattle.basis.proofs.drawing.Positions.{grown}
 use Rattle.basis.proofs.drawing.ReducedRows.{loaded}
 use Rattle.basis.proofs.drawing.Candidates.{ranked-more}

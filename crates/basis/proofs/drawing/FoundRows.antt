@@ -10,7 +10,7 @@ use Rattle.specification.specs.Basis.{Row, Rows}
 use Rattle.specification.specs.BasisOf.{standardOf, rowOf}
 use Rattle.specification.proofs.ideal.Laws.{Laws}
 use Rattle.specification.proofs.ideal.Basis.{row-only}
-use Rattle.basis.proofs.drawing.UpTo.{row-longer}
+use Rattle.specification.proofs.drawing.UpTo.{row-longer}
 
 -- a coefficient 0 more is what the place holds already
 fill-longer : (k : ℕ) (cs : List ℕ) → fill k (cs ++ (0 ∷ [])) ≡ fill k cs

@@ -29,7 +29,7 @@ use Rattle.specification.proofs.ideal.Laws.{Laws}
 use Rattle.specification.proofs.ideal.Lists.{getD-among}
 use Rattle.basis.specs.Drawing.{productValues}
 use Rattle.basis.proofs.drawing.ProductValues.{product-long, product-below, product-at}
-use Rattle.basis.proofs.drawing.UpTo.{bordered-start, front-start, start-standard, start-lead, front-next, take-standard, take-lead}
+use Rattle.specification.proofs.drawing.UpTo.{bordered-start, front-start, start-standard, start-lead, front-next, take-standard, take-lead}
 use Rattle.basis.proofs.drawing.Positions.{productAt, positions-start}
 use Rattle.basis.proofs.drawing.Candidates.{Found}
 use Rattle.basis.proofs.drawing.Held.{Ground, Held, InHand, pointAt}

@@ -18,7 +18,7 @@ use Rattle.specification.specs.Polynomial.{Distinct}
 use Rattle.specification.specs.Basis.{Rows}
 use Rattle.specification.specs.BasisOf.{standardOf, leadsOf}
 use Rattle.specification.specs.Instance.{Monomial, Point, spaceOf, pointOf}
-use Rattle.basis.proofs.drawing.UpTo.{Drawn, Front, Bordered}
+use Rattle.specification.proofs.drawing.UpTo.{Drawn, Front, Bordered}
 use Rattle.basis.proofs.drawing.Positions.{Positions}
 use Rattle.basis.proofs.drawing.Candidates.{tableOf, Ranked}
 use Rattle.basis.proofs.drawing.Matrix.{valuesOf}

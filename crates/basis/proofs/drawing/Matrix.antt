@@ -22,7 +22,7 @@ use Rattle.specification.proofs.ideal.Laws.{Laws}
 use Rattle.specification.proofs.ideal.Lists.{getD-among, index-of}
 use Rattle.specification.proofs.ideal.Newton.{at-lin}
 use Rattle.specification.proofs.ideal.Sound.{eval-at}
-use Rattle.basis.proofs.drawing.Pivots.{Spanned}
+use Rattle.specification.proofs.drawing.Span.{Spanned}
 use Rattle.basis.proofs.drawing.ReducedRows.{no-combination}
 
 -- a sum over a list, by its places

@@ -14,7 +14,7 @@ use Rattle.monomial.proofs.Orders.Increasing.{below-member}
 use Rattle.specification.specs.Space.{Space, Less}
 use Rattle.specification.proofs.ideal.Laws.{Laws, Compares, lt, eq, gt, compared, same?, irrefl, trans, less-ne}
 use Rattle.specification.proofs.ideal.Lists.{getD-among, index-of}
-use Rattle.basis.proofs.drawing.UpTo.{Next, Bordered}
+use Rattle.specification.proofs.drawing.UpTo.{Next, Bordered}
 
 module _ (D : Space) where
   open Space D using (m, Mono, one, x, cmp)

@@ -1,4 +1,4 @@
--- Values at points as those of a combination of monomials, and the interpolant of minus the values.
+-- The interpolant of minus the values.
 use mathlib.Core.Path.{_≡_, _∙_}
 use mathlib.Core.List.{List, [], _∷_, map}
 use mathlib.Core.Logic.{inl, inr}
@@ -14,7 +14,6 @@ use Rattle.specification.specs.Polynomial.{eval, Distinct, terms}
 use Rattle.specification.specs.Basis.{Fits}
 use Rattle.specification.specs.BasisOf.{basisOf, standardOf}
 use Rattle.specification.proofs.ideal.Laws.{Laws}
-use Rattle.specification.proofs.ideal.Newton.{at}
 use Rattle.specification.proofs.ideal.Basis.{interpolant-fits, interpolant-only}
 
 module _ (D : Space) where
@@ -23,10 +22,6 @@ module _ (D : Space) where
   infix 35 _≈_
   abbrev _≈_ : ℕ → ℕ → Type 0
   a ≈ b = Mod (suc q) a b
-
-  -- the values φ are those of a combination of l at the points of S
-  abbrev pub Spanned : List Pt → List Mono → (Pt → ℕ) → Type 0
-  Spanned S l φ = (c : Mono → ℕ) × ((P : Pt) → Among P S → at D c l P ≈ φ P)
 
   module _ (L : Laws D) (S : List Pt) (d : Distinct D S) where
     pub interpolant-minus : (φ : Pt → ℕ) → map (λ c. (q * c) % suc q) (basisOf D S .interpolant (λ P. q * φ P)) ≡ basisOf D S .interpolant φ

@@ -12,18 +12,17 @@ use Rattle.residue.specs.Lists.{Among}
 use Rattle.residue.proofs.Congruence.{of, _then_}
 use Rattle.monomial.specs.Increasing.{Increasing}
 use Rattle.monomial.proofs.Orders.Increasing.{unique}
 use Rattle.specification.specs.Space.{Space, Less, Divides}
 use Rattle.specification.specs.Polynomial.{eval, Distinct, terms}
 use Rattle.specification.specs.Basis.{Row}
 use Rattle.specification.specs.BasisOf.{standardOf, leadsOf}
 use Rattle.specification.proofs.ideal.Laws.{Laws, Compares, lt, eq, gt, compared, same?, irrefl, trans, less-ne}
 use Rattle.specification.proofs.ideal.Lists.{snoc-of, snoc-in, snoc-increasing}
 use Rattle.specification.proofs.ideal.Increasing.{increasing-length}
 use Rattle.specification.proofs.ideal.Staircase.{member?}
 use Rattle.specification.proofs.ideal.Basis.{staircase}
 use Rattle.specification.proofs.ideal.Counts.{standard-length, leads-length}
-use Rattle.basis.proofs.drawing.Pivots.{Spanned}
-use Rattle.basis.proofs.drawing.Span.{spanned, not-spanned}
+use Rattle.specification.proofs.drawing.Span.{Spanned, spanned, not-spanned}
 
 module _ (D : Space) where
   open Space D using (m, Mono, Pt, one, x, val, cmp)

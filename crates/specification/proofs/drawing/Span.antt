@@ -7,15 +7,21 @@ use Rattle.residue.specs.Congruence.{Mod}
 use Rattle.residue.specs.Lists.{Among}
 use Rattle.residue.proofs.Congruence.{of, flip, _then_, _plus_, scale, lin}
 use Rattle.monomial.specs.Increasing.{Increasing}
 use Rattle.specification.specs.Space.{Space, Less}
 use Rattle.specification.specs.Polynomial.{hit, coefficient, Distinct, terms}
 use Rattle.specification.specs.BasisOf.{standardOf}
 use Rattle.specification.proofs.ideal.Laws.{Laws, Compares, lt, eq, gt, compared, hit-same}
 use Rattle.specification.proofs.ideal.Polynomials.{comb, pair-terms, terms-over, comb-hit, comb-miss, collect}
 use Rattle.specification.proofs.ideal.Newton.{at, at-lin, at-cong}
 use Rattle.specification.proofs.ideal.Staircase.{hit-at, member?}
 use Rattle.specification.proofs.ideal.Basis.{coefficientsOf, staircase}
-use Rattle.basis.proofs.drawing.Pivots.{Spanned}
+
+module _ (D : Space) where
+  open Space D using (q, Mono, Pt)
+
+  -- the values φ are those of a combination of l at the points of S
+  abbrev pub Spanned : List Pt → List Mono → (Pt → ℕ) → Type 0
+  Spanned S l φ = (c : Mono → ℕ) × ((P : Pt) → Among P S → Mod (suc q) (at D c l P) (φ P))
 
 module _ (D : Space) (L : Laws D) (S : List (D .Pt)) (d : Distinct D S) where
   open Space D using (q, Mono, Pt, val, cmp)
