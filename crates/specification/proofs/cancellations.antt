@@ -11,3 +11,5 @@ pub mod Fronts
 pub mod Tables
 pub mod Turns
 pub mod Progress
+pub mod Under
+pub mod Computed

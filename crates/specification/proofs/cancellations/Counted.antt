@@ -101,12 +101,15 @@ module _ (D : Space) (L : Laws D) (S : List (D .Pt)) (d : Distinct D S) where
       go (eq e) = e
       go (gt u) = absurd (h .least b (k .after) (k .undivided) u)
 
-  pub examines-one : (c : Mono) (f g e : Found D) → Examines D S g c f → Examines D S e c f → g ≡ e
+  examines-one : (c : Mono) (f g e : Found D) → Examines D S g c f → Examines D S e c f → g ≡ e
   examines-one c f g e (done h p) (done k r) = sym p ∙ r
   examines-one c f g e (done h p) (more b k r) = absurd (h b (k .after) (k .undivided))
   examines-one c f g e (more b h p) (done k r) = absurd (k b (h .after) (h .undivided))
   examines-one c f g e (more b h p) (more a k r) =
       examines-one b (examined D S b f) g e p (subst (λ (z : Mono). Examines D S e z (examined D S z f)) (follows-one (f .leads) c a b k h) r)
 
+  pub examination-only : (g : Found D) → Examination D S g → g ≡ examinedAll D S
+  examination-only g h = examines-one one (examined D S one (found D [] [] [] 0)) g (examinedAll D S) h examination
+
   pub cancellations-only : (g : Found D) → Examination D S g → g .cancellations ≡ cancellationsOf D S
-  cancellations-only g h = ap (λ (f : Found D). f .cancellations) (examines-one one (examined D S one (found D [] [] [] 0)) g (examinedAll D S) h examination)
+  cancellations-only g h = ap (λ (f : Found D). f .cancellations) (examination-only g h)
