@@ -24,8 +24,8 @@ use Rattle.residue.proofs.elimination.Eliminated.{cancellations-most}
 use Rattle.specification.proofs.cancellations.Tables.{Tabled}
 use Rattle.specification.proofs.cancellations.Turns.{lead-turn, standard-turn, table-turn, table-none}
 
-module _ (D : Space) (L : Laws D) (S : List (D .Pt)) (d : Distinct D S) (n : ℕ) (count : length S ≡ n) (few : n ≤ 64) where
-  open Space D using (q, Mono, one)
+module _ (D : Space) (S : List (D .Pt)) (n : ℕ) where
+  open Space D using (Mono)
 
   -- b is examined next; `total` cancellations have been made
   pub record Ready (standard leads : List Mono) (total : ℕ) (rows pivots : List ℕ) (b : Mono) : Type 0 where
@@ -46,7 +46,10 @@ module _ (D : Space) (L : Laws D) (S : List (D .Pt)) (d : Distinct D S) (n : ℕ
     pub low : (a : Mono) → Among a standard → ¬ Less D b a
     pub on : (g : Found D) → Examines D S g b (found D standard leads found-pivots total) → Examination D S g
 
-  pub ready-start : (rows pivots : List ℕ) → Ready [] [] 0 rows pivots one
+module _ (D : Space) (L : Laws D) (S : List (D .Pt)) (d : Distinct D S) (n : ℕ) (count : length S ≡ n) (few : n ≤ 64) where
+  open Space D using (q, Mono, one)
+
+  pub ready-start : (rows pivots : List ℕ) → Ready D S n [] [] 0 rows pivots one
   ready-start rows pivots = record { found-pivots = []; tabled = table-none n rows pivots; paired = refl; few-made = omega arith; low = λ a mem. absurd mem; on = λ g h. h }
 
   module _ (standard leads : List Mono) (total : ℕ) (rows pivots : List ℕ) (b : Mono) where
@@ -60,14 +63,14 @@ module _ (D : Space) (L : Laws D) (S : List (D .Pt)) (d : Distinct D S) (n : ℕ
     abbrev made : ℕ
     made = cancellations (suc q) rows pivots (length standard) work
 
-    module _ (R : Ready standard leads total rows pivots b) where
+    module _ (R : Ready D S n standard leads total rows pivots b) where
       abbrev f : Found D
       f = found D standard leads (R .found-pivots) total
 
       more-made : (s : ℕ) → length standard ≤ n → s ≡ suc (length standard + length leads) → total + made ≤ n * s
       more-made s r e = rw e (omega (arith, r, R .few-made, cancellations-most (suc q) rows pivots work (length standard)))
 
-      pub pass-lead : length standard ≤ n → firstNonzero n left ≡ n → Passed standard (leads ++ (b ∷ [])) (total + made) rows pivots b
+      pub pass-lead : length standard ≤ n → firstNonzero n left ≡ n → Passed D S n standard (leads ++ (b ∷ [])) (total + made) rows pivots b
       pass-lead r e = record {
         found-pivots = R .found-pivots;
         tabled = R .tabled;
@@ -83,7 +86,7 @@ module _ (D : Space) (L : Laws D) (S : List (D .Pt)) (d : Distinct D S) (n : ℕ
 
       pub pass-standard : length standard ≤ n → firstNonzero n left < n → D .inv (getD left (firstNonzero n left) 0) ≡ inverseOf (suc q) (getD left (firstNonzero n left) 0) →
           1152 * length standard + 1152 ≤ length rows → length standard < length pivots → n + length standard < 128 → 2 ≤ suc q →
-          Passed (standard ++ (b ∷ [])) leads (total + made)
+          Passed D S n (standard ++ (b ∷ [])) leads (total + made)
           (withPlace 1152 (length standard) (multiplesOf (suc q) (pivotRow (suc q) (n + length standard) (inverseOf (suc q) (getD left (firstNonzero n left) 0)) left)) rows)
           (set pivots (length standard) (firstNonzero n left)) b
       pass-standard r s i fits room own range = record {
@@ -99,9 +102,9 @@ module _ (D : Space) (L : Laws D) (S : List (D .Pt)) (d : Distinct D S) (n : ℕ
           turned : examined D S b f ≡ found D (standard ++ (b ∷ [])) leads (R .found-pivots ++ (pivotOf D (take n left) ∷ [])) (total + made)
           turned = rw (R .paired) at (standard-turn D S n count few f b rows pivots (R .tabled) (rw (R .paired) s))
 
-    module _ (P : Passed standard leads total rows pivots b) where
+    module _ (P : Passed D S n standard leads total rows pivots b) where
       -- the search found the least product a behind c, the last one passed
-      pub ready-next : (c a : Mono) → Drawn D S standard leads c → Next D standard leads c a → Bordered D standard a → Ready standard leads total rows pivots a
+      pub ready-next : (c a : Mono) → Drawn D S standard leads c → Next D standard leads c a → Bordered D standard a → Ready D S n standard leads total rows pivots a
       ready-next c a W next border = record {
         found-pivots = P .found-pivots;
         tabled = P .tabled;
