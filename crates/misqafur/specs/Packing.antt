@@ -28,7 +28,7 @@ packedAnswer a = packed (a .refusal ∷ a .n ∷ a .r ∷ [])
 
 -- refusal + 256 n + 65536 r + 2^32 cancellations
 abbrev pub packedDrawn : Drawn → ℕ
-packedDrawn d = packed (d .refusal ∷ d .n ∷ d .r + 65536 * d .cancellations ∷ [])
+packedDrawn d = packed (d .refusal ∷ d .n ∷ (d .r + 65536 * d .cancellations) ∷ [])
 
 -- refusal + 256 count
 abbrev pub packedWired : Wired → ℕ
