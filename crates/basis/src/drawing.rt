@@ -100,7 +100,8 @@ fn draw_anew(
     requires { ⌜ PointsGiven settings n (now points) ⌝ }
     requires { ⌜ (length (now standard) ≡ 512) × ((length (now leads) ≡ 3592) × (length (now coefficients) ≡ 28736)) ⌝ }
     requires { ⌜ RowsLong (now rows) (now pivots) ⌝ }
-    ensures { λ d. ⌜ Tabled settings (pointsIn settings n (now (points .entry))) (d .r) (now (standard .exit)) (now (leads .exit)) (now (coefficients .exit)) ⌝ }
+    ensures { λ d. ⌜ Tabled settings (pointsIn settings n (now (points .entry))) (d .r)
+        (now (standard .exit)) (now (leads .exit)) (now (coefficients .exit)) ⌝ }
     ensures { λ d. ⌜ d .cancellations ≡ cancellationsUnder settings (pointsIn settings n (now (points .entry))) ⌝ }
 {
     bytes::clear(standard);

@@ -47,10 +47,10 @@ pub record SameValues (s : Settings) (K L : List (List ℕ)) (v w : List ℤ) : 
   pub count : length v ≡ length w
   pub equal : (P : List ℕ) (y z : ℤ) → Among (P, y) (zip K v) → Among (P, z) (zip L w) → residueOf (s .modulus) y ≡ residueOf (s .modulus) z
 
--- A drawing up agrees with what the list holds: the number is 0, and n, r and the three tables are equal in each byte of their sizes. (Its cancellations depend on
--- the order of its points, and the list has none.) The remainder call,
--- handed the same terms, and the wiring call, handed values that are equal at each point, each desk's in the order of its own points, answer the same with
--- either tables, and leave equal buffers where they were lent buffers of equal bytes.
+-- A drawing up agrees with what the list holds: the number is 0, and n, r and the three tables are equal in each byte of their sizes. (Its cancellations
+-- depend on the order of its points, and the list has none.) The remainder call, handed the same terms, and the wiring call, handed values that are equal at
+-- each point, each desk's in the order of its own points, answer the same with either tables, and leave equal buffers where they were lent buffers of equal
+-- bytes.
 pub record SameAs (s : Settings) (h : Held) (o : DrawOutcome) : Type 0 where
   pub number : o .answer .refusal ≡ 0
   pub count : o .answer .n ≡ h .n

@@ -1,5 +1,5 @@
--- How many cancellations drawing up costs: docs/SCOPE.md, 'Cancellations' (request M-105), and from that section alone. A column is a list of residues, one for each
--- point in order of arrival.
+-- How many cancellations drawing up costs: docs/SCOPE.md, 'Cancellations' (request M-105), and from that section alone. A column is a list of residues, one for
+-- each point in order of arrival.
 use mathlib.Core.Bool.{Bool, true, false, not, cond, _&&_}
 use mathlib.Core.List.{List, [], _∷_, _++_, map, zipWith}
 use Prim.Native.Nat.{ℕ, zero, suc, _+_, _*_, _%_, Ordering, Ordering·lt, Ordering·eq, Ordering·gt}

@@ -1,5 +1,5 @@
--- The examination as docs/SCOPE.md, 'Cancellations', says it (request M-105), with no search and no bound on its steps: which monomial comes next is said of all
--- monomials. No contract cites this; `examination` and `cancellations-only` (proofs/cancellations/Counted) join it to what is computed.
+-- The examination as docs/SCOPE.md, 'Cancellations', says it (request M-105), with no search and no bound on its steps: which monomial comes next is said of
+-- all monomials. No contract cites this; `examination` and `cancellations-only` (proofs/cancellations/Counted) join it to what is computed.
 use mathlib.Core.Path.{_≡_}
 use mathlib.Core.List.{List, []}
 use Rattle.residue.specs.Lists.{Among}

@@ -1,7 +1,7 @@
 -- The count of a turn of drawing up: the monomial in hand is examined, and the cancellations that its working row took are those that its column costs.
 use mathlib.Core.Path.{_≡_, sym, ap₂, subst, _∙_}
 use mathlib.Core.List.{List, [], _∷_, _++_}
-use Prim.Native.Nat.{ℕ, suc, _+_, _*_, _<_, _≤_}
+use Prim.Native.Nat.{ℕ, suc, _+_, _<_}
 use native.Mathlib.Omega.{arith}
 use lib.ListN.{length, getD, set, take}
 use Rattle.residue.specs.Inverse.{inverseOf}

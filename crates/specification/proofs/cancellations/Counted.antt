@@ -27,7 +27,7 @@ module _ (D : Space) (L : Laws D) (S : List (D .Pt)) (d : Distinct D S) where
     pub leads-are : f .leads ≡ leadsOf D S
     pub few : f .cancellations ≤ length S * (length S * m + 1)
 
-  -- reached from f and c as the document says, and all found
+  -- reached from f and c as the requirement says, and all found
   abbrev Reached : Mono → Found D → Found D → Type 0
   Reached c f g = Examines D S g c f × Ended g
 
@@ -81,7 +81,7 @@ module _ (D : Space) (L : Laws D) (S : List (D .Pt)) (d : Distinct D S) where
       let s = examined-standing D L S d (found D [] [] [] 0) one (holds-none D S) refl (omega arith) (omega arith) (front-start D L S d) (bordered-start D L S d) (start-standard D L S d) (start-lead D L S d) in
       to-the-end (suc (length S * m)) (examined D S one (found D [] [] [] 0)) one (s .0) (omega (arith, s .1))
 
-  -- the computed examination is the one that the document says
+  -- the computed examination is the one that the requirement says
   pub examination : Examination D S (examinedAll D S)
   examination = whole .0
 
@@ -92,7 +92,7 @@ module _ (D : Space) (L : Laws D) (S : List (D .Pt)) (d : Distinct D S) where
   pub cancellations-few : cancellationsOf D S ≤ length S * (length S * m + 1)
   cancellations-few = counted .few
 
-  -- there is one such examination: whatever goes as the document says counts the same
+  -- there is one such examination: whatever goes as the requirement says counts the same
   follows-one : (leads : List Mono) (c a b : Mono) → Follows D leads c a → Follows D leads c b → a ≡ b
   follows-one leads c a b h k = go (compared D L a b)
     where

@@ -1,5 +1,5 @@
 -- The walk of drawing up goes through the examination: the monomials that it passes over are multiples of leads found, so what it keeps next is what is examined next.
-use mathlib.Core.Path.{_≡_, sym, subst}
+use mathlib.Core.Path.{sym, subst}
 use mathlib.Core.List.{List}
 use mathlib.Core.Logic.{inl, inr}
 use Prim.Native.Nat.{Ordering}

@@ -1,7 +1,7 @@
 -- Drawing up from all points, after Buchberger and Möller (docs/SCOPE.md, 'The sheet'): monomials in increasing order, each a product of a standard monomial found; what has
 -- been decided is the basis up to the last of them. A monomial all of whose divisors are standard is a lead if its values are a combination of those of the
 -- standard monomials found, and else standard.
-use mathlib.Core.Path.{_≡_, sym, _∙_, ap, subst}
+use mathlib.Core.Path.{_≡_, sym, ap, subst}
 use mathlib.Core.List.{List, [], _∷_, _++_}
 use mathlib.Core.Logic.{_⊎_, inl, inr}
 use mathlib.Core.WellFounded.{Acc·ndrec}
