@@ -101,25 +101,29 @@ static const struct operation operations[] = {{"draw up", run_draw, 0, &same_met
 static double ratios[OPERATIONS][3][MOST_RATIOS];
 static size_t ratio_count[OPERATIONS];
 
-/* Drawing up: cancellations against time, summed up for a straight line through all inputs. */
+/* Drawing up: cancellations against time, summed up for a straight line through the inputs of a modulus. */
 static struct {
     double count, x, y, xx, xy;
-} line;
+} lines[62];
 
-static void keep_point(double x, double y)
+static void keep_point(uint64_t p, double x, double y)
 {
-    line.count += 1;
-    line.x += x;
-    line.y += y;
-    line.xx += x * x;
-    line.xy += x * y;
+    lines[p].count += 1;
+    lines[p].x += x;
+    lines[p].y += y;
+    lines[p].xx += x * x;
+    lines[p].xy += x * y;
 }
 
-static void print_line(void)
+static void print_lines(void)
 {
-    double slope = (line.count * line.xy - line.x * line.y) / (line.count * line.xx - line.x * line.x);
-    printf("drawing up takes about %.1f us and %.1f us for 1,000 cancellations (least squares, %.0f inputs)\n",
-           (line.y - slope * line.x) / line.count, 1000 * slope, line.count);
+    for (int p = 2; p < 62; p++) {
+        double n = lines[p].count, x = lines[p].x, y = lines[p].y;
+        double slope = (n * lines[p].xy - x * y) / (n * lines[p].xx - x * x);
+        if (n > 0)
+            printf("drawing up modulo %d: %.1f us and %.1f us for 1,000 cancellations (least squares, %.0f inputs)\n", p,
+                   (y - slope * x) / n, 1000 * slope, n);
+    }
 }
 
 /* Processor time, so that other work on the machine counts little. */
@@ -235,7 +239,7 @@ static int measure(struct input *in)
         printf("%-10s %3d %3d  %-8s %3d %4d %7u %10.1f", op->name, (int)in->p, (int)in->m, words[in->order], (int)in->n,
                (int)in->whole.r, cancellations(&archive, in), best[0]);
         if (op->run == run_draw)
-            keep_point(cancellations(&archive, in), best[0]);
+            keep_point(in->p, cancellations(&archive, in), best[0]);
         for (int side = 1; side < side_count(op); side++) {
             double ratio = best[0] / best[side];
             ratios[i][side][ratio_count[i]] = ratio;
@@ -322,7 +326,7 @@ static int full_run(void)
            "archive us", "plain us", "ratio", "third us", "ratio");
     int differing = for_all_inputs(points, sizeof points / sizeof *points, measure);
     print_medians();
-    print_line();
+    print_lines();
     return report(differing);
 }
 
