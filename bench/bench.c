@@ -37,9 +37,10 @@ struct result {
     uint8_t out[MISQAFUR_RESIDUES_SIZE];
 };
 
+/* Of the answer the counts of the basis: plain C makes no cancellations. */
 static void draw(const struct measured *by, const struct input *in, uint64_t n, struct lent *lent, uint32_t *answer)
 {
-    *answer = by->draw_up(in->p, in->m, in->order, LENT(lent), in->levels, in->m * n);
+    *answer = (uint32_t)by->draw_up(in->p, in->m, in->order, LENT(lent), in->levels, in->m * n);
     lent->n = misqafur_points(*answer);
     lent->r = misqafur_elements(*answer);
 }
@@ -65,7 +66,8 @@ static void run_withdraw(const struct measured *by, const struct input *in, stru
         to->answer = by->withdraw_point(in->p, in->m, in->order, to->lent.n, to->lent.r, LENT(&to->lent), in->levels,
                                         in->m);
     else
-        to->answer = by->draw_up(in->p, in->m, in->order, LENT(&to->lent), in->levels + in->m, in->m * (in->n - 1));
+        to->answer = (uint32_t)by->draw_up(in->p, in->m, in->order, LENT(&to->lent), in->levels + in->m,
+                                           in->m * (in->n - 1));
 }
 
 static void run_check(const struct measured *by, const struct input *in, struct result *to)
@@ -98,6 +100,31 @@ static const struct operation operations[] = {{"draw up", run_draw, 0, &same_met
 
 static double ratios[OPERATIONS][3][MOST_RATIOS];
 static size_t ratio_count[OPERATIONS];
+
+/* Drawing up: cancellations against time, summed up for a straight line through the inputs of a modulus. */
+static struct {
+    double count, x, y, xx, xy;
+} lines[62];
+
+static void keep_point(uint64_t p, double x, double y)
+{
+    lines[p].count += 1;
+    lines[p].x += x;
+    lines[p].y += y;
+    lines[p].xx += x * x;
+    lines[p].xy += x * y;
+}
+
+static void print_lines(void)
+{
+    for (int p = 2; p < 62; p++) {
+        double n = lines[p].count, x = lines[p].x, y = lines[p].y;
+        double slope = (n * lines[p].xy - x * y) / (n * lines[p].xx - x * x);
+        if (n > 0)
+            printf("drawing up modulo %d: %.1f us and %.1f us for 1,000 cancellations (least squares, %.0f inputs)\n", p,
+                   (y - slope * x) / n, 1000 * slope, n);
+    }
+}
 
 /* Processor time, so that other work on the machine counts little. */
 static double seconds(void)
@@ -162,6 +189,22 @@ static int same(const struct operation *op, const struct input *in)
     return 0;
 }
 
+/* How many cancellations drawing up takes. */
+static uint32_t cancellations(const struct measured *by, const struct input *in)
+{
+    static struct lent lent;
+    return misqafur_cancellations(by->draw_up(in->p, in->m, in->order, LENT(&lent), in->levels, in->m * in->n));
+}
+
+/* Whether C by the same method takes as many. */
+static int same_cancellations(const struct input *in)
+{
+    if (cancellations(&archive, in) == cancellations(&same_method, in))
+        return 1;
+    printf("cancellations differ for p %d, m %d, order %d, n %d\n", (int)in->p, (int)in->m, (int)in->order, (int)in->n);
+    return 0;
+}
+
 /* The bases that an input's operations start from. */
 static void prepare(struct input *in)
 {
@@ -173,8 +216,8 @@ static void prepare(struct input *in)
 /* One input, every operation: how many results differ. */
 static int compare(struct input *in)
 {
-    int differing = 0;
     prepare(in);
+    int differing = !same_cancellations(in);
     for (size_t i = 0; i < OPERATIONS; i++)
         differing += !same(&operations[i], in);
     return differing;
@@ -193,8 +236,10 @@ static int measure(struct input *in)
             continue;
         differing += !same(op, in);
         time_all(op, in, best);
-        printf("%-10s %3d %3d  %-8s %3d %4d %10.1f", op->name, (int)in->p, (int)in->m, words[in->order], (int)in->n,
-               (int)in->whole.r, best[0]);
+        printf("%-10s %3d %3d  %-8s %3d %4d %7u %10.1f", op->name, (int)in->p, (int)in->m, words[in->order], (int)in->n,
+               (int)in->whole.r, cancellations(&archive, in), best[0]);
+        if (op->run == run_draw)
+            keep_point(in->p, cancellations(&archive, in), best[0]);
         for (int side = 1; side < side_count(op); side++) {
             double ratio = best[0] / best[side];
             ratios[i][side][ratio_count[i]] = ratio;
@@ -277,10 +322,11 @@ static int smoke_run(void)
 static int full_run(void)
 {
     static const uint64_t points[] = {8, 16, 32, 48, 64};
-    printf("%-10s %3s %3s  %-8s %3s %4s %10s %10s %6s %10s %6s\n", "operation", "p", "m", "order", "n", "r",
+    printf("%-10s %3s %3s  %-8s %3s %4s %7s %10s %10s %6s %10s %6s\n", "operation", "p", "m", "order", "n", "r", "cancels",
            "archive us", "plain us", "ratio", "third us", "ratio");
     int differing = for_all_inputs(points, sizeof points / sizeof *points, measure);
     print_medians();
+    print_lines();
     return report(differing);
 }
 

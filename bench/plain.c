@@ -5,7 +5,7 @@
 
 #include <string.h>
 
-uint32_t plain_draw_up(uint64_t modulus, uint64_t variables, uint64_t order,
+uint64_t plain_draw_up(uint64_t modulus, uint64_t variables, uint64_t order,
                        uint8_t *states, size_t states_length, uint8_t *standard, size_t standard_length,
                        uint8_t *leads, size_t leads_length, uint8_t *coefficients, size_t coefficients_length,
                        const uint8_t *levels, size_t levels_length)

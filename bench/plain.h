@@ -1,6 +1,7 @@
 /* Five of the calls in plain C, tuned for speed and with no proof: the measure that the archive is
  * held against. Each has the type of the exported call; settings and lengths must be good ones, and
- * of the refusals only 10, 11 and 12 are looked for. */
+ * of the refusals only 10, 11 and 12 are looked for. By exchange steps there are no cancellations to
+ * count: drawing up answers none. */
 #ifndef PLAIN_H
 #define PLAIN_H
 
@@ -12,7 +13,7 @@ __typeof__(misqafur_withdraw_point) plain_withdraw_point;
 __typeof__(misqafur_check) plain_check;
 __typeof__(misqafur_remainder) plain_remainder;
 
-/* Drawing up once more, by the method that the archive has. */
+/* Drawing up once more, by the method that the archive has; it counts the cancellations. */
 __typeof__(misqafur_draw_up) rows_draw_up;
 
 #endif

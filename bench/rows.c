@@ -15,7 +15,7 @@
 struct rows {
     uint8_t p;
     const uint8_t *inverse;
-    unsigned n;
+    unsigned n, cancellations;
     struct candidates candidates;
     uint8_t coordinate[8][MOST], value[MOST][MOST];
     uint8_t pivot_row[MOST][MULTIPLES][ROW];
@@ -64,19 +64,20 @@ static const uint8_t *named(unsigned digit, const uint8_t (*first)[ROW])
     return digit == 0 ? zeros : first[digit - 1];
 }
 
-/* Meets pivot row j. Up to 5 each factor is the number of a multiple. */
-static void cancel(const struct rows *w, unsigned j, uint8_t *row)
+/* Meets pivot row j; 1 for a cancellation, else 0. Up to 5 each factor is the number of a multiple. */
+static unsigned cancel(const struct rows *w, unsigned j, uint8_t *row)
 {
     const uint8_t (*multiples)[ROW] = w->pivot_row[j];
     uint8_t p = w->p, entry = row[w->pivot[j]];
     unsigned factor = (unsigned)(p - entry), width = whole(w->n + j + 1);
     if (entry == 0)
-        return;
+        return 0;
     if (p <= 5)
         add_one(p, width, row, multiples[factor - 1]);
     else
         add_three(p, width, row, named(factor & 3, multiples), named(factor >> 2 & 3, multiples + 3),
                   named(factor >> 4, multiples + 6));
+    return 1;
 }
 
 /* Keeps a pivot row, scaled to 1 at its pivot, with its multiples: each is the one before and the first
@@ -102,7 +103,7 @@ static unsigned take(struct rows *w, const struct candidate *c, const uint8_t *v
     unsigned pivot = 0;
     memcpy(row, values, w->n);
     for (unsigned j = 0; j < w->candidates.found; j++)
-        cancel(w, j, row);
+        w->cancellations += cancel(w, j, row);
     while (pivot < w->n && row[pivot] == 0)
         pivot++;
     if (pivot < w->n) {
@@ -132,6 +133,7 @@ static void begin(struct rows *w, uint8_t p, unsigned m, unsigned order, unsigne
 {
     w->p = p;
     w->n = n;
+    w->cancellations = 0;
     w->inverse = inverses(p);
     candidates_begin(&w->candidates, m, order);
     memset(w->coordinate, 0, sizeof w->coordinate);
@@ -140,7 +142,7 @@ static void begin(struct rows *w, uint8_t p, unsigned m, unsigned order, unsigne
             w->coordinate[k][i] = states[8 * i + k];
 }
 
-uint32_t rows_draw_up(uint64_t modulus, uint64_t variables, uint64_t order,
+uint64_t rows_draw_up(uint64_t modulus, uint64_t variables, uint64_t order,
                       uint8_t *states, size_t states_length, uint8_t *standard, size_t standard_length,
                       uint8_t *leads, size_t leads_length, uint8_t *coefficients, size_t coefficients_length,
                       const uint8_t *levels, size_t levels_length)
@@ -164,5 +166,5 @@ uint32_t rows_draw_up(uint64_t modulus, uint64_t variables, uint64_t order,
             values[i] = mul(w.p, w.value[c.parent][i], w.coordinate[c.by][i]);
         r = take(&w, &c, values, r, standard, leads, coefficients);
     }
-    return 256 * n + 65536 * r;
+    return 256 * n + 65536 * r + ((uint64_t)w.cancellations << 32);
 }

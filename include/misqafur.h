@@ -63,7 +63,7 @@
  *       const uint8_t levels[6] = {0, 0, 1, 2, 2, 1};
  *       const uint8_t values[3] = {1, 0, misqafur_level(-2)};
  *       uint8_t interpolant[MISQAFUR_RESIDUES_SIZE];
- *       uint32_t answer = misqafur_draw_up(5, 2, MISQAFUR_GRLEX, states, sizeof states, standard, sizeof standard,
+ *       uint64_t answer = misqafur_draw_up(5, 2, MISQAFUR_GRLEX, states, sizeof states, standard, sizeof standard,
  *                                          leads, sizeof leads, coefficients, sizeof coefficients, levels, 6);
  *       if (misqafur_refusal(answer) != 0)
  *           return 1;
@@ -135,9 +135,13 @@ uint32_t misqafur_withdraw_point(uint64_t modulus, uint64_t variables, uint64_t 
 /* Draws up the basis of all points at once: m levels for each point, point after point, or none.
  * Reads: the settings, the levels; of the tables their lengths alone.
  * Writes: the four tables, to their sizes.
- * Answers n and r (misqafur_points, misqafur_elements).
+ * Answers n and r (misqafur_points, misqafur_elements), and how many cancellations that took
+ * (misqafur_cancellations), at most n * (n * m + 1) and so 32,832. Those depend on the order of the
+ * points: monomials are examined in increasing order, multiples of leading ones passed over; each one's
+ * column of values meets the pivots found before, in their order, and an entry at a pivot's point that is
+ * not 0 then is one cancellation.
  * Refusals: 3, 4, 5, 6, 7 (levels_length is no multiple of m), 8 (more than 64 points), 9, 11. */
-uint32_t misqafur_draw_up(uint64_t modulus, uint64_t variables, uint64_t order,
+uint64_t misqafur_draw_up(uint64_t modulus, uint64_t variables, uint64_t order,
                           uint8_t *states, size_t states_length, uint8_t *standard, size_t standard_length,
                           uint8_t *leads, size_t leads_length, uint8_t *coefficients, size_t coefficients_length,
                           const uint8_t *levels, size_t levels_length);
@@ -239,20 +243,26 @@ static inline size_t misqafur_pack_levels(const uint8_t *states, uint64_t n, uin
 }
 
 /* The refusal in the answer of any call but the reader; 0 for none. */
-static inline uint32_t misqafur_refusal(uint32_t answer)
+static inline uint32_t misqafur_refusal(uint64_t answer)
 {
-    return answer & 255u;
+    return (uint32_t)(answer & 255u);
 }
 
 /* n and r in the answer of misqafur_add_point, misqafur_withdraw_point and misqafur_draw_up. */
-static inline uint32_t misqafur_points(uint32_t answer)
+static inline uint32_t misqafur_points(uint64_t answer)
 {
-    return (answer >> 8) & 255u;
+    return (uint32_t)((answer >> 8) & 255u);
 }
 
-static inline uint32_t misqafur_elements(uint32_t answer)
+static inline uint32_t misqafur_elements(uint64_t answer)
 {
-    return answer >> 16;
+    return (uint32_t)((answer >> 16) & 65535u);
+}
+
+/* The cancellations in the answer of misqafur_draw_up. */
+static inline uint32_t misqafur_cancellations(uint64_t answer)
+{
+    return (uint32_t)(answer >> 32);
 }
 
 /* The length of the list in the answer of misqafur_wiring. */

@@ -4,16 +4,17 @@
 usage: tools/basis_cases.py CASES STDOUT [PATTERN]
 Writes the cases to the file CASES (crates/basis_test/data/cases) and what the program prints for them to STDOUT
 (crates/basis_test/stdout); of the cases only those whose names match PATTERN, if it is given. They are made of
-tests/texts/vectors (NAME.csv with what the program prints for it in NAME.txt) and tests/remainders (NAME.rem: the same
-points, two polynomials and their remainders). The bases, interpolants and remainders were computed by Singular 4.3.1
-and agree with Macaulay2 1.21.
+tests/texts/vectors (NAME.csv with what the program prints for it in NAME.txt), tests/remainders (NAME.rem: the same
+points, two polynomials and their remainders) and tests/cancellations (a line for each NAME: how many cancellations
+drawing up these points takes). The bases, interpolants and remainders were computed by Singular 4.3.1 and agree with
+Macaulay2 1.21.
 
-A case is a head of 18 bytes and, in this order: levels and values, as signed bytes; the bytes that the tables of
+A case is a head of 20 bytes and, in this order: levels and values, as signed bytes; the bytes that the tables of
 points, standard monomials, leading monomials and coefficients begin with; the interpolant; 8 bytes, 1 for each
 variable of the wiring list; and two polynomials, each its number of terms, their coefficients as signed bytes, 8
 exponents a term, and the remainder. The head: modulus (2 bytes, the lowest first, as in all numbers of two), variables,
 order, refusal and number of points (1 byte each); then two bytes each: the number of rows, of levels, of levels before
-the last point, and of the bytes of points, leading monomials and coefficients. Of the coefficients of a polynomial every
+the last point, and of the bytes of points, leading monomials and coefficients; and the cancellations. Of the coefficients of a polynomial every
 second is written as the negative level of the same residue. A case that is refused has its levels behind the head, and
 nothing else.
 """
@@ -24,6 +25,7 @@ from text_cases import TESTS, levels_in, write
 
 VECTORS = os.path.join(TESTS, "texts", "vectors")
 REMAINDERS = os.path.join(TESTS, "remainders")
+CANCELLATIONS = os.path.join(TESTS, "cancellations")
 
 
 def signed(levels):
@@ -83,7 +85,13 @@ def head(settings, refusal, n, *words):
     return p.to_bytes(2, "little") + bytes([m, order, refusal, n]) + b"".join(word.to_bytes(2, "little") for word in words)
 
 
-def accepted(name):
+def counts():
+    """The cancellations by name."""
+    with open(CANCELLATIONS) as file:
+        return {name: int(count) for name, count in map(str.split, file)}
+
+
+def accepted(name, cancellations):
     text, result = (os.path.join(VECTORS, name + end) for end in (".csv", ".txt"))
     with open(text, "rb") as file:
         settings, records = levels_in(file.read())
@@ -92,14 +100,15 @@ def accepted(name):
     states = b"".join(padded([level % p for level in record[:m]]) for record in records)
     r, standard, leads, coefficients, answers = printed(result, m)
     before = m * max(len(records) - 1, 0)
-    front = head(settings, 0, len(records), r, len(levels), before, len(states), len(leads), len(coefficients))
+    sizes = (len(states), len(leads), len(coefficients))
+    front = head(settings, 0, len(records), r, len(levels), before, *sizes, cancellations)
     given = signed(levels) + signed(record[m] for record in records)
     tables = states + standard + leads + coefficients
     return front + given + tables + answers + polynomials(os.path.join(REMAINDERS, name + ".rem"), p, states)
 
 
 def refused(settings, levels, refusal):
-    return head(settings, refusal, 0, 0, len(levels), 0, 0, 0, 0) + signed(levels)
+    return head(settings, refusal, 0, 0, len(levels), 0, 0, 0, 0, 0) + signed(levels)
 
 
 def refusals():
@@ -120,7 +129,8 @@ def refusals():
 
 def main():
     names = sorted(name[:-4] for name in os.listdir(REMAINDERS))
-    found = dict([(name, accepted(name)) for name in names] + list(refusals()))
+    counted = counts()
+    found = dict([(name, accepted(name, counted[name])) for name in names] + list(refusals()))
     cases = [found[name] for name in fnmatch.filter(found, sys.argv[3] if len(sys.argv) > 3 else "*")]
     bases = [case for case in cases if case[4] == 0]
     added = sum(case[5] > 0 for case in bases)

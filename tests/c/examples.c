@@ -29,7 +29,7 @@ static void fresh(struct tables *t)
 }
 
 /* Keeps the counts of an answer; gives the refusal. */
-static uint32_t keep(struct tables *t, uint32_t answer)
+static uint32_t keep(struct tables *t, uint64_t answer)
 {
     if (misqafur_refusal(answer) == 0) {
         t->n = misqafur_points(answer);

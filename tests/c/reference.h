@@ -19,7 +19,7 @@ __typeof__(misqafur_read_text) reference_read_text;
 
 /* The basis of some points, with the inverse of the matrix that evaluates standard monomials at them. */
 struct basis {
-    int p, m, order, n, r;
+    int p, m, order, n, r, cancellations;
     uint8_t states[512], standard[512], leads[3592], coefficients[28736];
     int inverse[64][64]; /* row: standard monomial; column: point */
 };

@@ -139,9 +139,10 @@ static void values_at_points(const struct basis *b, const uint8_t *monomial, int
         values[q] = reference_value(b->p, monomial, b->states + 8 * q);
 }
 
-/* Value rows that are independent, each 1 at its pivot. */
+/* Value rows that are independent, each 1 at its pivot, in the order in which they were found; and how many
+ * cancellations were made: a row that meets one kept is counted where it is not 0 at that one's pivot then. */
 struct echelon {
-    int count, pivot[64], row[64][64];
+    int count, pivot[64], row[64][64], cancellations;
 };
 
 /* Whether the values depend on the rows kept; if not, they are kept too. */
@@ -151,6 +152,7 @@ static int depends(struct echelon *kept, int p, int n, const int values[64])
     memcpy(rest, values, sizeof rest);
     for (int i = 0; i < kept->count; i++) {
         int times = rest[kept->pivot[i]];
+        kept->cancellations += times != 0;
         for (int q = 0; times != 0 && q < n; q++)
             rest[q] = (rest[q] + (p - times) * kept->row[i][q]) % p;
     }
@@ -169,7 +171,7 @@ static int depends(struct echelon *kept, int p, int n, const int values[64])
 static void find_monomials(struct basis *b)
 {
     const struct candidates *from = &all_candidates[b->m][b->order];
-    struct echelon kept = {.count = 0};
+    struct echelon kept = {.count = 0, .cancellations = 0};
     for (size_t i = 0; i < from->count; i++) {
         const uint8_t *monomial = from->list[i].exponents;
         int values[64] = {0};
@@ -184,6 +186,7 @@ static void find_monomials(struct basis *b)
     }
     if (kept.count != b->n)
         abort();
+    b->cancellations = kept.cancellations;
 }
 
 static void swap_rows(int a[128], int b[128])

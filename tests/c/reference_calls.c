@@ -84,7 +84,7 @@ uint32_t reference_withdraw_point(uint64_t modulus, uint64_t variables, uint64_t
     return write_out(&b, states, standard, leads, coefficients);
 }
 
-uint32_t reference_draw_up(uint64_t modulus, uint64_t variables, uint64_t order,
+uint64_t reference_draw_up(uint64_t modulus, uint64_t variables, uint64_t order,
                            uint8_t *states, size_t states_length, uint8_t *standard, size_t standard_length,
                            uint8_t *leads, size_t leads_length, uint8_t *coefficients, size_t coefficients_length,
                            const uint8_t *levels, size_t levels_length)
@@ -94,7 +94,7 @@ uint32_t reference_draw_up(uint64_t modulus, uint64_t variables, uint64_t order,
     struct basis b;
     int refusal = reference_early_refusal(&h, 0, 0);
     if (refusal != 0)
-        return (uint32_t)refusal;
+        return (uint64_t)refusal;
     if (levels_length % variables != 0)
         return 7;
     if (levels_length / variables > 64)
@@ -111,7 +111,8 @@ uint32_t reference_draw_up(uint64_t modulus, uint64_t variables, uint64_t order,
             b.states[8 * i + k] = reference_residue(b.p, (int8_t)levels[b.m * i + k]);
     if (reference_first_repeat(b.states, b.n) < b.n)
         return 11;
-    return write_out(&b, states, standard, leads, coefficients);
+    uint64_t counts = write_out(&b, states, standard, leads, coefficients);
+    return counts + ((uint64_t)b.cancellations << 32);
 }
 
 uint32_t reference_check(uint64_t modulus, uint64_t variables, uint64_t order, uint64_t n, uint64_t r,

@@ -168,7 +168,7 @@ static uint64_t expected_number(const struct block *b)
     if (b->number[0] != 0)
         return (uint64_t)b->number[0];
     if (b->call.kind == ADD_POINT || b->call.kind == DRAW_UP)
-        return 256 * first + 65536 * second;
+        return 256 * first + 65536 * second + ((uint64_t)b->number[3] << 32);
     return b->call.kind == WIRING ? 256 * first : 0;
 }
 

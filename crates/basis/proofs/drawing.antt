@@ -9,6 +9,7 @@ pub mod Held
 pub mod Decisions
 pub mod Hands
 pub mod Grounds
+pub mod Costs
 pub mod Loop
 pub mod Given
 pub mod Outcomes

@@ -83,7 +83,7 @@ pub(crate) fn recognise(
         rows,
         pivots,
     );
-    if drawn as u64 != r {
+    if drawn.r as u64 != r {
         return false;
     }
     agree(

@@ -9,23 +9,29 @@ use crate::drawing::turns::put_values;
 use crate::drawing::turns::reduce;
 use crate::points;
 use crate::settings::draw_sizes;
-use crate::settings::refused;
+use crate::settings::refused_drawing;
 use monomial::candidate::Candidate;
 use monomial::candidate::next;
 use monomial::columns::put_columns;
 use monomial::rank::put_steps;
 use residue::bytes;
 use residue::rows;
-use specification::settings::Answer;
+use specification::settings::Drawn;
 use specification::settings::Settings;
 ghost use mathlib.Core.Path.{_≡_};
 ghost use mathlib.Core.Bool.{false};
 ghost use lib.ListN.{length, replicate};
 ghost use Rattle.specification.specs.Tables.{pointsIn, fourTables, tooShort};
-ghost use Rattle.specification.specs.Adding.{ended, holding, drawOutcome};
+ghost use Rattle.specification.specs.Adding.{holding, drawEnded, costing, cancellationsUnder, drawOutcome};
 ghost use Rattle.basis.specs.Drawing.{RowsLong, PointsGiven, Tabled, DrawnUp};
 
-// Fills the tables of the points' basis and its pivot rows; how many rows it has.
+// How many rows a basis has, and how many cancellations drawing it up took.
+pub struct Counts {
+    pub r: usize,
+    pub cancellations: usize,
+}
+
+// Fills the tables of the points' basis and its pivot rows.
 pub fn draw(
     settings: Settings,
     n: usize,
@@ -35,12 +41,13 @@ pub fn draw(
     coefficients: &mut [u8],
     rows: &mut [u8],
     pivots: &mut [u8],
-) -> usize
+) -> Counts
     requires { ⌜ PointsGiven settings n (now points) ⌝ }
     requires { ⌜ (now standard ≡ replicate 512 0) × ((now leads ≡ replicate 3592 0) × (now coefficients ≡ replicate 28736 0)) ⌝ }
     requires { ⌜ RowsLong (now rows) (now pivots) ⌝ }
-    ensures { λ r. ⌜ DrawnUp settings (pointsIn settings n (now (points .entry))) r (now (standard .exit)) (now (leads .exit)) (now (coefficients .exit))
-        (now (rows .exit)) (now (pivots .exit)) ⌝ }
+    ensures { λ d. ⌜ DrawnUp settings (pointsIn settings n (now (points .entry))) (d .r) (now (standard .exit)) (now (leads .exit))
+        (now (coefficients .exit)) (now (rows .exit)) (now (pivots .exit)) ⌝ }
+    ensures { λ d. ⌜ d .cancellations ≡ cancellationsUnder settings (pointsIn settings n (now (points .entry))) ⌝ }
 {
     let p = settings.modulus as u8;
     let mut steps = [0u64; 8];
@@ -52,12 +59,13 @@ pub fn draw(
     let mut at = [0u8; 8];
     let mut found = 0;
     let mut r = 0;
+    let mut cancellations = 0;
     let mut exponents = [0u8; 8];
     let mut rank = 0u64;
     let mut own = [1u8; 64];
     loop {
         let mut work = [0u8; 128];
-        reduce(p, n, found, &own, rows, pivots, &mut work);
+        cancellations += reduce(p, n, found, &own, rows, pivots, &mut work);
         let q = rows::first_nonzero(&work, n);
         if q == n {
             keep_lead(n, found, r, &exponents, &work, leads, coefficients);
@@ -70,7 +78,7 @@ pub fn draw(
         }
         let m = settings.variables as usize;
         let Candidate::Of(k, t, least) = next(m, found, standard, &ranks, &steps, &mut at) else {
-            return r;
+            return Counts { r, cancellations };
         };
         rank = least;
         put_exponents(k, t, standard, &mut exponents);
@@ -78,7 +86,7 @@ pub fn draw(
     }
 }
 
-// The tables of the points' basis, over three lent tables of their sizes and over lent pivot rows; how many rows it has.
+// The tables of the points' basis, over three lent tables of their sizes and over lent pivot rows.
 fn draw_anew(
     settings: Settings,
     n: usize,
@@ -88,11 +96,13 @@ fn draw_anew(
     coefficients: &mut [u8],
     rows: &mut [u8],
     pivots: &mut [u8],
-) -> usize
+) -> Counts
     requires { ⌜ PointsGiven settings n (now points) ⌝ }
     requires { ⌜ (length (now standard) ≡ 512) × ((length (now leads) ≡ 3592) × (length (now coefficients) ≡ 28736)) ⌝ }
     requires { ⌜ RowsLong (now rows) (now pivots) ⌝ }
-    ensures { λ r. ⌜ Tabled settings (pointsIn settings n (now (points .entry))) r (now (standard .exit)) (now (leads .exit)) (now (coefficients .exit)) ⌝ }
+    ensures { λ d. ⌜ Tabled settings (pointsIn settings n (now (points .entry))) (d .r)
+        (now (standard .exit)) (now (leads .exit)) (now (coefficients .exit)) ⌝ }
+    ensures { λ d. ⌜ d .cancellations ≡ cancellationsUnder settings (pointsIn settings n (now (points .entry))) ⌝ }
 {
     bytes::clear(standard);
     bytes::clear(leads);
@@ -120,16 +130,16 @@ pub(crate) fn draw_points(
     coefficients: &mut [u8],
     rows: &mut [u8],
     pivots: &mut [u8],
-) -> Answer
+) -> Drawn
     requires { ⌜ PointsGiven settings n (now points) ⌝ }
     requires { ⌜ tooShort (fourTables (now states) (now standard) (now leads) (now coefficients)) ≡ false ⌝ }
     requires { ⌜ RowsLong (now rows) (now pivots) ⌝ }
-    ensures { λ a. ⌜ ended a (now (states .exit)) (now (standard .exit)) (now (leads .exit)) (now (coefficients .exit))
-        ≡ holding settings (pointsIn settings n (now (points .entry)))
-        (fourTables (now (states .entry)) (now (standard .entry)) (now (leads .entry)) (now (coefficients .entry))) ⌝ }
+    ensures { λ a. ⌜ drawEnded a (now (states .exit)) (now (standard .exit)) (now (leads .exit)) (now (coefficients .exit))
+        ≡ costing (cancellationsUnder settings (pointsIn settings n (now (points .entry)))) (holding settings (pointsIn settings n (now (points .entry)))
+        (fourTables (now (states .entry)) (now (standard .entry)) (now (leads .entry)) (now (coefficients .entry)))) ⌝ }
 {
     bytes::copy(points, states);
-    let r = draw_anew(
+    let drawn = draw_anew(
         settings,
         n,
         points,
@@ -139,10 +149,11 @@ pub(crate) fn draw_points(
         rows,
         pivots,
     );
-    Answer {
+    Drawn {
         refusal: 0,
         n: n as u8,
-        r: r as u16,
+        r: drawn.r as u16,
+        cancellations: drawn.cancellations as u32,
     }
 }
 
@@ -154,8 +165,8 @@ pub fn draw_up(
     leads: &mut [u8],
     coefficients: &mut [u8],
     levels: &[i8],
-) -> Answer
-    ensures { λ a. ⌜ ended a (now (states .exit)) (now (standard .exit)) (now (leads .exit)) (now (coefficients .exit))
+) -> Drawn
+    ensures { λ a. ⌜ drawEnded a (now (states .exit)) (now (standard .exit)) (now (leads .exit)) (now (coefficients .exit))
         ≡ drawOutcome settings (fourTables (now (states .entry)) (now (standard .entry)) (now (leads .entry)) (now (coefficients .entry)))
         (now (levels .entry)) ⌝ }
 {
@@ -168,18 +179,18 @@ pub fn draw_up(
         levels.len(),
     );
     if refusal != 0 {
-        return refused(refusal);
+        return refused_drawing(refusal);
     }
     let p = settings.modulus as u8;
     if !points::in_range(p, levels) {
-        return refused(9);
+        return refused_drawing(9);
     }
     let m = settings.variables as usize;
     let n = levels.len() / m;
     let mut points = [0u8; 512];
     points::put_points(p, m, n, levels, &mut points);
     if !points::no_repeat(n, &points) {
-        return refused(11);
+        return refused_drawing(11);
     }
     let mut rows = [0u8; 73728];
     let mut pivots = [0u8; 64];

@@ -1,6 +1,7 @@
 // The refusals that look at the settings and at lengths and counts alone, 3 to 8, and the answer of a refused call.
 use residue::level;
 use specification::settings::Answer;
+use specification::settings::Drawn;
 use specification::settings::Settings;
 ghost use mathlib.Core.Path.{_≡_};
 ghost use mathlib.Core.Bool.{not, false, _||_};
@@ -18,6 +19,18 @@ pub fn refused(refusal: u8) -> Answer
         refusal,
         n: 0,
         r: 0,
+    }
+}
+
+// And of a drawing up that is refused.
+pub fn refused_drawing(refusal: u8) -> Drawn
+    ensures { λ a. ⌜ a ≡ record { refusal = refusal; n = 0; r = 0; cancellations = 0 } ⌝ }
+{
+    Drawn {
+        refusal,
+        n: 0,
+        r: 0,
+        cancellations: 0,
     }
 }
 

@@ -128,7 +128,7 @@ pub fn withdraw_point(
     if refusal != 0 {
         return refused(refusal);
     }
-    draw_points(
+    let drawn = draw_points(
         settings,
         n as usize - 1,
         &left,
@@ -138,5 +138,10 @@ pub fn withdraw_point(
         coefficients,
         &mut rows,
         &mut pivots,
-    )
+    );
+    Answer {
+        refusal: drawn.refusal,
+        n: drawn.n,
+        r: drawn.r,
+    }
 }

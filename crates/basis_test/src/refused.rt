@@ -1,6 +1,7 @@
 // A list of points that is refused: the refusal comes alone and changes nothing.
 use crate::buffers;
 use crate::stored::Head;
+use crate::written;
 use basis::drawing;
 use specification::settings::Answer;
 
@@ -29,7 +30,10 @@ pub fn drawn(head: Head, levels: &[i8]) -> bool {
         &mut coefficients,
         levels,
     );
-    if !is_due(got, head.refusal) {
+    if got.cancellations != 0 {
+        return false;
+    }
+    if !is_due(written::plain(got), head.refusal) {
         return false;
     }
     buffers::hold(

@@ -18,6 +18,7 @@ pub struct Head {
     pub points: u16,
     pub leads: u16,
     pub coefficients: u16,
+    pub cancellations: u16,
 }
 
 fn wide(b: u8) -> u64 {
@@ -33,7 +34,7 @@ fn wide_word(low: u8, high: u8) -> u64 {
 }
 
 fn read_head(fd: i32) -> Head {
-    let mut head = [0u8; 18];
+    let mut head = [0u8; 20];
     let got = buffers::read_all(fd, &mut head);
     let settings = Settings {
         modulus: wide_word(head[0], head[1]),
@@ -51,6 +52,7 @@ fn read_head(fd: i32) -> Head {
         points: word(head[12], head[13]),
         leads: word(head[14], head[15]),
         coefficients: word(head[16], head[17]),
+        cancellations: word(head[18], head[19]),
     }
 }
 

@@ -5,6 +5,7 @@ use crate::stored::Head;
 use basis::adding;
 use basis::drawing;
 use specification::settings::Answer;
+use specification::settings::Drawn;
 
 fn is_due(got: Answer, head: Head) -> bool {
     if got.refusal != 0 {
@@ -16,7 +17,16 @@ fn is_due(got: Answer, head: Head) -> bool {
     got.r == head.r
 }
 
-// Drawing up: the counts, and every byte of the tables with the guards behind them.
+// What drawing up answers, without its cancellations.
+pub fn plain(got: Drawn) -> Answer {
+    Answer {
+        refusal: got.refusal,
+        n: got.n,
+        r: got.r,
+    }
+}
+
+// Drawing up: the counts and the cancellations, and every byte of the tables with the guards behind them.
 pub fn drawn(
     head: Head,
     levels: &[i8],
@@ -38,7 +48,10 @@ pub fn drawn(
         &mut new_coefficients,
         levels,
     );
-    if !is_due(got, head) {
+    if got.cancellations != head.cancellations as u32 {
+        return false;
+    }
+    if !is_due(plain(got), head) {
         return false;
     }
     buffers::hold(

@@ -61,7 +61,7 @@ fn print_points(
         variables: m as u64,
         order: order as u64,
     };
-    let r = draw(
+    let drawn = draw(
         settings,
         n,
         points,
@@ -78,7 +78,7 @@ fn print_points(
     print_basis(
         m,
         n,
-        r,
+        drawn.r,
         &standard,
         &leads,
         &coefficients,

@@ -3,16 +3,21 @@ use mathlib.Core.Path.{_≡_, ap, _∙_}
 use mathlib.Core.List.{List}
 use Prim.Native.Nat.{ℕ}
 use Rattle.specification.specs.declared.settings.Answer.{Answer}
+use Rattle.specification.specs.declared.settings.Drawn.{Drawn}
 use Rattle.specification.specs.declared.settings.Wired.{Wired}
-use Rattle.specification.specs.Adding.{Outcome, ended}
+use Rattle.specification.specs.Adding.{Outcome, ended, DrawOutcome, drawEnded}
 use Rattle.specification.specs.Solving.{Listed, listed}
 use Rattle.csv.specs.declared.reading.Read.{Read}
 use Rattle.csv.specs.reading.Text.{TextOutcome, textEnded}
-use Rattle.misqafur.specs.Packing.{packedAnswer, packedWired, packedRead, left, packedOutcome, leftList, packedList, leftReading, packedReading}
+use Rattle.misqafur.specs.Packing.{packedAnswer, packedDrawn, packedWired, packedRead, left, packedOutcome, packedDrawing, leftList, packedList, leftReading, packedReading}
 
 pub packs : {a : Answer} {b c d e : List ℕ} {o : Outcome} {k : ℕ} → ended a b c d e ≡ o → k ≡ packedAnswer a → left k b c d e ≡ packedOutcome o
 unfolding packedOutcome
 packs {b = b} {c = c} {d = d} {e = e} h n = ap (λ (k : ℕ). left k b c d e) n ∙ ap packedOutcome h
+
+pub packs-drawn : {a : Drawn} {b c d e : List ℕ} {o : DrawOutcome} {k : ℕ} → drawEnded a b c d e ≡ o → k ≡ packedDrawn a → left k b c d e ≡ packedDrawing o
+unfolding packedDrawing
+packs-drawn {b = b} {c = c} {d = d} {e = e} h n = ap (λ (k : ℕ). left k b c d e) n ∙ ap packedDrawing h
 
 pub packs-list : {w : Wired} {b : List ℕ} {o : Listed} {k : ℕ} → listed w b ≡ o → k ≡ packedWired w → leftList k b ≡ packedList o
 unfolding packedList

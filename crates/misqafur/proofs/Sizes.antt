@@ -13,7 +13,7 @@ use Rattle.specification.specs.declared.settings.Settings.{Settings}
 use Rattle.specification.specs.Refusal.{firstOf}
 use Rattle.specification.specs.Settings.{settingsCases}
 use Rattle.specification.specs.Tables.{Tables, tooShort}
-use Rattle.specification.specs.Adding.{Outcome, refused, addOutcome, drawOutcome}
+use Rattle.specification.specs.Adding.{Outcome, refused, addOutcome, DrawOutcome, costing, drawOutcome}
 use Rattle.specification.specs.Withdrawing.{withdrawOutcome}
 use Rattle.specification.specs.Solving.{valuesCases, remainderCases, wiringOutcome}
 use Rattle.basis.proofs.adding.Addition.{add-size}
@@ -24,7 +24,7 @@ use Rattle.basis.proofs.withdrawing.Withdrawal.{withdraw-size, withdraw-refused
 use Rattle.basis.proofs.drawing.Outcomes.{draw-size}
 use Rattle.basis.proofs.answers.Refusals.{values-size, remainder-size}
 use Rattle.misqafur.specs.Bytes.{signedBytes}
-use Rattle.misqafur.specs.Packing.{Left, packedOutcome, leftList, packedList}
+use Rattle.misqafur.specs.Packing.{Left, packedOutcome, packedDrawing, leftList, packedList}
 use Rattle.misqafur.proofs.Packed.{packs-list}
 use Rattle.misqafur.proofs.SignedBytes.{length-signed}
 
@@ -34,6 +34,12 @@ unfolding packedOutcome refused
 alone k t o e =
     let n : k ≡ k + 0 = omega arith in
     ap (λ (j : ℕ). record { number = j; tables = t }) n ∙ ap packedOutcome e
+
+drawn-alone : (k : ℕ) (t : Tables) (o : DrawOutcome) → costing 0 (refused k t) ≡ o → _≡_ {A = Left} (record { number = k; tables = t }) (packedDrawing o)
+unfolding packedDrawing refused
+drawn-alone k t o e =
+    let n : k ≡ k + 0 = omega arith in
+    ap (λ (j : ℕ). record { number = j; tables = t }) n ∙ ap packedDrawing e
 
 -- A call that is handed one point.
 abbrev pub pointBySize : Settings → Bool → Tables → ℕ → ℕ
@@ -59,8 +65,8 @@ abbrev pub drawBySize : Settings → Tables → ℕ → ℕ
 drawBySize s t count = firstOf 0 (settingsCases s ++ sizes s (tooShort t) (not (eqb (count % s .variables) 0)) (ltb 64 (count / s .variables)))
 
 module _ (s : Settings) (t : Tables) (levels : List ℕ) where
-  pub draw-refused : (k : ℕ) → k ≡ drawBySize s t (length levels) → (k ≡ 0 → ⊥) → _≡_ {A = Left} (record { number = k; tables = t }) (packedOutcome (drawOutcome s t (signedBytes levels)))
-  draw-refused k e z = alone k t _ (draw-size s t (signedBytes levels) k (e ∙ ap (drawBySize s t) (sym (length-signed levels))) z)
+  pub draw-refused : (k : ℕ) → k ≡ drawBySize s t (length levels) → (k ≡ 0 → ⊥) → _≡_ {A = Left} (record { number = k; tables = t }) (packedDrawing (drawOutcome s t (signedBytes levels)))
+  draw-refused k e z = drawn-alone k t _ (draw-size s t (signedBytes levels) k (e ∙ ap (drawBySize s t) (sym (length-signed levels))) z)
 
   pub draw-few : drawBySize s t (length levels) ≡ 0 → length levels ≤ 512
   draw-few e =

@@ -5,9 +5,10 @@ use Prim.Native.Nat.{ℕ, _+_, _*_}
 use lib.Dec.{eqb}
 use Rattle.specification.specs.declared.settings.Settings.{Settings}
 use Rattle.specification.specs.declared.settings.Answer.{Answer}
+use Rattle.specification.specs.declared.settings.Drawn.{Drawn}
 use Rattle.specification.specs.declared.settings.Wired.{Wired}
 use Rattle.specification.specs.Tables.{Tables, fourTables}
-use Rattle.specification.specs.Adding.{Outcome}
+use Rattle.specification.specs.Adding.{Outcome, DrawOutcome}
 use Rattle.specification.specs.Solving.{Listed}
 use Rattle.csv.specs.declared.reading.Read.{Read}
 use Rattle.csv.specs.reading.Text.{TextOutcome}
@@ -25,6 +26,10 @@ packed (a ∷ l) = a + 256 * packed l
 abbrev pub packedAnswer : Answer → ℕ
 packedAnswer a = packed (a .refusal ∷ a .n ∷ a .r ∷ [])
 
+-- refusal + 256 n + 65536 r + 2^32 cancellations
+abbrev pub packedDrawn : Drawn → ℕ
+packedDrawn d = packed (d .refusal ∷ d .n ∷ (d .r + 65536 * d .cancellations) ∷ [])
+
 -- refusal + 256 count
 abbrev pub packedWired : Wired → ℕ
 packedWired w = packed (w .refusal ∷ w .count ∷ [])
@@ -33,7 +38,7 @@ packedWired w = packed (w .refusal ∷ w .count ∷ [])
 abbrev pub packedRead : Read → ℕ
 packedRead r = cond (eqb (r .refusal) 0) (packed (0 ∷ r .n ∷ r .modulus ∷ r .variables ∷ r .order ∷ [])) (packed (r .refusal ∷ r .at ∷ []))
 
--- Adding and drawing up: the number, and the lent tables at exit.
+-- Adding, withdrawing and drawing up: the number, and the lent tables at exit.
 pub record Left : Type 0 where
   pub number : ℕ
   pub tables : Tables
@@ -43,6 +48,9 @@ left a states standard leads coefficients = record { number = a; tables = fourTa
 
 unfoldable pub packedOutcome : Outcome → Left
 packedOutcome o = record { number = packedAnswer (o .answer); tables = o .tables }
+
+unfoldable pub packedDrawing : DrawOutcome → Left
+packedDrawing o = record { number = packedDrawn (o .answer); tables = o .tables }
 
 -- The wiring call: the number, and the lent buffer at exit.
 pub record LeftList : Type 0 where

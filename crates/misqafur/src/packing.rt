@@ -1,14 +1,21 @@
 // Answers as one number.
 use csv::reading::Read;
 use specification::settings::Answer;
+use specification::settings::Drawn;
 use specification::settings::Wired;
 ghost use mathlib.Core.Path.{_≡_};
-ghost use Rattle.misqafur.specs.Packing.{packedAnswer, packedWired, packedRead};
+ghost use Rattle.misqafur.specs.Packing.{packedAnswer, packedDrawn, packedWired, packedRead};
 
 pub fn pack_answer(a: Answer) -> u32
     ensures { λ k. ⌜ k ≡ packedAnswer a ⌝ }
 {
     a.refusal as u32 + 256 * a.n as u32 + 65536 * a.r as u32
+}
+
+pub fn pack_drawn(d: Drawn) -> u64
+    ensures { λ k. ⌜ k ≡ packedDrawn d ⌝ }
+{
+    d.refusal as u64 + 256 * d.n as u64 + 65536 * d.r as u64 + 4294967296 * d.cancellations as u64
 }
 
 pub fn pack_wired(w: Wired) -> u32

@@ -1,5 +1,6 @@
 // Adding to, drawing up and checking the four lent tables.
 use crate::packing::pack_answer;
+use crate::packing::pack_drawn;
 use crate::signed::put_signed;
 use basis::adding;
 use basis::checking;
@@ -15,7 +16,7 @@ ghost use Rattle.specification.specs.Adding.{addOutcome, drawOutcome};
 ghost use Rattle.specification.specs.Withdrawing.{withdrawOutcome};
 ghost use Rattle.specification.specs.Solving.{checkRefusal};
 ghost use Rattle.misqafur.specs.Bytes.{signedBytes};
-ghost use Rattle.misqafur.specs.Packing.{givenSettings, left, packedOutcome};
+ghost use Rattle.misqafur.specs.Packing.{givenSettings, left, packedOutcome, packedDrawing};
 
 // Adding one point to the n points of the tables.
 #[no_mangle]
@@ -130,9 +131,9 @@ pub extern "C" fn misqafur_draw_up(
     leads: &mut [u8],
     coefficients: &mut [u8],
     levels: &[u8],
-) -> u32
+) -> u64
     ensures { λ a. ⌜ left a (now (states .exit)) (now (standard .exit)) (now (leads .exit)) (now (coefficients .exit))
-        ≡ packedOutcome (drawOutcome (givenSettings modulus variables order)
+        ≡ packedDrawing (drawOutcome (givenSettings modulus variables order)
         (fourTables (now (states .entry)) (now (standard .entry)) (now (leads .entry)) (now (coefficients .entry))) (signedBytes (now (levels .entry)))) ⌝ }
 {
     let settings = Settings {
@@ -150,7 +151,7 @@ pub extern "C" fn misqafur_draw_up(
         count,
     );
     if refusal != 0 {
-        return refusal as u32;
+        return refusal as u64;
     }
     let mut signed = [0i8; 512];
     put_signed(levels, &mut signed);
@@ -162,7 +163,7 @@ pub extern "C" fn misqafur_draw_up(
         coefficients,
         &signed[..count],
     );
-    pack_answer(a)
+    pack_drawn(a)
 }
 
 // Checking lent tables.

@@ -16,6 +16,15 @@ unfoldable pub eliminated : ℕ → List ℕ → List ℕ → ℕ → List ℕ �
 eliminated p rows pivots zero w = w
 eliminated p rows pivots (suc t) w = cancelled p (take 128 (drop (1152 * t) rows)) (getD pivots t 0) (eliminated p rows pivots t w)
 
+-- whether a cancellation is made, as a number: the entry is not 0
+unfoldable pub counted : ℕ → ℕ
+counted x = cond (eqb x 0) 0 1
+
+-- the cancellations made: how many of the entries that the row w showed to the first t pivot rows, each at its moment, were not 0
+unfoldable pub cancellations : ℕ → List ℕ → List ℕ → ℕ → List ℕ → ℕ
+cancellations p rows pivots zero w = 0
+cancellations p rows pivots (suc t) w = cancellations p rows pivots t w + counted (getD (eliminated p rows pivots t w) (getD pivots t 0) 0)
+
 -- the multiples of a row, one behind the other
 unfoldable pub multiplesBy : ℕ → List ℕ → List ℕ → List ℕ
 multiplesBy p row [] = []

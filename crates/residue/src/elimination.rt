@@ -7,7 +7,7 @@ ghost use Prim.Native.Nat.{ℕ, _+_, _-_, _*_, _^_, _<_, _≤_};
 ghost use lib.ListN.{length, getD, take, drop, replicate};
 ghost use lib.Dec.{eqb};
 ghost use Rattle.residue.specs.Vector.{Below, addScaled};
-ghost use Rattle.residue.specs.Elimination.{cancelled, eliminated, multiplesOf, Multiplied, ZeroFrom, ZeroBehind};
+ghost use Rattle.residue.specs.Elimination.{cancelled, eliminated, counted, cancellations, multiplesOf, Multiplied, ZeroFrom, ZeroBehind};
 
 // Adds a row, which is 0 from `width` on.
 pub fn gain(p: u8, width: usize, dst: &mut [u8], row: &[u8])
@@ -48,27 +48,37 @@ fn multiple<'a>(digit: usize, first: usize, zeros: &'a [u8], block: &'a [u8]) ->
     &block[from..from + 128]
 }
 
-// Cancels the entry at a place by the row of a block, which is 0 from `width` on. Up to 5 each factor is the number of a multiple.
-fn cancel<'a>(p: u8, width: usize, zeros: &'a [u8], block: &'a [u8], at: usize, work: &mut [u8])
+// Cancels the entry at a place by the row of a block, which is 0 from `width` on. Up to 5 each factor is the number of a multiple. Answers 1, or 0 where the
+// entry is 0 already.
+fn cancel<'a>(
+    p: u8,
+    width: usize,
+    zeros: &'a [u8],
+    block: &'a [u8],
+    at: usize,
+    work: &mut [u8],
+) -> usize
     requires { ⌜ (2 ≤ p) × (p ≤ 61) × (width ≤ 128) × (at < 128) ⌝ }
     requires { ⌜ (length (now block) ≡ 1152) × (length (now work) ≡ 128) × Below p (now work) ⌝ }
     requires { ⌜ (now zeros ≡ replicate 128 0) × (now block ≡ multiplesOf p (take 128 (now block))) × ZeroFrom width (take 128 (now block)) ⌝ }
     ensures { λ _. ⌜ now (work .exit) ≡ cancelled p (take 128 (now (block .entry))) at (now (work .entry)) ⌝ }
+    ensures { λ k. ⌜ k ≡ counted (getD (now (work .entry)) at 0) ⌝ }
 {
     let x = work[at];
     if x == 0 {
-        return;
+        return 0;
     }
     let c = p - x;
     if p <= 5 {
         let from = 128 * (c - 1) as usize;
         gain(p, width, work, &block[from..from + 128]);
-        return;
+        return 1;
     }
     let low = multiple((c & 3) as usize, 0, zeros, block);
     let middle = multiple((c >> 2 & 3) as usize, 3, zeros, block);
     let high = multiple((c >> 4) as usize, 6, zeros, block);
     gain_three(p, width, work, low, middle, high);
+    1
 }
 
 // How many entries of a row are looked at where row and pivot rows are 0 from `end` on: whole vectors, so that no tail is left to the packed loop.
@@ -83,7 +93,15 @@ fn whole(end: usize) -> usize
 }
 
 // The row meets the pivot rows in the order in which they were found; each cancels its entry at that row's pivot. Pivot row t is 0 behind entry n + t.
-pub fn eliminate(p: u8, n: usize, found: usize, rows: &[u8], pivots: &[u8], work: &mut [u8])
+// Answers how many cancellations that took.
+pub fn eliminate(
+    p: u8,
+    n: usize,
+    found: usize,
+    rows: &[u8],
+    pivots: &[u8],
+    work: &mut [u8],
+) -> usize
     requires { ⌜ (2 ≤ p) × (p ≤ 61) × (n ≤ 128) ⌝ }
     requires { ⌜ ZeroBehind n found (now rows) ⌝ }
     requires { ⌜ length (now work) ≡ 128 ⌝ }
@@ -91,12 +109,14 @@ pub fn eliminate(p: u8, n: usize, found: usize, rows: &[u8], pivots: &[u8], work
     requires { ⌜ Multiplied p found (now rows) × Below p (now work) ⌝ }
     requires { ⌜ ((t : ℕ) → t < found → getD (now pivots) t 0 < 128) ⌝ }
     ensures { λ _. ⌜ now (work .exit) ≡ eliminated p (now (rows .entry)) (now (pivots .entry)) found (now (work .entry)) ⌝ }
+    ensures { λ k. ⌜ k ≡ cancellations p (now (rows .entry)) (now (pivots .entry)) found (now (work .entry)) ⌝ }
 {
     let zeros = [0u8; 128];
+    let mut made = 0;
     for t in 0..found {
         let from = 1152 * t;
         let at = pivots[t] as usize;
-        cancel(
+        made += cancel(
             p,
             whole(n + t + 1),
             &zeros,
@@ -105,4 +125,5 @@ pub fn eliminate(p: u8, n: usize, found: usize, rows: &[u8], pivots: &[u8], work
             work,
         );
     }
+    made
 }

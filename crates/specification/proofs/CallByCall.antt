@@ -25,7 +25,7 @@ use Rattle.specification.specs.Withdrawing.{remaining, withdrawOutcome}
 use Rattle.specification.specs.Reference.{Operation, adding, withdrawing, outcomeOf, refusalOf, referenceAnswer, pointsAfter}
 use Rattle.specification.specs.Solving.{checkRefusal, filling, valuesCases, interpolantIn, interpolateOutcome, polynomialUnder, remainderCases, remainderIn, remainderOutcome, wiringUnder, Listed, listing, wiringOutcome}
 use Rattle.specification.specs.Agreement.{Remains, Wires}
-use Rattle.specification.specs.CallByCall.{HoldsBasis, Interpolates}
+use Rattle.specification.specs.CallByCall.{HoldsBasis, Interpolates, Costs}
 use Rattle.residue.proofs.Tests.{of-true, neither}
 use Rattle.specification.proofs.Repeats.{is-among}
 use Rattle.specification.proofs.Wiring.{names-length, names-are, list-accepted}
@@ -37,6 +37,7 @@ use Rattle.specification.proofs.agreement.Refusals.{Accepted, accepted,
 use Rattle.specification.proofs.agreement.Operations.{lawful}
 use Rattle.specification.proofs.agreement.Run.{number-of, same-tables}
 use Rattle.specification.proofs.agreement.Drawings.{laws-under, among-under, distinct-points, few-rows}
+use Rattle.specification.proofs.cancellations.Under.{costs}
 use Rattle.specification.proofs.Recognised.{none-of, offered, length-read, is-read, read, Parts, recognised-parts}
 
 module _ (s : Settings) (ok : Accepted s) (S : List (List ℕ)) (h : Points s S) where
@@ -101,17 +102,30 @@ module _ (s : Settings) (ok : Accepted s) (n r : ℕ) (t : Tables) (few : n ≤ 
       told : (S : List (List ℕ)) → HoldsBasis s S t n r t → recognised s n r t ≡ true
       told S h = subst (λ (u : Tables). recognised s n r u ≡ true) (sym (h .tables)) (rw (h .count, h .rows) (written-recognised s ok S (is-points S h) t))
 
--- Drawing up leaves the basis of the points offered.
-pub draw-leaves : (s : Settings) (t : Tables) (levels : List ℤ) → let o = drawOutcome s t levels in o .answer .refusal ≡ 0
-    → HoldsBasis s (pointsOffered s levels) t (o .answer .n) (o .answer .r) (o .tables)
-unfolding drawOutcome drawRefusal drawCases
-draw-leaves s t levels e =
-    let z = none-of s _ tt (sym (number-of (drawRefusal s t levels) t s (pointsOffered s levels)) ∙ e) in
-    let ok = accepted s (z .0) in
-    let n = z .1 in
-    let h = offered s ok levels (eqb-true _ 0 (not-false _ (n .1 .0))) (ltb-false 64 _ (n .1 .1 .0)) (of-true (not-false (inRange (s .modulus) levels) (n .1 .1 .1 .0)))
-    (of-true (not-false (noRepeat (pointsOffered s levels)) (n .1 .1 .1 .1 .0))) in
-    written-basis s ok (pointsOffered s levels) h (drawRefusal s t levels) t e
+-- Drawing up leaves the basis of the points offered, and answers what that cost.
+module _ (s : Settings) (t : Tables) (levels : List ℤ) where
+  drawn-points : drawRefusal s t levels ≡ 0 → Accepted s × Points s (pointsOffered s levels)
+  unfolding drawRefusal drawCases
+  drawn-points e =
+      let z = none-of s _ tt e in
+      let ok = accepted s (z .0) in
+      let n = z .1 in (
+        ok,
+        offered s ok levels (eqb-true _ 0 (not-false _ (n .1 .0))) (ltb-false 64 _ (n .1 .1 .0)) (of-true (not-false (inRange (s .modulus) levels) (n .1 .1 .1 .0)))
+            (of-true (not-false (noRepeat (pointsOffered s levels)) (n .1 .1 .1 .1 .0))),
+      )
+
+  drawn-number : drawOutcome s t levels .answer .refusal ≡ drawRefusal s t levels
+  unfolding drawOutcome
+  drawn-number = number-of (drawRefusal s t levels) t s (pointsOffered s levels)
+
+  pub draw-leaves : let o = drawOutcome s t levels in o .answer .refusal ≡ 0 → HoldsBasis s (pointsOffered s levels) t (o .answer .n) (o .answer .r) (o .tables)
+  unfolding drawOutcome
+  draw-leaves e = let h = drawn-points (sym drawn-number ∙ e) in written-basis s (h .0) (pointsOffered s levels) (h .1) (drawRefusal s t levels) t e
+
+  pub draw-costs : let o = drawOutcome s t levels in o .answer .refusal ≡ 0 → Costs s (pointsOffered s levels) (o .answer .cancellations)
+  unfolding drawOutcome
+  draw-costs e = let z = sym drawn-number ∙ e in let h = drawn-points z in rw z (costs s (h .0) (pointsOffered s levels) (h .1))
 
 -- Every operation on lent tables leaves the basis of the points after it.
 pub operation-leaves : (o : Operation) (s : Settings) (n r : ℕ) (t : Tables) → let w = outcomeOf o s n r t in w .answer .refusal ≡ 0

@@ -5,6 +5,7 @@ pub mod ideal
 pub mod drawing
 pub mod Wiring
 pub mod agreement
+pub mod cancellations
 pub mod Instance
 pub mod Recognised
 pub mod CallByCall

@@ -18,7 +18,7 @@ use Rattle.specification.specs.BasisOf.{valueAt}
 use Rattle.specification.specs.Tables.{Tables, rowCount, tablesOf, written, tooShort, pointsIn}
 use Rattle.specification.specs.Tables.{spaceUnder, pointsUnder, standardUnder, leadsUnder, rowsUnder}
 use Rattle.specification.specs.Tables.{statesSize, standardSize, leadsSize, coefficientsSize}
-use Rattle.specification.specs.Adding.{Outcome, pointsOffered, drawOutcome}
+use Rattle.specification.specs.Adding.{DrawOutcome, pointsOffered, drawOutcome}
 use Rattle.specification.specs.Solving.{valuesCases, polynomialUnder, remainderCases, remainderOutcome, Names, Listed, wiringOutcome}
 use Rattle.specification.specs.Reference.{Event, Held, numbers, due}
 use Rattle.residue.specs.Level.{residueOf}
@@ -47,10 +47,11 @@ pub record SameValues (s : Settings) (K L : List (List ℕ)) (v w : List ℤ) : 
   pub count : length v ≡ length w
   pub equal : (P : List ℕ) (y z : ℤ) → Among (P, y) (zip K v) → Among (P, z) (zip L w) → residueOf (s .modulus) y ≡ residueOf (s .modulus) z
 
--- A drawing up agrees with what the list holds: the number is 0, and n, r and the three tables are equal in each byte of their sizes. The remainder call,
--- handed the same terms, and the wiring call, handed values that are equal at each point, each desk's in the order of its own points, answer the same with
--- either tables, and leave equal buffers where they were lent buffers of equal bytes.
-pub record SameAs (s : Settings) (h : Held) (o : Outcome) : Type 0 where
+-- A drawing up agrees with what the list holds: the number is 0, and n, r and the three tables are equal in each byte of their sizes. (Its cancellations
+-- depend on the order of its points, and the list has none.) The remainder call, handed the same terms, and the wiring call, handed values that are equal at
+-- each point, each desk's in the order of its own points, answer the same with either tables, and leave equal buffers where they were lent buffers of equal
+-- bytes.
+pub record SameAs (s : Settings) (h : Held) (o : DrawOutcome) : Type 0 where
   pub number : o .answer .refusal ≡ 0
   pub count : o .answer .n ≡ h .n
   pub rows : o .answer .r ≡ h .r

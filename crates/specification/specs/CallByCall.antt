@@ -1,7 +1,7 @@
 -- What each call leaves whose number is 0, whatever it was handed: docs/SCOPE.md, 'The sheet'. proofs/CallByCall has the proofs.
 use mathlib.Core.Path.{_≡_}
 use mathlib.Core.List.{List, map}
-use Prim.Native.Nat.{ℕ, suc, _-_, _≤_, _<_}
+use Prim.Native.Nat.{ℕ, suc, _+_, _*_, _-_, _≤_, _<_}
 use lib.IntN.{ℤ}
 use lib.ListN.{length, getD}
 use Rattle.residue.specs.Congruence.{Mod}
@@ -12,6 +12,8 @@ use Rattle.specification.specs.Polynomial.{eval, Distinct, terms}
 use Rattle.specification.specs.Basis.{IsBasis, Fits}
 use Rattle.specification.specs.Ideal.{rowPolynomials, ReducedGroebner}
 use Rattle.specification.specs.BasisOf.{valueAt}
+use Rattle.specification.specs.Cancellations.{Found}
+use Rattle.specification.specs.Examination.{Examination}
 use Rattle.specification.specs.Instance.{Point}
 use Rattle.specification.specs.Tables.{Tables, spaceUnder, pointsUnder, standardUnder, leadsUnder, rowsUnder, rowCount, tablesOf, written}
 
@@ -38,3 +40,14 @@ pub record Interpolates (s : Settings) (S : List (List ℕ)) (values : List ℤ)
   pub values-at : (i : ℕ) (P : Point (suc (s .modulus - 1)) (s .variables)) → i < length S
       → Mod (suc (s .modulus - 1)) (eval (spaceUnder s) (terms (spaceUnder s) coefficients (standardUnder s S)) (getD (pointsUnder s S) i P))
       (getD (residues (s .modulus) values) i 0)
+
+-- The number that drawing up the points S, in their order, answers as its cancellations: the count of THE examination (docs/SCOPE.md, 'Cancellations'; request
+-- M-105), whose standard monomials and leads are those of the basis; at most n times (n times m, plus 1).
+pub record Costs (s : Settings) (S : List (List ℕ)) (cancellations : ℕ) : Type 0 where
+  pub found : Found (spaceUnder s)
+  pub examination : Examination (spaceUnder s) (pointsUnder s S) found
+  pub only : (g : Found (spaceUnder s)) → Examination (spaceUnder s) (pointsUnder s S) g → g ≡ found
+  pub count : cancellations ≡ found .cancellations
+  pub standard : found .standard ≡ standardUnder s S
+  pub leads : found .leads ≡ leadsUnder s S
+  pub most : cancellations ≤ length S * (length S * s .variables + 1)

@@ -12,6 +12,8 @@ use Rattle.specification.specs.declared.settings.Settings.{Settings}
 use Rattle.specification.specs.Levels.{inRange}
 use Rattle.specification.specs.Polynomial.{Polynomial}
 use Rattle.specification.specs.BasisOf.{interpolantOf, remainderOf}
+use Rattle.specification.specs.Cancellations.{examinedAll}
+use Rattle.specification.specs.Adding.{cancellationsUnder}
 use Rattle.specification.specs.Tables.{spaceUnder, pointsUnder, standardUnder, leadsUnder, rowsUnder, fourTables}
 use Rattle.specification.specs.Tables.{statesSize, standardSize, leadsSize, coefficientsSize}
 use Rattle.specification.specs.Solving.{polynomialOf, wiringUnder}
@@ -94,3 +96,18 @@ examples =
     ∷ additions 5 1 ((pos 4 ∷ []) ∷ (negsuc 0 ∷ []) ∷ []) (0 ∷ 11 ∷ [])
     -- p=5: level -4 is taken, -5 refused with 9
     ∷ range 5 (negsuc 3) (negsuc 4) ∷ []
+
+-- Beside them, docs/SCOPE.md, 'Cancellations' (request M-105): what the examination of points finds, and the cancellations that it counts.
+pub record Examined (s : Settings) (S standard leads : List (List ℕ)) (count : ℕ) : Type 0 where
+  pub standard-are : map (λ a. a .0) (examinedAll (spaceUnder s) (pointsUnder s S) .standard) ≡ standard
+  pub leads-are : map (λ a. a .0) (examinedAll (spaceUnder s) (pointsUnder s S) .leads) ≡ leads
+  pub count-is : cancellationsUnder s S ≡ count
+
+pub record ExaminedExamples : Type 0 where
+  -- A, p=3, grlex: five monomials, 3 cancellations
+  pub points-A : Examined (under 3 2 1) A ((0 ∷ 0 ∷ []) ∷ (0 ∷ 1 ∷ []) ∷ (0 ∷ 2 ∷ []) ∷ []) ((1 ∷ 0 ∷ []) ∷ (0 ∷ 3 ∷ []) ∷ []) 3
+  -- p=3, m=1: the count depends on the order of arrival
+  pub in-order : Examined (under 3 1 0) ((0 ∷ []) ∷ (1 ∷ []) ∷ (2 ∷ []) ∷ []) ((0 ∷ []) ∷ (1 ∷ []) ∷ (2 ∷ []) ∷ []) ((3 ∷ []) ∷ []) 2
+  pub out-of-order : Examined (under 3 1 0) ((1 ∷ []) ∷ (0 ∷ []) ∷ (2 ∷ []) ∷ []) ((0 ∷ []) ∷ (1 ∷ []) ∷ (2 ∷ []) ∷ []) ((3 ∷ []) ∷ []) 5
+  -- no points: the column of 1 is empty, so 1 is a lead, at no cost
+  pub no-points : Examined (under 3 2 0) [] [] ((0 ∷ 0 ∷ []) ∷ []) 0

@@ -8,6 +8,8 @@ pub mod Basis
 pub mod Ideal
 pub mod Extension
 pub mod BasisOf
+pub mod Cancellations
+pub mod Examination
 pub mod Instance
 pub mod Tables
 pub mod Adding

@@ -14,6 +14,14 @@ pub struct Answer {
     pub r: u16,
 }
 
+// What drawing up answers: as `Answer`, and how many cancellations it took.
+pub struct Drawn {
+    pub refusal: u8,
+    pub n: u8,
+    pub r: u16,
+    pub cancellations: u32,
+}
+
 // The refusal, or 0 with how many variables the wiring list names.
 pub struct Wired {
     pub refusal: u8,

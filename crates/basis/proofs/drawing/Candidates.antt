@@ -31,6 +31,7 @@ use Rattle.monomial.proofs.candidate.Exponents.{rank-small, rank-times, rank-le
 use Rattle.specification.specs.Space.{Space, Less}
 use Rattle.specification.specs.Polynomial.{Distinct}
 use Rattle.specification.specs.BasisOf.{standardOf, leadsOf}
+use Rattle.specification.specs.Examination.{Undivided}
 use Rattle.specification.specs.Instance.{Monomial, Point, spaceOf}
 use Rattle.specification.proofs.Instance.{monomial-path, laws, standard-total}
 use Rattle.specification.proofs.ideal.Laws.{Laws}
@@ -74,7 +75,7 @@ module _ (q m : ℕ) (order : Order) where
     pub ranked : r ≡ rank (productAt D standard k t)
     pub last : Monomial m
     pub drawn : Drawn D S standard leads last
-    pub next : drawing.Next D standard last (productAt D standard k t)
+    pub next : drawing.Next D standard leads last (productAt D standard k t)
     pub bordered : Bordered D standard (productAt D standard k t)
     pub long : length at ≡ 8
     pub positions : Positions D standard (productAt D standard k t) (λ v. getD at v 0)
@@ -134,8 +135,8 @@ module _ (q m : ℕ) (order : Order) where
                     (λ h. omega (arith, rank-product v (getD at v 0) hv h, rank-small (prod v (getD at v 0) .0) (rw (prod v (getD at v 0) .1) l) order (small v (getD at v 0) hv h))),
               )
 
-          over : (k : ℕ) (s : Monomial m) → k < m → Among s standard → ¬ Less D c (D .x k s)
-          over = none-left D L standard inc c (λ v. getD at v 0) P all
+          over : (k : ℕ) (s : Monomial m) → k < m → Among s standard → Less D c (D .x k s) → ¬ Undivided D leads (D .x k s)
+          over k s hk mem h u = none-left D L standard inc c (λ v. getD at v 0) P all k s hk mem h
 
       module _ (r : ℕ) (e : leastOf found ranks steps at m ≡ LeastRank.Of r) where
         abbrev pr : Parents
@@ -192,8 +193,8 @@ module _ (q m : ℕ) (order : Order) where
           stays = λ v hv ne. passed-not found ranks steps r at m v (λ h. ne (product-here v hv h));
         }
 
-        next : drawing.Next D standard c b
-        next = next-at D L standard inc c (λ v. getD at v 0) P b low after
+        next : drawing.Next D standard leads c b
+        next = next-at D L standard inc c (λ v. getD at v 0) P b low leads after
 
         positions : Positions D standard b (λ v. getD at′ v 0)
         positions = advanced D L standard inc c (λ v. getD at v 0) P b low (λ v. getD at′ v 0) after advances

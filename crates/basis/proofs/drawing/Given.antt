@@ -1,7 +1,8 @@
 -- The points of a call, in a table, as drawing up is handed them; and what it leaves.
 use mathlib.Core.Path.{_≡_, refl, sym, _∙_, ap, subst}
 use mathlib.Core.List.{List}
-use Prim.Native.Nat.{ℕ, _≤_}
+use Prim.Native.Nat.{ℕ, _+_, _*_, _≤_}
+use native.Mathlib.Nat.{mul-le-mul-left}
 use native.Mathlib.Omega.{arith}
 use lib.ListN.{length}
 use lib.Dec.{T}
@@ -12,10 +13,12 @@ use Rattle.residue.proofs.Places.{table-groups}
 use Rattle.specification.specs.declared.settings.Settings.{Settings}
 use Rattle.specification.specs.Levels.{noRepeat}
 use Rattle.specification.specs.Tables.{rowCount, tablesOf, pointsIn}
+use Rattle.specification.specs.Adding.{cancellationsUnder}
 use Rattle.specification.proofs.Repeats.{repeat-filled}
 use Rattle.specification.proofs.agreement.Points.{IsPoint, Points, points-back}
 use Rattle.specification.proofs.agreement.Refusals.{Accepted}
 use Rattle.specification.proofs.agreement.Drawings.{few-rows}
+use Rattle.specification.proofs.cancellations.Under.{few-cancellations}
 use Rattle.specification.proofs.Recognised.{length-read, read}
 use Rattle.basis.specs.Drawing.{PointsGiven, Tabled, DrawnUp}
 
@@ -23,13 +26,23 @@ use Rattle.basis.specs.Drawing.{PointsGiven, Tabled, DrawnUp}
 pub given-count : {s : Settings} {n : ℕ} {points : List ℕ} → PointsGiven s n points → length (pointsIn s n points) ≡ n
 given-count {s} {n} {points} g = length-read s (g .settings) n points
 
--- its points, and that they have few rows
+-- its points, that they have few rows, and that drawing them up takes few cancellations
 module _ {s : Settings} {n : ℕ} {points : List ℕ} (g : PointsGiven s n points) where
   pub given-points : Points s (pointsIn s n points)
   given-points = read s (g .settings) n points (g .most) (g .once)
 
   pub few-drawn : rowCount s (pointsIn s n points) ≤ 449
   few-drawn = few-rows s (g .settings) (pointsIn s n points) given-points
+
+  pub few-cost : cancellationsUnder s (pointsIn s n points) ≤ 32832
+  few-cost = bound (length (pointsIn s n points)) (s .variables) (given-points .few) (g .settings .few) (few-cancellations s (g .settings) (pointsIn s n points) given-points)
+    where
+      bound : {k : ℕ} (n m : ℕ) → n ≤ 64 → m ≤ 8 → k ≤ n * (n * m + 1) → k ≤ 32832
+      bound n m a b h =
+          let x : n * m ≤ n * 8 = mul-le-mul-left n b in
+          let y : n * m + 1 ≤ 513 = omega arith in
+          let z : n * (n * m + 1) ≤ n * 513 = mul-le-mul-left n y in
+          omega arith
 
 module _ (s : Settings) (ok : Accepted s) where
   -- A table of points.

@@ -2,14 +2,16 @@
 use mathlib.Core.Path.{_≡_, refl, sym, ap, ap₂, subst, _∙_}
 use mathlib.Core.List.{List, [], _∷_, _++_}
 use Prim.Native.Nat.{ℕ, suc, _+_, _-_, _*_, _<_, _≤_}
+use native.Mathlib.Nat.{mul-le-mul-left}
 use native.Mathlib.Omega.{arith}
 use lib.ListN.{length, getD, set, take, drop, replicate, length-append}
 use Rattle.residue.specs.Inverse.{inverseOf}
 use Rattle.residue.specs.Vector.{Below}
-use Rattle.residue.specs.Elimination.{eliminated, multiplesOf, Multiplied, ZeroBehind}
+use Rattle.residue.specs.Elimination.{eliminated, cancellations, multiplesOf, Multiplied, ZeroBehind}
 use Rattle.residue.specs.Layout.{fill, withPlace}
 use Rattle.residue.specs.Rows.{firstNonzero, pivotRow}
 use Rattle.residue.proofs.Layouts.{length-fill}
+use Rattle.residue.proofs.elimination.Eliminated.{cancellations-most}
 use Rattle.monomial.specs.Monomial.{timesVariable}
 use Rattle.monomial.specs.Order.{Order, orderOf}
 use Rattle.monomial.specs.declared.candidate.Candidate.{Candidate}
@@ -21,6 +23,10 @@ use Rattle.specification.specs.declared.settings.Settings.{Settings}
 use Rattle.specification.specs.BasisOf.{standardOf}
 use Rattle.specification.specs.Instance.{Monomial, Point}
 use Rattle.specification.specs.Tables.{spaceUnder, pointsUnder, pointsIn}
+use Rattle.specification.specs.Adding.{cancellationsUnder}
+use Rattle.specification.proofs.Instance.{laws}
+use Rattle.specification.proofs.ideal.Laws.{Laws}
+use Rattle.specification.proofs.cancellations.Progress.{Ready, Passed, ready-start, ready-next, passed-all}
 use Rattle.basis.specs.Drawing.{productValues, PointsGiven, DrawnUp}
 use Rattle.basis.proofs.drawing.Positions.{productAt}
 use Rattle.basis.proofs.drawing.Candidates.{Outcome, Found, next-candidate}
@@ -29,6 +35,7 @@ use Rattle.basis.proofs.drawing.Held.{Ground, Held, InHand, Decided}
 use Rattle.basis.proofs.drawing.Decisions.{few-standard, few-leads, work-long, work-below, lead-room, lead-decided, lead-held, standard-more, standard-decided, standard-held}
 use Rattle.basis.proofs.drawing.Hands.{start-held, start-hand, few-found, exponent-small, next-hand}
 use Rattle.basis.proofs.drawing.Grounds.{ground, coordinate, drawn-up}
+use Rattle.basis.proofs.drawing.Costs.{lead-passed, standard-passed}
 
 -- What the code's calls ask of the tables.
 pub record Sized (p n found : ℕ) (standard leads coefficients rows pivots values ranks : List ℕ) : Type 0 where
@@ -52,7 +59,7 @@ pointsOf s n points = pointsUnder s (pointsIn s n points)
 
 module _ (s : Settings) (n : ℕ) (points : List ℕ) where
   -- A monomial is in hand.
-  pub record Head (found r : ℕ) (standard leads coefficients rows pivots values ranks steps at exponents : List ℕ) (rank : ℕ) (own : List ℕ) : Type 0 where
+  pub record Head (found r total : ℕ) (standard leads coefficients rows pivots values ranks steps at exponents : List ℕ) (rank : ℕ) (own : List ℕ) : Type 0 where
     pub std : List (Monomial (s .variables))
     pub lds : List (Monomial (s .variables))
     pub css : List (List ℕ)
@@ -61,9 +68,11 @@ module _ (s : Settings) (n : ℕ) (points : List ℕ) where
     pub r-is : r ≡ length lds
     pub held : Held (s .modulus - 1) (s .variables) n (orderOf (s .order)) (pointsOf s n points) std lds css standard leads coefficients rows pivots values ranks steps
     pub in-hand : InHand (s .modulus - 1) (s .variables) n (orderOf (s .order)) (pointsOf s n points) std lds hand at exponents rank own
+    pub ready : Ready (spaceUnder s) (pointsOf s n points) n std lds total rows pivots hand
+    pub few : found + r ≤ 513
 
   -- It is kept.
-  pub record Kept (found r : ℕ) (standard leads coefficients rows pivots values ranks steps at : List ℕ) : Type 0 where
+  pub record Kept (found r total : ℕ) (standard leads coefficients rows pivots values ranks steps at : List ℕ) : Type 0 where
     pub std : List (Monomial (s .variables))
     pub lds : List (Monomial (s .variables))
     pub css : List (List ℕ)
@@ -71,12 +80,14 @@ module _ (s : Settings) (n : ℕ) (points : List ℕ) where
     pub r-is : r ≡ length lds
     pub held : Held (s .modulus - 1) (s .variables) n (orderOf (s .order)) (pointsOf s n points) std lds css standard leads coefficients rows pivots values ranks steps
     pub decided : Decided (s .modulus - 1) (s .variables) n (orderOf (s .order)) (pointsOf s n points) std lds at
+    pub last : Monomial (s .variables)
+    pub passed : Passed (spaceUnder s) (pointsOf s n points) n std lds total rows pivots last
 
 module _ {s : Settings} {n : ℕ} {points : List ℕ} where
   -- the same lists, by their equations
-  pub kept-as : {found found′ r r′ : ℕ} {standard standard′ leads leads′ coefficients coefficients′ rows rows′ pivots pivots′ values values′ ranks ranks′ steps at : List ℕ}
+  pub kept-as : {found found′ r r′ total : ℕ} {standard standard′ leads leads′ coefficients coefficients′ rows rows′ pivots pivots′ values values′ ranks ranks′ steps at : List ℕ}
       → found ≡ found′ → r ≡ r′ → standard ≡ standard′ → leads ≡ leads′ → coefficients ≡ coefficients′ → rows ≡ rows′ → pivots ≡ pivots′ → values ≡ values′ → ranks ≡ ranks′
-      → Kept s n points found′ r′ standard′ leads′ coefficients′ rows′ pivots′ values′ ranks′ steps at → Kept s n points found r standard leads coefficients rows pivots values ranks steps at
+      → Kept s n points found′ r′ total standard′ leads′ coefficients′ rows′ pivots′ values′ ranks′ steps at → Kept s n points found r total standard leads coefficients rows pivots values ranks steps at
   kept-as a b c d e f g h i k = rw (a, b, c, d, e, f, g, h, i) k
 
   module _ (given : PointsGiven s n points) where
@@ -95,12 +106,15 @@ module _ {s : Settings} {n : ℕ} {points : List ℕ} where
     G : Ground (p - 1) m n o S p
     G = ground given
 
+    L : Laws (spaceUnder s)
+    L = laws (p - 1) m o (G .prime)
+
     pub residues-of : (l : List ℕ) → Below (suc (p - 1)) l → Below p l
     residues-of l b = subst (λ (z : ℕ). Below z l) (sym (G .modulus)) b
 
     pub head-start : {standard leads coefficients rows pivots steps : List ℕ} → standard ≡ replicate 512 0 → leads ≡ replicate 3592 0 → coefficients ≡ replicate 28736 0
         → length rows ≡ 73728 → length pivots ≡ 64 → steps ≡ stepsOf o
-        → Head s n points 0 0 standard leads coefficients rows pivots (replicate 4096 0) (replicate 64 0) steps (replicate 8 0) (replicate 8 0) 0 (replicate 64 1)
+        → Head s n points 0 0 0 standard leads coefficients rows pivots (replicate 4096 0) (replicate 64 0) steps (replicate 8 0) (replicate 8 0) 0 (replicate 64 1)
     head-start {standard} {leads} {coefficients} {rows} {pivots} a b c d e f = record {
       std = [];
       lds = [];
@@ -110,6 +124,8 @@ module _ {s : Settings} {n : ℕ} {points : List ℕ} where
       r-is = refl;
       held = rw f (start-held G a b c d e);
       in-hand = start-hand G;
+      ready = ready-start (spaceUnder s) L S (G .distinct) n (G .count) (G .most) rows pivots;
+      few = omega arith;
     }
 
     module _ {found : ℕ} {standard leads coefficients rows pivots values ranks steps : List ℕ} where
@@ -132,7 +148,7 @@ module _ {s : Settings} {n : ℕ} {points : List ℕ} where
         rows-zero = λ t j h. H .pivot-rows .beyond t j (omega arith);
       }
 
-      module _ {r : ℕ} {at exponents : List ℕ} {rank : ℕ} {own : List ℕ} (h : Head s n points found r standard leads coefficients rows pivots values ranks steps at exponents rank own) where
+      module _ {r total : ℕ} {at exponents : List ℕ} {rank : ℕ} {own : List ℕ} (h : Head s n points found r total standard leads coefficients rows pivots values ranks steps at exponents rank own) where
         pub head-sized : Sized p n found standard leads coefficients rows pivots values ranks
         head-sized = sized (h .found-is) (h .held)
 
@@ -156,49 +172,74 @@ module _ {s : Settings} {n : ℕ} {points : List ℕ} where
           room-lead z =
               rw (h .r-is) (lead-room G (h .held) (h .in-hand) left′ z)
 
-          pub keeps-lead : {leads′ coefficients′ : List ℕ} → firstNonzero n work ≡ n → leads′ ≡ withPlace 8 r exponents leads
-              → coefficients′ ≡ withPlace 64 r (take found (drop n work)) coefficients → Kept s n points found (r + 1) standard leads′ coefficients′ rows pivots values ranks steps at
-          keeps-lead {leads′} {coefficients′} z e f = record {
-            std = h .std;
-            lds = h .lds ++ (h .hand ∷ []);
-            css = h .css ++ (take (length (h .std)) (drop n work) ∷ []);
-            found-is = h .found-is;
-            r-is = omega (arith, h .r-is, length-append (h .lds) (h .hand ∷ []));
-            held =
-                rw (e ∙ ap (λ (k : ℕ). withPlace 8 k exponents leads) (h .r-is), f ∙ ap₂ (λ (k j : ℕ). withPlace 64 k (take j (drop n work)) coefficients) (h .r-is) (h .found-is))
-                (lead-held G (h .held) (h .in-hand) left′ z);
-            decided =
-                lead-decided G (h .held) (h .in-hand) left′ z;
-          }
-
           pub room-standard : firstNonzero n work < n → found < n
           room-standard z =
               rw (h .found-is) (standard-more G (h .held) (h .in-hand) left′ z)
 
-          pub keeps-standard : {q : ℕ} {standard′ ranks′ values′ rows′ pivots′ : List ℕ} → q ≡ firstNonzero n work → q < n → standard′ ≡ withPlace 8 found exponents standard
-              → ranks′ ≡ set ranks found rank → values′ ≡ withPlace 64 found own values
-              → rows′ ≡ withPlace 1152 found (multiplesOf p (pivotRow p (n + found) (inverseOf p (getD work q 0)) work)) rows → pivots′ ≡ set pivots found q
-              → Kept s n points (found + 1) r standard′ leads coefficients rows′ pivots′ values′ ranks′ steps at
-          keeps-standard {q} {standard′} {ranks′} {values′} {rows′} {pivots′} e z a b c d f = record {
-            std = h .std ++ (h .hand ∷ []);
-            lds = h .lds;
-            css = longer (h .css);
-            found-is = omega (arith, h .found-is, length-append (h .std) (h .hand ∷ []));
-            r-is = h .r-is;
-            held =
-                rw (
-                  a ∙ ap (λ (k : ℕ). withPlace 8 k exponents standard) (h .found-is),
-                  b ∙ ap (λ (k : ℕ). set ranks k rank) (h .found-is),
-                  c ∙ ap (λ (k : ℕ). withPlace 64 k own values) (h .found-is),
-                  d ∙ ap₂ (λ (k j : ℕ). withPlace 1152 k (multiplesOf p (pivotRow p (n + k) (inverseOf p (getD work j 0)) work)) rows) (h .found-is) e,
-                  f ∙ ap₂ (λ (k j : ℕ). set pivots k j) (h .found-is) e,
-                )
-                (standard-held G (h .held) (h .in-hand) left′ (rw e at z));
-            decided =
-                standard-decided G (h .held) (h .in-hand) left′ (rw e at z);
-          }
+          -- the cancellations that it took
+          module _ {k : ℕ} (cost : k ≡ cancellations p rows pivots found (fill 128 (take n own))) where
+            cost′ : k ≡ cancellations p rows pivots (length (h .std)) (fill 128 (take n own))
+            cost′ = cost ∙ ap (λ (z : ℕ). cancellations p rows pivots z (fill 128 (take n own))) (h .found-is)
 
-      module _ {r : ℕ} {at : List ℕ} (h : Kept s n points found r standard leads coefficients rows pivots values ranks steps at) where
+            pub cost-fits : total + k ≤ 32896
+            cost-fits =
+                omega (
+                  arith,
+                  h .ready .few-made,
+                  most n (length (h .std) + length (h .lds)) (given .most) (omega (arith, h .few, h .found-is, h .r-is)),
+                  cancellations-most p rows pivots (fill 128 (take n own)) found,
+                  cost,
+                  head-sized .found-room,
+                  given .most,
+                )
+              where
+                most : (a b : ℕ) → a ≤ 64 → b ≤ 513 → a * b ≤ 32832
+                most a b x y = omega (arith, mul-le-mul-left a y)
+
+            pub keeps-lead : {leads′ coefficients′ : List ℕ} → firstNonzero n work ≡ n → leads′ ≡ withPlace 8 r exponents leads
+                → coefficients′ ≡ withPlace 64 r (take found (drop n work)) coefficients → Kept s n points found (r + 1) (total + k) standard leads′ coefficients′ rows pivots values ranks steps at
+            keeps-lead {leads′} {coefficients′} z e f = record {
+              std = h .std;
+              lds = h .lds ++ (h .hand ∷ []);
+              css = h .css ++ (take (length (h .std)) (drop n work) ∷ []);
+              found-is = h .found-is;
+              r-is = omega (arith, h .r-is, length-append (h .lds) (h .hand ∷ []));
+              held =
+                  rw (e ∙ ap (λ (k : ℕ). withPlace 8 k exponents leads) (h .r-is), f ∙ ap₂ (λ (k j : ℕ). withPlace 64 k (take j (drop n work)) coefficients) (h .r-is) (h .found-is))
+                  (lead-held G (h .held) (h .in-hand) left′ z);
+              decided =
+                  lead-decided G (h .held) (h .in-hand) left′ z;
+              last = h .hand;
+              passed = lead-passed G (h .held) (h .in-hand) (h .ready) left′ cost′ z;
+            }
+
+            pub keeps-standard : {q : ℕ} {standard′ ranks′ values′ rows′ pivots′ : List ℕ} → q ≡ firstNonzero n work → q < n → standard′ ≡ withPlace 8 found exponents standard
+                → ranks′ ≡ set ranks found rank → values′ ≡ withPlace 64 found own values
+                → rows′ ≡ withPlace 1152 found (multiplesOf p (pivotRow p (n + found) (inverseOf p (getD work q 0)) work)) rows → pivots′ ≡ set pivots found q
+                → Kept s n points (found + 1) r (total + k) standard′ leads coefficients rows′ pivots′ values′ ranks′ steps at
+            keeps-standard {q} {standard′} {ranks′} {values′} {rows′} {pivots′} e z a b c d f =
+                let rows-are = d ∙ ap₂ (λ (k j : ℕ). withPlace 1152 k (multiplesOf p (pivotRow p (n + k) (inverseOf p (getD work j 0)) work)) rows) (h .found-is) e in
+                let pivots-are = f ∙ ap₂ (λ (k j : ℕ). set pivots k j) (h .found-is) e in record {
+                  std = h .std ++ (h .hand ∷ []);
+                  lds = h .lds;
+                  css = longer (h .css);
+                  found-is = omega (arith, h .found-is, length-append (h .std) (h .hand ∷ []));
+                  r-is = h .r-is;
+                  held =
+                      rw (
+                        a ∙ ap (λ (k : ℕ). withPlace 8 k exponents standard) (h .found-is),
+                        b ∙ ap (λ (k : ℕ). set ranks k rank) (h .found-is),
+                        c ∙ ap (λ (k : ℕ). withPlace 64 k own values) (h .found-is),
+                        rows-are,
+                        pivots-are,
+                      )
+                      (standard-held G (h .held) (h .in-hand) left′ (rw e at z));
+                  decided = standard-decided G (h .held) (h .in-hand) left′ (rw e at z);
+                  last = h .hand;
+                  passed = rw (rows-are, pivots-are) (standard-passed G (h .held) (h .in-hand) (h .ready) left′ cost′ (rw e at z));
+                }
+
+      module _ {r total : ℕ} {at : List ℕ} (h : Kept s n points found r total standard leads coefficients rows pivots values ranks steps at) where
         pub kept-sized : Sized p n found standard leads coefficients rows pivots values ranks
         kept-sized = sized (h .found-is) (h .held)
 
@@ -219,14 +260,21 @@ module _ {s : Settings} {n : ℕ} {points : List ℕ} where
             (h .decided .long) (h .decided .positions) a at′ (e ∙ ap₂ (λ (k : ℕ) (t : List ℕ). nextOf m k t ranks steps at) (h .found-is) (h .held .standard-table))
 
         -- nothing is left
-        pub ends : {a : Candidate} {at′ : List ℕ} → a ≡ Candidate.Nothing → searchEnds a at′ ≡ nextOf m found standard ranks steps at
-            → DrawnUp s (pointsIn s n points) r standard leads coefficients rows pivots
-        ends {a} {at′} z e =
-            let t : Outcome (p - 1) m o S (h .std) (h .lds) Candidate.Nothing at′ = subst (λ (c : Candidate). Outcome (p - 1) m o S (h .std) (h .lds) c at′) z (outcome a at′ e) in
-            drawn-up given
-            (subst (λ (l : List (Monomial m)). Held (p - 1) m n o S (standardOf (spaceUnder s) S) l (h .css) standard leads coefficients rows pivots values ranks steps) (t .1)
-            (subst (λ (l : List (Monomial m)). Held (p - 1) m n o S l (h .lds) (h .css) standard leads coefficients rows pivots values ranks steps) (t .0) (h .held)))
-            (h .r-is ∙ ap length (t .1))
+        module _ {a : Candidate} {at′ : List ℕ} (z : a ≡ Candidate.Nothing) (e : searchEnds a at′ ≡ nextOf m found standard ranks steps at) where
+          all-found : Outcome (p - 1) m o S (h .std) (h .lds) Candidate.Nothing at′
+          all-found = subst (λ (c : Candidate). Outcome (p - 1) m o S (h .std) (h .lds) c at′) z (outcome a at′ e)
+
+          pub ends : DrawnUp s (pointsIn s n points) r standard leads coefficients rows pivots
+          ends =
+              drawn-up given
+              (subst (λ (l : List (Monomial m)). Held (p - 1) m n o S (standardOf (spaceUnder s) S) l (h .css) standard leads coefficients rows pivots values ranks steps) (all-found .1)
+              (subst (λ (l : List (Monomial m)). Held (p - 1) m n o S l (h .lds) (h .css) standard leads coefficients rows pivots values ranks steps) (all-found .0) (h .held)))
+              (h .r-is ∙ ap length (all-found .1))
+
+          pub costs : total ≡ cancellationsUnder s (pointsIn s n points)
+          unfolding cancellationsUnder
+          costs =
+              passed-all (spaceUnder s) L S (G .distinct) n (G .count) (G .most) (h .std) (h .lds) total rows pivots (h .last) (h .passed) (all-found .0) (all-found .1)
 
         -- the next monomial
         module _ {a : Candidate} {at′ : List ℕ} {k t l : ℕ} (z : a ≡ Candidate.Of k t l) (e : searchEnds a at′ ≡ nextOf m found standard ranks steps at) where
@@ -240,7 +288,7 @@ module _ {s : Settings} {n : ℕ} {points : List ℕ} where
           next-exponent = exponent-small G (h .held) F
 
           pub goes-on : {exponents own : List ℕ} → exponents ≡ timesVariable k (take 8 (drop (8 * t) standard)) → own ≡ productValues p n (columnOf k n points) (take 64 (drop (64 * t) values))
-              → Head s n points found r standard leads coefficients rows pivots values ranks steps at′ exponents l own
+              → Head s n points found r total standard leads coefficients rows pivots values ranks steps at′ exponents l own
           goes-on {exponents} {own} x y = record {
             std = h .std;
             lds = h .lds;
@@ -251,4 +299,8 @@ module _ {s : Settings} {n : ℕ} {points : List ℕ} where
             held = h .held;
             in-hand =
                 next-hand G (h .held) F points (coordinate given k (F .variable)) x y;
+            ready =
+                ready-next (spaceUnder s) L S (G .distinct) n (G .count) (G .most) (h .std) (h .lds) total rows pivots (h .last) (h .passed) (F .last) (productAt (spaceUnder s) (h .std) k t)
+                (F .drawn) (F .next) (F .bordered);
+            few = kept-few;
           }

@@ -14,10 +14,10 @@ use Rattle.specification.specs.Refusal.{Case, firstOf}
 use Rattle.specification.specs.Settings.{settingsCases}
 use Rattle.specification.specs.Levels.{inRange, noRepeat}
 use Rattle.specification.specs.Tables.{Tables, rowCount, tablesOf, written, tooShort}
-use Rattle.specification.specs.Adding.{ended, refused, holding, pointsOffered, drawCases, drawRefusal, drawOutcome}
+use Rattle.specification.specs.Adding.{ended, refused, holding, pointsOffered, drawCases, drawRefusal, costing, cancellationsUnder, drawOutcome}
 use Rattle.basis.specs.Drawing.{Tabled}
 use Rattle.basis.proofs.settings.BySize.{sizes, by-size, by-rest, two, two-first, two-second, two-none}
-use Rattle.basis.proofs.settings.ByNumber.{when-refused, when-accepted}
+use Rattle.basis.proofs.settings.ByNumber.{cost-refused, cost-accepted}
 
 -- what the writers of the tables of S left
 pub all-written : (s : Settings) (S : List (List ℕ)) (t : Tables) (n r : ℕ) (a b c d : List ℕ) → n ≡ length S → r ≡ rowCount s S
@@ -47,19 +47,19 @@ module _ (s : Settings) (t : Tables) (levels : List ℤ) where
   unfolding drawRefusal drawCases two
   behind e = by-rest s (tooShort t) (not (eqb (length levels % s .variables) 0)) (ltb 64 (length levels / s .variables)) tests e
 
-  pub draw-size : (k : ℕ) → k ≡ drawSizes → (k ≡ 0 → ⊥) → refused k t ≡ drawOutcome s t levels
+  pub draw-size : (k : ℕ) → k ≡ drawSizes → (k ≡ 0 → ⊥) → costing 0 (refused k t) ≡ drawOutcome s t levels
   unfolding drawOutcome drawRefusal drawCases two
-  draw-size k e n = when-refused t _ _ k (by-size s (tooShort t) (not (eqb (length levels % s .variables) 0)) (ltb 64 (length levels / s .variables)) tests k e n) n
+  draw-size k e n = cost-refused t _ _ _ k (by-size s (tooShort t) (not (eqb (length levels % s .variables) 0)) (ltb 64 (length levels / s .variables)) tests k e n) n
 
-  pub draw-range : drawSizes ≡ 0 → inRange (s .modulus) levels ≡ false → refused 9 t ≡ drawOutcome s t levels
+  pub draw-range : drawSizes ≡ 0 → inRange (s .modulus) levels ≡ false → costing 0 (refused 9 t) ≡ drawOutcome s t levels
   unfolding drawOutcome
-  draw-range e f = when-refused t _ _ 9 (two-first 9 11 _ f ∙ behind e) (λ z. omega arith)
+  draw-range e f = cost-refused t _ _ _ 9 (two-first 9 11 _ f ∙ behind e) (λ z. omega arith)
 
-  pub draw-repeat : drawSizes ≡ 0 → inRange (s .modulus) levels ≡ true → noRepeat (pointsOffered s levels) ≡ false → refused 11 t ≡ drawOutcome s t levels
+  pub draw-repeat : drawSizes ≡ 0 → inRange (s .modulus) levels ≡ true → noRepeat (pointsOffered s levels) ≡ false → costing 0 (refused 11 t) ≡ drawOutcome s t levels
   unfolding drawOutcome
-  draw-repeat e f g = when-refused t _ _ 11 (two-second 9 11 f g ∙ behind e) (λ z. omega arith)
+  draw-repeat e f g = cost-refused t _ _ _ 11 (two-second 9 11 f g ∙ behind e) (λ z. omega arith)
 
   pub draw-good : drawSizes ≡ 0 → inRange (s .modulus) levels ≡ true → noRepeat (pointsOffered s levels) ≡ true
-      → holding s (pointsOffered s levels) t ≡ drawOutcome s t levels
+      → costing (cancellationsUnder s (pointsOffered s levels)) (holding s (pointsOffered s levels) t) ≡ drawOutcome s t levels
   unfolding drawOutcome
-  draw-good e f g = when-accepted t _ _ (two-none 9 11 f g ∙ behind e)
+  draw-good e f g = cost-accepted t _ _ _ (two-none 9 11 f g ∙ behind e)

@@ -81,10 +81,10 @@ module _ (D : Space) where
             go (yes u) = absurd (p .passed v t hv u h)
             go (no u) = omega arith
 
-        pub next-at : Less D c b → Next D standard c b
-        next-at after = record {
+        pub next-at : (leads : List Mono) → Less D c b → Next D standard leads c b
+        next-at leads after = record {
           after = after;
-          least = λ k s hk mem h u. let t = index-of standard one s mem in
+          least = λ k s hk mem h z u. let t = index-of standard one s mem in
               above k (t .0) hk (position k (t .0) hk (subst (λ (z : Mono). Less D c (x k z)) (sym (t .2)) h)) (t .1) (subst (λ (z : Mono). Less D (x k z) b) (sym (t .2)) u);
         }
 

@@ -7,12 +7,12 @@ ghost use mathlib.Core.Path.{_≡_};
 ghost use Prim.Native.Nat.{ℕ, _+_, _*_, _<_, _≤_};
 ghost use lib.ListN.{length, getD, take, drop};
 ghost use Rattle.residue.specs.Vector.{Below};
-ghost use Rattle.residue.specs.Elimination.{eliminated, Multiplied, ZeroBehind};
+ghost use Rattle.residue.specs.Elimination.{eliminated, cancellations, Multiplied, ZeroBehind};
 ghost use Rattle.residue.specs.Layout.{withPlace};
 ghost use Rattle.monomial.specs.Monomial.{timesVariable};
 ghost use Rattle.basis.specs.Drawing.{emptyRow, rowWith, RowsLong, productValues};
 
-// The working row of given values after it met the pivot rows.
+// The working row of given values after it met the pivot rows, and how many cancellations that took.
 pub fn reduce(
     p: u8,
     n: usize,
@@ -21,7 +21,7 @@ pub fn reduce(
     rows: &[u8],
     pivots: &[u8],
     work: &mut [u8],
-)
+) -> usize
     requires { ⌜ ((2 ≤ p) × (p ≤ 61)) × ((n ≤ 64) × (found ≤ n)) ⌝ }
     requires { ⌜ (length (now own) ≡ 64) × RowsLong (now rows) (now pivots) ⌝ }
     requires { ⌜ (Below p (now own)) × (Multiplied p found (now rows)) ⌝ }
@@ -29,9 +29,10 @@ pub fn reduce(
     requires { ⌜ ZeroBehind n found (now rows) ⌝ }
     requires { ⌜ now work ≡ emptyRow ⌝ }
     ensures { λ _. ⌜ now (work .exit) ≡ eliminated p (now (rows .entry)) (now (pivots .entry)) found (rowWith (take n (now (own .entry)))) ⌝ }
+    ensures { λ k. ⌜ k ≡ cancellations p (now (rows .entry)) (now (pivots .entry)) found (rowWith (take n (now (own .entry)))) ⌝ }
 {
     rows::copy(&own[..n], &mut work[..n]);
-    eliminate(p, n, found, rows, pivots, work);
+    eliminate(p, n, found, rows, pivots, work)
 }
 
 // Keeps the monomial as a lead, with its row of coefficients.

@@ -1,6 +1,6 @@
--- Laws of elimination: lengths and residues, and what a cancellation does to each entry.
+-- Laws of elimination: lengths and residues, what a cancellation does to each entry, and the count of cancellations.
 use mathlib.Core.Path.{_≡_, refl, sym, ap, _∙_}
-use mathlib.Core.Bool.{Bool, true, false}
+use mathlib.Core.Bool.{Bool, true, false, cond}
 use mathlib.Core.List.{List, _∷_}
 use Prim.Native.Nat.{ℕ, zero, suc, _+_, _*_, _-_, _%_, _<_, _≤_}
 use native.Mathlib.Numerals.{add-one}
@@ -11,7 +11,7 @@ use lib.Dec.{eqb}
 use borrow.Author.Tests.{eq-eqb, ne-eqb, eqb-true, eqb-false}
 use Rattle.residue.specs.Congruence.{Mod}
 use Rattle.residue.specs.Vector.{Below, addScaled}
-use Rattle.residue.specs.Elimination.{cancelled, eliminated}
+use Rattle.residue.specs.Elimination.{cancelled, eliminated, counted, cancellations}
 use Rattle.residue.proofs.Congruence.{rfl, of, reduce, negative, _then_, _plus_, _times_}
 use Rattle.residue.proofs.vector.Vectors.{addScaled-length, addScaled-at, addScaled-below}
 
@@ -40,6 +40,23 @@ module _ (p : ℕ) (row : List ℕ) (at : ℕ) (w : List ℕ) where
     pub cancelled-below : 0 < p → Below p w → Below p (cancelled p row at w)
     cancelled-below z b = either (Below p) (λ e. b) (addScaled-below p (p - getD w at 0) w row same z)
 
+-- It counts where the entry is not 0.
+pub counted-none : {x : ℕ} → x ≡ 0 → 0 ≡ counted x
+unfolding counted
+counted-none {x} e = simp (eq-eqb x 0 e)
+
+pub counted-one : {x : ℕ} → (x ≡ 0 → ⊥) → 1 ≡ counted x
+unfolding counted
+counted-one {x} e = simp (ne-eqb x 0 e)
+
+counted-most : (x : ℕ) → counted x ≤ 1
+unfolding counted
+counted-most x = go (eqb x 0)
+  where
+    go : (b : Bool) → cond b 0 1 ≤ 1
+    go true = omega arith
+    go false = omega arith
+
 -- Each entry gains the row's, times minus the entry to be cancelled; where p is suc q, minus 1 is q.
 turned : (q x y z : ℕ) → x ≤ suc q → Mod (suc q) ((y + (suc q - x) * z) % suc q) (y + q * x * z)
 turned q x y z h = reduce (suc q) (y + (suc q - x) * z) then (rfl {x = y} plus (negative q x h times rfl {x = z}))
@@ -63,6 +80,21 @@ module _ (p : ℕ) (rows pivots : List ℕ) (w : List ℕ) where
       → eliminated p rows pivots (t + 1) w ≡ cancelled p (take 128 (drop (1152 * t) rows)) (getD pivots t 0) (eliminated p rows pivots t w)
   unfolding eliminated
   eliminated-more t = ap (λ (k : ℕ). eliminated p rows pivots k w) (add-one t)
+
+  pub cancellations-none : cancellations p rows pivots 0 w ≡ 0
+  unfolding cancellations
+  cancellations-none = refl
+
+  pub cancellations-more : (t : ℕ)
+      → cancellations p rows pivots (t + 1) w ≡ cancellations p rows pivots t w + counted (getD (eliminated p rows pivots t w) (getD pivots t 0) 0)
+  unfolding cancellations
+  cancellations-more t = ap (λ (k : ℕ). cancellations p rows pivots k w) (add-one t)
+
+  -- at most one for each pivot row
+  pub cancellations-most : (t : ℕ) → cancellations p rows pivots t w ≤ t
+  unfolding cancellations
+  cancellations-most zero = omega arith
+  cancellations-most (suc t) = omega (arith, cancellations-most t, counted-most (getD (eliminated p rows pivots t w) (getD pivots t 0) 0))
 
 pub row-long : (t : ℕ) (rows : List ℕ) → 1152 * t + 1152 ≤ length rows → length (take 128 (drop (1152 * t) rows)) ≡ 128
 row-long t rows h = length-take-le 128 (drop (1152 * t) rows) (omega (arith, length-drop (1152 * t) rows))

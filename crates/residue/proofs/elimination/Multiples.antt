@@ -160,12 +160,16 @@ module _ (p : ℕ) (row : List ℕ) (long : length row ≡ 128) where
     pub block-front : (i : ℕ) → i < 128 → getD (multiplesOf p row) i 0 ≡ getD row i 0
     block-front i h = sym (getD-take 128 (multiplesOf p row) i 0 h) ∙ ap (λ (l : List ℕ). getD l i 0) row-front
 
-    pub block-put : (t : ℕ) (rows : List ℕ) → 1152 * t + 1152 ≤ length rows
-        → take 1152 (drop (1152 * t) (withPlace 1152 t (multiplesOf p row) rows)) ≡ multiplesOf p (take 128 (drop (1152 * t) (withPlace 1152 t (multiplesOf p row) rows)))
-    block-put t rows fits =
-        let there = place-there 1152 t (multiplesOf p row) rows fits (block-length p row long) in
-        there
-        ∙ sym (ap (multiplesOf p) (sym (take-take 128 1152 (drop (1152 * t) (withPlace 1152 t (multiplesOf p row) rows)) (omega arith)) ∙ ap (take 128) there ∙ row-front))
+    module _ (t : ℕ) (rows : List ℕ) (fits : 1152 * t + 1152 ≤ length rows) where
+      there : take 1152 (drop (1152 * t) (withPlace 1152 t (multiplesOf p row) rows)) ≡ multiplesOf p row
+      there = place-there 1152 t (multiplesOf p row) rows fits (block-length p row long)
+
+      pub block-row : take 128 (drop (1152 * t) (withPlace 1152 t (multiplesOf p row) rows)) ≡ row
+      block-row = sym (take-take 128 1152 (drop (1152 * t) (withPlace 1152 t (multiplesOf p row) rows)) (omega arith)) ∙ ap (take 128) there ∙ row-front
+
+      pub block-put : take 1152 (drop (1152 * t) (withPlace 1152 t (multiplesOf p row) rows))
+          ≡ multiplesOf p (take 128 (drop (1152 * t) (withPlace 1152 t (multiplesOf p row) rows)))
+      block-put = there ∙ sym (ap (multiplesOf p) block-row)
 
 pub block-kept : (p found : ℕ) (block rows : List ℕ) → 1152 * found + 1152 ≤ length rows → length block ≡ 1152 → (t : ℕ) → t < found
     → take 1152 (drop (1152 * t) rows) ≡ multiplesOf p (take 128 (drop (1152 * t) rows))

@@ -28,7 +28,7 @@ use Rattle.specification.specs.Polynomial.{Polynomial, Distinct}
 use Rattle.specification.specs.BasisOf.{valueAt, remainderOf}
 use Rattle.specification.specs.Instance.{Point, pointOf}
 use Rattle.specification.specs.Tables.{Tables, spaceUnder, pointsUnder, standardUnder, leadsUnder, rowsUnder, rowCount, tablesOf, written, tooShort, standardSize, leadsSize, coefficientsSize}
-use Rattle.specification.specs.Adding.{holding, byRefusal, pointsOffered, drawCases, drawRefusal, drawOutcome}
+use Rattle.specification.specs.Adding.{holding, byRefusal, pointsOffered, drawCases, drawRefusal, costing, cancellationsUnder, drawOutcome}
 use Rattle.specification.specs.Solving.{Filled, filling, withinVariables, polynomialUnder, remainderIn, remainderCases, remainderOutcome, valuesCases, wiringOf, wiringUnder, Listed, listing, wiringOutcome}
 use Rattle.specification.specs.Reference.{Held}
 use Rattle.specification.specs.Agreement.{Rearranges, SameAs, SameValues}
@@ -213,7 +213,7 @@ module _ (s : Settings) (ok : Accepted s) where
     hK = record { points = is-point; once = a .once; few = omega (arith, as-many, hL .few) }
 
     -- nothing refuses
-    draws : (t : Tables) → tooShort t ≡ false → drawOutcome s t levels ≡ holding s K t
+    draws : (t : Tables) → tooShort t ≡ false → drawOutcome s t levels ≡ costing (cancellationsUnder s K) (holding s K t)
     unfolding drawOutcome drawRefusal drawCases byRefusal firstOf pointsOffered
     draws t large = rw (settings-pass s fine _, large, eq-eqb (length levels % s .variables) 0 (a .whole), le-ltb 64 (length levels / s .variables) few, true-of (inRange (s .modulus) levels) (a .range), true-of (noRepeat K) (a .once))
       where

@@ -1,9 +1,9 @@
 -- Drawing up from all points, after Buchberger and Möller (docs/SCOPE.md, 'The sheet'): monomials in increasing order, each a product of a standard monomial found; what has
 -- been decided is the basis up to the last of them. A monomial all of whose divisors are standard is a lead if its values are a combination of those of the
 -- standard monomials found, and else standard.
-use mathlib.Core.Path.{_≡_, sym, _∙_, ap, subst}
+use mathlib.Core.Path.{_≡_, sym, ap, subst}
 use mathlib.Core.List.{List, [], _∷_, _++_}
-use mathlib.Core.Logic.{_⊎_, inl, inr, _≢_}
+use mathlib.Core.Logic.{_⊎_, inl, inr}
 use mathlib.Core.WellFounded.{Acc·ndrec}
 use Prim.Native.Nat.{ℕ, _+_, _*_, _≤_, _<_, suc-le-suc, zero-le, Ordering}
 use native.Mathlib.Omega.{arith}
@@ -16,6 +16,7 @@ use Rattle.specification.specs.Space.{Space, Less, Divides}
 use Rattle.specification.specs.Polynomial.{eval, Distinct, terms}
 use Rattle.specification.specs.Basis.{Row}
 use Rattle.specification.specs.BasisOf.{standardOf, leadsOf}
+use Rattle.specification.specs.Examination.{Undivided}
 use Rattle.specification.proofs.ideal.Laws.{Laws, Compares, lt, eq, gt, compared, same?, irrefl, trans, less-ne}
 use Rattle.specification.proofs.ideal.Lists.{snoc-of, snoc-in, snoc-increasing}
 use Rattle.specification.proofs.ideal.Increasing.{increasing-length}
@@ -39,10 +40,10 @@ module _ (D : Space) where
     pub standard-to : UpTo (standardOf D S) standard c
     pub leads-to : UpTo (leadsOf D S) leads c
 
-  -- b is above c, and no product of the monomials found is between
-  pub record Next (standard : List Mono) (c b : Mono) : Type 0 where
+  -- b is above c, and no product of the monomials found that no lead found divides is between
+  pub record Next (standard leads : List Mono) (c b : Mono) : Type 0 where
     pub after : Less D c b
-    pub least : (k : ℕ) (s : Mono) → k < m → Among s standard → Less D c (x k s) → ¬ Less D (x k s) b
+    pub least : (k : ℕ) (s : Mono) → k < m → Among s standard → Less D c (x k s) → Undivided D leads (x k s) → ¬ Less D (x k s) b
 
   -- every monomial that b is a variable times has been found
   abbrev pub Bordered : List Mono → Mono → Type 0
@@ -70,13 +71,13 @@ module _ (D : Space) where
       same-value (c ∷ cs) (d ∷ l) P e = ap (λ (z : ℕ). c * val d P + z) (same-value cs l P (omega arith))
 
   module _ (L : Laws D) where
-    open Laws L using (order, wf, x-up, dvd-x, dvd-less, one-dvd, step)
+    open Laws L using (order, wf, x-up, dvd-x, dvd-trans, dvd-less, one-dvd, step)
 
     one-least : (a : Mono) → ¬ Less D a one
     one-least a h = irrefl D L (trans D L h (dvd-less one-dvd (λ e. less-ne D L h (sym e))))
 
     -- a monomial is at most c or above it
-    at-most : (c a : Mono) → Less D c a ⊎ (¬ Less D c a)
+    pub at-most : (c a : Mono) → Less D c a ⊎ (¬ Less D c a)
     at-most c a = go (compared D L c a)
       where
         go : {o : Ordering} → Compares D c a o → Less D c a ⊎ (¬ Less D c a)
@@ -148,15 +149,8 @@ module _ (D : Space) where
 
     module _ (S : List Pt) (d : Distinct D S) where
       -- a of the basis: standard or a lead
-      abbrev Of : Mono → Type 0
+      abbrev pub Of : Mono → Type 0
       Of a = Among a (standardOf D S) ⊎ Among a (leadsOf D S)
-
-      divisor-standard : (a b : Mono) → Of a → Divides D b a → b ≢ a → Among b (standardOf D S)
-      divisor-standard a b (inl mem) k e = staircase D L S d .down b a k mem
-      divisor-standard a b (inr mem) k e = staircase D L S d .minimal a mem b k e
-
-      quotient-standard : (a b : Mono) (k : ℕ) → k < m → a ≡ x k b → Of a → Among b (standardOf D S)
-      quotient-standard a b k hk e o = divisor-standard a b o (rw e (dvd-x hk)) (λ u. less-ne D L (x-up {k = k} {a = b} hk) (u ∙ e))
 
       -- a monomial whose values are a combination of those of the standard monomials below it, and which is bordered by them, is a lead
       pub is-lead : (standard : List Mono) (b : Mono) → Front S standard b → Bordered standard b → Spanned D S standard (val b) → Among b (leadsOf D S)
@@ -188,23 +182,52 @@ module _ (D : Space) where
       start-lead mem = record { standard-to = upTo-none (standardOf D S) (staircase D L S d .outside one mem); leads-to = upTo-one (leadsOf D S) mem }
 
       module _ (standard leads : List Mono) (c : Mono) (W : Drawn S standard leads c) where
-        -- nothing of the basis is above c and of a kind that goes down and that no product above c is of
-        none-beyond : (Kind : Mono → Type 0) → ((a b : Mono) → Less D b a → Kind a → Kind b)
-            → ((k : ℕ) (s : Mono) → k < m → Among s standard → Less D c (x k s) → ¬ Kind (x k s)) → (a : Mono) → Of a → Less D c a → ¬ Kind a
-        none-beyond Kind down none a = Acc·ndrec {C = λ b. Of b → Less D c b → ¬ Kind b} (λ b _ rec o h z. turn b rec o h z) (wf a)
+        -- a monomial up to c that no lead found divides has been found standard
+        pub covered : (a : Mono) → ¬ Less D c a → Undivided D leads a → Among a standard
+        covered a h u = go (member? D L a (standardOf D S))
           where
-            turn : (a : Mono) → ((b : Mono) → Less D b a → Of b → Less D c b → ¬ Kind b) → Of a → Less D c a → ¬ Kind a
-            turn a rec o h z = let s = step {a = one} {b = a} one-dvd (λ e. one-least c (subst (Less D c) (sym e) h)) in
-                go (s .0) (s .1) (s .2) (s .3) (quotient-standard a (s .1) (s .0) (s .2) (s .3) o) (at-most c (s .1))
+            low : (b : Mono) → Divides D b a → ¬ Less D c b
+            low b k v = elim-same (same? D L b a)
               where
-                go : (k : ℕ) (b : Mono) → k < m → a ≡ x k b → Among b (standardOf D S) → Less D c b ⊎ (¬ Less D c b) → ⊥
-                go k b hk e mem (inl u) = let v = subst (Less D b) (sym e) (x-up hk) in rec b v (inl mem) u (down a b v z)
-                go k b hk e mem (inr u) = none k b hk (W .standard-to .found-all b mem u) (subst (Less D c) e h) (subst Kind e z)
+                elim-same : Dec (b ≡ a) → ⊥
+                elim-same (yes e) = h (subst (Less D c) e v)
+                elim-same (no n) = h (trans D L v (dvd-less k n))
 
-        -- no product above c: all is found
-        module _ (over : (k : ℕ) (s : Mono) → k < m → Among s standard → ¬ Less D c (x k s)) where
+            go : Dec (Among a (standardOf D S)) → Among a standard
+            go (yes mem) = W .standard-to .found-all a mem h
+            go (no out) = let t = staircase D L S d .cover a out in absurd (u (t .0) (W .leads-to .found-all (t .0) (t .1) (low (t .0) (t .2))) (t .2))
+
+        -- no monomial above c that no lead found divides is of a kind that goes down, if no product is
+        pub none-due : (Kind : Mono → Type 0) → ((a b : Mono) → Less D b a → Kind a → Kind b)
+            → ((k : ℕ) (s : Mono) → k < m → Among s standard → Less D c (x k s) → Undivided D leads (x k s) → ¬ Kind (x k s))
+            → (a : Mono) → Less D c a → Undivided D leads a → ¬ Kind a
+        none-due Kind down none a = Acc·ndrec {C = λ b. Less D c b → Undivided D leads b → ¬ Kind b} (λ b _ rec h u z. turn b rec h u z) (wf a)
+          where
+            turn : (a : Mono) → ((b : Mono) → Less D b a → Less D c b → Undivided D leads b → ¬ Kind b) → Less D c a → Undivided D leads a → ¬ Kind a
+            turn a rec h u z = let s = step {a = one} {b = a} one-dvd (λ e. one-least c (subst (Less D c) (sym e) h)) in go (s .0) (s .1) (s .2) (s .3) (at-most c (s .1))
+              where
+                under : (k : ℕ) (b : Mono) → k < m → a ≡ x k b → Undivided D leads b
+                under k b hk e l mem v = u l mem (rw e (dvd-trans v (dvd-x hk)))
+
+                go : (k : ℕ) (b : Mono) → k < m → a ≡ x k b → Less D c b ⊎ (¬ Less D c b) → ⊥
+                go k b hk e (inl v) = let w = subst (Less D b) (sym e) (x-up hk) in rec b w v (under k b hk e) (down a b w z)
+                go k b hk e (inr v) = none k b hk (covered b v (under k b hk e)) (subst (Less D c) e h) (subst (Undivided D leads) e u) (subst Kind e z)
+
+        -- no lead found divides what is of the basis and above c
+        pub of-undivided : (a : Mono) → Of a → Less D c a → Undivided D leads a
+        of-undivided a o h l mem k = staircase D L S d .outside l (W .leads-to .of-all l mem) (go o)
+          where
+            go : Of a → Among l (standardOf D S)
+            go (inl z) = staircase D L S d .down l a k z
+            go (inr z) = staircase D L S d .minimal a z l k (λ e. W .leads-to .not-above l mem (subst (Less D c) (sym e) h))
+
+        -- no such product above c: every monomial above it is a multiple of a lead, and all is found
+        module _ (over : (k : ℕ) (s : Mono) → k < m → Among s standard → Less D c (x k s) → ¬ Undivided D leads (x k s)) where
+          pub all-divided : (a : Mono) → Less D c a → ¬ Undivided D leads a
+          all-divided a h u = none-due (λ b. Unit {0}) (λ a b v z. z) (λ k s hk mem v w z. over k s hk mem v w) a h u tt
+
           beyond : (a : Mono) → Of a → ¬ Less D c a
-          beyond a o h = none-beyond (λ b. Unit {0}) (λ a b u z. z) (λ k s hk mem u z. over k s hk mem u) a o h tt
+          beyond a o h = all-divided a h (of-undivided a o h)
 
           pub drawn-standard : standard ≡ standardOf D S
           drawn-standard = upTo-end (standardOf D S) standard c (staircase D L S d .increasing) (W .standard-to) (λ a mem. beyond a (inl mem))
@@ -219,9 +242,13 @@ module _ (D : Space) where
         pub leads-room : length leads + length S ≤ 1 + length S * m
         leads-room = omega (arith, increasing-length D L leads (leadsOf D S) (W .leads-to .increasing) (staircase D L S d .leads-increasing) (W .leads-to .of-all), leads-length D L S d)
 
-        module _ (b : Mono) (n : Next standard c b) where
+        module _ (b : Mono) (n : Next standard leads c b) where
+          -- b is the least of all monomials above c that no lead found divides
+          pub least-of-all : (a : Mono) → Less D c a → Undivided D leads a → ¬ Less D a b
+          least-of-all = none-due (λ a. Less D a b) (λ a e u z. trans D L u z) (n .least)
+
           between : (a : Mono) → Of a → Less D c a → ¬ Less D a b
-          between = none-beyond (λ a. Less D a b) (λ a e u z. trans D L u z) (n .least)
+          between a o h = least-of-all a h (of-undivided a o h)
 
           pub front-next : Front S standard b
           front-next = record {
@@ -231,9 +258,19 @@ module _ (D : Space) where
             below = λ a mem h. elim (at-most c a) [ inl u ↦ absurd (between a (inl mem) u h) | inr u ↦ W .standard-to .found-all a mem u ];
           }
 
-          -- what the basis has is bordered
+          -- where no lead found divides it, it is bordered; so is what the basis has
+          pub free-bordered : Undivided D leads b → Bordered standard b
+          free-bordered free k a hk e = go (at-most c a)
+            where
+              under : Undivided D leads a
+              under l mem v = free l mem (rw e (dvd-trans v (dvd-x hk)))
+
+              go : Less D c a ⊎ (¬ Less D c a) → Among a standard
+              go (inl u) = absurd (least-of-all a u under (subst (Less D a) (sym e) (x-up hk)))
+              go (inr u) = covered a u under
+
           pub bordered : Of b → Bordered standard b
-          bordered o k a hk e = front-next .below a (quotient-standard b a k hk e o) (subst (Less D a) (sym e) (x-up hk))
+          bordered o = free-bordered (of-undivided b o (n .after))
 
           -- not of the basis: passed over
           pub pass : ¬ Of b → Drawn S standard leads b

@@ -87,9 +87,9 @@ module _ (d : tie.After-draw) where
   abbrev g : tie.Else1
   g = d .before .before .before .before .before .before .before
 
-  drawn : DrawnUp (s g .args .settings) (S (w g)) (d .draw .result) (d .draw .last .1 .1 .1 .0) (d .draw .last .1 .1 .1 .1 .0) (d .draw .last .1 .1 .1 .1 .1 .0)
+  drawn : DrawnUp (s g .args .settings) (S (w g)) (d .draw .result .r) (d .draw .last .1 .1 .1 .0) (d .draw .last .1 .1 .1 .1 .0) (d .draw .last .1 .1 .1 .1 .1 .0)
       (d .draw .last .1 .1 .1 .1 .1 .1 .0) (d .draw .last .1 .1 .1 .1 .1 .1 .1 .0)
-  drawn = drawn-of (back g) (d .draw .ensures)
+  drawn = drawn-of (back g) (d .draw .ensures .0)
 
 read-points-requires : tie.Need-read-points-requires
 read-points-requires c κs =

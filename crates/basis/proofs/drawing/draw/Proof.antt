@@ -5,7 +5,7 @@ use borrow.Author.Needs.{needs}
 use Rattle.residue.proofs.level.Moduli.{modulus-range}
 use Rattle.residue.proofs.Replaced.{zeros-long}
 use Rattle.basis.proofs.drawing.Grounds.{points-long}
-use Rattle.basis.proofs.drawing.Loop.{head-start, own-below, kept-few, ends, next-small, next-exponent, goes-on}
+use Rattle.basis.proofs.drawing.Loop.{head-start, own-below, cost-fits, kept-few, ends, costs, next-small, next-exponent, goes-on}
 use Rattle.basis.proofs.drawing.draw.Proof.Turn.{Inv-loop, μ-loop, opened, stepped, start, given, head-sizes, exponents-8, range, top, work-128, work-residues, reduced, head, lead-fits, inside, standard-fits, as-lead, as-standard, found-64, with-values, above, kept, one-more, sizes, steps-8, steps-small, columns-512, column-small, values-are, joined, sought, onward, chosen}
 use Rattle.basis.proofs.drawing.draw.Statement.{statement}
 use Rattle.basis.proofs.drawing.draw.Tie as tie
@@ -54,6 +54,12 @@ reduce-requires c κs =
         ),
       ),
     )
+
+add-cancellations : tie.Need-add-cancellations Inv-loop μ-loop
+add-cancellations c =
+    let e = c .before in
+    let l = top e in
+    omega (arith, cost-fits (given l) (l .loop .inv) (e .reduce .ensures .0) (e .reduce .ensures .1))
 
 slice-aggregate-first-nonzero : tie.Need-slice-aggregate-first-nonzero Inv-loop μ-loop
 slice-aggregate-first-nonzero c = sym (work-128 (c .before .before))
@@ -179,7 +185,10 @@ same-length-5 c =
 returns : tie.Need-returns Inv-loop μ-loop
 returns c =
     let s = c .before .before .before in
-    ends (given (above (joined s))) (kept (joined s)) (c .enum-told .given .1) (s .next .ensures)
+    let g = given (above (joined s)) in
+    let k = kept (joined s) in
+    let z = c .enum-told .given .1 in
+    (ends g k z (s .next .ensures), costs g k z (s .next .ensures))
 
 slice-aggregate-put-exponents : tie.Need-slice-aggregate-put-exponents Inv-loop μ-loop
 slice-aggregate-put-exponents c = sym (exponents-8 (above (onward (c .before .before .before))))
@@ -245,6 +254,7 @@ draw-spec =
     slice-aggregate-reduce
     slice-aggregate-reduce-2
     reduce-requires
+    add-cancellations
     slice-aggregate-first-nonzero
     first-nonzero-requires
     slice-aggregate-keep-lead

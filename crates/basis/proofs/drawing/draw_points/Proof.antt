@@ -1,5 +1,5 @@
 -- `drawing::draw_points` meets its contract: the points are copied, and the fronts of the other lent tables drawn up.
-use mathlib.Core.Path.{ap, _∙_, sym}
+use mathlib.Core.Path.{ap, ap₂, _∙_, sym}
 use mathlib.Core.List.{List}
 use Prim.Native.Nat.{ℕ}
 use native.Mathlib.Omega.{arith}
@@ -7,8 +7,9 @@ use lib.ListN.{length}
 use lib.Seq.{length-take-le, length-front}
 use Rattle.residue.specs.Layout.{over}
 use Rattle.specification.specs.Tables.{Tables, fourTables, tablesOf, pointsIn}
+use Rattle.specification.specs.Adding.{Outcome, costing}
 use Rattle.specification.proofs.agreement.Refusals.{Large, large-of}
-use Rattle.basis.proofs.drawing.Given.{given-count, few-drawn}
+use Rattle.basis.proofs.drawing.Given.{given-count, few-drawn, few-cost}
 use Rattle.basis.proofs.drawing.Grounds.{points-long}
 use Rattle.basis.proofs.drawing.Outcomes.{fronts-written}
 use Rattle.basis.proofs.drawing.draw_points.Statement.{statement}
@@ -74,37 +75,46 @@ module _ (d : tie.After-draw-anew) where
 abbrev drawing : tie.After-slice-known12 → tie.After-draw-anew
 drawing c = c .before .before .before .before .before .before .before .before .before .before
 
+-- its counts are read
+abbrev counted : tie.After-struct-known2 → tie.After-draw-anew
+counted c = drawing (c .before .before)
+
 cast-t24 : tie.Need-cast-t24
 cast-t24 c = omega (arith, o (drawing c) .pre .0 .most)
 
 cast-t25 : tie.Need-cast-t25
-cast-t25 c = let d = drawing c in omega (arith, d .draw-anew .ensures .row-count, few-drawn (o d .pre .0))
+cast-t25 c = let d = drawing (c .before) in omega (arith, d .draw-anew .ensures .0 .row-count, few-drawn (o d .pre .0))
+
+cast-t26 : tie.Need-cast-t26
+cast-t26 c = let d = counted c in omega (arith, d .draw-anew .ensures .1, few-cost (o d .pre .0))
 
 same-length : tie.Need-same-length
-same-length c = copied (drawing c) .copy .kept .1 .0
+same-length c = copied (counted c) .copy .kept .1 .0
 
 same-length-2 : tie.Need-same-length-2
-same-length-2 c = let d = drawing c in length-front (o d .args .standard .now) (standard d) 512 (d .draw-anew .kept .1 .1 .1 .0)
+same-length-2 c = let d = counted c in length-front (o d .args .standard .now) (standard d) 512 (d .draw-anew .kept .1 .1 .1 .0)
 
 same-length-3 : tie.Need-same-length-3
-same-length-3 c = let d = drawing c in length-front (o d .args .leads .now) (leads d) 3592 (d .draw-anew .kept .1 .1 .1 .1 .0)
+same-length-3 c = let d = counted c in length-front (o d .args .leads .now) (leads d) 3592 (d .draw-anew .kept .1 .1 .1 .1 .0)
 
 same-length-4 : tie.Need-same-length-4
-same-length-4 c = let d = drawing c in length-front (o d .args .coefficients .now) (coefficients d) 28736 (d .draw-anew .kept .1 .1 .1 .1 .1 .0)
+same-length-4 c = let d = counted c in length-front (o d .args .coefficients .now) (coefficients d) 28736 (d .draw-anew .kept .1 .1 .1 .1 .1 .0)
 
 same-length-5 : tie.Need-same-length-5
-same-length-5 c = drawing c .draw-anew .kept .1 .1 .1 .1 .1 .1 .0
+same-length-5 c = counted c .draw-anew .kept .1 .1 .1 .1 .1 .1 .0
 
 same-length-6 : tie.Need-same-length-6
-same-length-6 c = drawing c .draw-anew .kept .1 .1 .1 .1 .1 .1 .1 .0
+same-length-6 c = counted c .draw-anew .kept .1 .1 .1 .1 .1 .1 .1 .0
 
 returns : tie.Need-returns
 unfolding tablesOf
 returns c =
-    let d = drawing c in
+    let d = counted c in
     let s = o d in
-    fronts-written (s .args .settings) (S d) (tables s) (s .args .n) (d .draw-anew .result) _ (standard d) (leads d) (coefficients d) (sym (given-count (s .pre .0)))
-    (copied d .copy .ensures ∙ ap (λ (t : List ℕ). over t (s .args .states .now)) (s .pre .0 .table)) (d .draw-anew .ensures)
+    let e = d .draw-anew .ensures in
+    ap₂ (λ (k : ℕ) (w : Outcome). costing k w) (e .1)
+    (fronts-written (s .args .settings) (S d) (tables s) (s .args .n) (d .draw-anew .result .r) _ (standard d) (leads d) (coefficients d) (sym (given-count (s .pre .0)))
+    (copied d .copy .ensures ∙ ap (λ (t : List ℕ). over t (s .args .states .now)) (s .pre .0 .table)) (e .0))
 
 pub draw-points-spec : {M : Type 1} → statement M
 draw-points-spec =
@@ -120,6 +130,7 @@ draw-points-spec =
     draw-anew-requires
     cast-t24
     cast-t25
+    cast-t26
     same-length
     same-length-2
     same-length-3

@@ -14,13 +14,13 @@ use Rattle.residue.proofs.Tests.{of-true}
 use Rattle.residue.proofs.Layouts.{length-fill}
 use Rattle.specification.specs.Levels.{inRange, noRepeat}
 use Rattle.specification.specs.Tables.{Tables, fourTables, tooShort, pointsIn}
-use Rattle.specification.specs.Adding.{holding, pointsOffered}
+use Rattle.specification.specs.Adding.{holding, costing, cancellationsUnder, pointsOffered}
 use Rattle.specification.proofs.agreement.Points.{Points}
 use Rattle.basis.specs.Drawing.{PointsGiven}
 use Rattle.specification.proofs.Recognised.{whole-levels, length-offered, offered-each, offered}
 use Rattle.basis.proofs.drawing.Given.{table-repeat, table-points, given}
 use Rattle.basis.proofs.settings.BySize.{Passed, passed}
-use Rattle.basis.proofs.settings.ByNumber.{alone}
+use Rattle.basis.proofs.settings.ByNumber.{drawn-alone}
 use Rattle.basis.proofs.drawing.Outcomes.{drawSizes, draw-size, draw-range, draw-repeat, draw-good}
 use Rattle.basis.proofs.drawing.draw_up.Statement.{statement}
 use Rattle.basis.proofs.drawing.draw_up.Tie as tie
@@ -121,14 +121,14 @@ module _ (g : tie.Else3) where
 draw-sizes-requires : tie.Need-draw-sizes-requires
 draw-sizes-requires c κs = tt
 
-refused-requires : tie.Need-refused-requires
-refused-requires c κs = tt
+refused-drawing-requires : tie.Need-refused-drawing-requires
+refused-drawing-requires c κs = tt
 
 returns : tie.Need-returns
 returns c =
     let d = c .before .before in
     let s = start d in
-    alone (c .refused .ensures) (tables s) ∙ draw-size (s .args .settings) (tables s) (s .args .levels .now) (d .draw-sizes .result) (sized d) (c .before .if1 .taken)
+    drawn-alone (c .refused-drawing .ensures) (tables s) ∙ draw-size (s .args .settings) (tables s) (s .args .levels .now) (d .draw-sizes .result) (sized d) (c .before .if1 .taken)
 
 cast-p : tie.Need-cast-p
 cast-p c = let s = start (c .before .before) in omega (arith, modulus-range (s .args .settings .modulus) (room (c .before) .settings .modulus))
@@ -136,14 +136,14 @@ cast-p c = let s = start (c .before .before) in omega (arith, modulus-range (s .
 in-range-requires : tie.Need-in-range-requires
 in-range-requires c κs = tt
 
-refused-requires-2 : tie.Need-refused-requires-2
-refused-requires-2 c κs = tt
+refused-drawing-requires-2 : tie.Need-refused-drawing-requires-2
+refused-drawing-requires-2 c κs = tt
 
 returns-2 : tie.Need-returns-2
 returns-2 c =
     let e = c .before .before .before .before in
     let s = s e in
-    alone (c .refused2 .ensures) (tables s) ∙ draw-range (s .args .settings) (tables s) (s .args .levels .now) (fine e) (sym (c .before .before .in-range .ensures) ∙ not-true _ (c .before .if2 .taken))
+    drawn-alone (c .refused-drawing2 .ensures) (tables s) ∙ draw-range (s .args .settings) (tables s) (s .args .levels .now) (fine e) (sym (c .before .before .in-range .ensures) ∙ not-true _ (c .before .if2 .taken))
 
 div-n : tie.Need-div-n
 div-n c = omega (arith, room (e c) .settings .some)
@@ -162,15 +162,15 @@ slice-aggregate-no-repeat c = sym (c .before .before .put-points .kept .1 .1 .1 
 no-repeat-requires : tie.Need-no-repeat-requires
 no-repeat-requires c κs = let w = c .before .before in omega (arith, long w, few (e (f w)))
 
-refused-requires-3 : tie.Need-refused-requires-3
-refused-requires-3 c κs = tt
+refused-drawing-requires-3 : tie.Need-refused-drawing-requires-3
+refused-drawing-requires-3 c κs = tt
 
 returns-3 : tie.Need-returns-3
 returns-3 c =
     let n = c .before .before in
     let w = n .before .before .before in
     let y = e (f w) in
-    alone (c .refused3 .ensures) (tables (s y)) ∙ draw-repeat (s y .args .settings) (tables (s y)) (levels y) (fine y) (range (f w)) (sym (asked n) ∙ not-true _ (c .before .if3 .taken))
+    drawn-alone (c .refused-drawing3 .ensures) (tables (s y)) ∙ draw-repeat (s y .args .settings) (tables (s y)) (levels y) (fine y) (range (f w)) (sym (asked n) ∙ not-true _ (c .before .if3 .taken))
 
 slice-aggregate-draw-points : tie.Need-slice-aggregate-draw-points
 slice-aggregate-draw-points c = sym (c .before .before .before .before .before .put-points .kept .1 .1 .1 .1 .0)
@@ -205,7 +205,7 @@ returns-4 c =
     let d = drawing c in
     let g = d .before .before .before .before .before .before .before .before in
     let z = s (x g) in
-    d .draw-points .ensures ∙ ap (λ (K : List (List ℕ)). holding (z .args .settings) K (tables z)) (back g)
+    d .draw-points .ensures ∙ ap (λ (K : List (List ℕ)). costing (cancellationsUnder (z .args .settings) K) (holding (z .args .settings) K (tables z))) (back g)
     ∙ draw-good (z .args .settings) (tables z) (levels (x g)) (fine (x g)) (range (f (w g))) (once g)
 
 pub draw-up-spec : {M : Type 1} → statement M
@@ -213,18 +213,18 @@ draw-up-spec =
     tie.close
     (tie.spec
     draw-sizes-requires
-    refused-requires
+    refused-drawing-requires
     returns
     cast-p
     in-range-requires
-    refused-requires-2
+    refused-drawing-requires-2
     returns-2
     div-n
     slice-aggregate-put-points
     put-points-requires
     slice-aggregate-no-repeat
     no-repeat-requires
-    refused-requires-3
+    refused-drawing-requires-3
     returns-3
     slice-aggregate-draw-points
     slice-aggregate-draw-points-2

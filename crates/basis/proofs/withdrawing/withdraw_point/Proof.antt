@@ -1,10 +1,11 @@
 -- `withdrawing::withdraw_point` meets its contract: refused, or the points that remain are drawn up.
 use borrow.Author.Needs.{needs}
-use mathlib.Core.Path.{_≡_, refl, sym, _∙_}
+use mathlib.Core.Path.{_≡_, refl, sym, ap, _∙_}
 use mathlib.Core.List.{List}
 use Prim.Native.Nat.{ℕ}
 use native.Mathlib.Omega.{arith}
 use Rattle.specification.specs.Tables.{Tables, fourTables}
+use Rattle.specification.specs.Adding.{Outcome, DrawOutcome}
 use Rattle.specification.specs.Withdrawing.{withdrawRefusal}
 use Rattle.specification.proofs.agreement.Refusals.{not-short}
 use Rattle.basis.proofs.settings.ByNumber.{alone}
@@ -32,6 +33,10 @@ module _ (e : tie.Else1) where
 
   none : withdrawRefusal (s .args .settings) (s .args .n) (s .args .r) (tables s) (s .args .levels .now) ≡ 0
   none = sym (w .withdraw-refusal .ensures .0) ∙ e .if1 .left
+
+-- what drawing up answers, without its cost
+abbrev uncosted : DrawOutcome → Outcome
+uncosted o = record { answer = record { refusal = o .answer .refusal; n = o .answer .n; r = o .answer .r }; tables = o .tables }
 
 slice-aggregate-withdraw-refusal : tie.Need-slice-aggregate-withdraw-refusal
 slice-aggregate-withdraw-refusal c = search needs
@@ -104,7 +109,7 @@ returns-2 c =
     let d = c .before .before .before .before .before .before .before .before .before .before in
     let e = d .before .before .before .before .before .before .before .before in
     let s = s e in
-    d .draw-points .ensures
+    ap uncosted (d .draw-points .ensures)
     ∙ withdraw-done (s .args .settings) (s .args .n) (s .args .r) (tables s) (s .args .levels .now) (none e) _
     (left-points (s .args .settings) (s .args .n) (s .args .r) (tables s) (s .args .levels .now) (none e) (left e) (w e .withdraw-refusal .ensures .1 (e .if1 .left)))
 

@@ -65,7 +65,7 @@ module _ (d : D) where
   pivots = d .draw .last .1 .1 .1 .1 .1 .1 .1 .0
 
   long : (length standard ≡ 512) × ((length leads ≡ 3592) × (length coefficients ≡ 28736))
-  long = drawn-long under points (d .draw .result) standard leads coefficients rows pivots (d .draw .ensures)
+  long = drawn-long under points (d .draw .result .r) standard leads coefficients rows pivots (d .draw .ensures .0)
 
 abbrev interpolant : I → List ℕ
 interpolant v = v .solve-bytes .last .1 .1 .1 .1 .1 .0
@@ -98,20 +98,20 @@ module _ (n : N) where
       omega arith
 
   abbrev lines : List ℕ
-  lines = basisLines (inTable 8 (s .args .n) (s .args .m) (standard d)) (inTable 8 (d .draw .result) (s .args .m) (leads d))
-      (inTable 64 (d .draw .result) (s .args .n) (coefficients d)) (take (s .args .n) (interpolant (solved n))) (take (n .put-names .result) names)
+  lines = basisLines (inTable 8 (s .args .n) (s .args .m) (standard d)) (inTable 8 (d .draw .result .r) (s .args .m) (leads d))
+      (inTable 64 (d .draw .result .r) (s .args .n) (coefficients d)) (take (s .args .n) (interpolant (solved n))) (take (n .put-names .result) names)
 
   room : Room 0 lines (s .args .out .now)
   room =
       told-room (under d) (s .args .n) (s .args .points .now) (s .args .values .now) (s .pre .0) (s .pre .1 .0 .0) (s .pre .1 .0 .1)
-      (d .draw .result) (standard d) (leads d) (coefficients d) (rows d) (pivots d) (d .draw .ensures)
+      (d .draw .result .r) (standard d) (leads d) (coefficients d) (rows d) (pivots d) (d .draw .ensures .0)
       (interpolant (solved n)) (solved n .solve-bytes .ensures) (n .put-names .result) names (n .put-names .ensures .0) (n .put-names .ensures .1)
       (s .args .out .now) (s .pre .1 .1)
 
   printed : {after : List ℕ} {end : ℕ} → Put 0 lines (s .args .out .now) after end → Put 0 (linesOf (under d) (points d) (s .args .values .now)) (s .args .out .now) after end
   printed p =
       told (under d) (s .args .n) (s .args .points .now) (s .args .values .now) (s .pre .0) (s .pre .1 .0 .0) (s .pre .1 .0 .1)
-      (d .draw .result) (standard d) (leads d) (coefficients d) (rows d) (pivots d) (d .draw .ensures)
+      (d .draw .result .r) (standard d) (leads d) (coefficients d) (rows d) (pivots d) (d .draw .ensures .0)
       (interpolant (solved n)) (solved n .solve-bytes .ensures) (n .put-names .result) names (n .put-names .ensures .0) (n .put-names .ensures .1) p
 
 slice-aggregate-draw : tie.Need-slice-aggregate-draw
@@ -148,8 +148,8 @@ solve-bytes-requires : tie.Need-solve-bytes-requires
 solve-bytes-requires c κs =
     let d = c .before .before .before .before .before .before .before .before in
     let s = start d in
-    let u = d .draw .ensures .pivot-rows in
-    (modulus-range _ (s .pre .0 .settings .modulus), (s .pre .1 .0, ((s .pre .0 .most, u .long-rows, u .long-pivots), ((multiplied (under d) (s .args .n) (s .args .points .now) (s .args .values .now) (s .pre .0) (s .pre .1 .0 .0) (s .pre .1 .0 .1) (d .draw .result) (standard d) (leads d) (coefficients d) (rows d) (pivots d) (d .draw .ensures), inside (under d) (s .args .n) (s .args .points .now) (s .args .values .now) (s .pre .0) (s .pre .1 .0 .0) (s .pre .1 .0 .1) (d .draw .result) (standard d) (leads d) (coefficients d) (rows d) (pivots d) (d .draw .ensures)), refl))))
+    let u = d .draw .ensures .0 .pivot-rows in
+    (modulus-range _ (s .pre .0 .settings .modulus), (s .pre .1 .0, ((s .pre .0 .most, u .long-rows, u .long-pivots), ((multiplied (under d) (s .args .n) (s .args .points .now) (s .args .values .now) (s .pre .0) (s .pre .1 .0 .0) (s .pre .1 .0 .1) (d .draw .result .r) (standard d) (leads d) (coefficients d) (rows d) (pivots d) (d .draw .ensures .0), inside (under d) (s .args .n) (s .args .points .now) (s .args .values .now) (s .pre .0) (s .pre .1 .0 .0) (s .pre .1 .0 .1) (d .draw .result .r) (standard d) (leads d) (coefficients d) (rows d) (pivots d) (d .draw .ensures .0)), refl))))
 
 slice-aggregate-put-names : tie.Need-slice-aggregate-put-names
 slice-aggregate-put-names c = search needs
@@ -216,7 +216,7 @@ print-basis-requires c κs =
     let d = drawn (solved n) in
     let s = start d in
     let r = few (under d) (s .args .n) (s .args .points .now) (s .args .values .now) (s .pre .0) (s .pre .1 .0 .0) (s .pre .1 .0 .1)
-    (d .draw .result) (standard d) (leads d) (coefficients d) (rows d) (pivots d) (d .draw .ensures) in
+    (d .draw .result .r) (standard d) (leads d) (coefficients d) (rows d) (pivots d) (d .draw .ensures .0) in
     let most = s .pre .0 .most in
     let t = long d in
     ((s .pre .0 .settings .few, most, r), ((omega arith, omega arith, omega arith), room n))

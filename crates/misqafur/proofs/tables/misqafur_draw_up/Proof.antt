@@ -10,9 +10,9 @@ use lib.Seq.{length-take-le}
 use Rattle.specification.specs.declared.settings.Settings.{Settings}
 use Rattle.specification.specs.Tables.{Tables, fourTables, tooShort}
 use Rattle.specification.specs.Adding.{drawOutcome}
-use Rattle.misqafur.specs.Packing.{packedOutcome}
+use Rattle.misqafur.specs.Packing.{packedDrawing}
 use Rattle.misqafur.proofs.SignedBytes.{signed-part}
-use Rattle.misqafur.proofs.Packed.{packs}
+use Rattle.misqafur.proofs.Packed.{packs-drawn}
 use Rattle.misqafur.proofs.Sizes.{drawBySize, draw-refused, draw-few}
 use Rattle.misqafur.proofs.tables.misqafur_draw_up.Statement.{statement}
 use Rattle.misqafur.proofs.tables.misqafur_draw_up.Tie as tie
@@ -76,8 +76,8 @@ slice-aggregate-draw-up c =
 draw-up-requires : tie.Need-draw-up-requires
 draw-up-requires c κs = search needs
 
-pack-answer-requires : tie.Need-pack-answer-requires
-pack-answer-requires c κs = search needs
+pack-drawn-requires : tie.Need-pack-drawn-requires
+pack-drawn-requires c κs = search needs
 
 same-length : tie.Need-same-length
 same-length c = search needs
@@ -96,7 +96,7 @@ returns-2 c =
     let d = c .before .before .before .before .before .before .before .before .before in
     let w = d .before .before .before .before .before .before .before in
     let s = start (sizing w) in
-    packs (d .draw-up .ensures) (c .pack-answer .ensures) ∙ ap (λ (z : List ℤ). packedOutcome (drawOutcome (settings s) (tables s) z)) (signed-part (levels (sizing w)) _ (signed w) (w .put-signed .ensures))
+    packs-drawn (d .draw-up .ensures) (c .pack-drawn .ensures) ∙ ap (λ (z : List ℤ). packedDrawing (drawOutcome (settings s) (tables s) z)) (signed-part (levels (sizing w)) _ (signed w) (w .put-signed .ensures))
 
 pub misqafur-draw-up-spec : {M : Type 1} → statement M
 misqafur-draw-up-spec =
@@ -110,7 +110,7 @@ misqafur-draw-up-spec =
     array-share-prefix-signed
     slice-aggregate-draw-up
     draw-up-requires
-    pack-answer-requires
+    pack-drawn-requires
     same-length
     same-length-2
     same-length-3

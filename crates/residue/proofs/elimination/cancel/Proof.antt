@@ -13,7 +13,7 @@ use Rattle.residue.specs.Vector.{Below, addScaled, scaled}
 use Rattle.residue.specs.Elimination.{ZeroFrom}
 use Rattle.residue.proofs.vector.Vectors.{scaled-length, scaled-below}
 use Rattle.residue.proofs.elimination.Multiples.{small-row, digit-row, Digits, ones, fours, sixteens, scaled-zero, added-scaled, added-more}
-use Rattle.residue.proofs.elimination.Eliminated.{cancel-none, cancel-some}
+use Rattle.residue.proofs.elimination.Eliminated.{cancel-none, cancel-some, counted-none, counted-one}
 use Rattle.residue.proofs.elimination.cancel.Statement.{statement}
 use Rattle.residue.proofs.elimination.cancel.Tie as tie
 
@@ -78,7 +78,9 @@ slice-read-x : tie.Need-slice-read-x
 slice-read-x c = omega arith
 
 returns : tie.Need-returns
-returns c = let s = c .before .before .before .before .before in sym (cancel-none (s .args .p) (row s) (s .args .at) (s .args .work .now) (c .if1 .taken))
+returns c =
+    let s = c .before .before .before .before .before in
+    (sym (cancel-none (s .args .p) (row s) (s .args .at) (s .args .work .now) (c .if1 .taken)), counted-none (c .if1 .taken))
 
 sub-c : tie.Need-sub-c
 sub-c c = omega (arith, entry (c .before .before .before .before .before))
@@ -124,8 +126,11 @@ returns-2 c =
     let s = c .before .before .before .before .before .before .before .before .before .before .before in
     let is = single s (factor s - 1) (omega (arith, entry s)) (128 * (factor s - 1) + 128 - 128 * (factor s - 1)) (omega arith) in
     let e : suc (factor s - 1) ≡ factor s = omega (arith, entry s) in
-    g .gain .ensures ∙ ap (addScaled (s .args .p) 1 (s .args .work .now)) is ∙ added-scaled (s .args .p) (suc (factor s - 1)) (s .args .work .now) (row s)
-    ∙ ap (λ (k : ℕ). addScaled (s .args .p) k (s .args .work .now) (row s)) e ∙ sym (cancel-some (s .args .p) (row s) (s .args .at) (s .args .work .now) (c .before .before .before .before .before .before .if1 .left))
+    let some = c .before .before .before .before .before .before .if1 .left in (
+      g .gain .ensures ∙ ap (addScaled (s .args .p) 1 (s .args .work .now)) is ∙ added-scaled (s .args .p) (suc (factor s - 1)) (s .args .work .now) (row s)
+          ∙ ap (λ (k : ℕ). addScaled (s .args .p) k (s .args .work .now) (row s)) e ∙ sym (cancel-some (s .args .p) (row s) (s .args .at) (s .args .work .now) some),
+      counted-one some,
+    )
 
 cast-multiple : tie.Need-cast-multiple
 cast-multiple c = omega (arith, low-digit (factor (c .before .before .before .before .before .before)))
@@ -166,12 +171,15 @@ returns-3 c =
     let c1 : ℕ = bitAnd (factor s / 4) 3 * 4 in
     let c2 : ℕ = factor s / 16 * 16 in
     let e : c0 + c1 + c2 ≡ factor s = omega (arith, low-digit (factor s), middle-digit (factor s)) in
-    g .gain-three .ensures
-    ∙ ap₂ (λ (u v : List ℕ). addScaled p 1 u v)
-    (ap₂ (λ (u v : List ℕ). addScaled p 1 u v) (ap (addScaled p 1 w) (low (c .before .before .before .before .before .before)) ∙ added-scaled p c0 w (row s)) (middle (c .before .before .before .before .before)) ∙ added-more p c0 c1 w (row s))
-    (high (c .before .before .before .before))
-    ∙ added-more p (c0 + c1) c2 w (row s) ∙ ap (λ (k : ℕ). addScaled p k w (row s)) e
-    ∙ sym (cancel-some p (row s) (s .args .at) w (c .before .before .before .before .before .before .before .before .if1 .left))
+    let some = c .before .before .before .before .before .before .before .before .if1 .left in (
+      g .gain-three .ensures
+          ∙ ap₂ (λ (u v : List ℕ). addScaled p 1 u v)
+          (ap₂ (λ (u v : List ℕ). addScaled p 1 u v) (ap (addScaled p 1 w) (low (c .before .before .before .before .before .before)) ∙ added-scaled p c0 w (row s)) (middle (c .before .before .before .before .before)) ∙ added-more p c0 c1 w (row s))
+          (high (c .before .before .before .before))
+          ∙ added-more p (c0 + c1) c2 w (row s) ∙ ap (λ (k : ℕ). addScaled p k w (row s)) e
+          ∙ sym (cancel-some p (row s) (s .args .at) w some),
+      counted-one some,
+    )
 
 pub cancel-spec : {M : Type 1} → statement M
 cancel-spec =

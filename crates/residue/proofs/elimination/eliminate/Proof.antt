@@ -6,16 +6,17 @@ use native.Mathlib.Omega.{arith}
 use lib.ListN.{length, getD, take, drop, length-drop}
 use lib.Seq.{take-take, getD-take, getD-drop, length-take-le}
 use Rattle.residue.specs.Vector.{Below}
-use Rattle.residue.specs.Elimination.{cancelled, eliminated, multiplesOf, ZeroFrom}
-use Rattle.residue.proofs.elimination.Eliminated.{eliminated-none, eliminated-more, eliminated-length, eliminated-below}
+use Rattle.residue.specs.Elimination.{cancelled, eliminated, counted, cancellations, multiplesOf, ZeroFrom}
+use Rattle.residue.proofs.elimination.Eliminated.{eliminated-none, eliminated-more, eliminated-length, eliminated-below, cancellations-none, cancellations-more, cancellations-most}
 use Rattle.residue.proofs.elimination.eliminate.Statement.{statement}
 use Rattle.residue.proofs.elimination.eliminate.Tie as tie
 
 abbrev Inv-loop : tie.InvT-loop
-Inv-loop p n found rows pivots work₀ zeros t₀ work t = (t ≤ found) × (work ≡ eliminated p rows pivots t work₀)
+Inv-loop p n found rows pivots work₀ zeros made₀ t₀ work made t =
+    (t ≤ found) × ((work ≡ eliminated p rows pivots t work₀) × (made ≡ cancellations p rows pivots t work₀))
 
 abbrev μ-loop : tie.MeasureT-loop
-μ-loop p n found rows pivots work₀ zeros t₀ work t = found - t
+μ-loop p n found rows pivots work₀ zeros made₀ t₀ work made t = found - t
 
 -- at the loop's head
 module _ (l : tie.At-loop Inv-loop μ-loop) where
@@ -35,10 +36,10 @@ module _ (l : tie.At-loop Inv-loop μ-loop) where
   front = take-take 128 1152 (drop (1152 * l .loop .t) (start .args .rows .now)) (omega arith)
 
   long : length (l .loop .work) ≡ 128
-  long = ap length (l .loop .inv .1) ∙ eliminated-length (start .args .p) (start .args .rows .now) (start .args .pivots .now) (start .args .work .now) (start .pre .1 .1 .0) (l .loop .t) (omega arith)
+  long = ap length (l .loop .inv .1 .0) ∙ eliminated-length (start .args .p) (start .args .rows .now) (start .args .pivots .now) (start .args .work .now) (start .pre .1 .1 .0) (l .loop .t) (omega arith)
 
   below : Below (start .args .p) (l .loop .work)
-  below = subst (Below (start .args .p)) (sym (l .loop .inv .1))
+  below = subst (Below (start .args .p)) (sym (l .loop .inv .1 .0))
       (eliminated-below (start .args .p) (start .args .rows .now) (start .args .pivots .now) (start .args .work .now) (start .pre .1 .1 .0) (omega arith) (start .pre .1 .1 .1 .1 .0 .1) (l .loop .t) (omega arith))
 
   -- behind its own coefficient the pivot row is 0
@@ -50,8 +51,15 @@ module _ (l : tie.At-loop Inv-loop μ-loop) where
       ∙ ap (λ (j : ℕ). getD (start .args .rows .now) (1152 * l .loop .t + j) 0) (sym e)
       ∙ start .pre .1 .0 (l .loop .t) (i - start .args .n) h (omega arith) (omega arith)
 
+  -- one more row met
+  count : {k : ℕ} → k ≡ counted (getD (l .loop .work) (getD (start .args .pivots .now) (l .loop .t) 0) 0)
+      → l .loop .made + k ≡ cancellations (start .args .p) (start .args .rows .now) (start .args .pivots .now) (l .loop .t + 1) (start .args .work .now)
+  count e =
+      ap₂ (λ (a b : ℕ). a + b) (l .loop .inv .1 .1) (e ∙ ap (λ (w : List ℕ). counted (getD w (getD (start .args .pivots .now) (l .loop .t) 0) 0)) (l .loop .inv .1 .0))
+      ∙ sym (cancellations-more (start .args .p) (start .args .rows .now) (start .args .pivots .now) (start .args .work .now) (l .loop .t))
+
 loop-holds : tie.Need-loop-holds Inv-loop μ-loop
-loop-holds c = (omega arith, sym (eliminated-none _ _ _ _))
+loop-holds c = (omega arith, (sym (eliminated-none _ _ _ _), sym (cancellations-none _ _ _ _)))
 
 mul-from : tie.Need-mul-from Inv-loop μ-loop
 mul-from c = omega arith
@@ -104,6 +112,16 @@ cancel-requires c κs =
       ),
     )
 
+add-made : tie.Need-add-made Inv-loop μ-loop
+add-made c =
+    let l = c .before .before .before .before .before .before .before .before .before in
+    let s = start l in
+    omega (
+      arith,
+      count l (c .before .before .cancel .ensures .1),
+      cancellations-most (s .args .p) (s .args .rows .now) (s .args .pivots .now) (s .args .work .now) (l .loop .t + 1),
+    )
+
 add-t : tie.Need-add-t Inv-loop μ-loop
 add-t c = omega arith
 
@@ -117,9 +135,12 @@ loop-again c =
     let n : 1152 * l .loop .t + 1152 - 1152 * l .loop .t ≡ 1152 = omega arith in
     let is = ap (λ (k : ℕ). take 128 (take k (drop (1152 * l .loop .t) (s .args .rows .now)))) n ∙ front l in (
       omega arith,
-      c .before .before .cancel .ensures
-          ∙ ap₂ (λ (r w : List ℕ). cancelled (s .args .p) r (getD (s .args .pivots .now) (l .loop .t) 0) w) is (l .loop .inv .1)
-          ∙ sym (eliminated-more (s .args .p) (s .args .rows .now) (s .args .pivots .now) (s .args .work .now) (l .loop .t)),
+      (
+        c .before .before .cancel .ensures .0
+            ∙ ap₂ (λ (r w : List ℕ). cancelled (s .args .p) r (getD (s .args .pivots .now) (l .loop .t) 0) w) is (l .loop .inv .1 .0)
+            ∙ sym (eliminated-more (s .args .p) (s .args .rows .now) (s .args .pivots .now) (s .args .work .now) (l .loop .t)),
+        count l (c .before .before .cancel .ensures .1),
+      ),
     )
 
 same-length : tie.Need-same-length Inv-loop μ-loop
@@ -129,8 +150,10 @@ returns : tie.Need-returns Inv-loop μ-loop
 returns c =
     let l = c .before in
     let s = start l in
-    let e : l .loop .t ≡ s .args .found = omega arith in
-    l .loop .inv .1 ∙ ap (λ (t : ℕ). eliminated (s .args .p) (s .args .rows .now) (s .args .pivots .now) t (s .args .work .now)) e
+    let e : l .loop .t ≡ s .args .found = omega arith in (
+      l .loop .inv .1 .0 ∙ ap (λ (t : ℕ). eliminated (s .args .p) (s .args .rows .now) (s .args .pivots .now) t (s .args .work .now)) e,
+      l .loop .inv .1 .1 ∙ ap (λ (t : ℕ). cancellations (s .args .p) (s .args .rows .now) (s .args .pivots .now) t (s .args .work .now)) e,
+    )
 
 pub eliminate-spec : {M : Type 1} → statement M
 eliminate-spec =
@@ -151,6 +174,7 @@ eliminate-spec =
     part-cancel-start
     part-cancel-end
     cancel-requires
+    add-made
     add-t
     loop-less
     loop-again

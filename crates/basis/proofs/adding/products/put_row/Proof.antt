@@ -116,7 +116,7 @@ correct-requires c κs =
             (s .pre .1 .1 .1 .1 .0 .3, s .pre .1 .1 .1 .1 .0 .4),
             (
               s .pre .1 .1 .1 .1 .0 .2,
-              below-take (s .args .p) (n + 64 - n) (drop n w) (below-drop (s .args .p) n w (subst (Below (s .args .p)) (sym (c .before .before .before .before .before .before .before .eliminate .ensures))
+              below-take (s .args .p) (n + 64 - n) (drop n w) (below-drop (s .args .p) n w (subst (Below (s .args .p)) (sym (c .before .before .before .before .before .before .before .eliminate .ensures .0))
                   (eliminated-below (s .args .p) (s .args .rows .now) (s .args .pivots .now) _ l (omega arith) (below d) n (omega arith)))),
             ),
           ),
@@ -137,7 +137,7 @@ returns c =
     let e : n + 64 - n ≡ 64 = omega arith in
     let cs : take (n + 64 - n) (drop n (c .before .before .before .before .before .before .before .before .before .before .before .eliminate .last .1 .1 .1 .1 .1 .0)) ≡ reducedRow (s .args .p) n (s .args .points .now) (s .args .rows .now) (s .args .pivots .now) (s .args .a .now) =
     ap (λ (k : ℕ). take k (drop n (c .before .before .before .before .before .before .before .before .before .before .before .eliminate .last .1 .1 .1 .1 .1 .0))) e
-    ∙ ap (λ (z : List ℕ). take 64 (drop n z)) (c .before .before .before .before .before .before .before .before .before .before .before .eliminate .ensures ∙ ap (eliminated (s .args .p) (s .args .rows .now) (s .args .pivots .now) n) (loaded d)) in
+    ∙ ap (λ (z : List ℕ). take 64 (drop n z)) (c .before .before .before .before .before .before .before .before .before .before .before .eliminate .ensures .0 ∙ ap (eliminated (s .args .p) (s .args .rows .now) (s .args .pivots .now) n) (loaded d)) in
     row-in 64 (s .args .k) i (64 * i + 64 - 64 * i) _ (s .args .table .now) (c .before .before .before .before .before .before .before .before .move-on .last .1 .1 .1 .0) (c .before .before .before .correct .last .1 .1 .1 .1 .1 .1 .1 .1 .0) (omega arith) (omega arith) (omega arith) (c .before .before .before .before .before .before .before .before .move-on .ensures)
     (c .before .before .before .correct .ensures .1 ∙ ap (correctedRow (s .args .p) (s .args .place) (s .args .inverse) (s .args .gone .now) (s .args .point .now) (s .args .values .now) (s .args .a .now)) cs)
 

@@ -23,7 +23,7 @@ reduced : (e : tie.After-eliminate) → Below (start e .args .p) (e .eliminate .
 reduced e =
     let s = start e in
     let n : ℕ = s .args .n in
-    subst (Below (s .args .p)) (sym (e .eliminate .ensures))
+    subst (Below (s .args .p)) (sym (e .eliminate .ensures .0))
     (eliminated-below (s .args .p) (s .args .rows .now) (s .args .pivots .now) (s .args .work .now) (s .pre .1 .0 .1) (omega arith) (s .pre .1 .1 .1 .0 .1) n (omega arith))
 
 eliminate-requires : tie.Need-eliminate-requires
@@ -78,8 +78,8 @@ returns c =
     let s = start e in
     let n : ℕ = s .args .n in
     let k : n + n - n ≡ n = omega arith in
-    let is = ap₂ (λ (j : ℕ) (w : List ℕ). fill 64 (map (λ x. (s .args .p - x) % s .args .p) (take j (drop n w)))) k (e .eliminate .ensures) in
-    (e .eliminate .ensures, answered 64 _ (s .args .out .now) _ (a .put-answer .ensures ∙ is))
+    let is = ap₂ (λ (j : ℕ) (w : List ℕ). fill 64 (map (λ x. (s .args .p - x) % s .args .p) (take j (drop n w)))) k (e .eliminate .ensures .0) in
+    (e .eliminate .ensures .0, answered 64 _ (s .args .out .now) _ (a .put-answer .ensures ∙ is))
 
 pub solve-spec : {M : Type 1} → statement M
 solve-spec =

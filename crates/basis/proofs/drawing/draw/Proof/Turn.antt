@@ -20,11 +20,11 @@ use Rattle.basis.proofs.drawing.Loop.{Head, Kept, Sized, head-sized, ex
 use Rattle.basis.proofs.drawing.draw.Tie as tie
 
 abbrev pub Inv-loop : tie.InvT-loop
-Inv-loop settings n points standard₀ leads₀ coefficients₀ rows₀ pivots₀ p steps columns values₀ ranks₀ at₀ found₀ r₀ exponents₀ rank₀ own₀ standard leads coefficients rows pivots values ranks at found r exponents rank own =
-    Head settings n points found r standard leads coefficients rows pivots values ranks steps at exponents rank own
+Inv-loop settings n points standard₀ leads₀ coefficients₀ rows₀ pivots₀ p steps columns values₀ ranks₀ at₀ found₀ r₀ cancellations₀ exponents₀ rank₀ own₀ standard leads coefficients rows pivots values ranks at found r cancellations exponents rank own =
+    Head settings n points found r cancellations standard leads coefficients rows pivots values ranks steps at exponents rank own
 
 abbrev pub μ-loop : tie.MeasureT-loop
-μ-loop settings n points standard₀ leads₀ coefficients₀ rows₀ pivots₀ p steps columns values₀ ranks₀ at₀ found₀ r₀ exponents₀ rank₀ own₀ standard leads coefficients rows pivots values ranks at found r exponents rank own =
+μ-loop settings n points standard₀ leads₀ coefficients₀ rows₀ pivots₀ p steps columns values₀ ranks₀ at₀ found₀ r₀ cancellations₀ exponents₀ rank₀ own₀ standard leads coefficients rows pivots values ranks at found r cancellations exponents rank own =
     513 - (found + r)
 
 -- before the loop, where the settings are read and the steps of the ranks are written
@@ -60,10 +60,10 @@ module _ (c : tie.After-reduce Inv-loop μ-loop) where
   work = c .reduce .last .1 .1 .1 .1 .1 .1 .0
 
   pub work-128 : length work ≡ 128
-  work-128 = worked-long (given top) (top .loop .inv) (c .reduce .ensures)
+  work-128 = worked-long (given top) (top .loop .inv) (c .reduce .ensures .0)
 
   pub work-residues : Below (start top .args .settings .modulus) work
-  work-residues = worked-below (given top) (top .loop .inv) (c .reduce .ensures)
+  work-residues = worked-below (given top) (top .loop .inv) (c .reduce .ensures .0)
 
 -- its first value that is not 0 is sought
 module _ (f : tie.After-first-nonzero Inv-loop μ-loop) where
@@ -74,14 +74,14 @@ module _ (f : tie.After-first-nonzero Inv-loop μ-loop) where
   head = top reduced
 
   pub lead-fits : f .first-nonzero .result ≡ start head .args .n → head .loop .r < 449
-  lead-fits e = room-lead (given head) (head .loop .inv) (reduced .reduce .ensures) (sym (f .first-nonzero .ensures) ∙ e)
+  lead-fits e = room-lead (given head) (head .loop .inv) (reduced .reduce .ensures .0) (sym (f .first-nonzero .ensures) ∙ e)
 
   pub inside : (f .first-nonzero .result ≡ start head .args .n → ⊥) → f .first-nonzero .result < start head .args .n
   inside ne = omega (arith, first-most (start head .args .n) (work reduced), f .first-nonzero .ensures, ne)
 
   pub standard-fits : (f .first-nonzero .result ≡ start head .args .n → ⊥) → head .loop .found < start head .args .n
   standard-fits ne =
-      room-standard (given head) (head .loop .inv) (reduced .reduce .ensures) (omega (arith, inside ne, f .first-nonzero .ensures))
+      room-standard (given head) (head .loop .inv) (reduced .reduce .ensures .0) (omega (arith, inside ne, f .first-nonzero .ensures))
 
 -- it is kept as a lead, or as a standard monomial
 abbrev pub as-lead : tie.After-keep-lead Inv-loop μ-loop → tie.Then1 Inv-loop μ-loop
@@ -114,16 +114,17 @@ module _ (j : tie.Joined1 Inv-loop μ-loop) where
   abbrev pub columns : List ℕ
   columns = gathered .put-columns .last .1 .1 .0
 
-  pub kept : Kept (start above .args .settings) (start above .args .n) (start above .args .points .now) (j .if1 .found) (j .if1 .r)
+  pub kept : Kept (start above .args .settings) (start above .args .n) (start above .args .points .now) (j .if1 .found) (j .if1 .r) (above .loop .cancellations + reduced (j .before) .reduce .result)
       (j .if1 .standard) (j .if1 .leads) (j .if1 .coefficients) (j .if1 .rows) (j .if1 .pivots) (j .if1 .values) (j .if1 .ranks) steps (above .loop .at)
   kept =
       let q = j .before .first-nonzero .ensures in
-      let left = reduced (j .before) .reduce .ensures in
+      let left = reduced (j .before) .reduce .ensures .0 in
+      let cost = reduced (j .before) .reduce .ensures .1 in
       ⊎-elim
       (λ w. kept-as (w .17) (w .18) (w .10) (w .11) (w .12) (w .13) (w .14) (w .15) (w .16)
-      (keeps-lead (given above) (above .loop .inv) left (sym q ∙ w .0 .taken) (w .5 .ensures .0) (w .5 .ensures .1)))
+      (keeps-lead (given above) (above .loop .inv) left cost (sym q ∙ w .0 .taken) (w .5 .ensures .0) (w .5 .ensures .1)))
       (λ w. let e = w .5 .ensures in let k = w .12 .ensures in kept-as (w .25) (w .26) (w .18) (w .19) (w .20) (w .21) (w .22) (w .23) (w .24)
-      (keeps-standard (given above) (above .loop .inv) left q (inside (j .before) (w .0 .left)) (e .0) refl (e .1) (k .1 .0) (k .1 .1)))
+      (keeps-standard (given above) (above .loop .inv) left cost q (inside (j .before) (w .0 .left)) (e .0) refl (e .1) (k .1 .0) (k .1 .1)))
       (j .if1 .came)
 
   pub one-more : j .if1 .found + j .if1 .r ≡ above .loop .found + above .loop .r + 1

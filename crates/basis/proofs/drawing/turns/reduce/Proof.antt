@@ -6,7 +6,7 @@ use borrow.Author.Needs.{needs}
 use lib.ListN.{length, take, drop}
 use lib.Seq.{length-take-le}
 use Rattle.residue.specs.Vector.{Below}
-use Rattle.residue.specs.Elimination.{eliminated}
+use Rattle.residue.specs.Elimination.{eliminated, cancellations}
 use Rattle.residue.specs.Layout.{fill}
 use Rattle.residue.proofs.vector.Vectors.{below-take}
 use Rattle.residue.proofs.Layouts.{below-fill, length-fill}
@@ -68,8 +68,10 @@ returns : tie.Need-returns
 returns c =
     let e = c .before .before in
     let q = e .before .before .before .before in
-    let a = start q .args in
-    e .eliminate .ensures ∙ ap (eliminated (a .p) (a .rows .now) (a .pivots .now) (a .found)) (loaded q)
+    let a = start q .args in (
+      e .eliminate .ensures .0 ∙ ap (eliminated (a .p) (a .rows .now) (a .pivots .now) (a .found)) (loaded q),
+      e .eliminate .ensures .1 ∙ ap (cancellations (a .p) (a .rows .now) (a .pivots .now) (a .found)) (loaded q),
+    )
 
 pub reduce-spec : {M : Type 1} → statement M
 reduce-spec =
