@@ -12,6 +12,7 @@ pub mod Instance
 pub mod Tables
 pub mod Adding
 pub mod Withdrawing
+pub mod Needed
 pub mod Solving
 pub mod Reference
 pub mod Agreement
