@@ -99,7 +99,7 @@ fn lists(
     check::same(variables, &[0u8; 8])
 }
 
-// The wiring list: the next bytes say which variables occur.
+// The wiring list: the next bytes say which variables it has.
 pub fn wired(
     fd: i32,
     head: Head,

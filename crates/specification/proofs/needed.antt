@@ -3,6 +3,7 @@ pub mod Decided
 pub mod Coordinates
 pub mod Wordings
 pub mod Pairs
+pub mod Filled
 pub mod Arranged
 pub mod Occurring
 pub mod Calls

@@ -11,7 +11,7 @@ use Rattle.residue.proofs.level.Moduli.{modulus-range}
 use Rattle.residue.proofs.Layouts.{length-fill}
 use Rattle.specification.specs.declared.settings.Settings.{Settings}
 use Rattle.specification.specs.Tables.{pointsIn}
-use Rattle.specification.specs.Solving.{wiringOf}
+use Rattle.specification.specs.Needed.{wiringOf}
 use Rattle.specification.proofs.Wiring.{names-length}
 use Rattle.basis.specs.Drawing.{settingsOf}
 use Rattle.basis.proofs.drawing.Given.{drawn-long}
@@ -85,7 +85,7 @@ module _ (n : N) where
   names = n .put-names .last .1 .1 .1 .1 .0
 
   abbrev list : List ℕ
-  list = wiringOf (s .args .m) (take (s .args .n) (interpolant (solved n))) (groups 8 (s .args .n) (standard d))
+  list = wiringOf (s .args .m) (groups 8 (s .args .n) (s .args .points .now)) (take (s .args .n) (s .args .values .now))
 
   names-long : length names ≡ 8
   names-long = ap (λ (z : List ℕ). length z) (n .put-names .ensures .1) ∙ length-fill 8 list
@@ -93,7 +93,7 @@ module _ (n : N) where
   names-few : n .put-names .result ≤ 8
   names-few =
       let e = n .put-names .ensures .0 in
-      let l = names-length (take (s .args .n) (interpolant (solved n))) (groups 8 (s .args .n) (standard d)) (s .args .m) in
+      let l = names-length (groups 8 (s .args .n) (s .args .points .now)) (take (s .args .n) (s .args .values .now)) (s .args .m) in
       let few = s .pre .0 .settings .few in
       omega arith
 

@@ -1,4 +1,4 @@
--- `answers::solving::put_names` meets its contract: the names of the first k variables have been put.
+-- `answers::pairs::put_names` meets its contract: the names of the first k variables have been put.
 use mathlib.Core.Path.{_≡_, refl, sym, ap, ap₂, _∙_}
 use mathlib.Core.List.{List, [], _∷_}
 use Prim.Native.Nat.{ℕ, _+_, _-_, _≤_}
@@ -8,19 +8,19 @@ use mathlib.Core.Logic.{⊎-elim}
 use Rattle.residue.specs.Layout.{groups, fill}
 use Rattle.residue.proofs.Layouts.{fill-zeros, fill-put, length-fill}
 use Rattle.specification.proofs.Wiring.{names-on, names-off, names-length}
-use Rattle.specification.specs.Solving.{wiringOf}
-use Rattle.basis.proofs.answers.solving.put_names.Statement.{statement}
-use Rattle.basis.proofs.answers.solving.put_names.Tie as tie
+use Rattle.specification.specs.Needed.{wiringOf}
+use Rattle.basis.proofs.answers.pairs.put_names.Statement.{statement}
+use Rattle.basis.proofs.answers.pairs.put_names.Tie as tie
 
 -- the names of the first k variables
 abbrev put : ℕ → List ℕ → List ℕ → ℕ → List ℕ
-put n coefficients standard k = wiringOf k (take n coefficients) (groups 8 n standard)
+put n points values k = wiringOf k (groups 8 n points) (take n values)
 
 abbrev Inv-loop : tie.InvT-loop
-Inv-loop m n coefficients standard out₀ count₀ k₀ out count k = (k ≤ m) × ((count ≡ length (put n coefficients standard k)) × (out ≡ fill 8 (put n coefficients standard k)))
+Inv-loop m n points values out₀ count₀ k₀ out count k = (k ≤ m) × ((count ≡ length (put n points values k)) × (out ≡ fill 8 (put n points values k)))
 
 abbrev μ-loop : tie.MeasureT-loop
-μ-loop m n coefficients standard out₀ count₀ k₀ out count k = m - k
+μ-loop m n points values out₀ count₀ k₀ out count k = m - k
 
 -- at the loop's head
 module _ (l : tie.At-loop Inv-loop μ-loop) where
@@ -28,20 +28,20 @@ module _ (l : tie.At-loop Inv-loop μ-loop) where
   start = l .before .before .before .before
 
   abbrev so-far : List ℕ
-  so-far = put (start .args .n) (start .args .coefficients .now) (start .args .standard .now) (l .loop .k)
+  so-far = put (start .args .n) (start .args .points .now) (start .args .values .now) (l .loop .k)
 
   few : l .loop .count ≤ l .loop .k
-  few = rw (l .loop .inv .1 .0) (names-length (take (start .args .n) (start .args .coefficients .now)) (groups 8 (start .args .n) (start .args .standard .now)) (l .loop .k))
+  few = rw (l .loop .inv .1 .0) (names-length (groups 8 (start .args .n) (start .args .points .now)) (take (start .args .n) (start .args .values .now)) (l .loop .k))
 
   long : length (l .loop .out) ≡ 8
   long = ap length (l .loop .inv .1 .1) ∙ length-fill 8 so-far
 
 loop-holds : tie.Need-loop-holds Inv-loop μ-loop
 unfolding wiringOf
-loop-holds c = (omega arith, (refl, c .before .before .before .pre .1 ∙ sym (fill-zeros 8)))
+loop-holds c = (omega arith, (refl, c .before .before .before .pre .1 .1 ∙ sym (fill-zeros 8)))
 
-occurs-requires : tie.Need-occurs-requires Inv-loop μ-loop
-occurs-requires c κs = let l = c .before in let s = start l in (omega arith, s .pre .0 .1, s .pre .0 .2)
+has-pair-requires : tie.Need-has-pair-requires Inv-loop μ-loop
+has-pair-requires c κs = let s = start (c .before) in ((omega arith, s .pre .0 .1), s .pre .1 .0)
 
 add-out : tie.Need-add-out Inv-loop μ-loop
 add-out c = omega arith
@@ -67,13 +67,13 @@ loop-less c = omega arith
 loop-again : tie.Need-loop-again Inv-loop μ-loop
 loop-again c =
     let l = c .before .before .before in
-    let cs : List ℕ = take (start l .args .n) (start l .args .coefficients .now) in
-    let t : List (List ℕ) = groups 8 (start l .args .n) (start l .args .standard .now) in
+    let S : List (List ℕ) = groups 8 (start l .args .n) (start l .args .points .now) in
+    let vs : List ℕ = take (start l .args .n) (start l .args .values .now) in
     let k : ℕ = l .loop .k in
-    let r = sym (c .before .occurs .ensures) in
+    let r = sym (c .before .has-pair .ensures) in
     ⊎-elim
     (λ w.
-    let e = names-on cs t k (r ∙ w .0 .taken) in
+    let e = names-on S vs k (r ∙ w .0 .taken) in
     let n = length-append (so-far l) ((k + 1) ∷ []) in
     let f = few l in (
       omega arith,
@@ -86,18 +86,18 @@ loop-again c =
       ),
     ))
     (λ w.
-    let e = sym (names-off cs t k (r ∙ w .0 .left)) in
+    let e = sym (names-off S vs k (r ∙ w .0 .left)) in
     (omega arith, (w .2 ∙ l .loop .inv .1 .0 ∙ ap length e, w .1 ∙ l .loop .inv .1 .1 ∙ ap (fill 8) e)))
     (c .if1 .came)
 
 same-length : tie.Need-same-length Inv-loop μ-loop
-same-length c = long (c .before) ∙ sym (ap length (start (c .before) .pre .1))
+same-length c = long (c .before) ∙ sym (ap length (start (c .before) .pre .1 .1))
 
 returns : tie.Need-returns Inv-loop μ-loop
 returns c =
     let l = c .before in
     let e : l .loop .k ≡ start l .args .m = omega arith in
-    let f = ap (put (start l .args .n) (start l .args .coefficients .now) (start l .args .standard .now)) e in
+    let f = ap (put (start l .args .n) (start l .args .points .now) (start l .args .values .now)) e in
     (l .loop .inv .1 .0 ∙ ap length f, l .loop .inv .1 .1 ∙ ap (fill 8) f)
 
 pub put-names-spec : {M : Type 1} → statement M
@@ -107,7 +107,7 @@ put-names-spec =
     Inv-loop
     μ-loop
     loop-holds
-    occurs-requires
+    has-pair-requires
     add-out
     cast-out
     cast-out-2
