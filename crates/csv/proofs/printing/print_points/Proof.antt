@@ -40,7 +40,7 @@ abbrev N : Type 0
 N = tie.After-put-names
 
 abbrev solved : N → I
-solved n = n .before .before .before .before .before
+solved n = n .before .before .before
 
 module _ (d : D) where
   abbrev under : Settings
@@ -154,21 +154,12 @@ solve-bytes-requires c κs =
 slice-aggregate-put-names : tie.Need-slice-aggregate-put-names
 slice-aggregate-put-names c = search needs
 
-slice-aggregate-put-names-2 : tie.Need-slice-aggregate-put-names-2
-slice-aggregate-put-names-2 c = search needs
-
-slice-aggregate-put-names-3 : tie.Need-slice-aggregate-put-names-3
-slice-aggregate-put-names-3 c = search needs
-
 put-names-requires : tie.Need-put-names-requires
 put-names-requires c κs =
-    let v = c .before .before .before .before in
-    let d = drawn v in
-    let s = start d in
-    let i = interpolant-length v in
-    let l = long d .0 in
+    let s = start (drawn (c .before .before)) in
+    let l = ap length (s .pre .0 .table) ∙ length-fill 512 _ in
     let most = s .pre .0 .most in
-    ((s .pre .0 .settings .few, omega arith, omega arith), refl)
+    ((s .pre .0 .settings .few, most), ((omega arith, omega arith), refl))
 
 cast-count : tie.Need-cast-count
 cast-count c = search needs
@@ -246,8 +237,6 @@ print-points-spec =
     slice-aggregate-solve-bytes-3
     solve-bytes-requires
     slice-aggregate-put-names
-    slice-aggregate-put-names-2
-    slice-aggregate-put-names-3
     put-names-requires
     cast-count
     slice-aggregate-print-basis
