@@ -10,8 +10,8 @@ use lib.ListN.{length, getD, set, length-set}
 use lib.Seq.{getD-set-other}
 use Rattle.residue.proofs.Tests.{Decides}
 use Rattle.monomial.specs.Monomial.{valueAt}
-use Rattle.specification.specs.Needed.{Alike, Apart, alike}
-use Rattle.specification.proofs.needed.Decided.{lists-told, told-as}
+use Rattle.specification.specs.Needed.{Alike, Apart, alike, apart}
+use Rattle.specification.proofs.needed.Decided.{equal-told, lists-told, both-told, not-told, told-as}
 
 -- lists of one length with the same entries are equal
 entries : (P Q : List ℕ) → length P ≡ length Q → ((j : ℕ) → getD P j 0 ≡ getD Q j 0) → P ≡ Q
@@ -40,6 +40,10 @@ of-alike {k} P Q e h = entries (set P k 0) (set Q k 0) (length-set P k 0 ∙ e �
 pub alike-told : (k : ℕ) (P Q : List ℕ) → length P ≡ length Q → Decides (Alike k P Q) (alike k P Q)
 unfolding alike
 alike-told k P Q e = told-as (alike-of P Q) (of-alike P Q e) (lists-told (set P k 0) (set Q k 0))
+
+pub apart-told : (k : ℕ) (P Q : List ℕ) → length P ≡ length Q → Decides (Apart k P Q) (apart k P Q)
+unfolding apart
+apart-told k P Q e = told-as (λ u. record { others = u .0; here = u .1 }) (λ a. (a .others, a .here)) (both-told (alike-told k P Q e) (not-told (equal-told (getD P k 0) (getD Q k 0))))
 
 -- lists of one length that agree in all places but one are equal, or apart
 pub alike-apart : (k : ℕ) (P Q : List ℕ) → length P ≡ length Q → Alike k P Q → P ≢ Q → Apart k P Q

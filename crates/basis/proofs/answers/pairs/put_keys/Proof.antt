@@ -2,19 +2,18 @@
 use mathlib.Core.Path.{_≡_, refl, ap, subst, _∙_}
 use Prim.Native.Nat.{ℕ, _+_, _*_, _-_, _≤_}
 use native.Mathlib.Omega.{arith}
-use lib.ListN.{length, set, take, drop, length-set}
+use lib.ListN.{length, take, drop, length-set}
 use Rattle.residue.proofs.Replaced.{part-long}
-use Rattle.residue.specs.Lists.{keyOf}
-use Rattle.basis.specs.Answers.{Keyed}
+use Rattle.basis.specs.Answers.{partKey, Keyed}
 use Rattle.basis.proofs.answers.PairSearch.{keyed-more}
 use Rattle.basis.proofs.answers.pairs.put_keys.Statement.{statement}
 use Rattle.basis.proofs.answers.pairs.put_keys.Tie as tie
 
 abbrev Inv-loop : tie.InvT-loop
-Inv-loop k n points keys₀ i₀ keys i = (i ≤ n) × ((length keys ≡ length keys₀) × Keyed k i points keys)
+Inv-loop at n points keys₀ i₀ keys i = (i ≤ n) × ((length keys ≡ length keys₀) × Keyed at i points keys)
 
 abbrev μ-loop : tie.MeasureT-loop
-μ-loop k n points keys₀ i₀ keys i = n - i
+μ-loop at n points keys₀ i₀ keys i = n - i
 
 abbrev start : tie.At-loop Inv-loop μ-loop → tie.Start Inv-loop μ-loop
 start l = l .before .before .before
@@ -25,20 +24,20 @@ loop-holds c = (omega arith, (refl, λ j h. absurd (omega arith)))
 mul-place : tie.Need-mul-place Inv-loop μ-loop
 mul-place c = omega arith
 
-add-key-without : tie.Need-add-key-without Inv-loop μ-loop
-add-key-without c = omega arith
+add-part-key : tie.Need-add-part-key Inv-loop μ-loop
+add-part-key c = omega arith
 
-sub-key-without : tie.Need-sub-key-without Inv-loop μ-loop
-sub-key-without c = omega arith
+sub-part-key : tie.Need-sub-part-key Inv-loop μ-loop
+sub-part-key c = omega arith
 
-part-key-without-start : tie.Need-part-key-without-start Inv-loop μ-loop
-part-key-without-start c = omega arith
+part-part-key-start : tie.Need-part-part-key-start Inv-loop μ-loop
+part-part-key-start c = omega arith
 
-part-key-without-end : tie.Need-part-key-without-end Inv-loop μ-loop
-part-key-without-end c = omega arith
+part-part-key-end : tie.Need-part-part-key-end Inv-loop μ-loop
+part-part-key-end c = omega arith
 
-key-without-requires : tie.Need-key-without-requires Inv-loop μ-loop
-key-without-requires c κs =
+part-key-requires : tie.Need-part-key-requires Inv-loop μ-loop
+part-key-requires c κs =
     let l = c .before .before in
     (omega arith, part-long (8 * l .loop .i) (8 * l .loop .i + 8 - 8 * l .loop .i) 8 (start l .args .points .now) (omega arith) (omega arith))
 
@@ -59,7 +58,7 @@ loop-again c =
     let l = c .before .before .before in
     let s = start l in
     let e : 8 * l .loop .i + 8 - 8 * l .loop .i ≡ 8 = omega arith in
-    (omega arith, (length-set (l .loop .keys) (l .loop .i) (c .key-without .result) ∙ l .loop .inv .1 .0, keyed-more (s .args .k) (l .loop .i) (s .args .points .now) (l .loop .keys) (c .key-without .result) (omega arith) (c .key-without .ensures ∙ ap (λ (w : ℕ). keyOf 8 (set (take w (drop (8 * l .loop .i) (s .args .points .now))) (s .args .k) 0)) e) (l .loop .inv .1 .1)))
+    (omega arith, (length-set (l .loop .keys) (l .loop .i) (c .part-key .result) ∙ l .loop .inv .1 .0, keyed-more (s .args .at) (l .loop .i) (s .args .points .now) (l .loop .keys) (c .part-key .result) (omega arith) (c .part-key .ensures ∙ ap (λ (w : ℕ). partKey (s .args .at) (take w (drop (8 * l .loop .i) (s .args .points .now)))) e) (l .loop .inv .1 .1)))
 
 same-length : tie.Need-same-length Inv-loop μ-loop
 same-length c = c .before .loop .inv .1 .0
@@ -68,7 +67,7 @@ returns : tie.Need-returns Inv-loop μ-loop
 returns c =
     let l = c .before in
     let e : l .loop .i ≡ start l .args .n = omega arith in
-    subst (λ (i : ℕ). Keyed (start l .args .k) i (start l .args .points .now) (l .loop .keys)) e (l .loop .inv .1 .1)
+    subst (λ (i : ℕ). Keyed (start l .args .at) i (start l .args .points .now) (l .loop .keys)) e (l .loop .inv .1 .1)
 
 pub put-keys-spec : {M : Type 1} → statement M
 put-keys-spec =
@@ -78,11 +77,11 @@ put-keys-spec =
     μ-loop
     loop-holds
     mul-place
-    add-key-without
-    sub-key-without
-    part-key-without-start
-    part-key-without-end
-    key-without-requires
+    add-part-key
+    sub-part-key
+    part-part-key-start
+    part-part-key-end
+    part-key-requires
     mul-keys
     slice-write-keys
     add-i
