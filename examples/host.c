@@ -68,7 +68,7 @@ static void print_elements(void)
     }
 }
 
-/* The interpolant of three values and the variables that occur in it. */
+/* The interpolant of three values, and the variables on which every function with these values depends. */
 static int interpolate(void)
 {
     const uint8_t values[3] = {1, 0, misqafur_level(-2)};
@@ -81,8 +81,10 @@ static int interpolate(void)
     answer = misqafur_wiring(SETTINGS, basis.n, basis.r, TABLES, values, 3, wiring, sizeof wiring);
     if (misqafur_refusal(answer) != 0)
         return 1;
+    printf("needed variables:");
     for (uint32_t i = 0; i < misqafur_wiring_count(answer); i++)
-        printf("variable x%u occurs\n", wiring[i]);
+        printf(" x%u", wiring[i]);
+    printf("%s\n", misqafur_wiring_count(answer) == 0 ? " none" : "");
     return 0;
 }
 

@@ -184,7 +184,8 @@ uint32_t misqafur_remainder(uint64_t modulus, uint64_t variables, uint64_t order
                             const uint8_t *term_coefficients, size_t term_coefficients_length,
                             const uint8_t *exponents, size_t exponents_length, uint8_t *out, size_t out_length);
 
-/* The variables that occur in the interpolant of the values with a coefficient that is not 0.
+/* The variables on which every function depends that has the values at the points: those for which two points
+ * agree in all other variables, differ in this one and have different values. The order does not matter.
  * Reads: the settings, n, r, the four tables, n values in the points' order.
  * Writes: 8 bytes of out, the variables' numbers from 1, increasing, then zeros.
  * Answers how many they are (misqafur_wiring_count).

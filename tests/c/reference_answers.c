@@ -3,11 +3,10 @@
 
 #include <string.h>
 
-/* The interpolant of the values, and b; or the refusal, out_size being that of the caller's answer. */
-static int interpolant(const struct handed *h, struct basis *b, const uint8_t *values, size_t values_length,
-                       size_t out_length, size_t out_size, uint8_t answer[64])
+/* The residues of the values, and b; or the refusal, out_size being that of the caller's answer. */
+static int values_refusal(const struct handed *h, struct basis *b, const uint8_t *values, size_t values_length,
+                          size_t out_length, size_t out_size, int residues[64])
 {
-    int residues[64] = {0};
     int refusal = reference_early_refusal(h, out_length, out_size);
     if (refusal != 0)
         return refusal;
@@ -21,7 +20,6 @@ static int interpolant(const struct handed *h, struct basis *b, const uint8_t *v
         return 10;
     for (int q = 0; q < b->n; q++)
         residues[q] = reference_residue(b->p, (int8_t)values[q]);
-    reference_solve(b, residues, answer);
     return 0;
 }
 
@@ -34,14 +32,26 @@ uint32_t reference_interpolate(uint64_t modulus, uint64_t variables, uint64_t or
 {
     HANDED(h);
     struct basis b;
-    uint8_t answer[64];
-    int refusal = interpolant(&h, &b, values, values_length, out_length, 64, answer);
+    int residues[64] = {0};
+    int refusal = values_refusal(&h, &b, values, values_length, out_length, 64, residues);
     if (refusal == 0)
-        memcpy(out, answer, 64);
+        reference_solve(&b, residues, out);
     return (uint32_t)refusal;
 }
 
-/* Variables in increasing order. */
+/* The place of the only byte in which two points differ; 8 if they differ in more. */
+static int only_difference(const uint8_t *a, const uint8_t *b)
+{
+    int place = 8, count = 0;
+    for (int k = 0; k < 8; k++)
+        if (a[k] != b[k]) {
+            place = k;
+            count++;
+        }
+    return count == 1 ? place : 8;
+}
+
+/* A variable is listed if two points differ in it alone and have different values; in increasing order. */
 uint32_t reference_wiring(uint64_t modulus, uint64_t variables, uint64_t order, uint64_t n, uint64_t r,
                           const uint8_t *states, size_t states_length,
                           const uint8_t *standard, size_t standard_length,
@@ -51,19 +61,19 @@ uint32_t reference_wiring(uint64_t modulus, uint64_t variables, uint64_t order, 
 {
     HANDED(h);
     struct basis b;
-    uint8_t answer[64];
+    int residues[64] = {0}, listed[9] = {0};
     uint32_t count = 0;
-    int refusal = interpolant(&h, &b, values, values_length, out_length, 8, answer);
+    int refusal = values_refusal(&h, &b, values, values_length, out_length, 8, residues);
     if (refusal != 0)
         return (uint32_t)refusal;
+    for (int q = 0; q < b.n; q++)
+        for (int s = 0; s < q; s++)
+            if (residues[q] != residues[s])
+                listed[only_difference(b.states + 8 * q, b.states + 8 * s)] = 1;
     memset(out, 0, 8);
-    for (int k = 0; k < b.m; k++) {
-        int occurs = 0;
-        for (int t = 0; t < b.n; t++)
-            occurs |= answer[t] != 0 && b.standard[8 * t + k] != 0;
-        if (occurs)
+    for (int k = 0; k < b.m; k++)
+        if (listed[k])
             out[count++] = (uint8_t)(k + 1);
-    }
     return 256 * count;
 }
 

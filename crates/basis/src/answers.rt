@@ -1,4 +1,5 @@
 // The calls that answer from the basis of lent tables: interpolant, remainder, wiring list.
+pub mod pairs;
 pub mod solving;
 
 use crate::checking::recognise;
@@ -14,12 +15,12 @@ ghost use lib.ListN.{length, replicate};
 ghost use Rattle.residue.specs.Layout.{fill, inPlaces, groups};
 ghost use Rattle.specification.specs.Refusal.{firstOf};
 ghost use Rattle.specification.specs.Tables.{fourTables, pointsIn};
-ghost use Rattle.specification.specs.Solving.{answering, valuesCases, interpolantIn, interpolateOutcome, listed, wiringOutcome};
+ghost use Rattle.specification.specs.Solving.{answering, valuesCases, interpolateOutcome, listed, wiringOutcome};
 ghost use Rattle.specification.specs.Solving.{withinVariables, remainderCases, remainderOutcome};
 ghost use Rattle.basis.specs.Drawing.{RowsLong, Solves};
 
-// The refusal of a call that answers n values in an output of so many bytes, or 0; their interpolant is then left in 64 bytes.
-fn interpolant(
+// The refusal of a call that answers n values in an output of so many bytes, or 0; then the points and their pivot rows are left in working arrays.
+fn values_refusal(
     settings: Settings,
     n: u64,
     r: u64,
@@ -30,15 +31,16 @@ fn interpolant(
     values: &[i8],
     size: usize,
     out: &[u8],
-    found: &mut [u8],
+    points: &mut [u8],
+    rows: &mut [u8],
+    pivots: &mut [u8],
 ) -> u8
-    requires { ⌜ length (now found) ≡ 64 ⌝ }
+    requires { ⌜ (now points ≡ replicate 512 0) × RowsLong (now rows) (now pivots) ⌝ }
     ensures { λ k. ⌜ k ≡ firstOf 0 (valuesCases size settings n r
         (fourTables (now (states .entry)) (now (standard .entry)) (now (leads .entry)) (now (coefficients .entry))) (now (values .entry))
         (now (out .entry))) ⌝ }
-    ensures { λ k. ⌜ (k ≡ 0 → now (found .exit)
-        ≡ fill 64 (interpolantIn settings n (fourTables (now (states .entry)) (now (standard .entry)) (now (leads .entry)) (now (coefficients .entry)))
-        (now (values .entry)))) ⌝ }
+    ensures { λ k. ⌜ (k ≡ 0 → now (points .exit) ≡ fill 512 (inPlaces 8 (pointsIn settings n (now (states .entry))))) ⌝ }
+    ensures { λ k. ⌜ (k ≡ 0 → Solves settings (pointsIn settings n (now (states .entry))) (now (rows .exit)) (now (pivots .exit))) ⌝ }
 {
     let refusal = values_sizes(
         settings,
@@ -54,29 +56,23 @@ fn interpolant(
     if refusal != 0 {
         return refusal;
     }
-    let p = settings.modulus as u8;
-    if !points::in_range(p, values) {
+    if !points::in_range(settings.modulus as u8, values) {
         return 9;
     }
-    let count = n as usize;
-    let mut points = [0u8; 512];
-    let mut rows = [0u8; 73728];
-    let mut pivots = [0u8; 64];
     if !recognise(
         settings,
-        count,
+        n as usize,
         r,
         states,
         standard,
         leads,
         coefficients,
-        &mut points,
-        &mut rows,
-        &mut pivots,
+        points,
+        rows,
+        pivots,
     ) {
         return 10;
     }
-    solving::solve_values(p, count, values, &rows, &pivots, found);
     0
 }
 
@@ -96,8 +92,10 @@ pub fn interpolate(
         ≡ interpolateOutcome settings n r (fourTables (now (states .entry)) (now (standard .entry)) (now (leads .entry)) (now (coefficients .entry)))
         (now (values .entry)) (now (out .entry)) ⌝ }
 {
-    let mut found = [0u8; 64];
-    let refusal = interpolant(
+    let mut points = [0u8; 512];
+    let mut rows = [0u8; 73728];
+    let mut pivots = [0u8; 64];
+    let refusal = values_refusal(
         settings,
         n,
         r,
@@ -108,16 +106,25 @@ pub fn interpolate(
         values,
         64,
         out,
-        &mut found,
+        &mut points,
+        &mut rows,
+        &mut pivots,
     );
     if refusal != 0 {
         return refusal;
     }
-    bytes::copy(&found, out);
+    solving::solve_values(
+        settings.modulus as u8,
+        n as usize,
+        values,
+        &rows,
+        &pivots,
+        out,
+    );
     0
 }
 
-// The wiring list: which variables occur in the interpolant of n values.
+// The wiring list: on which variables every function depends that has these n values at the points. It does not ask for the interpolant.
 pub fn wiring(
     settings: Settings,
     n: u64,
@@ -133,8 +140,10 @@ pub fn wiring(
         ≡ wiringOutcome settings n r (fourTables (now (states .entry)) (now (standard .entry)) (now (leads .entry)) (now (coefficients .entry)))
         (now (values .entry)) (now (out .entry)) ⌝ }
 {
-    let mut found = [0u8; 64];
-    let refusal = interpolant(
+    let mut points = [0u8; 512];
+    let mut rows = [0u8; 73728];
+    let mut pivots = [0u8; 64];
+    let refusal = values_refusal(
         settings,
         n,
         r,
@@ -145,17 +154,21 @@ pub fn wiring(
         values,
         8,
         out,
-        &mut found,
+        &mut points,
+        &mut rows,
+        &mut pivots,
     );
     if refusal != 0 {
         return Wired { refusal, count: 0 };
     }
+    let mut residues = [0u8; 64];
+    points::put_residues(settings.modulus as u8, values, &mut residues);
     let mut names = [0u8; 8];
-    let count = solving::put_names(
+    let count = pairs::put_names(
         settings.variables as usize,
         n as usize,
-        &found,
-        &standard[..512],
+        &points,
+        &residues,
         &mut names,
     );
     bytes::copy(&names, out);

@@ -34,7 +34,7 @@ pub fn interpolated(
     buffers::holds(&out, &want)
 }
 
-// Strikes a listed variable, behind the last one, out of those that occur; a place past the list's end holds 0.
+// Strikes a listed variable, behind the last one, out of those that are due; a place past the list's end holds 0.
 fn strike(listed: bool, last: u8, name: u8, variables: &mut [u8; 8]) -> bool {
     if !listed {
         return name == 0;
@@ -46,12 +46,12 @@ fn strike(listed: bool, last: u8, name: u8, variables: &mut [u8; 8]) -> bool {
         return false;
     }
     let k = name as usize - 1;
-    let occurs = variables[k];
+    let due = variables[k];
     variables[k] = 0;
-    occurs == 1
+    due == 1
 }
 
-// Whether the names of a list are those of variables that occur, increasing.
+// Whether the names of a list are those of variables that are due, increasing.
 fn names(count: u8, list: &[u8; 16], variables: &mut [u8; 8]) -> bool {
     let mut last: u8 = 0;
     for i in 0..8u8 {
@@ -99,7 +99,7 @@ fn lists(
     check::same(variables, &[0u8; 8])
 }
 
-// The wiring list: the next bytes say which variables occur.
+// The wiring list: the next bytes say which variables it has.
 pub fn wired(
     fd: i32,
     head: Head,

@@ -4,7 +4,7 @@ mod lines;
 use crate::printing::lines::print_basis;
 use crate::printing::lines::put_refusal;
 use crate::reading::read_text;
-use basis::answers::solving::put_names;
+use basis::answers::pairs::put_names;
 use basis::answers::solving::solve;
 use basis::drawing::draw;
 use residue::bytes;
@@ -35,7 +35,7 @@ fn solve_bytes(p: u8, n: usize, values: &[u8], rows: &[u8], pivots: &[u8], out: 
     solve(p, n, rows, pivots, &mut work, out);
 }
 
-// The basis of the n points of a table, the interpolant of n values at them and its wiring list, printed.
+// The basis of the n points of a table, the interpolant of n values at them and their wiring list, printed.
 fn print_points(
     p: u16,
     m: usize,
@@ -74,7 +74,7 @@ fn print_points(
     let mut interpolant = [0u8; 64];
     solve_bytes(p as u8, n, values, &rows, &pivots, &mut interpolant);
     let mut names = [0u8; 8];
-    let count = put_names(m, n, &interpolant, &standard, &mut names) as usize;
+    let count = put_names(m, n, points, values, &mut names) as usize;
     print_basis(
         m,
         n,

@@ -123,7 +123,7 @@ pub extern "C" fn misqafur_remainder(
     ) as u32
 }
 
-// The wiring list: which variables occur in the interpolant of n values.
+// The wiring list: on which variables every function depends that has these n values at the points.
 #[no_mangle]
 pub extern "C" fn misqafur_wiring(
     modulus: u64,

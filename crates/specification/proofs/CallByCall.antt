@@ -8,10 +8,9 @@ use native.Mathlib.Omega.{arith}
 use lib.IntN.{ℤ}
 use lib.ListN.{length, length-map}
 use lib.Dec.{T, ltb}
-use borrow.Author.Tests.{eqb-true, ltb-false, leb-false, not-false}
+use borrow.Author.Tests.{eqb-true, ltb-false, not-false}
 use Rattle.residue.specs.Lists.{Among}
-use Rattle.residue.specs.Layout.{fill, over}
-use Rattle.residue.proofs.level.Moduli.{modulus-range}
+use Rattle.residue.specs.Layout.{over}
 use Rattle.specification.specs.declared.settings.Settings.{Settings}
 use Rattle.specification.specs.Refusal.{firstOf}
 use Rattle.specification.specs.Levels.{inRange, residues, noRepeat}
@@ -23,16 +22,14 @@ use Rattle.specification.specs.Tables.{Tables, spaceUnder, pointsUnder, 
 use Rattle.specification.specs.Adding.{Outcome, holding, byRefusal, pointsOffered, addOutcome, drawCases, drawRefusal, drawOutcome}
 use Rattle.specification.specs.Withdrawing.{remaining, withdrawOutcome}
 use Rattle.specification.specs.Reference.{Operation, adding, withdrawing, outcomeOf, refusalOf, referenceAnswer, pointsAfter}
-use Rattle.specification.specs.Solving.{checkRefusal, filling, valuesCases, interpolantIn, interpolateOutcome, polynomialUnder, remainderCases, remainderIn, remainderOutcome, wiringUnder, Listed, listing, wiringOutcome}
-use Rattle.specification.specs.Agreement.{Remains, Wires}
+use Rattle.specification.specs.Solving.{checkRefusal, filling, valuesCases, interpolantIn, interpolateOutcome, polynomialUnder, remainderCases, remainderIn, remainderOutcome}
+use Rattle.specification.specs.Agreement.{Remains}
 use Rattle.specification.specs.CallByCall.{HoldsBasis, Interpolates, Costs}
 use Rattle.residue.proofs.Tests.{of-true, neither}
-use Rattle.specification.proofs.Repeats.{is-among}
-use Rattle.specification.proofs.Wiring.{names-length, names-are, list-accepted}
 use Rattle.specification.proofs.ideal.Lists.{among-map}
 use Rattle.specification.proofs.ideal.Basis.{basis-is, interpolant-fits, interpolant-values, remainder-fits}
 use Rattle.specification.proofs.ideal.Division.{basis-reduced}
-use Rattle.specification.proofs.agreement.Points.{IsPoint, Points, no-points, point-same, length-residues, levels-point, of-once, points-more}
+use Rattle.specification.proofs.agreement.Points.{IsPoint, Points, no-points, point-same, length-residues, of-once}
 use Rattle.specification.proofs.agreement.Refusals.{Accepted, accepted, over-begins, written-recognised}
 use Rattle.specification.proofs.agreement.Operations.{lawful}
 use Rattle.specification.proofs.agreement.Run.{number-of, same-tables}
@@ -197,28 +194,5 @@ remainder-leaves s n r t terms exponents buffer e =
         coefficients = remainderOf (spaceUnder s) (pointsUnder s S) (polynomialUnder s terms exponents);
         held = filled (firstOf 0 (remainderCases s n r t terms exponents buffer)) _ buffer e;
         fits = remainder-fits (spaceUnder s) (laws-under s ok) (pointsUnder s S) (b .distinct) (polynomialUnder s terms exponents);
-      },
-    )
-
--- The wiring call leaves the list of the variables that occur in the interpolant of the values at the points of the tables.
-pub wiring-leaves : (s : Settings) (n r : ℕ) (t : Tables) (values : List ℤ) (buffer : List ℕ) → wiringOutcome s n r t values buffer .answer .refusal ≡ 0
-    → HoldsBasis s (pointsIn s n (t .states)) t n r t × Wires s (pointsIn s n (t .states)) values buffer (wiringOutcome s n r t values buffer)
-unfolding wiringOutcome wiringUnder valuesCases listing
-wiring-leaves s n r t values buffer e =
-    let S = pointsIn s n (t .states) in
-    let z = none-of s _ tt e in
-    let ok = accepted s (z .0) in
-    let b = known-basis s ok n r t (ltb-false 64 n (z .1 .1 .1 .0)) (not-false (recognised s n r t) (z .1 .1 .1 .1 .1 .0)) in
-    let names = wiringUnder s S (residues (s .modulus) values) in
-    let is = list-accepted names buffer (firstOf 0 (valuesCases 8 s n r t values buffer)) (length names) (over (fill 8 names) buffer) (sym e) refl refl in (
-      b,
-      record {
-        coefficients = interpolantOf (spaceUnder s) (pointsUnder s S) (residues (s .modulus) values);
-        fits = interpolant-fits (spaceUnder s) (laws-under s ok) (pointsUnder s S) (b .distinct) (valueAt (spaceUnder s) (pointsUnder s S) (residues (s .modulus) values));
-        names = names;
-        named = names-are _ _ (s .variables);
-        few = omega (arith, names-length (interpolantOf (spaceUnder s) (pointsUnder s S) (residues (s .modulus) values)) (map (λ a. a .0) (standardUnder s S)) (s .variables), ok .few);
-        count = sym (ap (λ (o : Listed). o .answer .count) is);
-        held = sym (ap (λ (o : Listed). o .buffer) is);
       },
     )

@@ -1,7 +1,7 @@
 -- The marked examples of docs/SCOPE.md, computed from the definitions: one claim over their list. What additions return is the reference list's, by the
 -- agreement, so that the examples of additions compute no tables.
 use mathlib.Core.Path.{_≡_, refl, sym, _∙_, ap, subst}
-use mathlib.Core.List.{List, [], _∷_, _++_, map}
+use mathlib.Core.List.{List, [], _∷_, _++_, map, zip}
 use mathlib.Core.Logic.{inl, inr}
 use mathlib.Core.Bool.{Bool, true, false, _&&_, and-assoc, and-false}
 use Prim.Native.Nat.{ℕ, suc, _+_, _-_, _%_, _≤_, _<_}
@@ -29,7 +29,8 @@ use Rattle.specification.specs.Extension.{slot, minus, without, divided,
 use Rattle.specification.specs.BasisOf.{basisOf, valueAt}
 use Rattle.specification.specs.Instance.{monomialOf, pointOf}
 use Rattle.specification.specs.Tables.{standardUnder, leadsUnder, rowsUnder, statesSize, standardSize, leadsSize, coefficientsSize}
-use Rattle.specification.specs.Solving.{occurs, wiringOf, wiringUnder, polynomialOf}
+use Rattle.specification.specs.Needed.{alike, apart, contrary, pairIn, wiringOf}
+use Rattle.specification.specs.Solving.{polynomialOf}
 use Rattle.specification.specs.Reference.{referenceAnswer, pointsAfter, referenceAfter, addition, Held, heldAfter, numbers, fed, dueAt, due, RefusesAt, Refuses}
 use Rattle.specification.specs.Examples.{Example, Holds, LaidOut, under, anyOrder, fresh, A, examples}
 use Rattle.residue.proofs.Tests.{true-of}
@@ -130,7 +131,7 @@ All [] = Unit {0}
 All (e ∷ l) = Holds e × All l
 
 all : All examples
-unfolding tested each-tested sameLists examples Holds primes isOneOf isModulus inverseBelow inverseOf residueOf orderOf cmp firstOf settingsCases isResidue residueOr0 inRange residues fill sameList isAmong slot minus without divided extended gap first newton grow basisOf valueAt monomialOf pointOf occurs wiringOf wiringUnder polynomialOf referenceAnswer referenceAfter pointsAfter fed dueAt due
+unfolding tested each-tested sameLists examples Holds primes isOneOf isModulus inverseBelow inverseOf residueOf orderOf cmp firstOf settingsCases isResidue residueOr0 inRange residues fill sameList isAmong slot minus without divided extended gap first newton grow basisOf valueAt monomialOf pointOf alike apart contrary pairIn wiringOf zip polynomialOf referenceAnswer referenceAfter pointsAfter fed dueAt due
 all = (under-each 5 2 (1 ∷ []) A _ _ _ tt, (under-each 5 2 (0 ∷ []) A _ _ _ tt, (under-each 3 2 (1 ∷ []) A _ _ _ tt, ((λ s. (record { standard-are = refl; leads-are = refl; rows-are = refl }, (λ values. refl), λ f. refl)), (single, (under-each 2 1 anyOrder _ _ _ _ tt, ((refl, refl), (refl, (lowest, (again, (ends, tt)))))))))))
   where
     -- each order, and each point (a, b) modulo 5

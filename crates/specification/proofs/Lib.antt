@@ -4,6 +4,7 @@ pub mod Repeats
 pub mod ideal
 pub mod drawing
 pub mod Wiring
+pub mod needed
 pub mod agreement
 pub mod cancellations
 pub mod Instance

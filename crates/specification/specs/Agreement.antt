@@ -1,9 +1,9 @@
 -- What is claimed of every list of operations: docs/SCOPE.md, 'The two desks', as one statement. proofs/agreement has its proof.
 use mathlib.Core.Path.{_≡_}
 use mathlib.Core.Bool.{false}
-use mathlib.Core.List.{List, [], map, zip}
+use mathlib.Core.List.{List, [], zip}
 use mathlib.Core.Logic.{_↔_}
-use Prim.Native.Nat.{ℕ, _%_, _≤_}
+use Prim.Native.Nat.{ℕ, suc, _-_, _%_, _≤_}
 use lib.IntN.{ℤ}
 use lib.ListN.{length, take}
 use lib.Dec.{T}
@@ -19,7 +19,8 @@ use Rattle.specification.specs.Tables.{Tables, rowCount, tablesOf, writt
 use Rattle.specification.specs.Tables.{spaceUnder, pointsUnder, standardUnder, leadsUnder, rowsUnder}
 use Rattle.specification.specs.Tables.{statesSize, standardSize, leadsSize, coefficientsSize}
 use Rattle.specification.specs.Adding.{DrawOutcome, pointsOffered, drawOutcome}
-use Rattle.specification.specs.Solving.{valuesCases, polynomialUnder, remainderCases, remainderOutcome, Names, Listed, wiringOutcome}
+use Rattle.specification.specs.Solving.{valuesCases, polynomialUnder, remainderCases, remainderOutcome, Listed, wiringOutcome}
+use Rattle.specification.specs.Needed.{Needed, Names}
 use Rattle.specification.specs.Reference.{Event, Held, numbers, due}
 use Rattle.residue.specs.Level.{residueOf}
 
@@ -70,14 +71,12 @@ pub record Remains (s : Settings) (L : List (List ℕ)) (terms : List ℤ) (expo
   pub held : end ≡ over (fill 64 coefficients) buffer
   pub fits : Fits (spaceUnder s) (pointsUnder s L) (standardUnder s L) (eval (spaceUnder s) (polynomialUnder s terms exponents)) coefficients
 
--- The buffer of a wiring call whose number is 0 holds the numbers of the variables that occur, increasing, in the one combination of standard monomials with
--- these values at the points.
+-- The buffer of a wiring call whose number is 0 holds the numbers, increasing, of the variables on which every function with these values at the points
+-- depends.
 pub record Wires (s : Settings) (L : List (List ℕ)) (values : List ℤ) (buffer : List ℕ) (end : Listed) : Type 0 where
-  pub coefficients : List ℕ
-  pub fits : Fits (spaceUnder s) (pointsUnder s L) (standardUnder s L)
-      (valueAt (spaceUnder s) (pointsUnder s L) (residues (s .modulus) values)) coefficients
   pub names : List ℕ
-  pub named : Names (s .variables) coefficients (map (λ a. a .0) (standardUnder s L)) names
+  pub named : Names (s .variables)
+      (Needed (suc (s .modulus - 1)) (s .variables) (pointsUnder s L) (valueAt (spaceUnder s) (pointsUnder s L) (residues (s .modulus) values))) names
   pub few : length names ≤ 8
   pub count : end .answer .count ≡ length names
   pub held : end .buffer ≡ over (fill 8 names) buffer

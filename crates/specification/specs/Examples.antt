@@ -16,7 +16,8 @@ use Rattle.specification.specs.Cancellations.{examinedAll}
 use Rattle.specification.specs.Adding.{cancellationsUnder}
 use Rattle.specification.specs.Tables.{spaceUnder, pointsUnder, standardUnder, leadsUnder, rowsUnder, fourTables}
 use Rattle.specification.specs.Tables.{statesSize, standardSize, leadsSize, coefficientsSize}
-use Rattle.specification.specs.Solving.{polynomialOf, wiringUnder}
+use Rattle.specification.specs.Solving.{polynomialOf}
+use Rattle.specification.specs.Needed.{wiringOf}
 use Rattle.specification.specs.Reference.{addition, Held, numbers}
 use Rattle.specification.specs.Agreement.{freshly}
 
@@ -60,7 +61,7 @@ Holds no-points = (s : Settings) → LaidOut s [] [] (replicate (s .variables) 0
 Holds one-point = (order a b : ℕ) → Among order anyOrder → a < 5 → b < 5
     → LaidOut (under 5 2 order) ((a ∷ b ∷ []) ∷ []) ((0 ∷ 0 ∷ []) ∷ []) ((0 ∷ 1 ∷ []) ∷ (1 ∷ 0 ∷ []) ∷ []) (((5 - b) % 5 ∷ []) ∷ ((5 - a) % 5 ∷ []) ∷ [])
 Holds (interpolant s S values coefficients names) =
-    (interpolantOf (spaceUnder s) (pointsUnder s S) values ≡ coefficients) × (wiringUnder s S values ≡ names)
+    (interpolantOf (spaceUnder s) (pointsUnder s S) values ≡ coefficients) × (wiringOf (s .variables) S values ≡ names)
 Holds (remainder s S coefficients exponents left) = remainderOf (spaceUnder s) (pointsUnder s S) (polynomialOf (s .variables) coefficients exponents) ≡ left
 Holds (levels l) = (e : ℕ × ℤ × ℕ) → Among e l → residueOf (e .0) (e .1) ≡ Residue (e .2)
 Holds (additions p m offered due) = (order : ℕ) → Among order anyOrder → numbers (under p m order) fresh (map addition offered) ≡ due
@@ -86,8 +87,8 @@ examples =
     ∷ one-point
     -- p=2, m=1, states 0 and 1: row x²+x
     ∷ basis 2 1 anyOrder ((0 ∷ []) ∷ (1 ∷ []) ∷ []) ((0 ∷ []) ∷ (1 ∷ []) ∷ []) ((2 ∷ []) ∷ []) ((0 ∷ 1 ∷ []) ∷ [])
-    -- A, p=5, grlex, values 1, 0, 3: interpolant 1+2y; wiring list 2
-    ∷ interpolant (under 5 2 1) A (1 ∷ 0 ∷ 3 ∷ []) (1 ∷ 2 ∷ 0 ∷ []) (2 ∷ [])
+    -- A, p=5, grlex, values 1, 0, 3: interpolant 1+2y; the wiring list is empty (M-107)
+    ∷ interpolant (under 5 2 1) A (1 ∷ 0 ∷ 3 ∷ []) (1 ∷ 2 ∷ 0 ∷ []) []
     -- x²y has remainder 2x
     ∷ remainder (under 5 2 1) A (1 ∷ []) ((2 ∷ 1 ∷ []) ∷ []) (0 ∷ 0 ∷ 2 ∷ [])
     -- level -1: residue 4 for p=5, 2 for p=3, 1 for p=2

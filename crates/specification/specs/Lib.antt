@@ -14,6 +14,7 @@ pub mod Instance
 pub mod Tables
 pub mod Adding
 pub mod Withdrawing
+pub mod Needed
 pub mod Solving
 pub mod Reference
 pub mod Agreement

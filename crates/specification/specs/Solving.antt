@@ -1,23 +1,21 @@
 -- Checking the tables, the interpolant, the remainder and the wiring list: what each call answers and leaves in the lent buffer, refused or not.
-use mathlib.Core.Path.{_≡_}
-use mathlib.Core.Bool.{Bool, true, false, not, cond, _&&_, _||_}
-use mathlib.Core.List.{List, [], _∷_, _++_, map}
-use mathlib.Core.Logic.{_↔_}
-use Prim.Native.Nat.{ℕ, zero, suc, _*_, _<_, compare}
+use mathlib.Core.Bool.{Bool, not, cond, _&&_, _||_}
+use mathlib.Core.List.{List, [], _∷_, _++_}
+use Prim.Native.Nat.{ℕ, _*_}
 use lib.IntN.{ℤ}
-use lib.ListN.{length, getD, drop}
-use lib.Dec.{T, eqb, ltb}
-use Rattle.residue.specs.Lists.{Among, every, allZero}
+use lib.ListN.{length, drop}
+use lib.Dec.{eqb, ltb}
+use Rattle.residue.specs.Lists.{every, allZero}
 use Rattle.residue.specs.Layout.{groups, fill, over}
 use Rattle.specification.specs.declared.settings.Settings.{Settings}
 use Rattle.specification.specs.declared.settings.Wired.{Wired}
 use Rattle.specification.specs.Refusal.{Case, firstOf}
 use Rattle.specification.specs.Settings.{settingsCases}
 use Rattle.specification.specs.Levels.{inRange, residues}
-use Rattle.specification.specs.BasisOf.{standardOf, interpolantOf, remainderOf}
+use Rattle.specification.specs.BasisOf.{interpolantOf, remainderOf}
 use Rattle.specification.specs.Instance.{Monomial, monomialOf}
 use Rattle.specification.specs.Tables.{Tables, spaceUnder, pointsUnder, tooShort, pointsIn, recognised}
-use Rattle.monomial.specs.Increasing.{Increasing}
+use Rattle.specification.specs.Needed.{wiringOf}
 
 -- Checking lent tables.
 unfoldable pub checkRefusal : Settings → ℕ → ℕ → Tables → ℕ
@@ -50,29 +48,8 @@ unfoldable pub interpolateOutcome : Settings → ℕ → ℕ → Tables → List
 interpolateOutcome s n r t values buffer =
     filling (firstOf 0 (valuesCases 64 s n r t values buffer)) (fill 64 (interpolantIn s n t values)) buffer
 
--- The wiring list (docs/SCOPE.md, 'The sheet'). Variable k+1 occurs in a combination of standard monomials with a coefficient that is not 0.
-unfoldable pub occurs : ℕ → List ℕ → List (List ℕ) → Bool
-occurs k [] l = false
-occurs k (c ∷ cs) [] = false
-occurs k (c ∷ cs) (a ∷ l) = not (eqb c 0) && not (eqb (getD a k 0) 0) || occurs k cs l
-
--- the numbers, from 1, of those of the first m variables that occur, increasing
-unfoldable pub wiringOf : ℕ → List ℕ → List (List ℕ) → List ℕ
-wiringOf zero cs standard = []
-wiringOf (suc k) cs standard = wiringOf k cs standard ++ cond (occurs k cs standard) (suc k ∷ []) []
-
--- The same list, said and not computed: increasing, and the numbers in it are those of the variables that occur. proofs/Wiring has that the computed one
--- is such a list.
-pub record Names (m : ℕ) (cs : List ℕ) (standard : List (List ℕ)) (names : List ℕ) : Type 0 where
-  pub increasing : Increasing compare names
-  pub members : (j : ℕ) → Among j names ↔ ((k : ℕ) × (j ≡ suc k) × (k < m) × T (occurs k cs standard))
-
--- of the interpolant of values at points
-unfoldable pub wiringUnder : Settings → List (List ℕ) → List ℕ → List ℕ
-wiringUnder s S values =
-    wiringOf (s .variables) (interpolantOf (spaceUnder s) (pointsUnder s S) values) (map (λ a. a .0) (standardOf (spaceUnder s) (pointsUnder s S)))
-
--- The answer of the wiring call, and the buffer at exit: the count and 8 bytes of numbers, unused bytes 0, or a refusal alone.
+-- The wiring list of n values in the points' order (specs/Needed): the answer of the call, and the buffer at exit. They are the count and 8 bytes of numbers,
+-- unused bytes 0, or a refusal alone.
 pub record Listed : Type 0 where
   pub answer : Wired
   pub buffer : List ℕ
@@ -88,7 +65,7 @@ listing k names buffer = record {
 
 unfoldable pub wiringOutcome : Settings → ℕ → ℕ → Tables → List ℤ → List ℕ → Listed
 wiringOutcome s n r t values buffer =
-    listing (firstOf 0 (valuesCases 8 s n r t values buffer)) (wiringUnder s (pointsIn s n (t .states)) (residues (s .modulus) values)) buffer
+    listing (firstOf 0 (valuesCases 8 s n r t values buffer)) (wiringOf (s .variables) (pointsIn s n (t .states)) (residues (s .modulus) values)) buffer
 
 -- The remainder of a polynomial, term after term a coefficient and 8 exponents: 64 bytes.
 

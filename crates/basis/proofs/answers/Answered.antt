@@ -6,11 +6,11 @@ use Prim.Native.Nat.{ℕ, _*_, _%_, _<_, _≤_}
 use native.Mathlib.Nat.{mod-lt}
 use native.Mathlib.Omega.{arith}
 use lib.IntN.{ℤ}
-use lib.ListN.{length, take, getD, length-map}
+use lib.ListN.{length, take, getD, replicate, length-map}
 use lib.Dec.{eqb, ltb}
 use borrow.Author.Tests.{ltb-false, eqb-true, not-false}
 use Rattle.residue.specs.Vector.{Below, dotOf}
-use Rattle.residue.specs.Layout.{groups, fill, inPlaces}
+use Rattle.residue.specs.Layout.{groups, fill, inPlaces, over}
 use Rattle.residue.proofs.vector.Vectors.{map-at}
 use Rattle.residue.proofs.Tests.{of-true, neither, and-left, and-right}
 use Rattle.residue.proofs.Places.{length-groups, groups-long}
@@ -22,17 +22,19 @@ use Rattle.specification.specs.Settings.{settingsCases}
 use Rattle.specification.specs.Levels.{inRange, residues}
 use Rattle.specification.specs.BasisOf.{interpolantOf}
 use Rattle.specification.specs.Tables.{Tables, spaceUnder, pointsUnder, tooShort, pointsIn, recognised}
-use Rattle.specification.specs.Solving.{interpolantIn, withinVariables, polynomialUnder, remainderIn, wiringOf, wiringUnder}
+use Rattle.specification.specs.Solving.{interpolantIn, withinVariables, polynomialUnder, remainderIn}
+use Rattle.specification.specs.Needed.{wiringOf}
 use Rattle.specification.proofs.agreement.Points.{Points, length-residues}
 use Rattle.specification.proofs.agreement.Refusals.{Accepted, Large, large-of}
 use Rattle.specification.proofs.Recognised.{readIn}
+use Rattle.specification.proofs.needed.Filled.{names-tabled}
 use Rattle.basis.specs.Answers.{solution}
 use Rattle.basis.specs.Drawing.{Solves}
 use Rattle.basis.proofs.settings.BySize.{Passed, passed}
 use Rattle.basis.proofs.points.LevelLists.{residues-below}
-use Rattle.basis.proofs.answers.Interpolants.{solution-is, remainder-is, valuesIn, value-in, names-in}
+use Rattle.basis.proofs.answers.Interpolants.{front-of, solution-is, remainder-is, valuesIn, value-in}
 use Rattle.basis.proofs.answers.Refusals.{valuesSizes, remainderSizes}
-use Rattle.basis.proofs.checking.Recognised.{count, points, positive, standard-there}
+use Rattle.basis.proofs.checking.Recognised.{count, points, positive}
 
 -- the values of terms are residues, one for each point
 module _ (p : ℕ) (cs exponents : List ℕ) (n : ℕ) (points : List ℕ) where
@@ -91,14 +93,12 @@ module _ (size : ℕ) (s : Settings) (n r : ℕ) (t : Tables) (values : List ℤ
     values-answer rows pivots e =
         solved s ready n r t (values-sized .few) known rows pivots e (residues (s .modulus) values) (length-residues (s .modulus) values ∙ values-count) values-below
 
-    -- the wiring list, from the interpolant in 64 bytes and the lent standard table
-    pub values-names : wiringOf (s .variables) (take n (fill 64 (interpolantIn s n t values))) (groups 8 n (take 512 (t .standard)))
-        ≡ wiringUnder s (pointsIn s n (t .states)) (residues (s .modulus) values)
-    unfolding interpolantIn
-    values-names =
-        ap₂ (λ (k : ℕ) (l : List ℕ). wiringOf (s .variables) (take k (fill 64 (interpolantIn s n t values))) (groups 8 k l))
-        (sym (count s ready n r t (values-sized .few) known)) (standard-there s ready n r t (values-sized .few) known)
-        ∙ names-in s ready (pointsIn s n (t .states)) (points s ready n r t (values-sized .few) known) (residues (s .modulus) values)
+    -- the wiring list, from the table of the points and the residues of the values in 64 bytes
+    pub values-names : (table found : List ℕ) → table ≡ fill 512 (inPlaces 8 (pointsIn s n (t .states))) → found ≡ over (residues (s .modulus) values) (replicate 64 0)
+        → wiringOf (s .variables) (groups 8 n table) (take n found) ≡ wiringOf (s .variables) (pointsIn s n (t .states)) (residues (s .modulus) values)
+    values-names table found e f =
+        ap₂ (λ (t l : List ℕ). wiringOf (s .variables) (groups 8 n t) l) e (front-of (residues (s .modulus) values) found 64 n f (length-residues (s .modulus) values ∙ values-count))
+        ∙ names-tabled s ready _ (points s ready n r t (values-sized .few) known) n (count s ready n r t (values-sized .few) known) (residues (s .modulus) values)
 
 -- A polynomial.
 module _ (s : Settings) (n r : ℕ) (t : Tables) (coefficients : List ℤ) (exponents buffer : List ℕ) (fine : remainderSizes s n r t coefficients exponents buffer ≡ 0) where

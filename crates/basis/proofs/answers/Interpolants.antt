@@ -1,4 +1,4 @@
--- Interpolants, remainders and wiring lists, as elimination of values finds them.
+-- Interpolants and remainders, as elimination of values finds them.
 use mathlib.Core.Path.{_≡_, refl, sym, _∙_, ap, ap₂, subst}
 use mathlib.Core.List.{List, [], _∷_, _++_, map, append-assoc}
 use mathlib.Core.Logic.{inl, inr}
@@ -21,11 +21,11 @@ use Rattle.monomial.specs.Monomial.{valueAt as valueOf}
 use Rattle.monomial.specs.Order.{orderOf}
 use Rattle.specification.specs.declared.settings.Settings.{Settings}
 use Rattle.specification.specs.BasisOf.{valueAt, interpolantOf, remainderOf}
-use Rattle.specification.specs.Tables.{standardUnder, spaceUnder, pointsUnder, tablesOf}
+use Rattle.specification.specs.Tables.{spaceUnder, pointsUnder}
 use Rattle.specification.specs.Polynomial.{Polynomial, eval}
 use Rattle.specification.specs.Instance.{Point, pointOf}
 use Rattle.specification.specs.Levels.{residues}
-use Rattle.specification.specs.Solving.{withinVariables, polynomialOf, wiringOf, wiringUnder}
+use Rattle.specification.specs.Solving.{withinVariables, polynomialOf}
 use Rattle.specification.proofs.ideal.Lists.{getD-among, index-of}
 use Rattle.specification.proofs.ideal.Basis.{interpolant-fits, interpolant-agree, value-at}
 use Rattle.specification.proofs.ideal.Counts.{standard-length}
@@ -35,7 +35,6 @@ use Rattle.specification.proofs.agreement.Drawings.{laws-under, distinct-points
 use Rattle.basis.specs.Answers.{solution}
 use Rattle.basis.specs.Drawing.{Solves}
 use Rattle.basis.proofs.answers.Terms.{terms-value}
-use Rattle.specification.proofs.Wiring.{names-filled}
 
 -- a point of the space
 abbrev pub pointUnder : (s : Settings) → List ℕ → Point (suc (s .modulus - 1)) (s .variables)
@@ -127,17 +126,3 @@ module _ (s : Settings) (ok : Accepted s) (S : List (List ℕ)) (h : Points s S)
         ∙ ap found (map-at (fill 8) S [] [] i k)
         ∙ ap (λ (Q : List ℕ). found (fill 8 Q)) (sym p)
         ∙ ap (λ (v : ℕ). v % s .modulus) (terms-value (s .modulus - 1) (s .variables) (orderOf (s .order)) (pointUnder s P) 8 cs es (ok .few) eight within)
-
-  -- The wiring list, from the interpolant in 64 bytes and the table of the standard monomials.
-  pub names-in : (vs : List ℕ) → wiringOf (s .variables) (take (length S) (fill 64 (interpolant vs))) (groups 8 (length S) (tablesOf s S .standard)) ≡ wiringUnder s S vs
-  unfolding tablesOf wiringUnder
-  names-in vs =
-      let M : List (List ℕ) = map (λ a. a .0) (standardUnder s S) in
-      let n : length M ≡ length S =
-      length-map (standardUnder s S) _ ∙ standard-length (spaceUnder s) (laws-under s ok) (pointsUnder s S) (distinct-points s ok S h) ∙ length-map S _ in
-      let k = length-interpolant vs in
-      let few = h .few in
-      ap₂ (wiringOf (s .variables))
-      (ap (take (length S)) (fill-tail 64 (interpolant vs) (omega arith)) ∙ take-at (interpolant vs) _ (length S) k)
-      (ap (λ (j : ℕ). groups 8 j (fill 512 (inPlaces 8 M))) (sym n) ∙ table-groups 8 512 M (omega arith))
-      ∙ names-filled (s .variables) 8 (interpolant vs) M (ok .few)

@@ -1,4 +1,4 @@
-// What elimination of the values at all points gives: the interpolant, and the variables that occur in it.
+// What elimination of the values at all points gives: the interpolant.
 use crate::points;
 use monomial::terms::put_term_values;
 use residue::arithmetic;
@@ -7,13 +7,12 @@ use residue::elimination::eliminate;
 ghost use mathlib.Core.Path.{_≡_};
 ghost use mathlib.Core.List.{map};
 ghost use Prim.Native.Nat.{ℕ, _+_, _-_, _*_, _%_, _<_, _≤_};
-ghost use lib.ListN.{length, getD, take, replicate};
+ghost use lib.ListN.{length, getD};
 ghost use Rattle.residue.specs.Vector.{Below};
 ghost use Rattle.residue.specs.Elimination.{eliminated, Multiplied};
-ghost use Rattle.residue.specs.Layout.{groups, fill, over};
+ghost use Rattle.residue.specs.Layout.{fill, over};
 ghost use Rattle.monomial.specs.Terms.{termValues};
 ghost use Rattle.specification.specs.Levels.{residues};
-ghost use Rattle.specification.specs.Solving.{occurs, wiringOf};
 ghost use Rattle.basis.specs.Answers.{solution};
 
 // Minus residues, as bytes.
@@ -97,36 +96,4 @@ pub fn solve_terms(
     let mut work = [0u8; 128];
     put_term_values(p, &found[..count], exponents, n, points, &mut work);
     solve(p, n, rows, pivots, &mut work, out);
-}
-
-// Whether variable k+1 occurs in the combination of n standard monomials with these coefficients.
-fn occurs(k: usize, n: usize, coefficients: &[u8], standard: &[u8]) -> bool
-    requires { ⌜ (k < 8) × (n ≤ length (now coefficients)) × (8 * n ≤ length (now standard)) ⌝ }
-    ensures { λ r. ⌜ r ≡ occurs k (take n (now (coefficients .entry))) (groups 8 n (now (standard .entry))) ⌝ }
-{
-    for i in 0..n {
-        if coefficients[i] != 0 {
-            if standard[8 * i + k] != 0 {
-                return true;
-            }
-        }
-    }
-    false
-}
-
-// The wiring list, in 8 bytes of zeros, and its length.
-pub fn put_names(m: usize, n: usize, coefficients: &[u8], standard: &[u8], out: &mut [u8]) -> u8
-    requires { ⌜ (m ≤ 8) × (n ≤ length (now coefficients)) × (8 * n ≤ length (now standard)) ⌝ }
-    requires { ⌜ now out ≡ replicate 8 0 ⌝ }
-    ensures { λ c. ⌜ c ≡ length (wiringOf m (take n (now (coefficients .entry))) (groups 8 n (now (standard .entry)))) ⌝ }
-    ensures { λ _. ⌜ now (out .exit) ≡ fill 8 (wiringOf m (take n (now (coefficients .entry))) (groups 8 n (now (standard .entry)))) ⌝ }
-{
-    let mut count: u8 = 0;
-    for k in 0..m {
-        if occurs(k, n, coefficients, standard) {
-            out[count as usize] = (k + 1) as u8;
-            count += 1;
-        }
-    }
-    count
 }

@@ -1,7 +1,7 @@
 -- The tables of a drawn-up basis read back as its lists, and what is printed of them: it fits the buffer.
 use mathlib.Core.Path.{_≡_, refl, sym, _∙_, ap, ap₂, subst}
 use mathlib.Core.Bool.{true}
-use mathlib.Core.List.{List, [], _∷_, map}
+use mathlib.Core.List.{List, [], _∷_, map, zip}
 use mathlib.Core.Logic.{inl, inr}
 use Prim.Native.Nat.{ℕ, suc, _-_, _*_, _<_, _≤_}
 use native.Mathlib.Omega.{arith}
@@ -13,13 +13,14 @@ use Rattle.residue.specs.Layout.{groups, fill, inPlaces}
 use Rattle.residue.proofs.level.Moduli.{modulus-range}
 use Rattle.residue.proofs.Layouts.{take-fill}
 use Rattle.residue.proofs.Places.{table-groups}
+use Rattle.residue.proofs.Tests.{by-test}
 use Rattle.monomial.specs.Order.{orderOf}
 use Rattle.specification.specs.declared.settings.Settings.{Settings}
 use Rattle.specification.specs.Polynomial.{Distinct}
 use Rattle.specification.specs.BasisOf.{basisOf, standardOf, leadsOf, rowOf, rowsOf, interpolantOf}
 use Rattle.specification.specs.Instance.{Monomial, Point, pointOf}
 use Rattle.specification.specs.Tables.{spaceUnder, pointsUnder, rowCount, tablesOf}
-use Rattle.specification.specs.Solving.{wiringOf, wiringUnder}
+use Rattle.specification.specs.Needed.{pairIn, wiringOf, Names}
 use Rattle.specification.proofs.Instance.{standard-exponent, lead-exponent}
 use Rattle.specification.proofs.ideal.Lists.{getD-among, among-map}
 use Rattle.specification.proofs.ideal.Basis.{interpolant-fits}
@@ -47,8 +48,11 @@ below-of : (p : ℕ) (l : List ℕ) → ((c : ℕ) → Among c l → c < p) → 
 below-of p l h i k = h (getD l i 0) (getD-among l i 0 k)
 
 -- numbers of at most 8 variables
-names-below : (m : ℕ) (cs : List ℕ) (l : List (List ℕ)) → m ≤ 8 → Below 10 (wiringOf m cs l)
-names-below m cs l h = below-of 10 (wiringOf m cs l) (λ c w. let t = names-are cs l m .members c .0 w in omega (arith, t .1, t .2))
+names-below : (m : ℕ) (S : List (List ℕ)) (vs : List ℕ) → m ≤ 8 → Below 10 (wiringOf m S vs)
+names-below m S vs h = below-of 10 (wiringOf m S vs) (λ c w. let t = list .members c .0 w in omega (arith, t .1, t .2))
+  where
+    list : Names m (λ k. pairIn k (zip S vs) ≡ true) (wiringOf m S vs)
+    list = names-are S vs (λ k. pairIn k (zip S vs) ≡ true) (λ k. by-test (pairIn k (zip S vs)) (λ e. e) (λ e. e)) m
 
 module _ (s : Settings) (ok : Accepted s) (S : List (List ℕ)) (h : Points s S) where
   abbrev pub standards : List (List ℕ)
@@ -130,14 +134,13 @@ module _ (s : Settings) (ok : Accepted s) (S : List (List ℕ)) (h : Points s S)
       let t = among-map (rowOf (spaceUnder s) (pointsUnder s S)) (leadsOf (spaceUnder s) (pointsUnder s S)) a w in
       subst (Short 64) (sym (t .2)) (solved-short _)
 
-  pub names-few : (values : List ℕ) → length (wiringUnder s S values) ≤ 8
-  unfolding wiringUnder
-  names-few values = omega (arith, names-length (interpolantOf (spaceUnder s) (pointsUnder s S) values) standards (s .variables), ok .few)
+  pub names-few : (values : List ℕ) → length (wiringOf (s .variables) S values) ≤ 8
+  names-few values = omega (arith, names-length S values (s .variables), ok .few)
 
   pub lines-length : (values : List ℕ) → length (linesOf s S values) ≤ 102048
-  unfolding linesOf wiringUnder
+  unfolding linesOf
   lines-length values =
-      printed-length standards leads (rowsOf (spaceUnder s) (pointsUnder s S)) (interpolantOf (spaceUnder s) (pointsUnder s S) values) (wiringUnder s S values)
+      printed-length standards leads (rowsOf (spaceUnder s) (pointsUnder s S)) (interpolantOf (spaceUnder s) (pointsUnder s S) values) (wiringOf (s .variables) S values)
       (omega (arith, length-map (standardOf (spaceUnder s) (pointsUnder s S)) (λ (b : Monomial (s .variables)). b .0), standard-count, h .few))
       (omega (arith, lead-count, few-rows s ok S h))
-      standards-short leads-short rows-short (solved-short _) (names-few values, names-below (s .variables) _ standards (ok .few))
+      standards-short leads-short rows-short (solved-short _) (names-few values, names-below (s .variables) S values (ok .few))

@@ -4,22 +4,24 @@ use mathlib.Core.List.{List}
 use Prim.Native.Nat.{ℕ, _<_, _≤_}
 use native.Mathlib.Omega.{arith}
 use lib.ListN.{length, getD, take}
+use lib.Seq.{take-all}
 use Rattle.residue.specs.Elimination.{Multiplied}
 use Rattle.residue.specs.Vector.{Below}
 use Rattle.residue.specs.Layout.{groups, fill}
 use Rattle.residue.proofs.Layouts.{take-fill}
 use Rattle.specification.specs.declared.settings.Settings.{Settings}
 use Rattle.specification.specs.BasisOf.{interpolantOf}
-use Rattle.specification.specs.Tables.{spaceUnder, pointsUnder, pointsIn, rowCount, tablesOf}
+use Rattle.specification.specs.Tables.{spaceUnder, pointsUnder, pointsIn, rowCount}
 use Rattle.specification.proofs.agreement.Points.{Points}
 use Rattle.specification.proofs.agreement.Refusals.{Accepted}
 use Rattle.specification.proofs.agreement.Drawings.{few-rows}
-use Rattle.specification.specs.Solving.{wiringOf, wiringUnder}
+use Rattle.specification.specs.Needed.{wiringOf}
+use Rattle.specification.proofs.needed.Filled.{names-tabled}
 use Rattle.specification.proofs.Recognised.{read}
 use Rattle.basis.specs.Answers.{solution}
 use Rattle.basis.specs.Drawing.{PointsGiven, DrawnUp}
 use Rattle.basis.proofs.drawing.Given.{given-count}
-use Rattle.basis.proofs.answers.Interpolants.{length-interpolant, solution-is, names-in}
+use Rattle.basis.proofs.answers.Interpolants.{length-interpolant, solution-is}
 use Rattle.csv.specs.Appending.{Room, Put}
 use Rattle.csv.specs.printing.Lines.{inTable}
 use Rattle.csv.specs.printing.Lines.{basisLines}
@@ -61,18 +63,17 @@ module _ (s : Settings) (n : ℕ) (points values : List ℕ) (g : PointsGiven s 
       solved : take n interpolant ≡ cs
       solved = ap (take n) filled ∙ take-fill n 64 cs (length-interpolant s ok S given values ∙ count-points) (g .most)
 
-      module _ (count : ℕ) (names : List ℕ) (c : count ≡ length (wiringOf (s .variables) (take n interpolant) (groups 8 n standard)))
-          (f : names ≡ fill 8 (wiringOf (s .variables) (take n interpolant) (groups 8 n standard))) where
-        same-names : wiringOf (s .variables) (take n interpolant) (groups 8 n standard) ≡ wiringUnder s S values
+      module _ (count : ℕ) (names : List ℕ) (c : count ≡ length (wiringOf (s .variables) (groups 8 n points) (take n values)))
+          (f : names ≡ fill 8 (wiringOf (s .variables) (groups 8 n points) (take n values))) where
+        same-names : wiringOf (s .variables) (groups 8 n points) (take n values) ≡ wiringOf (s .variables) S values
         same-names =
-            ap₂ (λ (l : List ℕ) (t : List ℕ). wiringOf (s .variables) (take n l) (groups 8 n t)) filled (u .tabled .standard-table)
-            ∙ ap (λ (j : ℕ). wiringOf (s .variables) (take j (fill 64 cs)) (groups 8 j (tablesOf s S .standard))) (sym count-points)
-            ∙ names-in s ok S given values
+            ap₂ (λ (t l : List ℕ). wiringOf (s .variables) (groups 8 n t) l) (g .table) (take-all n values (omega (arith, lv)))
+            ∙ names-tabled s ok S given n count-points values
 
-        listed : take count names ≡ wiringUnder s S values
+        listed : take count names ≡ wiringOf (s .variables) S values
         listed =
             ap₂ (λ (k : ℕ) (l : List ℕ). take k l) (c ∙ ap length same-names) (f ∙ ap (fill 8) same-names)
-            ∙ take-fill (length (wiringUnder s S values)) 8 (wiringUnder s S values) refl (names-few s ok S given values)
+            ∙ take-fill (length (wiringOf (s .variables) S values)) 8 (wiringOf (s .variables) S values) refl (names-few s ok S given values)
 
         abbrev pub lines : List ℕ
         lines = basisLines (inTable 8 n (s .variables) standard) (inTable 8 r (s .variables) leads) (inTable 64 r n coefficients) (take n interpolant) (take count names)

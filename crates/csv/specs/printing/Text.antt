@@ -9,12 +9,12 @@ use Rattle.specification.specs.declared.settings.Settings.{Settings}
 use Rattle.specification.specs.BasisOf.{standardOf, leadsOf, rowsOf, interpolantOf}
 use Rattle.specification.specs.Tables.{spaceUnder, pointsUnder, pointsIn}
 use Rattle.basis.specs.Drawing.{settingsOf}
-use Rattle.specification.specs.Solving.{wiringUnder}
+use Rattle.specification.specs.Needed.{wiringOf}
 use Rattle.residue.specs.Layout.{over}
 use Rattle.csv.specs.reading.Text.{TextOutcome, readOutcome}
 use Rattle.csv.specs.printing.Lines.{basisLines, refusalLine}
 
--- The lines of the basis of points under settings, of the interpolant of values at them, and of its wiring list.
+-- The lines of the basis of points under settings, of the interpolant of values at them, and of their wiring list.
 unfoldable pub linesOf : Settings → List (List ℕ) → List ℕ → List ℕ
 linesOf s S values =
     basisLines
@@ -22,7 +22,7 @@ linesOf s S values =
     (map (λ a. a .0) (leadsOf (spaceUnder s) (pointsUnder s S)))
     (rowsOf (spaceUnder s) (pointsUnder s S))
     (interpolantOf (spaceUnder s) (pointsUnder s S) values)
-    (wiringUnder s S values)
+    (wiringOf (s .variables) S values)
 
 -- What is printed of the reader's answer: the refusal's line, or the lines of the points and values that were read.
 unfoldable pub linesRead : TextOutcome → List ℕ

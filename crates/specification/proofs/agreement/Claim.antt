@@ -22,7 +22,8 @@ use Rattle.specification.proofs.agreement.Points.{no-points}
 use Rattle.specification.proofs.agreement.Refusals.{Accepted, accepted, Large, over-begins}
 use Rattle.specification.proofs.agreement.Run.{same-tables, At, held-points, run}
 use Rattle.specification.proofs.agreement.Drawings.{laws-under, distinct-points, standard-count, few-rows, drawn-same}
-use Rattle.specification.proofs.CallByCall.{remainder-leaves, wiring-leaves}
+use Rattle.specification.proofs.CallByCall.{remainder-leaves}
+use Rattle.specification.proofs.needed.Calls.{wiring-leaves}
 
 -- zeros filled up are zeros
 blank : (k j : ℕ) → fill k (replicate j 0) ≡ fill k []

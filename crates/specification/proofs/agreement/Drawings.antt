@@ -1,7 +1,7 @@
 -- Drawing up the same points in any order gives the same basis, the same remainders and the same wiring lists.
 use mathlib.Core.Path.{_≡_, refl, sym, _∙_, ap, ap₂, subst}
 use mathlib.Core.Bool.{Bool, true, false, not, cond, _&&_, _||_}
-use mathlib.Core.List.{List, [], _∷_, _++_, map, zipWith, zip}
+use mathlib.Core.List.{List, [], _∷_, _++_, zipWith, zip}
 use mathlib.Core.Logic.{inl, inr, _≢_}
 use Prim.Native.Nat.{ℕ, suc, _+_, _-_, _*_, _/_, _%_, _≤_}
 use native.Mathlib.Nat.{mul-le-mul-left}
@@ -29,19 +29,19 @@ use Rattle.specification.specs.BasisOf.{valueAt, remainderOf}
 use Rattle.specification.specs.Instance.{Point, pointOf}
 use Rattle.specification.specs.Tables.{Tables, spaceUnder, pointsUnder, standardUnder, leadsUnder, rowsUnder, rowCount, tablesOf, written, tooShort, standardSize, leadsSize, coefficientsSize}
 use Rattle.specification.specs.Adding.{holding, byRefusal, pointsOffered, drawCases, drawRefusal, costing, cancellationsUnder, drawOutcome}
-use Rattle.specification.specs.Solving.{Filled, filling, withinVariables, polynomialUnder, remainderIn, remainderCases, remainderOutcome, valuesCases, wiringOf, wiringUnder, Listed, listing, wiringOutcome}
+use Rattle.specification.specs.Solving.{Filled, filling, withinVariables, polynomialUnder, remainderIn, remainderCases, remainderOutcome, valuesCases, Listed, listing, wiringOutcome}
+use Rattle.specification.specs.Needed.{wiringOf}
 use Rattle.specification.specs.Reference.{Held}
-use Rattle.specification.specs.Agreement.{Rearranges, SameAs, SameValues}
+use Rattle.specification.specs.Agreement.{Rearranges, SameAs}
 use Rattle.specification.proofs.Instance.{laws}
 use Rattle.specification.proofs.ideal.Laws.{Laws, point-told}
-use Rattle.specification.proofs.ideal.Lists.{among-map}
+use Rattle.specification.proofs.ideal.Lists.{among-map, map-among}
 use Rattle.specification.proofs.ideal.Counts.{standard-length, leads-length}
-use Rattle.specification.proofs.ideal.Permutation.{basis-permuted, remainder-permuted, interpolant-permuted}
+use Rattle.specification.proofs.ideal.Permutation.{basis-permuted, remainder-permuted}
 use Rattle.specification.proofs.agreement.Points.{Points, IsPoint, point-same, once-of}
 use Rattle.specification.proofs.agreement.Refusals.{Accepted, settings-pass, Large, not-short, large-of, written-large, written-points, written-recognised}
-use Rattle.residue.proofs.Congruence.{of}
-use Rattle.specification.proofs.ideal.Basis.{interpolant-agree}
-use Rattle.specification.proofs.agreement.Values.{point-of, value-there, same-range}
+use Rattle.specification.proofs.agreement.Values.{point-of, same-range}
+use Rattle.specification.proofs.needed.Arranged.{wiring-arranged}
 
 module _ (s : Settings) (ok : Accepted s) where
   -- the space under these settings obeys the laws
@@ -56,8 +56,7 @@ module _ (s : Settings) (ok : Accepted s) where
   pt = pointOf (s .modulus - 1) (s .variables)
 
   pub among-under : (K : List (List ℕ)) (P : List ℕ) → Among P K → Among (pt P) (pointsUnder s K)
-  among-under (Q ∷ K) P (inl e) = inl (ap pt e)
-  among-under (Q ∷ K) P (inr q) = inr (among-under K P q)
+  among-under K P = map-among pt K P
 
   pub distinct-under : (K : List (List ℕ)) → ((P : List ℕ) → Among P K → IsPoint s P) → T (noRepeat K) → Distinct (spaceUnder s) (pointsUnder s K)
   distinct-under [] h t = tt
@@ -71,7 +70,7 @@ module _ (s : Settings) (ok : Accepted s) where
   distinct-points K h = distinct-under K (h .points) (h .once)
 
   -- the value handed for a point is the function's value there
-  value-told : (K : List (List ℕ)) → Distinct (spaceUnder s) (pointsUnder s K) → (v : List ℤ) (P : List ℕ) (y : ℤ) → Among (P, y) (zip K v)
+  pub value-told : (K : List (List ℕ)) → Distinct (spaceUnder s) (pointsUnder s K) → (v : List ℤ) (P : List ℕ) (y : ℤ) → Among (P, y) (zip K v)
       → valueAt (spaceUnder s) (pointsUnder s K) (residues (s .modulus) v) (pt P) ≡ residueOr0 (residueOf (s .modulus) y)
   unfolding valueAt residues zip zipWith
   value-told (Q ∷ K) d (x ∷ v) P y (inl e) =
@@ -110,23 +109,6 @@ module _ (s : Settings) (ok : Accepted s) where
     pub same-remainder : (f : Polynomial (spaceUnder s)) → remainderOf (spaceUnder s) (pointsUnder s K) f ≡ remainderOf (spaceUnder s) (pointsUnder s L) f
     same-remainder = remainder-permuted (spaceUnder s) laws-under (pointsUnder s K) (pointsUnder s L) dK dL (carried K L to) (carried L K from)
 
-    -- Values that are equal at each point, one for each: one function of the points, one interpolant, one wiring list.
-    module _ (v w : List ℤ) (k : length v ≡ length K) (l : length w ≡ length L) (e : SameValues s K L v w) where
-      same-value : (X : Point (suc (s .modulus - 1)) (s .variables)) → Among X (pointsUnder s L)
-          → valueAt (spaceUnder s) (pointsUnder s K) (residues (s .modulus) v) X ≡ valueAt (spaceUnder s) (pointsUnder s L) (residues (s .modulus) w) X
-      same-value X q =
-          let p = among-map pt L X q in
-          let a = value-there K v k (p .0) (from (p .0) (p .1)) in
-          let b = value-there L w l (p .0) (p .1) in
-          rw (p .2) (value-told K dK v (p .0) (a .0) (a .1) ∙ ap residueOr0 (e .equal (p .0) (a .0) (b .0) (a .1) (b .1)) ∙ sym (value-told L dL w (p .0) (b .0) (b .1)))
-
-      pub same-wiring : wiringUnder s K (residues (s .modulus) v) ≡ wiringUnder s L (residues (s .modulus) w)
-      unfolding wiringUnder
-      same-wiring = ap₂ (wiringOf (s .variables))
-          (interpolant-permuted (spaceUnder s) laws-under (pointsUnder s K) (pointsUnder s L) dK dL (carried K L to) (carried L K from) _
-          ∙ interpolant-agree (spaceUnder s) laws-under (pointsUnder s L) dL _ _ (λ X q. of (same-value X q)))
-          (ap (map (λ a. a .0)) (same-basis .0))
-
     pub same-standard : tablesOf s K .standard ≡ tablesOf s L .standard
     unfolding tablesOf
     same-standard = rw (same-basis .0)
@@ -158,7 +140,7 @@ module _ (s : Settings) (ok : Accepted s) where
     wired n count range names = listing (firstOf 0 ((ltb (length buffer) 8, 6) ∷ (not (eqb count n), 7) ∷ (ltb 64 n, 8) ∷ (not range, 9) ∷ [])) names buffer
 
     pub wiring-told : (v : List ℤ) (A : List (List ℕ)) → Points s A → (t : Tables) → Large t
-        → wiringOutcome s (length A) (rowCount s A) (written (tablesOf s A) t) v buffer ≡ wired (length A) (length v) (inRange (s .modulus) v) (wiringUnder s A (residues (s .modulus) v))
+        → wiringOutcome s (length A) (rowCount s A) (written (tablesOf s A) t) v buffer ≡ wired (length A) (length v) (inRange (s .modulus) v) (wiringOf (s .variables) A (residues (s .modulus) v))
     unfolding wiringOutcome valuesCases wired firstOf
     wiring-told v A h t large =
         rw (settings-pass s fine _, not-short (written (tablesOf s A) t) (written-large s A t large), written-recognised s ok A h t, written-points s ok A h t)
@@ -236,8 +218,8 @@ module _ (s : Settings) (ok : Accepted s) where
           ∙ sym (rw (en, er, et) (remainder-told terms exponents buffer L hL start large));
       wiring = λ v w buffer same. let e = rw (written-points s ok K hK t, en, et, written-points s ok L hL start) at same in
           wiring-told fine buffer v K hK t (large-of t short)
-          ∙ ap₂ (λ (n k : ℕ). wired fine buffer n k (inRange (s .modulus) v) (wiringUnder s K (residues (s .modulus) v))) as-many (e .count)
-          ∙ same-wired fine buffer (length L) (length w) _ _ _ _ (λ l. let k : length v ≡ length K = e .count ∙ l ∙ sym as-many in (same-range s K L v w k l to from e, same-wiring L K dL dK to from v w k l e))
+          ∙ ap₂ (λ (n k : ℕ). wired fine buffer n k (inRange (s .modulus) v) (wiringOf (s .variables) K (residues (s .modulus) v))) as-many (e .count)
+          ∙ same-wired fine buffer (length L) (length w) _ _ _ _ (λ l. let k : length v ≡ length K = e .count ∙ l ∙ sym as-many in (same-range s K L v w k l to from e, wiring-arranged s K L v w k l to from e (s .variables)))
           ∙ sym (rw (en, er, et) (wiring-told fine buffer w L hL start large));
     })
       where

@@ -1,5 +1,5 @@
 -- Members of a list by index and of a mapped list, and a list with one element put at its end.
-use mathlib.Core.Path.{_≡_, refl, sym}
+use mathlib.Core.Path.{_≡_, refl, sym, ap}
 use mathlib.Core.List.{List, [], _∷_, _++_, map}
 use mathlib.Core.Logic.{_⊎_, inl, inr}
 use Prim.Native.Nat.{ℕ, zero, suc, _<_, Ordering, Ordering·lt}
@@ -21,6 +21,10 @@ index-of (b ∷ l) d a (inr mem) = let t = index-of l d a mem in (suc (t .0), om
 pub among-map : {A B : Type 0} (f : A → B) (l : List A) (b : B) → Among b (map f l) → (a : A) × Among a l × (b ≡ f a)
 among-map f (a ∷ l) b (inl e) = (a, inl refl, e)
 among-map f (a ∷ l) b (inr mem) = let t = among-map f l b mem in (t .0, inr (t .1), t .2)
+
+pub map-among : {A B : Type 0} (f : A → B) (l : List A) (a : A) → Among a l → Among (f a) (map f l)
+map-among f (b ∷ l) a (inl e) = inl (ap f e)
+map-among f (b ∷ l) a (inr mem) = inr (map-among f l a mem)
 
 pub snoc-of : {A : Type 0} (l : List A) (c b : A) → Among b (l ++ (c ∷ [])) → Among b l ⊎ (b ≡ c)
 snoc-of [] c b (inl e) = inr e

@@ -1,5 +1,5 @@
 -- The interpolant, the row and the basis are unique, and depend on the members of the list of points alone.
-use mathlib.Core.Path.{_≡_, refl, sym, _∙_, ap, ap₂, subst}
+use mathlib.Core.Path.{_≡_, refl, sym, _∙_, ap₂, subst}
 use mathlib.Core.List.{List, [], _∷_, map}
 use mathlib.Core.Logic.{inl, inr, _≢_, _↔_}
 use mathlib.Core.Bool.{cond}
@@ -17,6 +17,7 @@ use Rattle.monomial.proofs.Orders.Increasing.{unique, below-member}
 use Rattle.specification.specs.Space.{Space, same}
 use Rattle.specification.specs.Polynomial.{eval, Leading, Standard, Minimal, terms}
 use Rattle.specification.specs.Basis.{Row, Fits, Rows, IsBasis}
+use Rattle.specification.proofs.ideal.Lists.{map-among}
 use Rattle.specification.proofs.ideal.Laws.{Laws, same-told, less-ne}
 use Rattle.specification.proofs.ideal.Polynomials.{comb, pair-terms, independent}
 
@@ -49,10 +50,6 @@ module _ (D : Space) (L : Laws D) where
   map-unique c d [] h = refl
   map-unique c d (a ∷ l) h = ap₂ (λ (u : ℕ) (v : List ℕ). u ∷ v) (h a (inl refl)) (map-unique c d l (λ b m. h b (inr m)))
 
-  map-member : (c : Mono → ℕ) (l : List Mono) (a : Mono) → Among a l → Among (c a) (map c l)
-  map-member c (b ∷ l) a (inl e) = inl (ap c e)
-  map-member c (b ∷ l) a (inr m) = inr (map-member c l a m)
-
   -- The interpolant of given values is unique.
   pub fits-unique : (S : List Pt) (l : List Mono) → Increasing cmp l → ((a : Mono) → Among a l → Standard D S a)
       → (φ : Pt → ℕ) (cs ds : List ℕ) → Fits D S l φ cs → Fits D S l φ ds → cs ≡ ds
@@ -77,8 +74,8 @@ module _ (D : Space) (L : Laws D) where
           shape u v w = omega arith
 
       equal : (b : Mono) → Among b l → fc .0 b ≡ fd .0 b
-      equal b m = small (r .residues (fc .0 b) (subst (λ (z : List ℕ). Among (fc .0 b) z) (fc .1) (map-member (fc .0) l b m)))
-          (t .residues (fd .0 b) (subst (λ (z : List ℕ). Among (fd .0 b) z) (fd .1) (map-member (fd .0) l b m))) (lin (zero b m) (fd .0 b) 0 (omega arith))
+      equal b m = small (r .residues (fc .0 b) (subst (λ (z : List ℕ). Among (fc .0 b) z) (fc .1) (map-among (fc .0) l b m)))
+          (t .residues (fd .0 b) (subst (λ (z : List ℕ). Among (fd .0 b) z) (fd .1) (map-among (fd .0) l b m))) (lin (zero b m) (fd .0 b) 0 (omega arith))
 
   -- a row is an interpolant of minus its monomial
   pub row-fits : (S : List Pt) (l : List Mono) (a : Mono) (cs : List ℕ) → Row D S l a cs → Fits D S l (λ P. q * val a P) cs

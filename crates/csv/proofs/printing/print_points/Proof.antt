@@ -11,7 +11,7 @@ use Rattle.residue.proofs.level.Moduli.{modulus-range}
 use Rattle.residue.proofs.Layouts.{length-fill}
 use Rattle.specification.specs.declared.settings.Settings.{Settings}
 use Rattle.specification.specs.Tables.{pointsIn}
-use Rattle.specification.specs.Solving.{wiringOf}
+use Rattle.specification.specs.Needed.{wiringOf}
 use Rattle.specification.proofs.Wiring.{names-length}
 use Rattle.basis.specs.Drawing.{settingsOf}
 use Rattle.basis.proofs.drawing.Given.{drawn-long}
@@ -40,7 +40,7 @@ abbrev N : Type 0
 N = tie.After-put-names
 
 abbrev solved : N → I
-solved n = n .before .before .before .before .before
+solved n = n .before .before .before
 
 module _ (d : D) where
   abbrev under : Settings
@@ -85,7 +85,7 @@ module _ (n : N) where
   names = n .put-names .last .1 .1 .1 .1 .0
 
   abbrev list : List ℕ
-  list = wiringOf (s .args .m) (take (s .args .n) (interpolant (solved n))) (groups 8 (s .args .n) (standard d))
+  list = wiringOf (s .args .m) (groups 8 (s .args .n) (s .args .points .now)) (take (s .args .n) (s .args .values .now))
 
   names-long : length names ≡ 8
   names-long = ap (λ (z : List ℕ). length z) (n .put-names .ensures .1) ∙ length-fill 8 list
@@ -93,7 +93,7 @@ module _ (n : N) where
   names-few : n .put-names .result ≤ 8
   names-few =
       let e = n .put-names .ensures .0 in
-      let l = names-length (take (s .args .n) (interpolant (solved n))) (groups 8 (s .args .n) (standard d)) (s .args .m) in
+      let l = names-length (groups 8 (s .args .n) (s .args .points .now)) (take (s .args .n) (s .args .values .now)) (s .args .m) in
       let few = s .pre .0 .settings .few in
       omega arith
 
@@ -154,21 +154,12 @@ solve-bytes-requires c κs =
 slice-aggregate-put-names : tie.Need-slice-aggregate-put-names
 slice-aggregate-put-names c = search needs
 
-slice-aggregate-put-names-2 : tie.Need-slice-aggregate-put-names-2
-slice-aggregate-put-names-2 c = search needs
-
-slice-aggregate-put-names-3 : tie.Need-slice-aggregate-put-names-3
-slice-aggregate-put-names-3 c = search needs
-
 put-names-requires : tie.Need-put-names-requires
 put-names-requires c κs =
-    let v = c .before .before .before .before in
-    let d = drawn v in
-    let s = start d in
-    let i = interpolant-length v in
-    let l = long d .0 in
+    let s = start (drawn (c .before .before)) in
+    let l = ap length (s .pre .0 .table) ∙ length-fill 512 _ in
     let most = s .pre .0 .most in
-    ((s .pre .0 .settings .few, omega arith, omega arith), refl)
+    ((s .pre .0 .settings .few, most), ((omega arith, omega arith), refl))
 
 cast-count : tie.Need-cast-count
 cast-count c = search needs
@@ -246,8 +237,6 @@ print-points-spec =
     slice-aggregate-solve-bytes-3
     solve-bytes-requires
     slice-aggregate-put-names
-    slice-aggregate-put-names-2
-    slice-aggregate-put-names-3
     put-names-requires
     cast-count
     slice-aggregate-print-basis

@@ -1,0 +1,134 @@
+-- The wiring call whose number is 0: what it leaves, that no order matters to it, and that its variables occur in the interpolant.
+use mathlib.Core.Path.{_≡_, refl, sym, _∙_, ap, ap₂, subst}
+use mathlib.Core.Logic.{inl, inr, _↔_}
+use mathlib.Core.List.{List, _∷_, map, zip}
+use Prim.Native.Nat.{ℕ, suc, _-_, _%_}
+use native.Mathlib.Nat.{suc-inj}
+use native.Mathlib.Omega.{arith}
+use lib.IntN.{ℤ}
+use lib.ListN.{length, length-map}
+use lib.Dec.{T}
+use borrow.Author.Tests.{eqb-true, ltb-false, not-false}
+use Rattle.residue.specs.Lists.{Among}
+use Rattle.residue.specs.Layout.{fill, over}
+use Rattle.residue.proofs.level.Moduli.{modulus-range}
+use Rattle.residue.proofs.Tests.{of-true}
+use Rattle.monomial.specs.Order.{orderOf}
+use Rattle.specification.specs.declared.settings.Settings.{Settings}
+use Rattle.specification.specs.Refusal.{firstOf}
+use Rattle.specification.specs.Levels.{inRange, residues}
+use Rattle.specification.specs.Basis.{Fits}
+use Rattle.specification.specs.BasisOf.{valueAt}
+use Rattle.specification.specs.Instance.{Point}
+use Rattle.specification.specs.Tables.{Tables, spaceUnder, pointsUnder, standardUnder, pointsIn, recognised}
+use Rattle.specification.specs.Needed.{Needed, wiringOf, Names, occurs}
+use Rattle.specification.specs.Solving.{valuesCases, Listed, listing, wiringOutcome}
+use Rattle.specification.specs.Agreement.{SameValues, Wires}
+use Rattle.specification.specs.CallByCall.{HoldsBasis}
+use Rattle.specification.proofs.Instance.{point-of as point-read}
+use Rattle.specification.proofs.Recognised.{none-of}
+use Rattle.specification.proofs.CallByCall.{known-basis}
+use Rattle.specification.proofs.Wiring.{names-length, list-accepted}
+use Rattle.specification.proofs.agreement.Points.{residues-same, length-residues}
+use Rattle.specification.proofs.agreement.Refusals.{Accepted, accepted}
+use Rattle.specification.proofs.agreement.Values.{value-of, level-there}
+use Rattle.specification.proofs.agreement.Drawings.{value-told}
+use Rattle.specification.proofs.needed.Pairs.{Valued, wiring-needed}
+use Rattle.specification.proofs.needed.Arranged.{wiring-arranged}
+use Rattle.specification.proofs.needed.Occurring.{needed-occurs}
+
+-- a member of a list that a function leaves as it is
+kept : (f : ℕ → ℕ) (l : List ℕ) → map f l ≡ l → (a : ℕ) → Among a l → f a ≡ a
+kept f (b ∷ l) e a (inl u) = let h : f b ≡ b = cc in rw u h
+kept f (b ∷ l) e a (inr q) = let t : map f l ≡ l = cc in kept f l t a q
+
+module _ (s : Settings) (n r : ℕ) (t : Tables) (values : List ℤ) (buffer : List ℕ) where
+  -- the points, their values, and these as a function
+  abbrev S : List (List ℕ)
+  S = pointsIn s n (t .states)
+
+  abbrev vs : List ℕ
+  vs = residues (s .modulus) values
+
+  abbrev pts : List (Point (suc (s .modulus - 1)) (s .variables))
+  pts = pointsUnder s S
+
+  abbrev φ : Point (suc (s .modulus - 1)) (s .variables) → ℕ
+  φ = valueAt (spaceUnder s) pts vs
+
+  -- What the call stands on.
+  record Stands : Type 0 where
+    ok : Accepted s
+    basis : HoldsBasis s S t n r t
+    long : length values ≡ length S
+    range : T (inRange (s .modulus) values)
+
+  module _ (e : wiringOutcome s n r t values buffer .answer .refusal ≡ 0) where
+    stands : Stands
+    unfolding wiringOutcome valuesCases listing
+    stands =
+        let z = none-of s _ tt e in
+        let good = accepted s (z .0) in
+        let b = known-basis s good n r t (ltb-false 64 n (z .1 .1 .1 .0)) (not-false (recognised s n r t) (z .1 .1 .1 .1 .1 .0)) in
+        record {
+          ok = good;
+          basis = b;
+          long = eqb-true (length values) n (not-false _ (z .1 .1 .0)) ∙ b .count;
+          range = of-true (not-false (inRange (s .modulus) values) (z .1 .1 .1 .1 .0));
+        }
+
+    valued : Valued (s .modulus - 1) (s .variables) φ pts vs
+    valued = record { long = length-residues (s .modulus) values ∙ stands .long ∙ sym (length-map S _); each = at }
+      where
+        at : (P : Point (suc (s .modulus - 1)) (s .variables)) (v : ℕ) → Among (P .0, v) (zip (map (λ Q. Q .0) pts) vs) → φ P % suc (s .modulus - 1) ≡ v
+        at P v mem =
+            let there : Among (P .0, v) (zip S vs) = subst (λ (K : List (List ℕ)). Among (P .0, v) (zip K vs)) (stands .basis .points) mem in
+            let y = level-there (s .modulus) S values (P .0) v there in
+            let is : φ P ≡ v = ap φ (sym (point-read (s .modulus - 1) (s .variables) P)) ∙ value-told s (stands .ok) S (stands .basis .distinct) values (P .0) (y .0) (y .1) ∙ sym (y .2) in
+            let same = residues-same (s .modulus) values (omega (arith, modulus-range (s .modulus) (stands .ok .modulus))) (stands .range) in
+            ap (λ (x : ℕ). x % suc (s .modulus - 1)) is ∙ kept (λ x. x % suc (s .modulus - 1)) vs same v (value-of S vs (P .0) v there)
+
+    -- the computed list is of the needed variables
+    needed : Names (s .variables) (Needed (suc (s .modulus - 1)) (s .variables) pts φ) (wiringOf (s .variables) S vs)
+    needed = subst (λ (K : List (List ℕ)). Names (s .variables) (Needed (suc (s .modulus - 1)) (s .variables) pts φ) (wiringOf (s .variables) K vs)) (stands .basis .points)
+        (wiring-needed (s .modulus - 1) (s .variables) φ pts vs valued)
+
+    -- The wiring call leaves the list of the variables on which every function with the values at the points of the tables depends.
+    pub wiring-leaves : HoldsBasis s S t n r t × Wires s S values buffer (wiringOutcome s n r t values buffer)
+    unfolding wiringOutcome listing
+    wiring-leaves =
+        let names = wiringOf (s .variables) S vs in
+        let is = list-accepted names buffer (firstOf 0 (valuesCases 8 s n r t values buffer)) (length names) (over (fill 8 names) buffer) (sym e) refl refl in (
+          stands .basis,
+          record {
+            names = names;
+            named = needed;
+            few = omega (arith, names-length S vs (s .variables), stands .ok .few);
+            count = sym (ap (λ (o : Listed). o .answer .count) is);
+            held = sym (ap (λ (o : Listed). o .buffer) is);
+          },
+        )
+
+    -- Each variable of the list occurs in the interpolant, so the list is part of the one before M-107.
+    pub wiring-occurs : (k : ℕ) → Among (suc k) (wiringOf (s .variables) S vs) → (cs : List ℕ) → Fits (spaceUnder s) pts (standardUnder s S) φ cs
+        → T (occurs k cs (map (λ a. a .0) (standardUnder s S)))
+    wiring-occurs k mem cs fits = let w = needed .members (suc k) .0 mem in
+        needed-occurs (s .modulus - 1) (s .variables) (orderOf (s .order)) k pts φ
+        (subst (Needed (suc (s .modulus - 1)) (s .variables) pts φ) (sym (suc-inj (w .1))) (w .3)) cs (standardUnder s S) (fits .values)
+
+-- Request M-107: 'The order no longer matters'. Two calls whose number is 0 under settings that differ in the order alone, over the same points in any
+-- order, with values that are equal at each: one outcome.
+pub wiring-any-order : (s s′ : Settings) → s .modulus ≡ s′ .modulus → s .variables ≡ s′ .variables → (n r n′ r′ : ℕ) (t t′ : Tables) (v w : List ℤ) (buffer : List ℕ)
+    → wiringOutcome s n r t v buffer .answer .refusal ≡ 0 → wiringOutcome s′ n′ r′ t′ w buffer .answer .refusal ≡ 0
+    → ((P : List ℕ) → Among P (pointsIn s n (t .states)) ↔ Among P (pointsIn s′ n′ (t′ .states)))
+    → SameValues s (pointsIn s n (t .states)) (pointsIn s′ n′ (t′ .states)) v w
+    → wiringOutcome s n r t v buffer ≡ wiringOutcome s′ n′ r′ t′ w buffer
+unfolding wiringOutcome listing
+wiring-any-order s s′ p m n r n′ r′ t t′ v w buffer e e′ members same =
+    let K = pointsIn s n (t .states) in
+    let L = pointsIn s′ n′ (t′ .states) in
+    let one = wiring-arranged s K L v w (stands s n r t v buffer e .long) (stands s′ n′ r′ t′ w buffer e′ .long) (λ P. members P .0) (λ P. members P .1) same (s .variables)
+    ∙ ap₂ (λ (i j : ℕ). wiringOf i L (residues j w)) m p in
+    ap (λ (k : ℕ). listing k (wiringOf (s .variables) K (residues (s .modulus) v)) buffer) e
+    ∙ ap (λ (l : List ℕ). listing 0 l buffer) one
+    ∙ sym (ap (λ (k : ℕ). listing k (wiringOf (s′ .variables) L (residues (s′ .modulus) w)) buffer) e′)
