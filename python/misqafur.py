@@ -155,19 +155,22 @@ _RESERVED = {"ring", "ideal", "poly", "int", "list", "matrix", "vector", "map", 
              "Poly", "symbols", "modulus", "true", "quit", "exit", "ZZ", "QQ", "of", "when", "method", "local", "basis", "sheet", "genes"}
 
 
-def _words(names, word):
-    return len(set(names)) == len(names) and all(name.isprintable() and re.fullmatch(word, name) for name in names)
+def _words_or_numbers(names, word):
+    """The names where they are words and all different, else x1, x2 and so on."""
+    if len(set(names)) == len(names) and all(name.isprintable() and re.fullmatch(word, name) for name in names):
+        return tuple(names)
+    return tuple(f"x{k}" for k in range(1, len(names) + 1))
 
 
 def shown_names(names):
-    """Names as people see them: the genes' own where they are words and all different, else g1, g2 and so on."""
-    return tuple(names) if _words(names, r"""[^\W\d][^\s+*^,;"'`]*""") else tuple(f"g{k}" for k in range(1, len(names) + 1))
+    """Names as people see them in a polynomial: the genes' own, or x1, x2 and so on."""
+    return _words_or_numbers(names, r"""[^\W\d][^\s+*^,;"'`]*""")
 
 
 def safe_names(names):
-    """Names that an algebra package takes: the genes' own where all of them can be, else x1, x2 and so on."""
-    free = not any(keyword.iskeyword(name) or name in _RESERVED for name in names)
-    return tuple(names) if free and _words(names, r"[A-Za-z][A-Za-z0-9]*") else tuple(f"x{k}" for k in range(1, len(names) + 1))
+    """Names that an algebra package takes: the genes' own, or x1, x2 and so on."""
+    taken = any(keyword.iskeyword(name) or name in _RESERVED for name in names)
+    return _words_or_numbers(names, "(?!)" if taken else "[A-Za-z][A-Za-z0-9]*")
 
 
 class Polynomial:
@@ -460,8 +463,8 @@ def _record_hints(text, refusal):
     if refusal.number == 9:
         for place, field in enumerate(fields):
             if abs(int(field)) >= p:
-                whose = "the value" if place == len(fields) - 1 else _said(header[place])
-                yield f"Record {number}: {_said(field)} for {whose} is not from {1 - p} to {p - 1}."
+                whose = "the value" if place == len(fields) - 1 else _said(header[place]) or "without a name"
+                yield f"Record {number}, field {place + 1} ({whose}): {_said(field)} is not from {1 - p} to {p - 1}."
     if refusal.number == 11:
         residues = [[int(field) % p for field in record[:-1]] for record in records[1:number]]
         yield f"Record {number} repeats the state of record {residues.index(residues[-1]) + 2}."
@@ -482,9 +485,11 @@ def refusal_report(text, refusal):
     """What was refused, what it means and what to do."""
     where = f", record {refusal.record}" if refusal.record else ""
     hints = [*_habits(text), *_record_hints(text, refusal)] if refusal.number != 1 else []
+    if refusal.number != 2 or not hints:
+        hints.append(REFUSALS[refusal.number][1])
     told = "" if not refusal.record else " (Record 1 is the header.)"
     lines = [_wrapped(f"Refused with {refusal.number}{where}: {refusal.sentence}.{told}"), "", "What to do:"]
-    return "\n".join(lines + [_wrapped(hint, "  - ") for hint in [*hints, REFUSALS[refusal.number][1]]])
+    return "\n".join(lines + [_wrapped(hint, "  - ") for hint in hints])
 
 
 def report(sheet, values, habits=()):

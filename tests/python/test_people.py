@@ -32,8 +32,8 @@ class Polynomials(unittest.TestCase):
         self.assertEqual(str(sheet.interpolate([1, 0, 3])), "1 + 2*g2")
         self.assertEqual(str(sheet.interpolate([0, 0, 0])), "0")
         self.assertEqual(str(sheet_of(["Nkx2-5", "p27.kip"]).basis[1]), "Nkx2-5*p27.kip + p27.kip + Nkx2-5")
-        self.assertEqual(str(sheet_of(["a", "a"]).basis[0]), "g2^2 + g2 + 4*g1")
-        self.assertEqual(str(sheet_of(["a b", ""]).basis[0]), "g2^2 + g2 + 4*g1")
+        self.assertEqual(str(sheet_of(["a", "a"]).basis[0]), "x2^2 + x2 + 4*x1")
+        self.assertEqual(str(sheet_of(["a b", ""]).basis[0]), "x2^2 + x2 + 4*x1")
 
     def test_compared_and_evaluated(self):
         first, second, third = sheet_of().basis
@@ -123,15 +123,15 @@ class Reports(unittest.TestCase):
             self.assertIn(part, said)
         self.assertLessEqual(max(map(len, misqafur.report(*misqafur.read((ROOT / "tests/texts/vectors/026-random-p7-m3-n27-lex.csv").read_bytes())).split("\n"))), 100)
         self.assertIn("0 states of 1 gene (a)", misqafur.report(*misqafur.read(b"a,mod 5")))
-        self.assertIn("g1 is ''", misqafur.report(*misqafur.read(b',b,mod 5\n0,1,2')))
+        self.assertIn("x1 is ''", misqafur.report(*misqafur.read(b',b,mod 5\n0,1,2')))
 
     def test_advice(self):
         for text, part in ((b"g1;g2;mod 5\n0;0;1\n", "divided by semicolons"), (b"g1\tmod 5\n0\t0\n", "divided by tabs"),
                            (b'\xef\xbb\xbf"g1",mod 5\n0,1\n', "byte-order mark"), (THREE + b"\n", "blank line at its end"),
                            ("g1,mod 5\n0,1\n".encode("utf-16"), "UTF-16"), (b"g1,g2\n0,0\n", "last field has to be `mod P`"),
                            (THREE + b"1,1\n", "Record 5 has 2 fields, the header 3."), (THREE + b"1,1.0,1\n", "`1.0` is no level"),
-                           (THREE + b"1, 1,1\n", "` 1` is no level"), (THREE + b"1,7,1\n", "Record 5: 7 for g2 is not from -4 to 4."),
-                           (THREE + b"1,1,-9\n", "Record 5: -9 for the value"), (THREE + b"-4,2,1\n", "Record 5 repeats the state of record 3."),
+                           (THREE + b"1, 1,1\n", "` 1` is no level"), (THREE + b"1,7,1\n", "Record 5, field 2 (g2): 7 is not from -4 to 4."),
+                           (THREE + b"1,1,-9\n", "Record 5, field 3 (the value): -9"), (THREE + b"-4,2,1\n", "Record 5 repeats the state of record 3."),
                            (b'"","g1","mod 5"\n"1",0,1\n"2",1,1\n"3",1,1\n"4",1,1\n"5",0,0\n', "row.names=FALSE in R"),
                            (b",g1,mod 2\n0,0,1\n1,1,1\n2,1,1\n", "index=False in pandas"), (b"g1,mod 4\n", "Take 2, 3, 5"),
                            (b"a,b,c,d,e,f,g,h,i,mod 5\n", "at most 8 genes"), (b"a,mod 5" + b"x" * 20000, "Leave out states"),

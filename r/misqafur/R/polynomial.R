@@ -1,9 +1,9 @@
 # Polynomials as strings, in the form that mpoly's mp() reads: 4*g1 + g2^2.
 
-# The genes' names where mpoly takes all of them, else g1, g2 and so on.
+# The genes' names where mpoly takes all of them, else x1, x2 and so on.
 shown <- function(sheet) {
   names <- sheet$genes
-  if (all(grepl("^[A-Za-z][A-Za-z0-9_]*$", names)) && !anyDuplicated(names)) names else paste0("g", seq_along(names))
+  if (all(grepl("^[A-Za-z][A-Za-z0-9_]*$", names)) && !anyDuplicated(names)) names else paste0("x", seq_along(names))
 }
 
 polynomial_text <- function(sheet, coefficients, exponents) {
