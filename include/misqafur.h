@@ -361,7 +361,8 @@ static inline uint32_t misqafur_read_order(uint64_t answer)
     return (uint32_t)((answer >> 32) & 255u);
 }
 
-/* What a refusal says, as a sentence; any number has one. */
+/* What a refusal says, as a sentence for the people at the desk, to whom a point is a state and a variable a gene.
+ * Any number has one. */
 static inline const char *misqafur_refusal_text(uint32_t refusal)
 {
     switch (refusal) {

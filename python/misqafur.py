@@ -357,9 +357,11 @@ class Sheet:
         if syntax == "singular":
             return f"// {said}\nring sheet = {self.modulus}, ({', '.join(names)}), {order};\nideal basis = {', '.join(texts)};\n"
         if syntax == "macaulay2":
-            return f"-- {said}\nsheet = ZZ/{self.modulus}[{', '.join(names)}, MonomialOrder => {order}];\nbasis' = ideal({', '.join(texts)});\n"
+            ring = f"ZZ/{self.modulus}[{', '.join(names)}, MonomialOrder => {order}]"
+            return f"-- {said}\nsheet = {ring};\nbasis' = ideal({', '.join(texts)});\n"
         polys = ",\n         ".join(f"Poly({text}, *genes, modulus={self.modulus})" for text in texts)
-        return f"# {said}; order {order}\nfrom sympy import Poly, symbols\n\ngenes = {', '.join(names)}, = symbols({' '.join(names)!r}, seq=True)\nbasis = [{polys}]\n"
+        genes = f"genes = {', '.join(names)}, = symbols({' '.join(names)!r}, seq=True)"
+        return f"# {said}; order {order}\nfrom sympy import Poly, symbols\n\n{genes}\nbasis = [{polys}]\n"
 
     def __len__(self):
         return self._n
@@ -497,7 +499,8 @@ def report(sheet, values, habits=()):
     names = shown_names(sheet.names)
     wiring = ", ".join(names[k - 1] for k in sheet.wiring(values)) or "none"
     standard = ", ".join(str(Polynomial(sheet.modulus, sheet.names, [(1, e)])) for e in sheet.standard) or "none"
-    lines = [_wrapped(f"{_counted(len(sheet), 'state')} of {_counted(len(names), 'gene')} ({', '.join(names)}), levels modulo {sheet.modulus}, order {sheet.order}")]
+    size = f"{_counted(len(sheet), 'state')} of {_counted(len(names), 'gene')} ({', '.join(names)})"
+    lines = [_wrapped(f"{size}, levels modulo {sheet.modulus}, order {sheet.order}")]
     lines += [_wrapped(f"{name} is {own!r}") for name, own in zip(names, sheet.names) if name != own]
     lines += [_wrapped(habit, "  ! ") for habit in habits]
     lines += ["", "The target gene as a polynomial (at each state it has the value that the text gives):"]
@@ -546,8 +549,8 @@ def staircase(sheet, genes=(1, 2)):
     size = min(14, int(cell / 0.62 / max(len(_monomial(e, names)) for e in standard | leads)))
     left, top = 64, 64
     wide, high = max(left + cell * columns + 24, 560), top + cell * rows + 96
-    picture = [f'<svg xmlns="http://www.w3.org/2000/svg" width="{wide}" height="{high}" viewBox="0 0 {wide} {high}" font-family="sans-serif" fill="#222222">',
-               f"<title>Staircase of {_xml(' and '.join(names))}</title>", f'<rect width="{wide}" height="{high}" fill="#ffffff"/>',
+    picture = [f'<svg xmlns="http://www.w3.org/2000/svg" width="{wide}" height="{high}" viewBox="0 0 {wide} {high}"',
+               '     font-family="sans-serif" fill="#222222">', f"<title>Staircase of {_xml(' and '.join(names))}</title>", f'<rect width="{wide}" height="{high}" fill="#ffffff"/>',
                _word(left, 24, f"Monomials in {' and '.join(names)}", 16, "start"), _word(left, 44, _caption(sheet, standard, leads), 12, "start")]
     for a in range(columns):
         for b in range(rows):

@@ -121,7 +121,8 @@ class Reports(unittest.TestCase):
         for part in ("3 states of 2 genes (g1, g2), levels modulo 5, order grlex", "    1 + 2*g2\n", "1. g2^2 + g2 + 4*g1", "3. g1^2 + 4*g2 + g1",
                      "    1, g2, g1", "\nWiring: " + (", ".join(f"g{k}" for k in sheet_of().wiring([1, 0, 3])) or "none")):
             self.assertIn(part, said)
-        self.assertLessEqual(max(map(len, misqafur.report(*misqafur.read((ROOT / "tests/texts/vectors/026-random-p7-m3-n27-lex.csv").read_bytes())).split("\n"))), 100)
+        larger = (ROOT / "tests/texts/vectors/026-random-p7-m3-n27-lex.csv").read_bytes()
+        self.assertLessEqual(max(map(len, misqafur.report(*misqafur.read(larger)).split("\n"))), 100)
         self.assertIn("0 states of 1 gene (a)", misqafur.report(*misqafur.read(b"a,mod 5")))
         self.assertIn("x1 is ''", misqafur.report(*misqafur.read(b',b,mod 5\n0,1,2')))
 
@@ -187,7 +188,8 @@ class CommandLine(unittest.TestCase):
         return str(path)
 
     def run_module(self, *words, **more):
-        return subprocess.run([sys.executable, "-m", "misqafur", *words], capture_output=True, timeout=60, env={**os.environ, **more.pop("env", {})}, **more)
+        surroundings = {**os.environ, **more.pop("env", {})}
+        return subprocess.run([sys.executable, "-m", "misqafur", *words], capture_output=True, timeout=60, env=surroundings, **more)
 
     def test_report(self):
         good = self.run_module("report", self.file(THREE), "--svg", self.folder.name + "/a.svg", "--genes", "g2,g1")
