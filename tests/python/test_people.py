@@ -166,7 +166,8 @@ class Pictures(unittest.TestCase):
         self.assertEqual(self.drawn(sheet_of(2, "lex"), (2, 1)), [3, 2, 3])
         self.assertEqual(self.drawn(misqafur.Sheet(5, 2)), [0, 1, 0])
         self.assertEqual(self.drawn(misqafur.Sheet(61, 1).draw_up([[i] for i in range(61)])), [61, 1, 0])
-        self.assertEqual(self.drawn(misqafur.Sheet(5, ['<a&"\x01>', "\ud800"]).draw_up(A))[0], 3)
+        for names in (["a<b>&c", "d]]>"], ["a\x01", "b"], ["\ud800", "b"], ["", '"']):
+            self.assertEqual(self.drawn(misqafur.Sheet(5, names).draw_up(A))[0], 3)
 
     def test_stored(self):
         for text in sorted((ROOT / "tests/texts/vectors").glob("*.csv"))[::5]:

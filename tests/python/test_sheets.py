@@ -84,7 +84,8 @@ class Refusals(unittest.TestCase):
         sheet = misqafur.Sheet(5, 2, "grlex").draw_up([(0, 0), (1, 2), (2, 1)])
         before = [bytes(table) for table in sheet._tables.values()]
         for number, call, *arguments in (
-                (7, sheet.add, (1,)), (7, sheet.add, (1, 2, 3)), (9, sheet.add, (5, 0)), (9, sheet.add, (0, 300)), (11, sheet.add, (-4, 2)),
+                (7, sheet.add, (1,)), (7, sheet.add, (1, 2, 3)), (9, sheet.add, (5, 0)), (9, sheet.add, (0, 300)), (9, sheet.add, (4, 260)),
+                (9, sheet.add, (-252, 4)), (11, sheet.add, (-4, 2)),
                 (12, sheet.withdraw, (4, 4)), (9, sheet.withdraw, (0, -5)), (7, sheet.withdraw, ()), (7, sheet.draw_up, [(1, 2), (3,)]),
                 (7, sheet.draw_up, [(1,), (2, 3, 4)]), (8, sheet.draw_up, [(i % 5, i // 5 % 5) for i in range(65)]), (11, sheet.draw_up, [(4, 0), (-1, 0)]),
                 (9, sheet.draw_up, [(0, -129)]), (7, sheet.interpolate, [1, 2]), (9, sheet.interpolate, [1, 2, 5]), (7, sheet.wiring, []),
