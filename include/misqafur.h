@@ -112,7 +112,7 @@
 #define MISQAFUR_GREVLEX 2
 
 /* Bytes of stack that are enough for any call. */
-#define MISQAFUR_STACK 106496
+#define MISQAFUR_STACK 163840
 
 /* The refusals by name; misqafur_refusal_text has a sentence for each. */
 enum misqafur_refusals {

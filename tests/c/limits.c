@@ -147,7 +147,7 @@ static size_t depth_of(const struct call *call)
     return PAINTED - clean;
 }
 
-_Static_assert(MISQAFUR_STACK <= 131072, "any call is to do with 128 KiB of stack");
+_Static_assert(MISQAFUR_STACK <= 163840, "any call is to do with 160 KiB of stack");
 
 /* The deepest of many calls of each kind, against what the header promises. */
 struct score stack_depth(const struct options *options)

@@ -7,7 +7,7 @@ use lib.ListN.{length, getD, take, replicate}
 use lib.Dec.{T}
 use Rattle.residue.specs.Inverse.{inverseOf}
 use Rattle.residue.specs.Vector.{Below, pointwise}
-use Rattle.residue.specs.Elimination.{eliminated}
+use Rattle.residue.specs.Elimination.{eliminated, Multiplied}
 use Rattle.residue.specs.Layout.{fill, inPlaces, over}
 use Rattle.residue.specs.Rows.{pivotRow}
 use Rattle.specification.specs.declared.settings.Settings.{Settings}
@@ -26,12 +26,9 @@ rowWith values = fill 128 values
 abbrev pub RowOf : ℕ → List ℕ → Type 0
 RowOf p work = (length work ≡ 128) × Below p work
 
--- The pivot rows and their pivots: of their sizes, and none.
+-- The pivot rows and their pivots: of their sizes.
 abbrev pub RowsLong : List ℕ → List ℕ → Type 0
-RowsLong rows pivots = (length rows ≡ 8192) × (length pivots ≡ 64)
-
-abbrev pub NoRows : List ℕ → List ℕ → Type 0
-NoRows rows pivots = (rows ≡ replicate 8192 0) × (length pivots ≡ 64)
+RowsLong rows pivots = (length rows ≡ 73728) × (length pivots ≡ 64)
 
 -- the pivot row of a working row whose first number that is not 0, of n, is at q
 abbrev pub pivotOf : ℕ → ℕ → ℕ → ℕ → List ℕ → List ℕ
@@ -53,9 +50,9 @@ pub record PointsGiven (s : Settings) (n : ℕ) (points : List ℕ) : Type 0 whe
 
 -- Pivot rows for all the standard monomials: elimination leaves of any n values the negatives of their interpolant's coefficients.
 pub record Solves (s : Settings) (S : List (List ℕ)) (rows pivots : List ℕ) : Type 0 where
-  pub long-rows : length rows ≡ 8192
+  pub long-rows : length rows ≡ 73728
   pub long-pivots : length pivots ≡ 64
-  pub below : Below (s .modulus) rows
+  pub multiples : Multiplied (s .modulus) (length S) rows
   pub inside : (t : ℕ) → t < length S → getD pivots t 0 < length S
   pub solves : (vs : List ℕ) → length vs ≡ length S → Below (s .modulus) vs
       → eliminated (s .modulus) rows pivots (length S) (rowWith vs)

@@ -16,7 +16,7 @@ ghost use Rattle.residue.specs.Layout.{fill, inPlaces};
 ghost use Rattle.specification.specs.Levels.{residues};
 ghost use Rattle.specification.specs.Tables.{fourTables, pointsIn};
 ghost use Rattle.specification.specs.Adding.{ended, addRefusal, addOutcome};
-ghost use Rattle.basis.specs.Drawing.{NoRows, Solves};
+ghost use Rattle.basis.specs.Drawing.{RowsLong, Solves};
 
 // The refusal of an addition, or 0; then the points, their pivot rows and the new point are left in working arrays.
 fn add_refusal(
@@ -29,11 +29,11 @@ fn add_refusal(
     coefficients: &[u8],
     levels: &[i8],
     points: &mut [u8],
-    rows: &mut [u16],
+    rows: &mut [u8],
     pivots: &mut [u8],
     point: &mut [u8],
 ) -> u8
-    requires { ⌜ (now points ≡ replicate 512 0) × (NoRows (now rows) (now pivots) × (now point ≡ replicate 8 0)) ⌝ }
+    requires { ⌜ (now points ≡ replicate 512 0) × (RowsLong (now rows) (now pivots) × (now point ≡ replicate 8 0)) ⌝ }
     ensures { λ k. ⌜ k ≡ addRefusal settings n r (fourTables (now (states .entry)) (now (standard .entry)) (now (leads .entry)) (now (coefficients .entry)))
         (now (levels .entry)) ⌝ }
     ensures { λ k. ⌜ (k ≡ 0 → now (points .exit) ≡ fill 512 (inPlaces 8 (pointsIn settings n (now (states .entry))))) ⌝ }
@@ -94,7 +94,7 @@ pub fn add_point(
         (now (levels .entry)) ⌝ }
 {
     let mut points = [0u8; 512];
-    let mut rows = [0u16; 8192];
+    let mut rows = [0u8; 73728];
     let mut pivots = [0u8; 64];
     let mut point = [0u8; 8];
     let refusal = add_refusal(

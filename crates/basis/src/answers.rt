@@ -16,7 +16,7 @@ ghost use Rattle.specification.specs.Refusal.{firstOf};
 ghost use Rattle.specification.specs.Tables.{fourTables, pointsIn};
 ghost use Rattle.specification.specs.Solving.{answering, valuesCases, interpolantIn, interpolateOutcome, listed, wiringOutcome};
 ghost use Rattle.specification.specs.Solving.{withinVariables, remainderCases, remainderOutcome};
-ghost use Rattle.basis.specs.Drawing.{NoRows, Solves};
+ghost use Rattle.basis.specs.Drawing.{RowsLong, Solves};
 
 // The refusal of a call that answers n values in an output of so many bytes, or 0; their interpolant is then left in 64 bytes.
 fn interpolant(
@@ -60,7 +60,7 @@ fn interpolant(
     }
     let count = n as usize;
     let mut points = [0u8; 512];
-    let mut rows = [0u16; 8192];
+    let mut rows = [0u8; 73728];
     let mut pivots = [0u8; 64];
     if !recognise(
         settings,
@@ -76,7 +76,7 @@ fn interpolant(
     ) {
         return 10;
     }
-    solving::solve_values(p as u16, count, values, &rows, &pivots, found);
+    solving::solve_values(p, count, values, &rows, &pivots, found);
     0
 }
 
@@ -191,10 +191,10 @@ fn remainder_refusal(
     exponents: &[u8],
     out: &[u8],
     points: &mut [u8],
-    rows: &mut [u16],
+    rows: &mut [u8],
     pivots: &mut [u8],
 ) -> u8
-    requires { ⌜ (now points ≡ replicate 512 0) × NoRows (now rows) (now pivots) ⌝ }
+    requires { ⌜ (now points ≡ replicate 512 0) × RowsLong (now rows) (now pivots) ⌝ }
     ensures { λ k. ⌜ k ≡ firstOf 0 (remainderCases settings n r
         (fourTables (now (states .entry)) (now (standard .entry)) (now (leads .entry)) (now (coefficients .entry))) (now («term_coefficients» .entry))
         (now (exponents .entry)) (now (out .entry))) ⌝ }
@@ -257,7 +257,7 @@ pub fn remainder(
         (now («term_coefficients» .entry)) (now (exponents .entry)) (now (out .entry)) ⌝ }
 {
     let mut points = [0u8; 512];
-    let mut rows = [0u16; 8192];
+    let mut rows = [0u8; 73728];
     let mut pivots = [0u8; 64];
     let refusal = remainder_refusal(
         settings,
@@ -278,7 +278,7 @@ pub fn remainder(
         return refusal;
     }
     solving::solve_terms(
-        settings.modulus as u16,
+        settings.modulus as u8,
         term_coefficients,
         exponents,
         n as usize,

@@ -13,7 +13,7 @@ ghost use Rattle.specification.specs.Refusal.{firstOf};
 ghost use Rattle.specification.specs.Settings.{settingsCases};
 ghost use Rattle.specification.specs.Tables.{fourTables, pointsIn, recognised};
 ghost use Rattle.specification.specs.Solving.{checkRefusal};
-ghost use Rattle.basis.specs.Drawing.{NoRows, Solves};
+ghost use Rattle.basis.specs.Drawing.{RowsLong, Solves};
 
 // Whether the lent tables begin with these.
 fn agree(
@@ -55,12 +55,12 @@ pub(crate) fn recognise(
     leads: &[u8],
     coefficients: &[u8],
     points: &mut [u8],
-    rows: &mut [u16],
+    rows: &mut [u8],
     pivots: &mut [u8],
 ) -> bool
     requires { ⌜ (firstOf 0 (settingsCases settings) ≡ 0) × (n ≤ 64) ⌝ }
     requires { ⌜ (512 ≤ length (now states)) × ((512 ≤ length (now standard)) × ((3592 ≤ length (now leads)) × (28736 ≤ length (now coefficients)))) ⌝ }
-    requires { ⌜ (now points ≡ replicate 512 0) × NoRows (now rows) (now pivots) ⌝ }
+    requires { ⌜ (now points ≡ replicate 512 0) × RowsLong (now rows) (now pivots) ⌝ }
     ensures { λ b. ⌜ b ≡ recognised settings n r
         (fourTables (now (states .entry)) (now (standard .entry)) (now (leads .entry)) (now (coefficients .entry))) ⌝ }
     ensures { λ b. ⌜ now (points .exit) ≡ fill 512 (inPlaces 8 (pointsIn settings n (now (states .entry)))) ⌝ }
@@ -123,7 +123,7 @@ pub fn check(
         return refusal;
     }
     let mut points = [0u8; 512];
-    let mut rows = [0u16; 8192];
+    let mut rows = [0u8; 73728];
     let mut pivots = [0u8; 64];
     let known = recognise(
         settings,

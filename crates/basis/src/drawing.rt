@@ -18,27 +18,27 @@ ghost use mathlib.Core.Bool.{false};
 ghost use Prim.Native.Nat.{ℕ, _+_, _*_, _<_, _≤_};
 ghost use lib.ListN.{length, getD, take, drop, set, replicate};
 ghost use Rattle.residue.specs.Vector.{Below};
-ghost use Rattle.residue.specs.Elimination.{eliminated, ZeroBehind};
+ghost use Rattle.residue.specs.Elimination.{eliminated, multiplesOf, Multiplied, ZeroBehind};
 ghost use Rattle.residue.specs.Layout.{withPlace};
-ghost use Rattle.residue.specs.Rows.{firstNonzero, withRow};
+ghost use Rattle.residue.specs.Rows.{firstNonzero};
 ghost use Rattle.monomial.specs.Monomial.{timesVariable};
 ghost use Rattle.specification.specs.Tables.{pointsIn, fourTables, tooShort};
 ghost use Rattle.specification.specs.Adding.{ended, holding, drawOutcome};
-ghost use Rattle.basis.specs.Drawing.{emptyRow, rowWith, RowOf, RowsLong, NoRows, pivotOf, productValues, PointsGiven, Tabled, DrawnUp};
+ghost use Rattle.basis.specs.Drawing.{emptyRow, rowWith, RowOf, RowsLong, pivotOf, productValues, PointsGiven, Tabled, DrawnUp};
 
 // The working row of given values after it met the pivot rows: the first point where it is not 0, or n.
 fn reduce(
-    p: u16,
+    p: u8,
     n: usize,
     found: usize,
-    own: &[u16],
-    rows: &[u16],
+    own: &[u8],
+    rows: &[u8],
     pivots: &[u8],
-    work: &mut [u16],
+    work: &mut [u8],
 ) -> usize
     requires { ⌜ ((2 ≤ p) × (p ≤ 61)) × ((n ≤ 64) × (found ≤ n)) ⌝ }
     requires { ⌜ (length (now own) ≡ 64) × RowsLong (now rows) (now pivots) ⌝ }
-    requires { ⌜ (Below p (now own)) × (Below p (now rows)) ⌝ }
+    requires { ⌜ (Below p (now own)) × (Multiplied p found (now rows)) ⌝ }
     requires { ⌜ ((t : ℕ) → t < found → getD (now pivots) t 0 < n) ⌝ }
     requires { ⌜ ZeroBehind n found (now rows) ⌝ }
     requires { ⌜ now work ≡ emptyRow ⌝ }
@@ -52,18 +52,17 @@ fn reduce(
 
 // Keeps the monomial as a lead, with its row of coefficients.
 fn keep_lead(
-    p: u16,
     n: usize,
     found: usize,
     r: usize,
     exponents: &[u8],
-    work: &[u16],
+    work: &[u8],
     leads: &mut [u8],
     coefficients: &mut [u8],
 )
-    requires { ⌜ (p ≤ 61) × ((n ≤ 64) × ((found ≤ n) × (r < 449))) ⌝ }
+    requires { ⌜ (n ≤ 64) × ((found ≤ n) × (r < 449)) ⌝ }
     requires { ⌜ (length (now exponents) ≡ 8) × ((length (now leads) ≡ 3592) × (length (now coefficients) ≡ 28736)) ⌝ }
-    requires { ⌜ RowOf p (now work) ⌝ }
+    requires { ⌜ length (now work) ≡ 128 ⌝ }
     ensures { λ _. ⌜ now (leads .exit) ≡ withPlace 8 r (now (exponents .entry)) (now (leads .entry)) ⌝ }
     ensures { λ _. ⌜ now (coefficients .exit) ≡ withPlace 64 r (take found (drop n (now (work .entry)))) (now (coefficients .entry)) ⌝ }
 {
@@ -71,23 +70,23 @@ fn keep_lead(
     bytes::copy(exponents, &mut leads[place..place + 8]);
     let from = 64 * r;
     let end = n + found;
-    bytes::narrow(p, &work[n..end], &mut coefficients[from..from + 64]);
+    bytes::copy(&work[n..end], &mut coefficients[from..from + 64]);
 }
 
 // Keeps the monomial as a standard one, with its rank, its values and its pivot row, whose pivot is q. Answers how many there are then.
 fn keep_standard(
-    p: u16,
+    p: u8,
     n: usize,
     found: usize,
     q: usize,
     exponents: &[u8],
     rank: u64,
-    own: &[u16],
-    work: &mut [u16],
+    own: &[u8],
+    work: &mut [u8],
     standard: &mut [u8],
     ranks: &mut [u64],
-    values: &mut [u16],
-    rows: &mut [u16],
+    values: &mut [u8],
+    rows: &mut [u8],
     pivots: &mut [u8],
 ) -> usize
     requires { ⌜ ((2 ≤ p) × (p ≤ 61)) × ((n ≤ 64) × ((q < n) × (found < n))) ⌝ }
@@ -96,7 +95,7 @@ fn keep_standard(
     requires { ⌜ RowsLong (now rows) (now pivots) ⌝ }
     ensures { λ k. ⌜ k ≡ found + 1 ⌝ }
     ensures { λ _. ⌜ (now (work .exit) ≡ pivotOf p n found q (now (work .entry)))
-        × (now (rows .exit) ≡ withRow found (pivotOf p n found q (now (work .entry))) (now (rows .entry)))
+        × (now (rows .exit) ≡ withPlace 1152 found (multiplesOf p (pivotOf p n found q (now (work .entry)))) (now (rows .entry)))
         × (now (pivots .exit) ≡ set (now (pivots .entry)) found q) ⌝ }
     ensures { λ _. ⌜ now (standard .exit) ≡ withPlace 8 found (now (exponents .entry)) (now (standard .entry)) ⌝ }
     ensures { λ _. ⌜ now (ranks .exit) ≡ set (now (ranks .entry)) found rank ⌝ }
@@ -123,15 +122,7 @@ fn put_exponents(k: usize, t: usize, standard: &[u8], exponents: &mut [u8])
 }
 
 // Its values.
-fn put_values(
-    p: u16,
-    n: usize,
-    k: usize,
-    t: usize,
-    columns: &[u16],
-    values: &[u16],
-    own: &mut [u16],
-)
+fn put_values(p: u8, n: usize, k: usize, t: usize, columns: &[u8], values: &[u8], own: &mut [u8])
     requires { ⌜ ((2 ≤ p) × (p ≤ 61)) × ((n ≤ 64) × ((k < 8) × (t < 64))) ⌝ }
     requires { ⌜ (length (now columns) ≡ 512) × ((length (now values) ≡ 4096) × (length (now own) ≡ 64)) ⌝ }
     requires { ⌜ (Below p (take n (drop (64 * k) (now columns)))) × (Below p (now values)) ⌝ }
@@ -151,33 +142,33 @@ pub fn draw(
     standard: &mut [u8],
     leads: &mut [u8],
     coefficients: &mut [u8],
-    rows: &mut [u16],
+    rows: &mut [u8],
     pivots: &mut [u8],
 ) -> usize
     requires { ⌜ PointsGiven settings n (now points) ⌝ }
     requires { ⌜ (now standard ≡ replicate 512 0) × ((now leads ≡ replicate 3592 0) × (now coefficients ≡ replicate 28736 0)) ⌝ }
-    requires { ⌜ NoRows (now rows) (now pivots) ⌝ }
+    requires { ⌜ RowsLong (now rows) (now pivots) ⌝ }
     ensures { λ r. ⌜ DrawnUp settings (pointsIn settings n (now (points .entry))) r (now (standard .exit)) (now (leads .exit)) (now (coefficients .exit))
         (now (rows .exit)) (now (pivots .exit)) ⌝ }
 {
-    let p = settings.modulus as u16;
+    let p = settings.modulus as u8;
     let mut steps = [0u64; 8];
     put_steps(settings.order as u8, &mut steps);
-    let mut columns = [0u16; 512];
+    let mut columns = [0u8; 512];
     put_columns(n, points, &mut columns);
-    let mut values = [0u16; 4096];
+    let mut values = [0u8; 4096];
     let mut ranks = [0u64; 64];
     let mut at = [0u8; 8];
     let mut found = 0;
     let mut r = 0;
     let mut exponents = [0u8; 8];
     let mut rank = 0u64;
-    let mut own = [1u16; 64];
+    let mut own = [1u8; 64];
     loop {
-        let mut work = [0u16; 128];
+        let mut work = [0u8; 128];
         let q = reduce(p, n, found, &own, rows, pivots, &mut work);
         if q == n {
-            keep_lead(p, n, found, r, &exponents, &work, leads, coefficients);
+            keep_lead(n, found, r, &exponents, &work, leads, coefficients);
             r += 1;
         } else {
             found = keep_standard(
@@ -206,7 +197,7 @@ pub fn draw(
     }
 }
 
-// The tables of the points' basis, over three lent tables of their sizes; how many rows it has.
+// The tables of the points' basis, over three lent tables of their sizes and over lent pivot rows; how many rows it has.
 fn draw_anew(
     settings: Settings,
     n: usize,
@@ -214,16 +205,17 @@ fn draw_anew(
     standard: &mut [u8],
     leads: &mut [u8],
     coefficients: &mut [u8],
+    rows: &mut [u8],
+    pivots: &mut [u8],
 ) -> usize
     requires { ⌜ PointsGiven settings n (now points) ⌝ }
     requires { ⌜ (length (now standard) ≡ 512) × ((length (now leads) ≡ 3592) × (length (now coefficients) ≡ 28736)) ⌝ }
+    requires { ⌜ RowsLong (now rows) (now pivots) ⌝ }
     ensures { λ r. ⌜ Tabled settings (pointsIn settings n (now (points .entry))) r (now (standard .exit)) (now (leads .exit)) (now (coefficients .exit)) ⌝ }
 {
     bytes::clear(standard);
     bytes::clear(leads);
     bytes::clear(coefficients);
-    let mut rows = [0u16; 8192];
-    let mut pivots = [0u8; 64];
     draw(
         settings,
         n,
@@ -231,12 +223,12 @@ fn draw_anew(
         standard,
         leads,
         coefficients,
-        &mut rows,
-        &mut pivots,
+        rows,
+        pivots,
     )
 }
 
-// The basis of the n points of a table, written to lent tables, and the answer that says so.
+// The basis of the n points of a table, written to lent tables over lent pivot rows, and the answer that says so.
 pub(crate) fn draw_points(
     settings: Settings,
     n: usize,
@@ -245,9 +237,12 @@ pub(crate) fn draw_points(
     standard: &mut [u8],
     leads: &mut [u8],
     coefficients: &mut [u8],
+    rows: &mut [u8],
+    pivots: &mut [u8],
 ) -> Answer
     requires { ⌜ PointsGiven settings n (now points) ⌝ }
     requires { ⌜ tooShort (fourTables (now states) (now standard) (now leads) (now coefficients)) ≡ false ⌝ }
+    requires { ⌜ RowsLong (now rows) (now pivots) ⌝ }
     ensures { λ a. ⌜ ended a (now (states .exit)) (now (standard .exit)) (now (leads .exit)) (now (coefficients .exit))
         ≡ holding settings (pointsIn settings n (now (points .entry)))
         (fourTables (now (states .entry)) (now (standard .entry)) (now (leads .entry)) (now (coefficients .entry))) ⌝ }
@@ -260,6 +255,8 @@ pub(crate) fn draw_points(
         &mut standard[..512],
         &mut leads[..3592],
         &mut coefficients[..28736],
+        rows,
+        pivots,
     );
     Answer {
         refusal: 0,
@@ -303,5 +300,17 @@ pub fn draw_up(
     if !points::no_repeat(n, &points) {
         return refused(11);
     }
-    draw_points(settings, n, &points, states, standard, leads, coefficients)
+    let mut rows = [0u8; 73728];
+    let mut pivots = [0u8; 64];
+    draw_points(
+        settings,
+        n,
+        &points,
+        states,
+        standard,
+        leads,
+        coefficients,
+        &mut rows,
+        &mut pivots,
+    )
 }

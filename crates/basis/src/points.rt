@@ -61,14 +61,13 @@ pub fn put_points(p: u8, m: usize, count: usize, levels: &[i8], states: &mut [u8
 }
 
 // The m coordinates of one point, reduced.
-fn put_reduced(p: u16, from: &[u8], to: &mut [u8])
+fn put_reduced(p: u8, from: &[u8], to: &mut [u8])
     requires { ⌜ (2 ≤ p) × (p ≤ 61) ⌝ }
     requires { ⌜ length (now from) ≤ length (now to) ⌝ }
     ensures { λ _. ⌜ now (to .exit) ≡ over (map (λ x. x % p) (now (from .entry))) (now (to .entry)) ⌝ }
 {
-    let reciprocal = arithmetic::reciprocal(p);
     for i in 0..from.len() {
-        to[i] = arithmetic::reduce(p, reciprocal, from[i] as u16) as u8;
+        to[i] = arithmetic::reduce(p, from[i]);
     }
 }
 
@@ -79,7 +78,7 @@ pub fn read_points(settings: Settings, n: usize, states: &[u8], points: &mut [u8
     requires { ⌜ now points ≡ replicate 512 0 ⌝ }
     ensures { λ _. ⌜ now (points .exit) ≡ fill 512 (inPlaces 8 (pointsIn settings n (now (states .entry)))) ⌝ }
 {
-    let p = settings.modulus as u16;
+    let p = settings.modulus as u8;
     let m = settings.variables as usize;
     for i in 0..n {
         let place = 8 * i;

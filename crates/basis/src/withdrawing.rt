@@ -1,5 +1,6 @@
-// Withdrawing a point from tables. Every refusal is decided before a lent byte is written; then the points that are left are drawn up anew.
-use crate::checking::check;
+// Withdrawing a point from tables. Every refusal is decided before a lent byte is written; then the points that are left are drawn up anew, over the pivot
+// rows with which the tables were recognised: two sets of them would take more stack than the header promises.
+use crate::checking::recognise;
 use crate::drawing::draw_points;
 use crate::points;
 use crate::settings::refused;
@@ -18,24 +19,24 @@ ghost use Rattle.specification.specs.Levels.{residues, isAmong};
 ghost use Rattle.specification.specs.Tables.{fourTables, pointsIn};
 ghost use Rattle.specification.specs.Adding.{ended};
 ghost use Rattle.specification.specs.Withdrawing.{remaining, withdrawRefusal, withdrawOutcome};
+ghost use Rattle.basis.specs.Drawing.{RowsLong};
 
 // The points of a table without the named one, left in a second table, and 0; or 12, where it is not among them.
-fn put_others(settings: Settings, n: usize, states: &[u8], levels: &[i8], left: &mut [u8]) -> u8
+fn put_others(settings: Settings, n: usize, points: &[u8], levels: &[i8], left: &mut [u8]) -> u8
     requires { ⌜ (firstOf 0 (settingsCases settings) ≡ 0) × (n ≤ 64) ⌝ }
-    requires { ⌜ (512 ≤ length (now states)) × (length (now levels) ≡ settings .variables) × (now left ≡ replicate 512 0) ⌝ }
-    ensures { λ k. ⌜ k ≡ cond (isAmong (residues (settings .modulus) (now (levels .entry))) (pointsIn settings n (now (states .entry)))) 0 12 ⌝ }
+    requires { ⌜ now points ≡ fill 512 (inPlaces 8 (pointsIn settings n (now points))) ⌝ }
+    requires { ⌜ (length (now levels) ≡ settings .variables) × (now left ≡ replicate 512 0) ⌝ }
+    ensures { λ k. ⌜ k ≡ cond (isAmong (residues (settings .modulus) (now (levels .entry))) (pointsIn settings n (now (points .entry)))) 0 12 ⌝ }
     ensures { λ k. ⌜ (k ≡ 0 → now (left .exit)
-        ≡ fill 512 (inPlaces 8 (remaining (residues (settings .modulus) (now (levels .entry))) (pointsIn settings n (now (states .entry)))))) ⌝ }
+        ≡ fill 512 (inPlaces 8 (remaining (residues (settings .modulus) (now (levels .entry))) (pointsIn settings n (now (points .entry)))))) ⌝ }
 {
-    let mut points = [0u8; 512];
-    points::read_points(settings, n, states, &mut points);
     let mut point = [0u8; 8];
     points::put_residues(settings.modulus as u8, levels, &mut point);
-    let place = points::place_of(n, &points, &point);
+    let place = points::place_of(n, points, &point);
     if place == n {
         return 12;
     }
-    take_out(8, n, place, &points, left);
+    take_out(8, n, place, points, left);
     0
 }
 
@@ -50,8 +51,10 @@ fn withdraw_refusal(
     coefficients: &[u8],
     levels: &[i8],
     left: &mut [u8],
+    rows: &mut [u8],
+    pivots: &mut [u8],
 ) -> u8
-    requires { ⌜ now left ≡ replicate 512 0 ⌝ }
+    requires { ⌜ (now left ≡ replicate 512 0) × RowsLong (now rows) (now pivots) ⌝ }
     ensures { λ k. ⌜ k ≡ withdrawRefusal settings n r
         (fourTables (now (states .entry)) (now (standard .entry)) (now (leads .entry)) (now (coefficients .entry))) (now (levels .entry)) ⌝ }
     ensures { λ k. ⌜ (k ≡ 0 → now (left .exit)
@@ -72,11 +75,23 @@ fn withdraw_refusal(
     if !points::in_range(settings.modulus as u8, levels) {
         return 9;
     }
-    let known = check(settings, n, r, states, standard, leads, coefficients);
-    if known != 0 {
-        return known;
+    let mut points = [0u8; 512];
+    let known = recognise(
+        settings,
+        n as usize,
+        r,
+        states,
+        standard,
+        leads,
+        coefficients,
+        &mut points,
+        rows,
+        pivots,
+    );
+    if !known {
+        return 10;
     }
-    put_others(settings, n as usize, states, levels, left)
+    put_others(settings, n as usize, &points, levels, left)
 }
 
 // Withdrawing one of the n points of the tables.
@@ -95,6 +110,8 @@ pub fn withdraw_point(
         (now (levels .entry)) ⌝ }
 {
     let mut left = [0u8; 512];
+    let mut rows = [0u8; 73728];
+    let mut pivots = [0u8; 64];
     let refusal = withdraw_refusal(
         settings,
         n,
@@ -105,6 +122,8 @@ pub fn withdraw_point(
         coefficients,
         levels,
         &mut left,
+        &mut rows,
+        &mut pivots,
     );
     if refusal != 0 {
         return refused(refusal);
@@ -117,5 +136,7 @@ pub fn withdraw_point(
         standard,
         leads,
         coefficients,
+        &mut rows,
+        &mut pivots,
     )
 }

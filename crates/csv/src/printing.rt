@@ -13,6 +13,7 @@ ghost use mathlib.Core.Path.{_≡_};
 ghost use Prim.Native.Nat.{ℕ, _<_, _≤_};
 ghost use lib.ListN.{length, getD, replicate};
 ghost use Rattle.residue.specs.Vector.{Below};
+ghost use Rattle.residue.specs.Elimination.{Multiplied};
 ghost use Rattle.residue.specs.Layout.{fill};
 ghost use Rattle.specification.specs.Tables.{pointsIn};
 ghost use Rattle.basis.specs.Drawing.{settingsOf, PointsGiven};
@@ -21,16 +22,16 @@ ghost use Rattle.csv.specs.Appending.{Put};
 ghost use Rattle.csv.specs.printing.Text.{linesOf, printed, printOutcome, Within};
 
 // The interpolant of n values, in 64 bytes of zeros.
-fn solve_bytes(p: u16, n: usize, values: &[u8], rows: &[u16], pivots: &[u8], out: &mut [u8])
+fn solve_bytes(p: u8, n: usize, values: &[u8], rows: &[u8], pivots: &[u8], out: &mut [u8])
     requires { ⌜ (2 ≤ p) × (p ≤ 61) ⌝ }
     requires { ⌜ (length (now values) ≡ n) × (Below p (now values)) ⌝ }
-    requires { ⌜ (n ≤ 64) × (length (now rows) ≡ 8192) × (length (now pivots) ≡ 64) ⌝ }
-    requires { ⌜ (Below p (now rows)) × ((t : ℕ) → t < n → getD (now pivots) t 0 < n) ⌝ }
+    requires { ⌜ (n ≤ 64) × (length (now rows) ≡ 73728) × (length (now pivots) ≡ 64) ⌝ }
+    requires { ⌜ (Multiplied p n (now rows)) × ((t : ℕ) → t < n → getD (now pivots) t 0 < n) ⌝ }
     requires { ⌜ now out ≡ replicate 64 0 ⌝ }
     ensures { λ _. ⌜ now (out .exit) ≡ fill 64 (solution p n (now (rows .entry)) (now (pivots .entry)) (fill 128 (now (values .entry)))) ⌝ }
 {
-    let mut work = [0u16; 128];
-    bytes::widen(values, &mut work);
+    let mut work = [0u8; 128];
+    bytes::copy(values, &mut work);
     solve(p, n, rows, pivots, &mut work, out);
 }
 
@@ -53,7 +54,7 @@ fn print_points(
     let mut standard = [0u8; 512];
     let mut leads = [0u8; 3592];
     let mut coefficients = [0u8; 28736];
-    let mut rows = [0u16; 8192];
+    let mut rows = [0u8; 73728];
     let mut pivots = [0u8; 64];
     let settings = Settings {
         modulus: p as u64,
@@ -71,7 +72,7 @@ fn print_points(
         &mut pivots,
     );
     let mut interpolant = [0u8; 64];
-    solve_bytes(p, n, values, &rows, &pivots, &mut interpolant);
+    solve_bytes(p as u8, n, values, &rows, &pivots, &mut interpolant);
     let mut names = [0u8; 8];
     let count = put_names(m, n, &interpolant, &standard, &mut names) as usize;
     print_basis(

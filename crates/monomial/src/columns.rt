@@ -6,17 +6,17 @@ ghost use Rattle.residue.specs.Layout.{fill, inPlaces, over};
 ghost use Rattle.monomial.specs.Columns.{columnOf, columnsOf};
 
 // One coordinate of each point.
-pub fn put_column(n: usize, k: usize, points: &[u8], column: &mut [u16])
+pub fn put_column(n: usize, k: usize, points: &[u8], column: &mut [u8])
     requires { ⌜ (n ≤ length (now column)) × ((k < 8) × ((length (now points) ≡ 512) × (n ≤ 64))) ⌝ }
     ensures { λ _. ⌜ now (column .exit) ≡ over (columnOf k n (now (points .entry))) (now (column .entry)) ⌝ }
 {
     for i in 0..n {
-        column[i] = points[8 * i + k] as u16;
+        column[i] = points[8 * i + k];
     }
 }
 
 // Each coordinate of each point, 64 numbers for a coordinate.
-pub fn put_columns(n: usize, points: &[u8], columns: &mut [u16])
+pub fn put_columns(n: usize, points: &[u8], columns: &mut [u8])
     requires { ⌜ (length (now points) ≡ 512) × (n ≤ 64) ⌝ }
     requires { ⌜ now columns ≡ replicate 512 0 ⌝ }
     ensures { λ _. ⌜ now (columns .exit) ≡ fill 512 (inPlaces 64 (columnsOf 8 n (now (points .entry)))) ⌝ }

@@ -13,7 +13,7 @@ ghost use Rattle.monomial.specs.Columns.{columnOf};
 ghost use Rattle.monomial.specs.Terms.{termValues};
 
 // Multiplies values at n points by those of a power of x_(k+1) there.
-fn multiply_variable(p: u16, n: usize, k: usize, e: u8, points: &[u8], values: &mut [u16])
+fn multiply_variable(p: u8, n: usize, k: usize, e: u8, points: &[u8], values: &mut [u8])
     requires { ⌜ ((2 ≤ p) × (p ≤ 61)) × ((n ≤ 64) × (k < 8)) ⌝ }
     requires { ⌜ (length (now points) ≡ 512) × Below p (now points) ⌝ }
     requires { ⌜ (length (now values) ≡ n) × Below p (now values) ⌝ }
@@ -22,13 +22,13 @@ fn multiply_variable(p: u16, n: usize, k: usize, e: u8, points: &[u8], values: &
     if e == 0 {
         return;
     }
-    let mut column = [0u16; 64];
+    let mut column = [0u8; 64];
     put_column(n, k, points, &mut column);
     multiply_powers(p, values, &mut column[..n], e);
 }
 
 // Multiplies ones at n points by the values of a monomial there. Exponents stay as they are: modulo p - 1 they would be wrong at 0.
-fn multiply_monomial(p: u16, n: usize, a: &[u8], points: &[u8], values: &mut [u16])
+fn multiply_monomial(p: u8, n: usize, a: &[u8], points: &[u8], values: &mut [u8])
     requires { ⌜ ((2 ≤ p) × (p ≤ 61)) × (n ≤ 64) ⌝ }
     requires { ⌜ (length (now a) ≡ 8) × ((length (now points) ≡ 512) × Below p (now points)) ⌝ }
     requires { ⌜ now values ≡ replicate n 1 ⌝ }
@@ -40,25 +40,25 @@ fn multiply_monomial(p: u16, n: usize, a: &[u8], points: &[u8], values: &mut [u1
 }
 
 // Adds the values of a term at n points.
-fn add_term(p: u16, n: usize, c: u16, a: &[u8], points: &[u8], values: &mut [u16])
+fn add_term(p: u8, n: usize, c: u8, a: &[u8], points: &[u8], values: &mut [u8])
     requires { ⌜ ((2 ≤ p) × (p ≤ 61)) × ((n ≤ 64) × (c < p)) ⌝ }
     requires { ⌜ (length (now a) ≡ 8) × ((length (now points) ≡ 512) × Below p (now points)) ⌝ }
     requires { ⌜ (length (now values) ≡ n) × Below p (now values) ⌝ }
     ensures { λ _. ⌜ now (values .exit) ≡ addScaled p c (now (values .entry)) (map (λ P. valueAt P (now (a .entry)) % p) (groups 8 n (now (points .entry)))) ⌝ }
 {
-    let mut term = [1u16; 64];
+    let mut term = [1u8; 64];
     multiply_monomial(p, n, a, points, &mut term[..n]);
     add_scaled(p, values, c, &term[..n]);
 }
 
 // The values at the first n points of a table, at the front of a working row of zeros.
 pub fn put_term_values(
-    p: u16,
+    p: u8,
     coefficients: &[u8],
     exponents: &[u8],
     n: usize,
     points: &[u8],
-    work: &mut [u16],
+    work: &mut [u8],
 )
     requires { ⌜ (2 ≤ p) × (p ≤ 61) ⌝ }
     requires { ⌜ Below p (now coefficients) ⌝ }
@@ -69,7 +69,7 @@ pub fn put_term_values(
 {
     for i in 0..coefficients.len() {
         let place = 8 * i;
-        let c = coefficients[i] as u16;
+        let c = coefficients[i];
         add_term(
             p,
             n,

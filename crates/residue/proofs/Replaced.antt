@@ -1,10 +1,10 @@
 -- A part of a table replaced, and a place of it written.
 use mathlib.Core.Path.{_≡_, sym, ap, _∙_, refl, ap₂}
 use mathlib.Core.List.{List, _++_, [], _∷_}
-use Prim.Native.Nat.{ℕ, _+_, _<_, _≤_, _*_}
+use Prim.Native.Nat.{ℕ, zero, suc, _+_, _<_, _≤_, _*_}
 use native.Mathlib.Omega.{arith}
 use lib.ListN.{length, getD, take, drop, length-append, length-drop, List·getD-append, replicate, length-replicate}
-use lib.Seq.{getD-take, getD-append-add, length-take-le}
+use lib.Seq.{getD-take, getD-append-add, length-take-le, take-take, take-at, drop-at, take-append-le, drop-append-le}
 use Rattle.residue.specs.Vector.{Below}
 use Rattle.residue.specs.Layout.{over, withPlace, fill, inPlaces}
 use Rattle.residue.proofs.vector.Vectors.{below-take, below-drop, below-append}
@@ -63,6 +63,13 @@ pub table-more : (w N k : ℕ) (S : List (List ℕ)) (r t : List ℕ) → t ≡ 
 unfolding withPlace
 table-more w N k S r t e c h l = place-more w N S r t (over r (take w (drop (w * k) t))) (w * k) w e (ap (λ (z : ℕ). w * z) c) refl h l refl
 
+-- a part of a part
+part-within : (m k n : ℕ) (l : List ℕ) → k + m ≤ n → take m (drop k (take n l)) ≡ take m (drop k l)
+part-within m zero n l h = take-take m n l (omega arith)
+part-within m (suc k) zero l h = absurd (omega arith)
+part-within m (suc k) (suc n) [] h = refl
+part-within m (suc k) (suc n) (x ∷ l) h = part-within m k n l (omega arith)
+
 -- a place that is written whole: the table's length, residues, what lies before, and the place itself
 module _ (w k : ℕ) (new table : List ℕ) (fits : w * k + w ≤ length table) (long : length new ≡ w) where
   whole : withPlace w k new table ≡ take (w * k) table ++ (new ++ drop w (drop (w * k) table))
@@ -79,6 +86,21 @@ module _ (w k : ℕ) (new table : List ℕ) (fits : w * k + w ≤ length table) 
 
   pub place-here : (i : ℕ) → i < w → getD (withPlace w k new table) (w * k + i) 0 ≡ getD new i 0
   place-here i h = rw whole (replaced-here (w * k) w new table fits long i h)
+
+  front-long : length (take (w * k) table) ≡ w * k
+  front-long = length-take-le (w * k) table (omega arith)
+
+  pub place-there : take w (drop (w * k) (withPlace w k new table)) ≡ new
+  place-there = rw whole (ap (take w) (drop-at (take (w * k) table) (new ++ drop w (drop (w * k) table)) (w * k) front-long) ∙ take-at new (drop w (drop (w * k) table)) w long)
+
+  -- a part before the place
+  pub place-apart : (at n : ℕ) → at + n ≤ w * k → take n (drop at (withPlace w k new table)) ≡ take n (drop at table)
+  place-apart at n h =
+      let f : at ≤ length (take (w * k) table) = omega (arith, front-long) in
+      rw whole
+      (ap (take n) (drop-append-le at (take (w * k) table) (new ++ drop w (drop (w * k) table)) f)
+      ∙ take-append-le n (drop at (take (w * k) table)) (new ++ drop w (drop (w * k) table)) (omega (arith, length-drop at (take (w * k) table), front-long))
+      ∙ part-within n at (w * k) table h)
 
 pub zeros-long : (l : List ℕ) (k : ℕ) → l ≡ replicate k 0 → length l ≡ k
 zeros-long l k e = ap length e ∙ length-replicate k 0

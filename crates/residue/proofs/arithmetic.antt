@@ -1,3 +1,4 @@
 -- Laws of sums, products and powers.
 pub mod Reduction
 pub mod Powers
+pub mod Doubling

@@ -1,6 +1,6 @@
--- Laws of elimination: one row met, four at once, and what a row that met all pivot rows says.
+-- Laws of elimination: one row met, the multiples of a row, and what a row that met all pivot rows says.
+pub mod Multiples
 pub mod Eliminated
-pub mod FourRows
 pub mod Combinations
 pub mod PivotRows
 pub mod NextPivot

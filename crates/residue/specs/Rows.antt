@@ -1,8 +1,8 @@
 -- Working rows. No public promise names these definitions: they follow the loops of the elimination, whose contracts cite them. A working row has 128 numbers:
--- n values at the points, then one coefficient for each standard monomial found, then zeros. Pivot row t lies at 128 t in a table of such rows.
+-- n values at the points, then one coefficient for each standard monomial found, then zeros.
 use mathlib.Core.Bool.{cond}
 use mathlib.Core.List.{List, _++_}
-use Prim.Native.Nat.{ℕ, zero, suc, _+_, _*_}
+use Prim.Native.Nat.{ℕ, zero, suc, _+_}
 use lib.ListN.{getD, drop, set, take}
 use lib.Dec.{eqb}
 use Rattle.residue.specs.Vector.{scaled}
@@ -16,7 +16,3 @@ firstNonzero (suc n) w = cond (eqb (getD w 0 0) 0) (suc (firstNonzero n (drop 1 
 -- those behind are 0
 unfoldable pub pivotRow : ℕ → ℕ → ℕ → List ℕ → List ℕ
 pivotRow p own c w = scaled p c (take (own + 1) (set w own 1)) ++ drop (own + 1) (set w own 1)
-
--- the table with row t replaced
-unfoldable pub withRow : ℕ → List ℕ → List ℕ → List ℕ
-withRow t new rows = take (128 * t) rows ++ (new ++ drop 128 (drop (128 * t) rows))

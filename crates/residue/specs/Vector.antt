@@ -1,7 +1,9 @@
 -- Vectors of residues, as lists: one residue an entry.
-use Prim.Native.Nat.{ℕ, _+_, _*_, _%_, _^_, _<_}
+use Prim.Native.Nat.{ℕ, zero, suc, _+_, _*_, _/_, _%_, _^_, _<_}
 use mathlib.Core.List.{List, [], _∷_, map, zipWith}
 use lib.ListN.{length, getD}
+use lib.Dec.{eqb}
+use mathlib.Core.Bool.{cond}
 
 -- each entry is a residue
 abbrev pub Below : ℕ → List ℕ → Type 0
@@ -28,3 +30,11 @@ unfoldable pub dotOf : List ℕ → List ℕ → ℕ
 dotOf [] b = 0
 dotOf (x ∷ a) [] = 0
 dotOf (x ∷ a) (y ∷ b) = x * y + dotOf a b
+
+-- the base of a power by squares once nothing of the exponent e is left: squared as often as e can be halved, fuel times at most
+unfoldable pub squaresFrom : ℕ → ℕ → ℕ → List ℕ → List ℕ
+squaresFrom p zero e base = base
+squaresFrom p (suc fuel) e base = cond (eqb e 0) base (squaresFrom p fuel (e / 2) (pointwise p base base))
+
+abbrev pub squaresLeft : ℕ → ℕ → List ℕ → List ℕ
+squaresLeft p e base = squaresFrom p e e base

@@ -1,20 +1,42 @@
-// Sums, products and powers of residues. Scalars are u16 throughout: a product of two residues is at most 3600.
+// Sums, products and powers of residues.
 ghost use mathlib.Core.Path.{_≡_};
 ghost use Prim.Native.Nat.{_+_, _-_, _*_, _/_, _%_, _^_, _<_, _≤_};
 
-pub fn add(p: u16, x: u16, y: u16) -> u16
+// The sum of two residues before its reduction: the greatest number that stands in an addition's way.
+fn sum(p: u8, x: u8, y: u8) -> u8
+    requires { ⌜ p ≤ 61 ⌝ }
+    requires { ⌜ (x < p) × (y < p) ⌝ }
+    ensures { λ s. ⌜ (s ≡ x + y) × (s < 122) ⌝ }
+{
+    x + y
+}
+
+pub fn add(p: u8, x: u8, y: u8) -> u8
     requires { ⌜ p ≤ 61 ⌝ }
     requires { ⌜ (x < p) × (y < p) ⌝ }
     ensures { λ r. ⌜ r ≡ (x + y) % p ⌝ }
 {
-    let sum = x + y;
-    if sum < p {
-        return sum;
+    let s = sum(p, x, y);
+    if s < p {
+        return s;
     }
-    sum - p
+    s - p
 }
 
-pub fn neg(p: u16, x: u16) -> u16
+// Twice a residue.
+fn double(p: u8, x: u8) -> u8
+    requires { ⌜ p ≤ 61 ⌝ }
+    requires { ⌜ x < p ⌝ }
+    ensures { λ r. ⌜ r ≡ (2 * x) % p ⌝ }
+{
+    let twice = sum(p, x, x);
+    if twice < p {
+        return twice;
+    }
+    twice - p
+}
+
+pub fn neg(p: u8, x: u8) -> u8
     requires { ⌜ p ≤ 61 ⌝ }
     requires { ⌜ x < p ⌝ }
     ensures { λ r. ⌜ r ≡ (p - x) % p ⌝ }
@@ -25,48 +47,49 @@ pub fn neg(p: u16, x: u16) -> u16
     p - x
 }
 
-pub fn mul(p: u16, x: u16, y: u16) -> u16
+// x where bit k of y is 1, else 0.
+fn chosen(x: u8, y: u8, k: u8) -> u8
+    requires { ⌜ k < 8 ⌝ }
+    ensures { λ r. ⌜ r ≡ y / 2 ^ k % 2 * x ⌝ }
+{
+    if y >> k & 1 == 1 {
+        return x;
+    }
+    0
+}
+
+// The product with a number of so many bits, by doubling and adding from its highest bit on: no number in its way is greater than a sum of two residues.
+fn product(p: u8, bits: u8, x: u8, y: u8) -> u8
+    requires { ⌜ (p ≤ 61) × (bits ≤ 8) ⌝ }
+    requires { ⌜ (x < p) × (y < 2 ^ bits) ⌝ }
+    ensures { λ r. ⌜ r ≡ (x * y) % p ⌝ }
+{
+    let mut sum = 0;
+    for i in 0..bits {
+        sum = add(p, double(p, sum), chosen(x, y, bits - 1 - i));
+    }
+    sum
+}
+
+pub fn mul(p: u8, x: u8, y: u8) -> u8
     requires { ⌜ p ≤ 61 ⌝ }
     requires { ⌜ (x < p) × (y < p) ⌝ }
     ensures { λ r. ⌜ r ≡ (x * y) % p ⌝ }
 {
-    x * y % p
+    product(p, 6, x, y)
 }
 
-// What `reduce` multiplies by.
-pub fn reciprocal(p: u16) -> u16
-    requires { ⌜ 2 ≤ p ⌝ }
-    ensures { λ r. ⌜ r ≡ 65536 / p ⌝ }
-{
-    (65536 / p as u32) as u16
-}
-
-// The remainder without a division: x * m / 65536 is the quotient or one less.
-pub fn reduce(p: u16, m: u16, x: u16) -> u16
-    requires { ⌜ 2 ≤ p ⌝ }
-    requires { ⌜ m ≡ 65536 / p ⌝ }
+// Any byte, reduced.
+pub fn reduce(p: u8, x: u8) -> u8
+    requires { ⌜ (2 ≤ p) × (p ≤ 61) ⌝ }
     ensures { λ r. ⌜ r ≡ x % p ⌝ }
 {
-    let quotient = (x as u32 * m as u32 / 65536) as u16;
-    let rest = x - quotient * p;
-    if rest < p {
-        return rest;
-    }
-    rest - p
+    product(p, 8, 1, x)
 }
 
-// The product of two bytes, reduced without a division.
-pub fn reduced_product(p: u16, m: u16, x: u16, y: u16) -> u16
-    requires { ⌜ (2 ≤ p) × (m ≡ 65536 / p) ⌝ }
-    requires { ⌜ (x < 256) × (y < 256) ⌝ }
-    ensures { λ r. ⌜ r ≡ (x * y) % p ⌝ }
-{
-    reduce(p, m, x * y)
-}
-
-// x to the power e by squares, with the modulus' reciprocal; anything to the power 0 is 1.
-pub fn power(p: u16, m: u16, x: u16, e: u8) -> u16
-    requires { ⌜ (2 ≤ p) × (p ≤ 61) × (m ≡ 65536 / p) ⌝ }
+// x to the power e by squares; anything to the power 0 is 1.
+pub fn power(p: u8, x: u8, e: u8) -> u8
+    requires { ⌜ (2 ≤ p) × (p ≤ 61) ⌝ }
     requires { ⌜ x < p ⌝ }
     ensures { λ r. ⌜ r ≡ (x ^ e) % p ⌝ }
 {
@@ -75,9 +98,9 @@ pub fn power(p: u16, m: u16, x: u16, e: u8) -> u16
     let mut left = e;
     while 0 < left {
         if left % 2 == 1 {
-            product = reduced_product(p, m, product, square);
+            product = mul(p, product, square);
         }
-        square = reduced_product(p, m, square, square);
+        square = mul(p, square, square);
         left = left / 2;
     }
     product

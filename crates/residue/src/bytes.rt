@@ -1,8 +1,7 @@
-// Lent bytes: comparing, copying and clearing them, and copies between bytes and working numbers.
+// Lent bytes: comparing, copying and clearing them.
 ghost use mathlib.Core.Path.{_≡_};
 ghost use Prim.Native.Nat.{_<_, _≤_};
 ghost use lib.ListN.{length, replicate};
-ghost use Rattle.residue.specs.Vector.{Below};
 ghost use Rattle.residue.specs.Lists.{sameList, allZero};
 ghost use Rattle.residue.specs.Layout.{over, begins};
 
@@ -47,36 +46,16 @@ pub fn clear(to: &mut [u8])
     }
 }
 
-// Bytes as working numbers.
-pub fn widen(from: &[u8], to: &mut [u16])
-    requires { ⌜ length (now from) ≤ length (now to) ⌝ }
-    ensures { λ _. ⌜ now (to .exit) ≡ over (now (from .entry)) (now (to .entry)) ⌝ }
-{
-    for i in 0..from.len() {
-        to[i] = from[i] as u16;
-    }
-}
-
-// Working numbers that are residues as bytes.
-pub fn narrow(p: u16, from: &[u16], to: &mut [u8])
-    requires { ⌜ p ≤ 61 ⌝ }
-    requires { ⌜ length (now from) ≤ length (now to) ⌝ }
-    requires { ⌜ Below p (now from) ⌝ }
-    ensures { λ _. ⌜ now (to .exit) ≡ over (now (from .entry)) (now (to .entry)) ⌝ }
-{
-    for i in 0..from.len() {
-        to[i] = from[i] as u8;
-    }
-}
-
-// Whether all bytes are 0.
+// Whether all bytes are 0. The largest is sought to the end, so that the loop is compiled to packed instructions.
 pub fn all_zero(a: &[u8]) -> bool
     ensures { λ r. ⌜ r ≡ allZero (now (a .entry)) ⌝ }
 {
+    let mut largest = 0u8;
     for i in 0..a.len() {
-        if a[i] != 0 {
-            return false;
+        let x = a[i];
+        if largest < x {
+            largest = x;
         }
     }
-    true
+    largest == 0
 }

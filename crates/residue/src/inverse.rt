@@ -509,7 +509,7 @@ const INVERSES: [u8; 501] = [
 ];
 
 // The inverse of x modulo p; 0 where x is 0, and where p is no modulus or x no residue.
-pub fn inverse(p: u16, x: u16) -> u16
+pub fn inverse(p: u8, x: u8) -> u8
     ensures { λ r. ⌜ r ≡ inverseOf p x ⌝ }
 {
     if p <= x {
@@ -519,7 +519,7 @@ pub fn inverse(p: u16, x: u16) -> u16
     for i in 0..18 {
         let prime = PRIMES[i] as usize;
         if prime == p as usize {
-            return INVERSES[start + x as usize] as u16;
+            return INVERSES[start + x as usize];
         }
         start += prime;
     }

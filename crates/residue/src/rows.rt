@@ -1,4 +1,7 @@
-// Working rows. Each has n values at the points, then one coefficient for each standard monomial found, and is 128 numbers long.
+// Working rows. Each has n values at the points, then one coefficient for each standard monomial found, and is 128 bytes long. A pivot row is kept with its
+// multiples, in a block of 1152 bytes.
+use crate::bytes::all_zero;
+use crate::elimination::gain;
 use crate::inverse::inverse;
 use crate::vector::scale;
 ghost use mathlib.Core.Path.{_≡_};
@@ -6,25 +9,12 @@ ghost use Prim.Native.Nat.{_+_, _*_, _<_, _≤_};
 ghost use lib.ListN.{length, getD, set};
 ghost use Rattle.residue.specs.Inverse.{inverseOf};
 ghost use Rattle.residue.specs.Vector.{Below};
-ghost use Rattle.residue.specs.Lists.{allZero};
-ghost use Rattle.residue.specs.Rows.{firstNonzero, pivotRow, withRow};
-
-// Whether all numbers are 0. The largest is sought to the end, so that the loop is compiled to packed instructions.
-fn all_zero(work: &[u16]) -> bool
-    ensures { λ r. ⌜ r ≡ allZero (now (work .entry)) ⌝ }
-{
-    let mut largest = 0u16;
-    for i in 0..work.len() {
-        let x = work[i];
-        if largest < x {
-            largest = x;
-        }
-    }
-    largest == 0
-}
+ghost use Rattle.residue.specs.Layout.{withPlace};
+ghost use Rattle.residue.specs.Elimination.{multiplesOf};
+ghost use Rattle.residue.specs.Rows.{firstNonzero, pivotRow};
 
 // The first of the n values that is not 0, or n. For most monomials, the leads, all are 0, and that is seen first.
-pub fn first_nonzero(work: &[u16], n: usize) -> usize
+pub fn first_nonzero(work: &[u8], n: usize) -> usize
     requires { ⌜ n ≤ length (now work) ⌝ }
     ensures { λ q. ⌜ q ≡ firstNonzero n (now (work .entry)) ⌝ }
 {
@@ -42,7 +32,7 @@ pub fn first_nonzero(work: &[u16], n: usize) -> usize
 }
 
 // Makes the working row a pivot row: its coefficient for its own monomial becomes 1, and then its value at the pivot, unless that is 1 already.
-fn normalise(p: u16, own: usize, at: usize, work: &mut [u16])
+fn normalise(p: u8, own: usize, at: usize, work: &mut [u8])
     requires { ⌜ (2 ≤ p) × (p ≤ 61) ⌝ }
     requires { ⌜ (own < length (now work)) × (at < length (now work)) ⌝ }
     requires { ⌜ Below p (now work) ⌝ }
@@ -57,8 +47,8 @@ fn normalise(p: u16, own: usize, at: usize, work: &mut [u16])
     scale(p, &mut work[..len], c);
 }
 
-// Copies a row of numbers.
-pub fn copy(from: &[u16], to: &mut [u16])
+// Copies a row.
+pub fn copy(from: &[u8], to: &mut [u8])
     requires { ⌜ length (now from) ≡ length (now to) ⌝ }
     ensures { λ _. ⌜ now (to .exit) ≡ now (from .entry) ⌝ }
 {
@@ -67,26 +57,47 @@ pub fn copy(from: &[u16], to: &mut [u16])
     }
 }
 
-// Keeps the working row as the next pivot row, with its pivot.
+// Fills a block with the multiples of a row: each is the one before and the first of its three.
+fn put_multiples(p: u8, row: &[u8], block: &mut [u8])
+    requires { ⌜ (2 ≤ p) × (p ≤ 61) ⌝ }
+    requires { ⌜ (length (now row) ≡ 128) × (length (now block) ≡ 1152) ⌝ }
+    requires { ⌜ Below p (now row) ⌝ }
+    ensures { λ _. ⌜ now (block .exit) ≡ multiplesOf p (now (row .entry)) ⌝ }
+{
+    let mut first = [0u8; 128];
+    let mut last = [0u8; 128];
+    copy(row, &mut last);
+    for k in 0..9 {
+        if k % 3 == 0 {
+            copy(&last, &mut first);
+        }
+        let from = 128 * k;
+        copy(&last, &mut block[from..from + 128]);
+        gain(p, 128, &mut last, &first);
+    }
+}
+
+// Keeps the working row as the next pivot row, with its multiples and its pivot.
 pub fn keep(
-    p: u16,
+    p: u8,
     n: usize,
     found: usize,
     at: usize,
-    work: &mut [u16],
-    rows: &mut [u16],
+    work: &mut [u8],
+    rows: &mut [u8],
     pivots: &mut [u8],
 )
     requires { ⌜ (2 ≤ p) × (p ≤ 61) ⌝ }
     requires { ⌜ (at < n) × ((n + found < 128) × (length (now work) ≡ 128)) ⌝ }
-    requires { ⌜ (128 * found + 128 ≤ length (now rows)) × (found < length (now pivots)) ⌝ }
+    requires { ⌜ (1152 * found + 1152 ≤ length (now rows)) × (found < length (now pivots)) ⌝ }
     requires { ⌜ Below p (now work) ⌝ }
     ensures { λ _. ⌜ now (work .exit) ≡ pivotRow p (n + found) (inverseOf p (getD (now (work .entry)) at 0)) (now (work .entry)) ⌝ }
-    ensures { λ _. ⌜ now (rows .exit) ≡ withRow found (pivotRow p (n + found) (inverseOf p (getD (now (work .entry)) at 0)) (now (work .entry))) (now (rows .entry)) ⌝ }
+    ensures { λ _. ⌜ now (rows .exit)
+        ≡ withPlace 1152 found (multiplesOf p (pivotRow p (n + found) (inverseOf p (getD (now (work .entry)) at 0)) (now (work .entry)))) (now (rows .entry)) ⌝ }
     ensures { λ _. ⌜ now (pivots .exit) ≡ set (now (pivots .entry)) found at ⌝ }
 {
     normalise(p, n + found, at, work);
-    let from = 128 * found;
-    copy(work, &mut rows[from..from + 128]);
+    let from = 1152 * found;
+    put_multiples(p, work, &mut rows[from..from + 1152]);
     pivots[found] = at as u8;
 }

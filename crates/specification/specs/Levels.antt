@@ -1,17 +1,22 @@
 -- Levels and their residues: docs/SCOPE.md, 'What the desk does'. A level that is out of range has no residue; 0 stands in its place, and no accepted call
 -- has one.
-use mathlib.Core.Bool.{Bool, true, false, not, _&&_}
+use mathlib.Core.Bool.{Bool, true, not, _&&_}
 use mathlib.Core.List.{List, [], _∷_, map}
 use Prim.Native.Nat.{ℕ}
 use lib.IntN.{ℤ}
+use lib.Dec.{eqb}
 use Rattle.residue.specs.Level.{residueOf}
 use Rattle.residue.specs.declared.level.Level.{Level}
 use Rattle.residue.specs.declared.level.Level.the-variants.{Residue, Outside}
 use Rattle.residue.specs.Lists.{every, some, sameList}
 
+-- the number of the list of refusals for each answer
+abbrev pub levelNumber : Level → ℕ
+levelNumber (Residue x) = 0
+levelNumber Outside = 9
+
 unfoldable pub isResidue : Level → Bool
-isResidue (Residue x) = true
-isResidue Outside = false
+isResidue l = eqb (levelNumber l) 0
 
 unfoldable pub residueOr0 : Level → ℕ
 residueOr0 (Residue x) = x

@@ -12,7 +12,7 @@ use lib.Dec.{T}
 use lib.Seq.{length-take-le}
 use Rattle.residue.specs.Lists.{Among}
 use Rattle.residue.specs.Vector.{Below}
-use Rattle.residue.specs.Elimination.{eliminated}
+use Rattle.residue.specs.Elimination.{eliminated, Multiplied}
 use Rattle.residue.specs.Layout.{groups, fill, inPlaces, over, withPlace, rowAt}
 use Rattle.residue.proofs.vector.Vectors.{below-take, map-same}
 use Rattle.residue.proofs.Tests.{true-of}
@@ -207,6 +207,7 @@ module _ {s : Settings} {n r : ℕ} {points standard leads coefficients rows piv
     pub residues : Below p coefficients
     pub exponents : (i : ℕ) → getD leads i 0 < 255
     pub within : (t : ℕ) → t < n → getD pivots t 0 < n
+    pub multiplied : Multiplied p n rows
 
   pub sound : Sound
   sound = record {
@@ -220,6 +221,7 @@ module _ {s : Settings} {n r : ℕ} {points standard leads coefficients rows piv
     exponents = λ i. subst (λ (t : List ℕ). getD t i 0 < 255) (sym leads-are)
         (table-small 255 8 3592 (map (λ (a : Monomial m). a .0) (leadsOf D S)) (omega arith) lead-below i);
     within = subst (λ (k : ℕ). (t : ℕ) → t < k → getD pivots t 0 < k) (sym (length-map K (pointOf q m)) ∙ count) (drawn .pivot-rows .inside);
+    multiplied = subst (λ (k : ℕ). Multiplied p k rows) (sym (length-map K (pointOf q m)) ∙ count) (drawn .pivot-rows .multiples);
   }
 
   -- the values of the standard monomials

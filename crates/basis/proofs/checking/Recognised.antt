@@ -6,6 +6,7 @@ use Prim.Native.Nat.{ℕ, suc, _*_, _-_, _<_, _≤_}
 use native.Mathlib.Omega.{arith}
 use lib.ListN.{length, take, getD}
 use Rattle.residue.specs.Vector.{Below}
+use Rattle.residue.specs.Elimination.{Multiplied}
 use Rattle.residue.specs.Layout.{fill, inPlaces, begins}
 use Rattle.residue.proofs.level.Moduli.{modulus-range}
 use Rattle.residue.proofs.Tests.{of-true}
@@ -63,8 +64,11 @@ module _ (s : Settings) (ok : Accepted s) (n r : ℕ) (t : Tables) (few : n ≤ 
 
   -- what elimination asks of the pivot rows
   module _ (rows pivots : List ℕ) (e : Solves s S rows pivots) where
-    pub rows-long : (128 * n ≤ length rows) × (n ≤ length pivots)
+    pub rows-long : (1152 * n ≤ length rows) × (n ≤ length pivots)
     rows-long = let a = e .long-rows in let b = e .long-pivots in (omega (arith, few), omega (arith, few))
+
+    pub rows-multiplied : Multiplied (s .modulus) n rows
+    rows-multiplied = subst (λ (j : ℕ). Multiplied (s .modulus) j rows) count (e .multiples)
 
     pub rows-inside : (k : ℕ) → k < n → getD pivots k 0 < n
     rows-inside = subst (λ (j : ℕ). (k : ℕ) → k < j → getD pivots k 0 < j) count (e .inside)

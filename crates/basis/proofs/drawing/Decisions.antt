@@ -11,9 +11,9 @@ use Rattle.residue.specs.Congruence.{Mod}
 use Rattle.residue.specs.Inverse.{inverseOf}
 use Rattle.residue.specs.Lists.{Among}
 use Rattle.residue.specs.Vector.{Below}
-use Rattle.residue.specs.Elimination.{eliminated}
+use Rattle.residue.specs.Elimination.{eliminated, multiplesOf}
 use Rattle.residue.specs.Layout.{fill, inPlaces, withPlace}
-use Rattle.residue.specs.Rows.{firstNonzero, pivotRow, withRow}
+use Rattle.residue.specs.Rows.{firstNonzero, pivotRow}
 use Rattle.residue.proofs.Congruence.{of, _then_}
 use Rattle.residue.proofs.inverse.Inverses.{inverse-mod}
 use Rattle.residue.proofs.level.Moduli.{modulus-range}
@@ -171,7 +171,7 @@ module _ {q m n : ℕ} {order : Order} {S : List (Point (suc q) m)} {p : ℕ} (G
       standard-decided = record { last = b; drawn = drawn-new; long = B .long; positions = grown D L std (B .front .increasing) b (λ v. getD at v 0) (B .positions) }
 
       abbrev rows′ : ℕ → List ℕ
-      rows′ z = withRow found (pivotRow z (n + found) (inverseOf z (getD work pivot 0)) work) rows
+      rows′ z = withPlace 1152 found (multiplesOf z (pivotRow z (n + found) (inverseOf z (getD work pivot 0)) work)) rows
 
       abbrev u : ℕ → ℕ → ℕ
       u = valuesOf D (std ++ (b ∷ [])) S none

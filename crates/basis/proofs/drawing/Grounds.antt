@@ -13,7 +13,7 @@ use Rattle.residue.specs.Congruence.{Mod}
 use Rattle.residue.specs.Lists.{Among}
 use Rattle.residue.specs.Modulus.{isModulus}
 use Rattle.residue.specs.Vector.{Below}
-use Rattle.residue.specs.Elimination.{eliminated}
+use Rattle.residue.specs.Elimination.{eliminated, multiplesOf}
 use Rattle.residue.specs.Layout.{groups, fill, inPlaces}
 use Rattle.residue.proofs.Congruence.{of, flip, reduce, _then_}
 use Rattle.residue.proofs.level.Moduli.{modulus-range}
@@ -185,7 +185,7 @@ module _ {s : Settings} {n : ℕ} {points : List ℕ} (given : PointsGiven s n p
       pivot-rows = record {
         long-rows = P .long-rows;
         long-pivots = P .long-pivots;
-        below = lowered rows (P .below);
+        multiples = λ t h. subst (λ (z : ℕ). take 1152 (drop (1152 * t) rows) ≡ multiplesOf z (take 128 (drop (1152 * t) rows))) (sym (ground .modulus)) (P .multiples t (rw as-many at h));
         inside = rw as-many (P .pivot);
         solves = rw as-many solved;
       };

@@ -13,7 +13,7 @@ use Rattle.residue.proofs.level.Moduli.{modulus-range}
 use Rattle.residue.proofs.vector.Vectors.{below-take, below-drop, below-zeros}
 use Rattle.residue.proofs.Layouts.{fill-at, fill-zeros}
 use Rattle.residue.proofs.Places.{place-at, no-places}
-use Rattle.residue.proofs.Replaced.{zeros-long, part-long}
+use Rattle.residue.proofs.Replaced.{part-long}
 use Rattle.residue.proofs.elimination.NextPivot.{no-rows}
 use Rattle.monomial.specs.Monomial.{timesVariable}
 use Rattle.monomial.specs.Order.{Order, lex, grlex, grevlex}
@@ -55,14 +55,14 @@ module _ {q m n : ℕ} {order : Order} {S : List (Point (suc q) m)} {p : ℕ} (G
   L : Laws D
   L = laws q m order (G .prime)
 
-  pub start-held : {standard leads coefficients rows pivots : List ℕ} → standard ≡ replicate 512 0 → leads ≡ replicate 3592 0 → coefficients ≡ replicate 28736 0 → rows ≡ replicate 8192 0
+  pub start-held : {standard leads coefficients rows pivots : List ℕ} → standard ≡ replicate 512 0 → leads ≡ replicate 3592 0 → coefficients ≡ replicate 28736 0 → length rows ≡ 73728
       → length pivots ≡ 64 → Held q m n order S [] [] [] standard leads coefficients rows pivots (replicate 4096 0) (replicate 64 0) (stepsOf order)
   start-held {rows = rows} {pivots = pivots} s l c r e = record {
     standard-table = s ∙ no-places 8 512;
     leads-table = l ∙ no-places 8 3592;
     coefficients-table = c ∙ no-places 64 28736;
     rows-are = tt;
-    pivot-rows = no-rows q n _ rows pivots (G .most) (zeros-long rows 8192 r) e (rw r (below-zeros (suc q) 8192 (omega arith)));
+    pivot-rows = no-rows q n _ rows pivots (G .most) r e;
     values-long = length-replicate {A = ℕ} 4096 0;
     values-below = below-zeros (suc q) 4096 (omega arith);
     values-at = λ t i h. absurd (not-suc-le-zero h);

@@ -6,9 +6,9 @@ use native.Mathlib.Omega.{arith}
 use lib.ListN.{length, getD, set, take, drop, replicate, length-append}
 use Rattle.residue.specs.Inverse.{inverseOf}
 use Rattle.residue.specs.Vector.{Below}
-use Rattle.residue.specs.Elimination.{eliminated, ZeroBehind}
+use Rattle.residue.specs.Elimination.{eliminated, multiplesOf, Multiplied, ZeroBehind}
 use Rattle.residue.specs.Layout.{fill, withPlace}
-use Rattle.residue.specs.Rows.{firstNonzero, pivotRow, withRow}
+use Rattle.residue.specs.Rows.{firstNonzero, pivotRow}
 use Rattle.residue.proofs.Layouts.{length-fill}
 use Rattle.monomial.specs.Monomial.{timesVariable}
 use Rattle.monomial.specs.Order.{Order, orderOf}
@@ -36,11 +36,11 @@ pub record Sized (p n found : ℕ) (standard leads coefficients rows pivots valu
   pub standard-long : length standard ≡ 512
   pub leads-long : length leads ≡ 3592
   pub coefficients-long : length coefficients ≡ 28736
-  pub rows-long : length rows ≡ 8192
+  pub rows-long : length rows ≡ 73728
   pub pivots-long : length pivots ≡ 64
   pub values-long : length values ≡ 4096
   pub ranks-long : length ranks ≡ 64
-  pub rows-below : Below p rows
+  pub rows-multiplied : Multiplied p found rows
   pub values-below : Below p values
   pub ranks-below : Below rankBound ranks
   pub pivots-inside : (t : ℕ) → t < found → getD pivots t 0 < n
@@ -99,7 +99,7 @@ module _ {s : Settings} {n : ℕ} {points : List ℕ} where
     residues-of l b = subst (λ (z : ℕ). Below z l) (sym (G .modulus)) b
 
     pub head-start : {standard leads coefficients rows pivots steps : List ℕ} → standard ≡ replicate 512 0 → leads ≡ replicate 3592 0 → coefficients ≡ replicate 28736 0
-        → rows ≡ replicate 8192 0 → length pivots ≡ 64 → steps ≡ stepsOf o
+        → length rows ≡ 73728 → length pivots ≡ 64 → steps ≡ stepsOf o
         → Head s n points 0 0 standard leads coefficients rows pivots (replicate 4096 0) (replicate 64 0) steps (replicate 8 0) (replicate 8 0) 0 (replicate 64 1)
     head-start {standard} {leads} {coefficients} {rows} {pivots} a b c d e f = record {
       std = [];
@@ -125,7 +125,7 @@ module _ {s : Settings} {n : ℕ} {points : List ℕ} where
         pivots-long = H .pivot-rows .long-pivots;
         values-long = H .values-long;
         ranks-long = H .ranks-long;
-        rows-below = residues-of rows (H .pivot-rows .below);
+        rows-multiplied = λ t h. subst (λ (z : ℕ). take 1152 (drop (1152 * t) rows) ≡ multiplesOf z (take 128 (drop (1152 * t) rows))) (sym (G .modulus)) (H .pivot-rows .multiples t (omega arith));
         values-below = residues-of values (H .values-below);
         ranks-below = H .ranks-below;
         pivots-inside = λ t h. H .pivot-rows .pivot t (omega arith);
@@ -177,7 +177,7 @@ module _ {s : Settings} {n : ℕ} {points : List ℕ} where
 
           pub keeps-standard : {q : ℕ} {standard′ ranks′ values′ rows′ pivots′ : List ℕ} → q ≡ firstNonzero n work → q < n → standard′ ≡ withPlace 8 found exponents standard
               → ranks′ ≡ set ranks found rank → values′ ≡ withPlace 64 found own values
-              → rows′ ≡ withRow found (pivotRow p (n + found) (inverseOf p (getD work q 0)) work) rows → pivots′ ≡ set pivots found q
+              → rows′ ≡ withPlace 1152 found (multiplesOf p (pivotRow p (n + found) (inverseOf p (getD work q 0)) work)) rows → pivots′ ≡ set pivots found q
               → Kept s n points (found + 1) r standard′ leads coefficients rows′ pivots′ values′ ranks′ steps at
           keeps-standard {q} {standard′} {ranks′} {values′} {rows′} {pivots′} e z a b c d f = record {
             std = h .std ++ (h .hand ∷ []);
@@ -190,7 +190,7 @@ module _ {s : Settings} {n : ℕ} {points : List ℕ} where
                   a ∙ ap (λ (k : ℕ). withPlace 8 k exponents standard) (h .found-is),
                   b ∙ ap (λ (k : ℕ). set ranks k rank) (h .found-is),
                   c ∙ ap (λ (k : ℕ). withPlace 64 k own values) (h .found-is),
-                  d ∙ ap₂ (λ (k j : ℕ). withRow k (pivotRow p (n + k) (inverseOf p (getD work j 0)) work) rows) (h .found-is) e,
+                  d ∙ ap₂ (λ (k j : ℕ). withPlace 1152 k (multiplesOf p (pivotRow p (n + k) (inverseOf p (getD work j 0)) work)) rows) (h .found-is) e,
                   f ∙ ap₂ (λ (k j : ℕ). set pivots k j) (h .found-is) e,
                 )
                 (standard-held G (h .held) (h .in-hand) left′ (rw e at z));

@@ -41,9 +41,9 @@ module _ (q n found : ℕ) (v u : ℕ → ℕ → ℕ) (same : (j i : ℕ) → j
     long-pivots = P .long-pivots;
     most = P .most;
     room = P .room;
-    below = P .below;
+    multiples = P .multiples;
     pivot = P .pivot;
-    values = λ t i h l. P .values t i h l then same-combination (λ j. getD rows (128 * t + (n + j)) 0) i;
+    values = λ t i h l. P .values t i h l then same-combination (λ j. getD rows (1152 * t + (n + j)) 0) i;
     beyond = P .beyond;
     one = P .one;
     zero = P .zero;

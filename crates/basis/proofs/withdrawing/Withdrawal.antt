@@ -17,13 +17,12 @@ use Rattle.specification.specs.Refusal.{Case, firstOf}
 use Rattle.specification.specs.Settings.{settingsCases}
 use Rattle.specification.specs.Levels.{inRange, residues, isAmong}
 use Rattle.specification.specs.Tables.{Tables, tooShort, pointsIn, recognised}
-use Rattle.specification.specs.Solving.{checkRefusal}
 use Rattle.specification.specs.Withdrawing.{remaining, withdrawCases, withdrawRefusal, withdrawOutcome}
 use Rattle.specification.specs.Adding.{refused, holding}
 use Rattle.specification.proofs.Recognised.{length-read, read-each, none-of}
 use Rattle.specification.proofs.CallByCall.{known-points}
 use Rattle.specification.proofs.agreement.Points.{Points, length-residues}
-use Rattle.specification.proofs.agreement.Refusals.{Accepted, accepted, Large, large-of, settings-pass}
+use Rattle.specification.proofs.agreement.Refusals.{Accepted, accepted, Large, large-of}
 use Rattle.specification.proofs.agreement.Removal.{points-left, left-one}
 use Rattle.basis.specs.Points.{placeIn}
 use Rattle.basis.specs.Drawing.{PointsGiven}
@@ -93,33 +92,17 @@ module _ (s : Settings) (n r : ℕ) (t : Tables) (levels : List ℤ) where
   unfolding firstOf
   withdraw-range e f = simp f at (behind e)
 
-  -- what checking answers once the sizes are right
-  pub checked : withdrawSizes ≡ 0 → checkRefusal s n r t ≡ cond {A = ℕ} (recognised s n r t) 0 10
-  unfolding checkRefusal firstOf
-  checked e = let w = none-of s (sizes s (tooShort t) (not (eqb (length levels) (s .variables))) (ltb 64 n)) tt e in
-      settings-pass s (w .0) _ ∙ rw (w .1 .0, w .1 .1 .1 .0) (told (recognised s n r t))
-    where
-      told : (b : Bool) → cond {A = ℕ} (not b) 10 0 ≡ cond {A = ℕ} b 0 10
-      told true = refl
-      told false = refl
-
-  known-by : (k : ℕ) → k ≡ cond {A = ℕ} (recognised s n r t) 0 10 → k ≡ 0 → recognised s n r t ≡ true
-  known-by k e z = go (recognised s n r t) (sym e ∙ z)
-    where
-      go : (b : Bool) → cond {A = ℕ} b 0 10 ≡ 0 → b ≡ true
-      go true e = refl
-      go false e = absurd (omega arith)
-
-  pub known-of : withdrawSizes ≡ 0 → (k : ℕ) → k ≡ checkRefusal s n r t → k ≡ 0 → recognised s n r t ≡ true
-  known-of e k f z = known-by k (f ∙ checked e) z
-
-  pub withdraw-unknown : withdrawSizes ≡ 0 → inRange (s .modulus) levels ≡ true → (k : ℕ) → k ≡ checkRefusal s n r t → (k ≡ 0 → ⊥) → k ≡ withdrawRefusal s n r t levels
+  pub withdraw-unknown : withdrawSizes ≡ 0 → inRange (s .modulus) levels ≡ true → recognised s n r t ≡ false → 10 ≡ withdrawRefusal s n r t levels
   unfolding firstOf
-  withdraw-unknown e f k g z = go (recognised s n r t) refl (g ∙ checked e)
-    where
-      go : (b : Bool) → recognised s n r t ≡ b → k ≡ cond {A = ℕ} b 0 10 → k ≡ withdrawRefusal s n r t levels
-      go true i j = absurd (z j)
-      go false i j = j ∙ simp (f, i) at (behind e)
+  withdraw-unknown e f g = simp (f, g) at (behind e)
+
+  -- the table of the points that recognising leaves
+  module _ (ok : Accepted s) (few : n ≤ 64) (known : recognised s n r t ≡ true) (table : List ℕ) (et : table ≡ fill 512 (inPlaces 8 old)) where
+    pub read-again : pointsIn s n table ≡ old
+    read-again = ap₂ (pointsIn s) (sym (length-read s ok n (t .states))) et ∙ table-points s ok old (known-points s ok n r t few known)
+
+    pub table-again : table ≡ fill 512 (inPlaces 8 (pointsIn s n table))
+    table-again = et ∙ ap (λ (K : List (List ℕ)). fill 512 (inPlaces 8 K)) (sym read-again)
 
   pub withdraw-told : withdrawSizes ≡ 0 → inRange (s .modulus) levels ≡ true → recognised s n r t ≡ true → (k : ℕ) → k ≡ cond {A = ℕ} (isAmong new old) 0 12
       → k ≡ withdrawRefusal s n r t levels

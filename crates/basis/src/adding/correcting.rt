@@ -4,14 +4,14 @@ use residue::arithmetic;
 use residue::bytes;
 use residue::vector;
 ghost use mathlib.Core.Path.{_≡_};
-ghost use Prim.Native.Nat.{_*_, _%_, _<_, _≤_};
+ghost use Prim.Native.Nat.{_*_, _<_, _≤_};
 ghost use lib.ListN.{length};
 ghost use Rattle.residue.specs.Vector.{Below, addScaled};
 ghost use Rattle.residue.specs.Layout.{inPlaces, over};
 ghost use Rattle.basis.specs.Adding.{rowValueAt, valueOfRow, firstFrom, factorOf, correctedBy, correctedRow, correctedRows};
 
 // The value of a row at a point where the standard monomials have these values.
-pub fn row_value(p: u16, point: &[u8], values: &[u16], lead: &[u8], coefficients: &[u16]) -> u16
+pub fn row_value(p: u8, point: &[u8], values: &[u8], lead: &[u8], coefficients: &[u8]) -> u8
     requires { ⌜ (2 ≤ p) × (p ≤ 61) ⌝ }
     requires { ⌜ (length (now point) ≡ 8) × (length (now lead) ≡ 8) ⌝ }
     requires { ⌜ (length (now coefficients) ≡ length (now values)) × (length (now coefficients) ≤ 256) ⌝ }
@@ -28,11 +28,11 @@ pub fn row_value(p: u16, point: &[u8], values: &[u16], lead: &[u8], coefficients
 
 // The first of r rows, in increasing order, whose value at the point is not 0, or r.
 pub fn first_row(
-    p: u16,
+    p: u8,
     n: usize,
     r: usize,
     point: &[u8],
-    values: &[u16],
+    values: &[u8],
     leads: &[u8],
     coefficients: &[u8],
 ) -> usize
@@ -40,11 +40,9 @@ pub fn first_row(
     requires { ⌜ (length (now point) ≡ 8) × (n ≤ length (now values)) ⌝ }
     requires { ⌜ (8 * r ≤ length (now leads)) × (64 * r ≤ length (now coefficients)) ⌝ }
     requires { ⌜ Below p (now point) ⌝ }
-    requires { ⌜ Below p (now values) ⌝ }
+    requires { ⌜ Below p (now values) × Below p (now coefficients) ⌝ }
     ensures { λ found. ⌜ found ≡ firstFrom (valueOfRow p n (now (point .entry)) (now (values .entry)) (now (leads .entry)) (now (coefficients .entry))) 0 r ⌝ }
 {
-    let modulus = p as u32;
-    let m = arithmetic::reciprocal(p);
     let mut i = 0;
     let found = 'rows: loop {
         if i == r {
@@ -52,17 +50,17 @@ pub fn first_row(
         }
         let from = 8 * i;
         let first = 64 * i;
-        let mut sum = value(p, point, &leads[from..from + 8]) as u32;
+        let mut sum = value(p, point, &leads[from..from + 8]);
         let mut j = 0;
         'terms: loop {
             if j == n {
-                if sum % modulus != 0 {
+                if sum != 0 {
                     break 'rows i;
                 }
                 break 'terms;
             }
-            let c = coefficients[first + j] as u16;
-            sum += arithmetic::reduced_product(p, m, c, values[j]) as u32;
+            let term = arithmetic::mul(p, coefficients[first + j], values[j]);
+            sum = arithmetic::add(p, sum, term);
             j += 1;
         }
         i += 1;
@@ -72,11 +70,11 @@ pub fn first_row(
 
 // A row of coefficients plus factor times the lost row, with the factor put into the column of its lead.
 fn put_corrected(
-    p: u16,
+    p: u8,
     place: usize,
-    factor: u16,
-    gone: &[u16],
-    coefficients: &mut [u16],
+    factor: u8,
+    gone: &[u8],
+    coefficients: &mut [u8],
     row: &mut [u8],
 )
     requires { ⌜ (2 ≤ p) × (p ≤ 61) ⌝ }
@@ -88,22 +86,22 @@ fn put_corrected(
     ensures { λ _. ⌜ now (row .exit) ≡ correctedBy p place factor (now (gone .entry)) (now (coefficients .entry)) ⌝ }
 {
     vector::add_scaled(p, coefficients, factor, gone);
-    bytes::narrow(p, &coefficients[..place], row);
-    row[place] = factor as u8;
+    bytes::copy(&coefficients[..place], row);
+    row[place] = factor;
     let next = place + 1;
-    bytes::narrow(p, &coefficients[place..63], &mut row[next..]);
+    bytes::copy(&coefficients[place..63], &mut row[next..]);
 }
 
 // A row corrected, from its lead and its coefficients.
 pub fn correct(
-    p: u16,
+    p: u8,
     place: usize,
-    inverse: u16,
-    gone: &[u16],
+    inverse: u8,
+    gone: &[u8],
     point: &[u8],
-    values: &[u16],
+    values: &[u8],
     lead: &[u8],
-    coefficients: &mut [u16],
+    coefficients: &mut [u8],
     row: &mut [u8],
 )
     requires { ⌜ (2 ≤ p) × (p ≤ 61) × (place < 64) × (inverse < p) ⌝ }
@@ -124,12 +122,12 @@ pub fn correct(
 
 // The first k rows corrected, each in its part of the table of coefficients.
 pub fn correct_rows(
-    p: u16,
+    p: u8,
     place: usize,
-    inverse: u16,
-    gone: &[u16],
+    inverse: u8,
+    gone: &[u8],
     point: &[u8],
-    values: &[u16],
+    values: &[u8],
     k: usize,
     leads: &[u8],
     table: &mut [u8],
@@ -144,10 +142,10 @@ pub fn correct_rows(
         k)) (now (table .entry)) ⌝ }
 {
     for i in 0..k {
-        let mut coefficients = [0u16; 64];
+        let mut coefficients = [0u8; 64];
         let from = 8 * i;
         let first = 64 * i;
-        bytes::widen(&table[first..first + 64], &mut coefficients);
+        bytes::copy(&table[first..first + 64], &mut coefficients);
         correct(
             p,
             place,

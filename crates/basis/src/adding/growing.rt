@@ -12,6 +12,7 @@ ghost use mathlib.Core.Bool.{false};
 ghost use Prim.Native.Nat.{ℕ, _+_, _<_, _≤_};
 ghost use lib.ListN.{length, getD, take, replicate};
 ghost use Rattle.residue.specs.Vector.{Below};
+ghost use Rattle.residue.specs.Elimination.{Multiplied};
 ghost use Rattle.residue.specs.Layout.{withPlace, rowAt};
 ghost use Rattle.specification.specs.Tables.{fourTables, tooShort, pointsIn};
 ghost use Rattle.specification.specs.Adding.{ended, holding};
@@ -21,12 +22,12 @@ ghost use Rattle.basis.specs.Drawing.{PointsGiven, Tabled, DrawnUp};
 
 // The leads but that of row j, and their rows corrected.
 fn keep_others(
-    p: u16,
+    p: u8,
     place: usize,
-    inverse: u16,
-    gone: &[u16],
+    inverse: u8,
+    gone: &[u8],
     point: &[u8],
-    values: &[u16],
+    values: &[u8],
     r: usize,
     j: usize,
     leads: &[u8],
@@ -68,20 +69,20 @@ fn grow(
     standard: &[u8],
     leads: &[u8],
     coefficients: &[u8],
-    rows: &[u16],
+    rows: &[u8],
     pivots: &[u8],
     point: &[u8],
-    values: &[u16],
+    values: &[u8],
     j: usize,
     new_standard: &mut [u8],
     new_leads: &mut [u8],
     new_coefficients: &mut [u8],
 ) -> usize
     requires { ⌜ Accepted settings × (n < 64) ⌝ }
-    requires { ⌜ (j < r) × (r ≤ 449) × (r + settings .variables ≤ 450) × (length (now points) ≡ 512) × (length (now rows) ≡ 8192) ⌝ }
+    requires { ⌜ (j < r) × (r ≤ 449) × (r + settings .variables ≤ 450) × (length (now points) ≡ 512) × (length (now rows) ≡ 73728) ⌝ }
     requires { ⌜ (length (now standard) ≡ 512) × (length (now leads) ≡ 3592) × (length (now coefficients) ≡ 28736) × (length (now point) ≡ 8)
         × (length (now values) ≡ 64) ⌝ }
-    requires { ⌜ Below (settings .modulus) (now points) × Below (settings .modulus) (now coefficients) × Below (settings .modulus) (now rows)
+    requires { ⌜ Below (settings .modulus) (now points) × Below (settings .modulus) (now coefficients) × Multiplied (settings .modulus) n (now rows)
         × Below (settings .modulus) (now point) × Below (settings .modulus) (now values) ⌝ }
     requires { ⌜ (length (now pivots) ≡ 64) × ((t : ℕ) → t < n → getD (now pivots) t 0 < n) ⌝ }
     requires { ⌜ ((i : ℕ) → getD (now leads) i 0 < 255) ⌝ }
@@ -91,11 +92,11 @@ fn grow(
         ≡ grownBy (settings .modulus) (settings .variables) (settings .order) n r (now (points .entry)) (now (standard .entry)) (now (leads .entry))
         (now (coefficients .entry)) (now (rows .entry)) (now (pivots .entry)) (now (point .entry)) (now (values .entry)) j ⌝ }
 {
-    let p = settings.modulus as u16;
+    let p = settings.modulus as u8;
     let order = settings.order as u8;
     let lead = &leads[8 * j..8 * j + 8];
-    let mut gone = [0u16; 64];
-    bytes::widen(&coefficients[64 * j..64 * j + 64], &mut gone);
+    let mut gone = [0u8; 64];
+    bytes::copy(&coefficients[64 * j..64 * j + 64], &mut gone);
     let i = inverse(p, correcting::row_value(p, point, values, lead, &gone));
     bytes::copy(standard, new_standard);
     let place = insert::put_in(order, n, new_standard, lead);
@@ -140,7 +141,7 @@ fn add_to(
     standard: &[u8],
     leads: &[u8],
     coefficients: &[u8],
-    rows: &[u16],
+    rows: &[u8],
     pivots: &[u8],
     point: &[u8],
     new_standard: &mut [u8],
@@ -155,8 +156,8 @@ fn add_to(
     ensures { λ k. ⌜ Tabled settings (allPoints settings n (now (points .entry)) (now (point .entry))) k (now («new_standard» .exit)) (now («new_leads» .exit))
         (now («new_coefficients» .exit)) ⌝ }
 {
-    let p = settings.modulus as u16;
-    let mut values = [0u16; 64];
+    let p = settings.modulus as u8;
+    let mut values = [0u8; 64];
     values_at(p, n, standard, point, &mut values);
     let j = correcting::first_row(p, n, r, point, &values, leads, coefficients);
     grow(
@@ -184,7 +185,7 @@ fn add_tables(
     n: usize,
     r: usize,
     points: &[u8],
-    rows: &[u16],
+    rows: &[u8],
     pivots: &[u8],
     point: &[u8],
     standard: &mut [u8],
@@ -238,7 +239,7 @@ pub fn add_accepted(
     n: usize,
     r: usize,
     points: &[u8],
-    rows: &[u16],
+    rows: &[u8],
     pivots: &[u8],
     point: &[u8],
     states: &mut [u8],

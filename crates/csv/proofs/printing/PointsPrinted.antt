@@ -1,9 +1,10 @@
 -- Points and values printed: the tables, the interpolant and the wiring list that the calls leave give the lines of the definitions.
-use mathlib.Core.Path.{_≡_, refl, sym, _∙_, ap, ap₂}
+use mathlib.Core.Path.{_≡_, refl, sym, _∙_, ap, ap₂, subst}
 use mathlib.Core.List.{List}
 use Prim.Native.Nat.{ℕ, _<_, _≤_}
 use native.Mathlib.Omega.{arith}
 use lib.ListN.{length, getD, take}
+use Rattle.residue.specs.Elimination.{Multiplied}
 use Rattle.residue.specs.Vector.{Below}
 use Rattle.residue.specs.Layout.{groups, fill}
 use Rattle.residue.proofs.Layouts.{take-fill}
@@ -47,6 +48,9 @@ module _ (s : Settings) (n : ℕ) (points values : List ℕ) (g : PointsGiven s 
 
     pub inside : (t : ℕ) → t < n → getD pivots t 0 < n
     inside t k = omega (arith, u .pivot-rows .inside t (omega (arith, count-points)), count-points)
+
+    pub multiplied : Multiplied (s .modulus) n rows
+    multiplied = subst (λ (k : ℕ). Multiplied (s .modulus) k rows) count-points (u .pivot-rows .multiples)
 
     module _ (interpolant : List ℕ) (i : interpolant ≡ fill 64 (solution (s .modulus) n rows pivots (fill 128 values))) where
       filled : interpolant ≡ fill 64 cs

@@ -5,23 +5,27 @@ use Prim.Native.Nat.{ℕ, zero, suc, _+_, _*_, _-_, _<_, _≤_}
 use native.Mathlib.Nat.{not-suc-le-zero, mul-comm}
 use native.Mathlib.Decide.{decLt}
 use native.Mathlib.Omega.{arith}
-use lib.ListN.{length, getD, set, length-set}
+use lib.ListN.{length, getD, take, drop, set, length-set}
 use lib.Seq.{getD-set-same, getD-set-other}
 use Rattle.residue.specs.Congruence.{Mod}
 use Rattle.residue.specs.Vector.{Below}
-use Rattle.residue.specs.Rows.{pivotRow, withRow}
+use Rattle.residue.specs.Rows.{pivotRow}
+use Rattle.residue.specs.Layout.{withPlace}
+use Rattle.residue.specs.Elimination.{multiplesOf, Multiplied}
 use Rattle.residue.proofs.Congruence.{rfl, of, flip, _then_, _plus_, scale, zero-right, lin, small}
-use Rattle.residue.proofs.rows.Kept.{pivotRow-length, pivotRow-below, pivotRow-at, withRow-length, withRow-below, withRow-before, withRow-here}
+use Rattle.residue.proofs.rows.Kept.{pivotRow-length, pivotRow-below, pivotRow-at}
+use Rattle.residue.proofs.Replaced.{place-length, place-before, place-here}
+use Rattle.residue.proofs.elimination.Multiples.{block-length, block-front, block-put, block-kept}
 use Rattle.residue.proofs.elimination.Combinations.{combination, combination-cong, combination-add, combination-zero, combination-scale}
 use Rattle.residue.proofs.elimination.PivotRows.{PivotRows, Working, ZeroAt, entry}
 
-pub no-rows : (q n : ℕ) (v : ℕ → ℕ → ℕ) (rows pivots : List ℕ) → n ≤ 64 → length rows ≡ 8192 → length pivots ≡ 64 → Below (suc q) rows → PivotRows q n 0 v rows pivots
-no-rows q n v rows pivots m r l b = record {
+pub no-rows : (q n : ℕ) (v : ℕ → ℕ → ℕ) (rows pivots : List ℕ) → n ≤ 64 → length rows ≡ 73728 → length pivots ≡ 64 → PivotRows q n 0 v rows pivots
+no-rows q n v rows pivots m r l = record {
   long-rows = r;
   long-pivots = l;
   most = m;
   room = omega arith;
-  below = b;
+  multiples = λ t h. absurd (not-suc-le-zero h);
   pivot = λ t h. absurd (not-suc-le-zero h);
   values = λ t i h. absurd (not-suc-le-zero h);
   beyond = λ t j h. absurd (not-suc-le-zero h);
@@ -66,8 +70,11 @@ module _ (q n found : ℕ) (v : ℕ → ℕ → ℕ) (rows pivots : List ℕ) (P
     abbrev made-row : List ℕ
     made-row = pivotRow (suc q) (n + found) c w
 
+    abbrev block : List ℕ
+    block = multiplesOf (suc q) made-row
+
     abbrev rows′ : List ℕ
-    rows′ = withRow found made-row rows
+    rows′ = withPlace 1152 found block rows
 
     abbrev pivots′ : List ℕ
     pivots′ = set pivots found at
@@ -79,7 +86,7 @@ module _ (q n found : ℕ) (v : ℕ → ℕ → ℕ) (rows pivots : List ℕ) (P
     own-inside : n + found < length w
     own-inside = omega (arith, W .long, P .most)
 
-    fits : 128 * found + 128 ≤ length rows
+    fits : 1152 * found + 1152 ≤ length rows
     fits = omega (arith, P .long-rows, P .most)
 
     made-long : length made-row ≡ 128
@@ -88,9 +95,12 @@ module _ (q n found : ℕ) (v : ℕ → ℕ → ℕ) (rows pivots : List ℕ) (P
     made-below : Below (suc q) made-row
     made-below = pivotRow-below (suc q) (n + found) c w own-inside two (W .below)
 
+    block-long : length block ≡ 1152
+    block-long = block-length (suc q) made-row made-long
+
     -- its entries
     new-at : (i : ℕ) → i < 128 → entry rows′ found i ≡ getD made-row i 0
-    new-at i h = withRow-here found made-row rows fits made-long i h
+    new-at i h = place-here 1152 found block rows fits block-long i (omega arith) ∙ block-front (suc q) made-row made-long made-below i h
 
     scaled-entry : (i : ℕ) → (n + found < i → getD w i 0 ≡ 0) → Mod (suc q) (getD made-row i 0) (c * getD (set w (n + found) 1) i 0)
     scaled-entry i h = pivotRow-at (suc q) (n + found) c w own-inside i h
@@ -109,7 +119,7 @@ module _ (q n found : ℕ) (v : ℕ → ℕ → ℕ) (rows pivots : List ℕ) (P
 
     -- the old rows and pivots
     old : (t i : ℕ) → t < found → i < 128 → entry rows′ t i ≡ entry rows t i
-    old t i h k = withRow-before found made-row rows fits made-long (128 * t + i) (omega arith)
+    old t i h k = place-before 1152 found block rows fits block-long (1152 * t + i) (omega arith)
 
     old-pivot : (t : ℕ) → t < found → getD pivots′ t 0 ≡ getD pivots t 0
     old-pivot t h = getD-set-other pivots found t at 0 (λ e. omega arith)
@@ -147,6 +157,11 @@ module _ (q n found : ℕ) (v : ℕ → ℕ → ℕ) (rows pivots : List ℕ) (P
         (λ t k l m. old t (n + j) k m ∙ P .beyond t j k l m)
         (λ l m. new-zero (n + j) m (λ e. omega arith) (past (n + j) (omega arith)))
         t h
+
+    multiplied : Multiplied (suc q) (suc found) rows′
+    multiplied = each {Q = λ t. take 1152 (drop (1152 * t) rows′) ≡ multiplesOf (suc q) (take 128 (drop (1152 * t) rows′))} found
+        (λ t h. block-kept (suc q) found block rows fits block-long t h (P .multiples t h))
+        (block-put (suc q) made-row made-long made-below found rows fits)
 
     pivot : (t : ℕ) → t < suc found → getD pivots′ t 0 < n
     pivot = each {Q = λ t. getD pivots′ t 0 < n} found (λ t k. rw (old-pivot t k) (P .pivot t k)) (rw new-pivot inside)
@@ -190,11 +205,11 @@ module _ (q n found : ℕ) (v : ℕ → ℕ → ℕ) (rows pivots : List ℕ) (P
 
     pub next-pivot : PivotRows q n (suc found) v rows′ pivots′
     next-pivot = record {
-      long-rows = withRow-length found made-row rows fits made-long ∙ P .long-rows;
+      long-rows = place-length 1152 found block rows fits block-long ∙ P .long-rows;
       long-pivots = length-set pivots found at ∙ P .long-pivots;
       most = P .most;
       room = more;
-      below = withRow-below found made-row rows fits made-long (suc q) made-below (P .below);
+      multiples = multiplied;
       pivot = pivot;
       values = values;
       beyond = beyond;

@@ -10,24 +10,24 @@ use lib.ListN.{length, getD, take, drop, List·getD-eq-default}
 use lib.Seq.{getD-take, getD-drop}
 use Rattle.residue.specs.Congruence.{Mod}
 use Rattle.residue.specs.Vector.{Below}
-use Rattle.residue.specs.Elimination.{cancelled, eliminated}
+use Rattle.residue.specs.Elimination.{cancelled, eliminated, Multiplied}
 use Rattle.residue.proofs.Congruence.{rfl, of, flip, _then_, _plus_, scale, lin, small}
 use Rattle.residue.proofs.elimination.Eliminated.{row-long, cancelled-at, cancelled-length, cancelled-below}
 use Rattle.residue.proofs.elimination.Combinations.{combination, combination-cong, combination-add}
 
 -- entry i of pivot row t
 abbrev pub entry : List ℕ → ℕ → ℕ → ℕ
-entry rows t i = getD rows (128 * t + i) 0
+entry rows t i = getD rows (1152 * t + i) 0
 
 module _ (q n found : ℕ) (v : ℕ → ℕ → ℕ) where
   -- Each pivot row is a combination, of values and coefficients alike; it is 1 at its own pivot and 0 at the earlier ones. The standard monomials' values at
   -- the pivots are independent.
   pub record PivotRows (rows pivots : List ℕ) : Type 0 where
-    pub long-rows : length rows ≡ 8192
+    pub long-rows : length rows ≡ 73728
     pub long-pivots : length pivots ≡ 64
     pub most : n ≤ 64
     pub room : found ≤ n
-    pub below : Below (suc q) rows
+    pub multiples : Multiplied (suc q) found rows
     pub pivot : (t : ℕ) → t < found → getD pivots t 0 < n
     pub values : (t i : ℕ) → t < found → i < n → Mod (suc q) (entry rows t i) (combination v found (λ j. entry rows t (n + j)) i)
     pub beyond : (t j : ℕ) → t < found → t < j → n + j < 128 → entry rows t (n + j) ≡ 0
@@ -64,10 +64,10 @@ stays k u e h z g = g then of (rw (h, z) (omega arith))
 module _ (q n found : ℕ) (v : ℕ → ℕ → ℕ) (rows pivots : List ℕ) (P : PivotRows q n found v rows pivots) where
   -- pivot row t, and its entries
   abbrev part : ℕ → List ℕ
-  part t = take 128 (drop (128 * t) rows)
+  part t = take 128 (drop (1152 * t) rows)
 
   part-at : (t i : ℕ) → i < 128 → getD (part t) i 0 ≡ entry rows t i
-  part-at t i l = getD-take 128 (drop (128 * t) rows) i 0 l ∙ getD-drop (128 * t) rows i 0
+  part-at t i l = getD-take 128 (drop (1152 * t) rows) i 0 l ∙ getD-drop (1152 * t) rows i 0
 
   module _ (φ : ℕ → ℕ) where
     -- the row u meets pivot row t

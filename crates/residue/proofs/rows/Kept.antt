@@ -1,5 +1,5 @@
--- Pivot rows: what a working row is made into, and the table that keeps it.
-use mathlib.Core.Path.{_≡_, ap, _∙_, ap₂}
+-- Pivot rows: what a working row is made into.
+use mathlib.Core.Path.{_≡_, ap, _∙_}
 use mathlib.Core.List.{List, _++_}
 use Prim.Native.Nat.{ℕ, _+_, _-_, _≤_, _*_, _<_}
 use native.Mathlib.Omega.{arith}
@@ -8,10 +8,9 @@ use lib.ListN.{length, getD, drop, set, take, length-append, length-set, length-
 use lib.Seq.{getD-drop, getD-append-add, getD-take, getD-set-other, length-take-le}
 use Rattle.residue.specs.Congruence.{Mod}
 use Rattle.residue.specs.Vector.{Below, scaled}
-use Rattle.residue.specs.Rows.{pivotRow, withRow}
+use Rattle.residue.specs.Rows.{pivotRow}
 use Rattle.residue.proofs.Congruence.{of, reduce, _then_}
 use Rattle.residue.proofs.vector.Vectors.{scaled-length, scaled-at, scaled-below, below-drop, below-append, below-set}
-use Rattle.residue.proofs.Replaced.{replaced-length, replaced-below, replaced-before, replaced-here}
 
 -- what lies behind a new front is the row's own
 past-front : (f w : List ℕ) (k i : ℕ) → length f ≡ k → k ≤ i → getD (f ++ drop k w) i 0 ≡ getD w i 0
@@ -49,26 +48,3 @@ module _ (p own c : ℕ) (w : List ℕ) (inside : own < length w) where
       go (yes k) =
           let z : getD (set w own 1) i 0 ≡ 0 = getD-set-other w own i 1 0 (λ e. omega arith) ∙ h k in
           of (past-front (scaled p c own-front) (set w own 1) (own + 1) i own-length (omega arith) ∙ rw z (omega arith))
-
--- a part that was lent, and came back as the new row, is the row replaced
-pub put-row : (t k : ℕ) (rows : List ℕ) {part mid new : List ℕ} → k ≡ 128 → part ≡ mid → mid ≡ new → take (128 * t) rows ++ (part ++ drop k (drop (128 * t) rows)) ≡ withRow t new rows
-unfolding withRow
-put-row t k rows e h g = ap₂ (λ (m : ℕ) (l : List ℕ). take (128 * t) rows ++ (l ++ drop m (drop (128 * t) rows))) e (h ∙ g)
-
--- a row of 128
-module _ (t : ℕ) (new rows : List ℕ) (fits : 128 * t + 128 ≤ length rows) (long : length new ≡ 128) where
-  pub withRow-length : length (withRow t new rows) ≡ length rows
-  unfolding withRow
-  withRow-length = replaced-length (128 * t) 128 new rows fits long
-
-  pub withRow-below : (p : ℕ) → Below p new → Below p rows → Below p (withRow t new rows)
-  unfolding withRow
-  withRow-below = replaced-below (128 * t) 128 new rows fits long
-
-  pub withRow-before : (i : ℕ) → i < 128 * t → getD (withRow t new rows) i 0 ≡ getD rows i 0
-  unfolding withRow
-  withRow-before = replaced-before (128 * t) 128 new rows fits long
-
-  pub withRow-here : (i : ℕ) → i < 128 → getD (withRow t new rows) (128 * t + i) 0 ≡ getD new i 0
-  unfolding withRow
-  withRow-here = replaced-here (128 * t) 128 new rows fits long

@@ -6,6 +6,7 @@ use native.Mathlib.Nat.{not-suc-le-zero, le-of-suc-le-suc}
 use native.Mathlib.Numerals.{add-one}
 use native.Mathlib.Omega.{arith}
 use lib.ListN.{length, getD, set, drop, drop-of-length-le}
+use lib.Seq.{ext-getD}
 
 module _ {A : Type 0} where
   unfoldable pub filled : (ℕ → A) → ℕ → List A → List A
@@ -59,3 +60,15 @@ module _ {A : Type 0} where
       → filled g j l ≡ r
   filled-all g j r l d n h e =
       ap (λ (k : ℕ). filled g k l) (n ∙ sym h) ∙ filled-front g r l d (omega arith) (λ i k. e i (omega arith)) ∙ ap (λ (t : List A). r ++ t) (drop-of-length-le l {i = length r} (omega arith)) ∙ append-nil r
+
+  -- the loop has ended before the list's end: from j on r is the list's own
+  pub filled-part : (g : ℕ → A) (j : ℕ) (r l : List A) (d : A) → length r ≡ length l → ((i : ℕ) → i < j → i < length l → getD r i d ≡ g i)
+      → ((i : ℕ) → j ≤ i → i < length l → getD r i d ≡ getD l i d) → filled g j l ≡ r
+  unfolding filled
+  filled-part g zero r l d h e k = ext-getD d l r (sym h) (λ i b. sym (k i (omega arith) b))
+  filled-part g (suc j) [] [] d h e k = refl
+  filled-part g (suc j) (y ∷ r) [] d h e k = absurd (omega arith)
+  filled-part g (suc j) [] (x ∷ l) d h e k = absurd (omega arith)
+  filled-part g (suc j) (y ∷ r) (x ∷ l) d h e k =
+      ap₂ (λ (z : A) (t : List A). z ∷ t) (sym (e 0 (omega arith) (omega arith)))
+      (filled-part (λ i. g (suc i)) j r l d (omega arith) (λ i a b. e (suc i) (omega arith) (omega arith)) (λ i a b. k (suc i) (omega arith) (omega arith)))

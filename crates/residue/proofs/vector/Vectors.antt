@@ -1,15 +1,18 @@
 -- Vectors of residues: their lengths, their entries, and that these are residues.
-use mathlib.Core.Path.{_≡_, refl, ap, _∙_, subst, ap₂}
+use mathlib.Core.Path.{_≡_, refl, sym, ap, _∙_, subst, ap₂}
+use mathlib.Core.Bool.{cond}
 use mathlib.Core.Logic.{inl, inr}
 use mathlib.Core.List.{List, [], _∷_, _++_, map, zipWith}
-use Prim.Native.Nat.{ℕ, zero, suc, _+_, _*_, _%_, _^_, _<_, _≤_}
-use native.Mathlib.Nat.{mod-lt, not-suc-le-zero, le-of-suc-le-suc}
+use Prim.Native.Nat.{ℕ, zero, suc, _+_, _*_, _/_, _%_, _^_, _<_, _≤_}
+use native.Mathlib.Nat.{mod-lt, mod-eq-of-lt, one-mul, not-suc-le-zero, le-of-suc-le-suc}
 use native.Mathlib.Numerals.{add-one}
 use native.Mathlib.Omega.{arith}
 use native.Mathlib.Decide.{decLt}
 use lib.ListN.{length, getD, set, take, drop, replicate, length-map, length-take, length-drop, length-replicate, getD-replicate, List·getD-eq-default}
-use lib.Seq.{getD-take, getD-drop}
-use Rattle.residue.specs.Vector.{Below, addScaled, scaled, pointwise, powered, dotOf}
+use lib.Seq.{getD-take, getD-drop, ext-getD}
+use lib.Dec.{eqb}
+use borrow.Author.Tests.{eq-eqb, ne-eqb}
+use Rattle.residue.specs.Vector.{Below, addScaled, scaled, pointwise, powered, squaresFrom, squaresLeft, dotOf}
 use Rattle.residue.specs.Lists.{Among}
 
 -- two lists joined entry by entry, and a list changed entry by entry
@@ -68,6 +71,23 @@ module _ (p e : ℕ) (a b : List ℕ) (same : length a ≡ length b) where
   pub powered-below : 0 < p → Below p (powered p e a b)
   powered-below z i h = let k : i < length a = subst (λ (n : ℕ). i < n) powered-length h in rw (powered-at i k) (mod-lt _ z)
 
+-- what is left of the squares: any fuel from the exponent on gives the same, so that a turn takes away what it halves
+fuelled : (p j k e : ℕ) (base : List ℕ) → e ≤ j → e ≤ k → squaresFrom p j e base ≡ squaresFrom p k e base
+unfolding squaresFrom
+fuelled p zero zero e base h l = refl
+fuelled p zero (suc k) e base h l = let z : e ≡ 0 = omega arith in rw (eq-eqb e 0 z)
+fuelled p (suc j) zero e base h l = let z : e ≡ 0 = omega arith in rw (eq-eqb e 0 z)
+fuelled p (suc j) (suc k) e base h l = ap (cond (eqb e 0) base) (fuelled p j k (e / 2) (pointwise p base base) (omega arith) (omega arith))
+
+pub squares-turn : (p e : ℕ) (base : List ℕ) → 0 < e → squaresLeft p e base ≡ squaresLeft p (e / 2) (pointwise p base base)
+unfolding squaresFrom
+squares-turn p zero base h = absurd (not-suc-le-zero h)
+squares-turn p (suc e) base h = simp (ne-eqb (suc e) 0 (λ z. omega arith)) (fuelled p e (suc e / 2) (suc e / 2) (pointwise p base base) (omega arith) (omega arith))
+
+pub squares-none : (p e : ℕ) (base : List ℕ) → e ≡ 0 → base ≡ squaresLeft p e base
+unfolding squaresFrom
+squares-none p e base z = ap (λ (k : ℕ). squaresLeft p k base) (sym z)
+
 module _ (p c : ℕ) (l : List ℕ) where
   pub scaled-length : length (scaled p c l) ≡ length l
   unfolding scaled
@@ -79,6 +99,12 @@ module _ (p c : ℕ) (l : List ℕ) where
 
   pub scaled-below : 0 < p → Below p (scaled p c l)
   scaled-below z i h = let k : i < length l = subst (λ (n : ℕ). i < n) scaled-length h in rw (scaled-at i k) (mod-lt _ z)
+
+-- what is scaled by 1 stays
+pub scaled-one : (p : ℕ) (l : List ℕ) → Below p l → scaled p 1 l ≡ l
+scaled-one p l b =
+    ext-getD 0 (scaled p 1 l) l (scaled-length p 1 l)
+    (λ i h. let k : i < length l = omega (arith, scaled-length p 1 l) in scaled-at p 1 l i k ∙ ap (λ (x : ℕ). x % p) (one-mul (getD l i 0)) ∙ mod-eq-of-lt (b i k))
 
 -- the sum of products: one place more at the end, and over two lists made from one
 more : (a b : List ℕ) (i : ℕ) → i < length a → i < length b → dotOf (take (suc i) a) (take (suc i) b) ≡ dotOf (take i a) (take i b) + getD a i 0 * getD b i 0

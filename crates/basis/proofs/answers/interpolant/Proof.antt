@@ -13,7 +13,7 @@ use Rattle.specification.specs.Tables.{Tables, fourTables, tooShort, pointsIn, 
 use Rattle.specification.specs.Solving.{interpolantIn}
 use Rattle.basis.specs.Drawing.{Solves}
 use Rattle.basis.proofs.answers.Refusals.{valuesSizes, values-size, values-range, values-not, values-good}
-use Rattle.basis.proofs.checking.Recognised.{rows-long, rows-inside}
+use Rattle.basis.proofs.checking.Recognised.{rows-long, rows-multiplied, rows-inside}
 use Rattle.basis.proofs.answers.Answered.{Sized, values-sized, values-count, values-below, values-answer}
 use Rattle.basis.proofs.answers.interpolant.Statement.{statement}
 use Rattle.basis.proofs.answers.interpolant.Tie as tie
@@ -117,9 +117,6 @@ returns-3 c =
     let o = o (e f) in
     (values-not (o .args .size) (o .args .settings) (o .args .n) (o .args .r) (tables o) (o .args .values .now) (o .args .out .now) (fine (e f)) (range f) (sym (k .recognise .ensures .0) ∙ not-true _ (c .if3 .taken)), (λ z. absurd (omega arith)))
 
-cast-solve-values : tie.Need-cast-solve-values
-cast-solve-values c = let x = e (f c) in omega (arith, modulus-range (o x .args .settings .modulus) (sized x .settings .modulus))
-
 slice-aggregate-solve-values : tie.Need-slice-aggregate-solve-values
 slice-aggregate-solve-values c = sym (c .before .before .before .before .before .recognise .kept .1 .1 .1 .1 .1 .1 .1 .1 .0)
 
@@ -138,7 +135,7 @@ solve-values-requires c κs =
         (
           rows-long (o .args .settings) (z .settings) (o .args .n) (o .args .r) (tables o) (z .few) (known h) (rows h) (pivots h) (solves h),
           (
-            (solves h .below, values-below (o .args .size) (o .args .settings) (o .args .n) (o .args .r) (tables o) (o .args .values .now) (o .args .out .now) (fine x) (range (f h)) (known h)),
+            (rows-multiplied (o .args .settings) (z .settings) (o .args .n) (o .args .r) (tables o) (z .few) (known h) (rows h) (pivots h) (solves h), values-below (o .args .size) (o .args .settings) (o .args .n) (o .args .r) (tables o) (o .args .values .now) (o .args .out .now) (fine x) (range (f h)) (known h)),
             rows-inside (o .args .settings) (z .settings) (o .args .n) (o .args .r) (tables o) (z .few) (known h) (rows h) (pivots h) (solves h),
           ),
         ),
@@ -170,7 +167,6 @@ interpolant-spec =
     slice-aggregate-recognise-3
     recognise-requires
     returns-3
-    cast-solve-values
     slice-aggregate-solve-values
     slice-aggregate-solve-values-2
     solve-values-requires

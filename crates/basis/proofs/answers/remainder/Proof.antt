@@ -17,7 +17,7 @@ use Rattle.basis.specs.Answers.{solution}
 use Rattle.basis.specs.Drawing.{Solves}
 use Rattle.basis.proofs.settings.ByNumber.{fill-refused, fill-accepted}
 use Rattle.basis.proofs.answers.Refusals.{remainder-none}
-use Rattle.basis.proofs.checking.Recognised.{table-below, rows-long, rows-inside}
+use Rattle.basis.proofs.checking.Recognised.{table-below, rows-long, rows-multiplied, rows-inside}
 use Rattle.basis.proofs.answers.Answered.{Sized, terms-sized, terms-count, terms-most, coefficients-below, terms-answer}
 use Rattle.basis.proofs.answers.remainder.Statement.{statement}
 use Rattle.basis.proofs.answers.remainder.Tie as tie
@@ -102,7 +102,7 @@ solve-terms-requires c κs =
           (
             rows-long (s .args .settings) (z .settings) (s .args .n) (s .args .r) (tables s) (z .few) (w .1 .1) (rows e) (pivots e) (solves e),
             (
-              (solves e .below, (coefficients-below (s .args .settings) (s .args .n) (s .args .r) (tables s) (s .args .term-coefficients .now) (s .args .exponents .now) (s .args .out .now) (w .0) (w .1 .0) (w .1 .1), subst (Below (s .args .settings .modulus)) (sym (table e)) (table-below (s .args .settings) (z .settings) (s .args .n) (s .args .r) (tables s) (z .few) (w .1 .1)))),
+              (rows-multiplied (s .args .settings) (z .settings) (s .args .n) (s .args .r) (tables s) (z .few) (w .1 .1) (rows e) (pivots e) (solves e), (coefficients-below (s .args .settings) (s .args .n) (s .args .r) (tables s) (s .args .term-coefficients .now) (s .args .exponents .now) (s .args .out .now) (w .0) (w .1 .0) (w .1 .1), subst (Below (s .args .settings .modulus)) (sym (table e)) (table-below (s .args .settings) (z .settings) (s .args .n) (s .args .r) (tables s) (z .few) (w .1 .1)))),
               rows-inside (s .args .settings) (z .settings) (s .args .n) (s .args .r) (tables s) (z .few) (w .1 .1) (rows e) (pivots e) (solves e),
             ),
           ),

@@ -48,7 +48,7 @@ reduce-requires c κs =
       (
         (l .loop .inv .in-hand .own-long, (z .rows-long, z .pivots-long)),
         (
-          (own-below (given l) (l .loop .inv), z .rows-below),
+          (own-below (given l) (l .loop .inv), z .rows-multiplied),
           (z .pivots-inside, (z .rows-zero, refl)),
         ),
       ),
@@ -65,8 +65,8 @@ keep-lead-requires c κs =
     let q = c .before .before .before .before .before .before in
     let l = top q in
     let z = head-sizes l in (
-      (range l .1, (given l .most, (z .found-room, lead-fits q (c .before .before .before .before .if1 .taken)))),
-      ((exponents-8 l, (z .leads-long, z .coefficients-long)), (work-128 q, work-residues q)),
+      (given l .most, (z .found-room, lead-fits q (c .before .before .before .before .if1 .taken))),
+      ((exponents-8 l, (z .leads-long, z .coefficients-long)), work-128 q),
     )
 
 add-r : tie.Need-add-r Inv-loop μ-loop
@@ -148,7 +148,7 @@ same-length-4 : tie.Need-same-length-4 Inv-loop μ-loop
 same-length-4 c =
     let j = c .before .before .before .before .before .before .before .before in
     let t = start (above j) in
-    sizes j .rows-long ∙ sym (zeros-long (t .args .rows .now) 8192 (t .pre .1 .1 .0))
+    sizes j .rows-long ∙ sym (t .pre .1 .1 .0)
 
 same-length-5 : tie.Need-same-length-5 Inv-loop μ-loop
 same-length-5 c =

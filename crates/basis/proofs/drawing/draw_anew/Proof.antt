@@ -1,5 +1,5 @@
 -- `drawing::draw_anew` meets its contract: three tables of their sizes are cleared, and drawn up.
-use mathlib.Core.Path.{_≡_, refl, ap, _∙_}
+use mathlib.Core.Path.{_≡_, ap, _∙_}
 use mathlib.Core.List.{List}
 use Prim.Native.Nat.{ℕ}
 use lib.ListN.{length, replicate}
@@ -19,12 +19,6 @@ clear-requires-2 c κs = tt
 clear-requires-3 : tie.Need-clear-requires-3
 clear-requires-3 c κs = tt
 
-slice-aggregate-draw : tie.Need-slice-aggregate-draw
-slice-aggregate-draw c = refl
-
-slice-aggregate-draw-2 : tie.Need-slice-aggregate-draw-2
-slice-aggregate-draw-2 c = refl
-
 -- the three calls before, one from the next, and where the parameters come in
 module _ (k : tie.After-clear3) where
   abbrev second : tie.After-clear2
@@ -34,29 +28,38 @@ module _ (k : tie.After-clear3) where
   first = second .before .before .before .before
 
   abbrev s : tie.Start
-  s = first .before .before .before .before .before .before
+  s = first .before .before .before .before .before .before .before .before
 
 draw-requires : tie.Need-draw-requires
 draw-requires c κs =
     let k = c .before .before .before .before .before .before .before in
     let o = s k in
-    (o .pre .0, ((blank 512 (o .args .standard .now) _ (o .pre .1 .0) (first k .clear .ensures), (blank 3592 (o .args .leads .now) _ (o .pre .1 .1 .0) (second k .clear2 .ensures), blank 28736 (o .args .coefficients .now) _ (o .pre .1 .1 .1) (k .clear3 .ensures))), (refl, refl)))
+    (o .pre .0, ((blank 512 (o .args .standard .now) _ (o .pre .1 .0 .0) (first k .clear .ensures), (blank 3592 (o .args .leads .now) _ (o .pre .1 .0 .1 .0) (second k .clear2 .ensures), blank 28736 (o .args .coefficients .now) _ (o .pre .1 .0 .1 .1) (k .clear3 .ensures))), o .pre .1 .1))
 
--- the clearing before the drawing
+-- the drawing, and the clearing before it
+abbrev drawing : tie.After-slice-known13 → tie.After-draw
+drawing c = c .before .before .before .before .before .before .before .before .before .before
+
 abbrev cleared : tie.After-draw → tie.After-clear3
 cleared d = d .before .before .before .before .before .before .before .before
 
 same-length : tie.Need-same-length
-same-length c = let d = c .before .before .before .before .before .before .before .before in d .draw .kept .1 .1 .1 .0 ∙ first (cleared d) .clear .kept .0
+same-length c = let d = drawing c in d .draw .kept .1 .1 .1 .0 ∙ first (cleared d) .clear .kept .0
 
 same-length-2 : tie.Need-same-length-2
-same-length-2 c = let d = c .before .before .before .before .before .before .before .before in d .draw .kept .1 .1 .1 .1 .0 ∙ second (cleared d) .clear2 .kept .0
+same-length-2 c = let d = drawing c in d .draw .kept .1 .1 .1 .1 .0 ∙ second (cleared d) .clear2 .kept .0
 
 same-length-3 : tie.Need-same-length-3
-same-length-3 c = let d = c .before .before .before .before .before .before .before .before in d .draw .kept .1 .1 .1 .1 .1 .0 ∙ cleared d .clear3 .kept .0
+same-length-3 c = let d = drawing c in d .draw .kept .1 .1 .1 .1 .1 .0 ∙ cleared d .clear3 .kept .0
+
+same-length-4 : tie.Need-same-length-4
+same-length-4 c = drawing c .draw .kept .1 .1 .1 .1 .1 .1 .0
+
+same-length-5 : tie.Need-same-length-5
+same-length-5 c = drawing c .draw .kept .1 .1 .1 .1 .1 .1 .1 .0
 
 returns : tie.Need-returns
-returns c = c .before .before .before .before .before .before .before .before .draw .ensures .tabled
+returns c = drawing c .draw .ensures .tabled
 
 pub draw-anew-spec : {M : Type 1} → statement M
 draw-anew-spec =
@@ -65,10 +68,10 @@ draw-anew-spec =
     clear-requires
     clear-requires-2
     clear-requires-3
-    slice-aggregate-draw
-    slice-aggregate-draw-2
     draw-requires
     same-length
     same-length-2
     same-length-3
+    same-length-4
+    same-length-5
     returns)

@@ -19,14 +19,14 @@ module _ (s : tie.Start) where
   tables = fourTables (s .args .states .now) (s .args .standard .now) (s .args .leads .now) (s .args .coefficients .now)
 
   large : Large tables
-  large = large-of tables (s .pre .1)
+  large = large-of tables (s .pre .1 .0)
 
 -- the points are copied
 abbrev start : tie.After-copy → tie.Start
-start k = k .before .before .before .before .before .before .before
+start k = k .before .before .before .before .before .before .before .before .before
 
 copy-requires : tie.Need-copy-requires
-copy-requires c κs = let s = c .before .before .before .before .before .before in omega (arith, points-long (s .pre .0), large s .states)
+copy-requires c κs = let s = c .before .before .before .before .before .before .before .before in omega (arith, points-long (s .pre .0), large s .states)
 
 slice-relend-prefix-draw-anew : tie.Need-slice-relend-prefix-draw-anew
 slice-relend-prefix-draw-anew c = large (start (c .before .before)) .standard
@@ -48,13 +48,13 @@ slice-aggregate-draw-anew-3 c = let s = start (c .before .before .before .before
 
 draw-anew-requires : tie.Need-draw-anew-requires
 draw-anew-requires c κs =
-    let s = start (c .before .before .before .before .before) in
-    (s .pre .0, (length-take-le 512 (s .args .standard .now) (large s .standard), (length-take-le 3592 (s .args .leads .now) (large s .leads), length-take-le 28736 (s .args .coefficients .now) (large s .coefficients))))
+    let s = start (c .before .before .before .before .before .before .before) in
+    (s .pre .0, ((length-take-le 512 (s .args .standard .now) (large s .standard), (length-take-le 3592 (s .args .leads .now) (large s .leads), length-take-le 28736 (s .args .coefficients .now) (large s .coefficients))), s .pre .1 .1))
 
 -- the fronts are drawn up
 module _ (d : tie.After-draw-anew) where
   abbrev copied : tie.After-copy
-  copied = d .before .before .before .before .before .before
+  copied = d .before .before .before .before .before .before .before .before
 
   abbrev o : tie.Start
   o = start copied
@@ -71,14 +71,14 @@ module _ (d : tie.After-draw-anew) where
   abbrev coefficients : List ℕ
   coefficients = d .draw-anew .last .1 .1 .1 .1 .1 .0
 
-abbrev drawing : tie.After-slice-known8 → tie.After-draw-anew
-drawing c = c .before .before .before .before .before .before
+abbrev drawing : tie.After-slice-known12 → tie.After-draw-anew
+drawing c = c .before .before .before .before .before .before .before .before .before .before
 
-cast-t18 : tie.Need-cast-t18
-cast-t18 c = omega (arith, o (drawing c) .pre .0 .most)
+cast-t24 : tie.Need-cast-t24
+cast-t24 c = omega (arith, o (drawing c) .pre .0 .most)
 
-cast-t19 : tie.Need-cast-t19
-cast-t19 c = let d = drawing c in omega (arith, d .draw-anew .ensures .row-count, few-drawn (o d .pre .0))
+cast-t25 : tie.Need-cast-t25
+cast-t25 c = let d = drawing c in omega (arith, d .draw-anew .ensures .row-count, few-drawn (o d .pre .0))
 
 same-length : tie.Need-same-length
 same-length c = copied (drawing c) .copy .kept .1 .0
@@ -91,6 +91,12 @@ same-length-3 c = let d = drawing c in length-front (o d .args .leads .now) (lea
 
 same-length-4 : tie.Need-same-length-4
 same-length-4 c = let d = drawing c in length-front (o d .args .coefficients .now) (coefficients d) 28736 (d .draw-anew .kept .1 .1 .1 .1 .1 .0)
+
+same-length-5 : tie.Need-same-length-5
+same-length-5 c = drawing c .draw-anew .kept .1 .1 .1 .1 .1 .1 .0
+
+same-length-6 : tie.Need-same-length-6
+same-length-6 c = drawing c .draw-anew .kept .1 .1 .1 .1 .1 .1 .1 .0
 
 returns : tie.Need-returns
 unfolding tablesOf
@@ -112,10 +118,12 @@ draw-points-spec =
     slice-relend-prefix-draw-anew-3
     slice-aggregate-draw-anew-3
     draw-anew-requires
-    cast-t18
-    cast-t19
+    cast-t24
+    cast-t25
     same-length
     same-length-2
     same-length-3
     same-length-4
+    same-length-5
+    same-length-6
     returns)

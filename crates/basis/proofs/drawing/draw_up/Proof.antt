@@ -175,12 +175,18 @@ returns-3 c =
 slice-aggregate-draw-points : tie.Need-slice-aggregate-draw-points
 slice-aggregate-draw-points c = sym (c .before .before .before .before .before .put-points .kept .1 .1 .1 .1 .0)
 
+slice-aggregate-draw-points-2 : tie.Need-slice-aggregate-draw-points-2
+slice-aggregate-draw-points-2 c = refl
+
+slice-aggregate-draw-points-3 : tie.Need-slice-aggregate-draw-points-3
+slice-aggregate-draw-points-3 c = refl
+
 draw-points-requires : tie.Need-draw-points-requires
-draw-points-requires c κs = let g = c .before .before .before .before .before in (ready g, room (x g) .long)
+draw-points-requires c κs = let g = c .before .before .before .before .before .before .before in (ready g, (room (x g) .long, (refl, refl)))
 
 -- after the drawing
-abbrev drawing : tie.After-slice-known8 → tie.After-draw-points
-drawing c = c .before .before .before .before .before .before .before .before
+abbrev drawing : tie.After-pivots2 → tie.After-draw-points
+drawing c = c .before .before .before .before .before .before .before .before .before .before
 
 same-length : tie.Need-same-length
 same-length c = drawing c .draw-points .kept .1 .1 .1 .0
@@ -197,7 +203,7 @@ same-length-4 c = drawing c .draw-points .kept .1 .1 .1 .1 .1 .1 .0
 returns-4 : tie.Need-returns-4
 returns-4 c =
     let d = drawing c in
-    let g = d .before .before .before .before .before .before in
+    let g = d .before .before .before .before .before .before .before .before in
     let z = s (x g) in
     d .draw-points .ensures ∙ ap (λ (K : List (List ℕ)). holding (z .args .settings) K (tables z)) (back g)
     ∙ draw-good (z .args .settings) (tables z) (levels (x g)) (fine (x g)) (range (f (w g))) (once g)
@@ -221,6 +227,8 @@ draw-up-spec =
     refused-requires-3
     returns-3
     slice-aggregate-draw-points
+    slice-aggregate-draw-points-2
+    slice-aggregate-draw-points-3
     draw-points-requires
     same-length
     same-length-2

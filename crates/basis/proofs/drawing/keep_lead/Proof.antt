@@ -7,7 +7,6 @@ use native.Mathlib.Omega.{arith}
 use borrow.Rule.Slice.PartMut.{same-len-mid}
 use lib.ListN.{length, take, drop}
 use Rattle.residue.specs.Layout.{over}
-use Rattle.residue.proofs.vector.Vectors.{below-take, below-drop}
 use Rattle.residue.proofs.Replaced.{put-place, part-long}
 use Rattle.basis.proofs.drawing.keep_lead.Statement.{statement}
 use Rattle.basis.proofs.drawing.keep_lead.Tie as tie
@@ -46,41 +45,33 @@ mul-from c = omega arith
 add-end : tie.Need-add-end
 add-end c = omega arith
 
-mul-narrow : tie.Need-mul-narrow
-mul-narrow c = omega arith
+sub-copy-2 : tie.Need-sub-copy-2
+sub-copy-2 c = omega arith
 
-sub-narrow : tie.Need-sub-narrow
-sub-narrow c = omega arith
+part-copy-start-2 : tie.Need-part-copy-start-2
+part-copy-start-2 c = omega arith
 
-part-narrow-start : tie.Need-part-narrow-start
-part-narrow-start c = omega arith
+part-copy-end-2 : tie.Need-part-copy-end-2
+part-copy-end-2 c = omega arith
 
-part-narrow-end : tie.Need-part-narrow-end
-part-narrow-end c = omega arith
+add-copy-2 : tie.Need-add-copy-2
+add-copy-2 c = omega arith
 
-add-narrow : tie.Need-add-narrow
-add-narrow c = omega arith
+sub-copy-3 : tie.Need-sub-copy-3
+sub-copy-3 c = omega arith
 
-sub-narrow-2 : tie.Need-sub-narrow-2
-sub-narrow-2 c = omega arith
+part-copy-start-3 : tie.Need-part-copy-start-3
+part-copy-start-3 c = omega arith
 
-part-narrow-start-2 : tie.Need-part-narrow-start-2
-part-narrow-start-2 c = omega arith
+part-copy-end-3 : tie.Need-part-copy-end-3
+part-copy-end-3 c = omega arith
 
-part-narrow-end-2 : tie.Need-part-narrow-end-2
-part-narrow-end-2 c = omega arith
-
-narrow-requires : tie.Need-narrow-requires
-narrow-requires c κs =
+copy-requires-2 : tie.Need-copy-requires-2
+copy-requires-2 c κs =
     let s = c .before .before .before .before .before .before .before .before .before .before in
     let h = s .pre .0 in
-    let l = s .pre .1 .0 .1 in (
-      h .0,
-      (
-        row-fits (s .args .n) (s .args .found) (s .args .r) (s .args .work .now) (s .args .coefficients .now) (h .1 .0) (h .1 .1 .0) (h .1 .1 .1) (s .pre .1 .1 .0) (l .1),
-        below-take (s .args .p) (s .args .n + s .args .found - s .args .n) (drop (s .args .n) (s .args .work .now)) (below-drop (s .args .p) (s .args .n) (s .args .work .now) (s .pre .1 .1 .1)),
-      ),
-    )
+    let l = s .pre .1 .0 .1 in
+    row-fits (s .args .n) (s .args .found) (s .args .r) (s .args .work .now) (s .args .coefficients .now) (h .0) (h .1 .0) (h .1 .1) (s .pre .1 .1) (l .1)
 
 same-length : tie.Need-same-length
 same-length c =
@@ -92,7 +83,7 @@ same-length-2 : tie.Need-same-length-2
 same-length-2 c =
     let a = start c .args in
     let called = c .before .before in
-    same-len-mid (64 * a .r) (64 * a .r + 64 - 64 * a .r) (a .coefficients .now) (called .narrow .last .1 .1 .0) (called .narrow .kept .1 .1 .0)
+    same-len-mid (64 * a .r) (64 * a .r + 64 - 64 * a .r) (a .coefficients .now) (called .copy2 .last .1 .0) (called .copy2 .kept .1 .0)
 
 returns : tie.Need-returns
 returns c =
@@ -100,7 +91,7 @@ returns c =
     let k : ℕ = 64 * a .r + 64 - 64 * a .r in (
       put-place 8 (a .r) (8 * a .r + 8 - 8 * a .r) (a .exponents .now) (a .leads .now) (add-sub-cancel-left (8 * a .r) 8) (c .before .before .before .before .before .before .before .copy .ensures),
       put-place 64 (a .r) k (take (a .found) (drop (a .n) (a .work .now))) (a .coefficients .now) (add-sub-cancel-left (64 * a .r) 64)
-          (c .before .before .narrow .ensures ∙ ap (λ (j : ℕ). over (take j (drop (a .n) (a .work .now))) (take k (drop (64 * a .r) (a .coefficients .now)))) (add-sub-cancel-left (a .n) (a .found))),
+          (c .before .before .copy2 .ensures ∙ ap (λ (j : ℕ). over (take j (drop (a .n) (a .work .now))) (take k (drop (64 * a .r) (a .coefficients .now)))) (add-sub-cancel-left (a .n) (a .found))),
     )
 
 pub keep-lead-spec : {M : Type 1} → statement M
@@ -115,15 +106,14 @@ keep-lead-spec =
     copy-requires
     mul-from
     add-end
-    mul-narrow
-    sub-narrow
-    part-narrow-start
-    part-narrow-end
-    add-narrow
-    sub-narrow-2
-    part-narrow-start-2
-    part-narrow-end-2
-    narrow-requires
+    sub-copy-2
+    part-copy-start-2
+    part-copy-end-2
+    add-copy-2
+    sub-copy-3
+    part-copy-start-3
+    part-copy-end-3
+    copy-requires-2
     same-length
     same-length-2
     returns)

@@ -58,9 +58,6 @@ mul-from c = omega arith
 add-copy-2 : tie.Need-add-copy-2
 add-copy-2 c = omega arith
 
-mul-copy : tie.Need-mul-copy
-mul-copy c = omega arith
-
 sub-copy-2 : tie.Need-sub-copy-2
 sub-copy-2 c = omega arith
 
@@ -139,7 +136,6 @@ keep-standard-spec =
     slice-write-ranks
     mul-from
     add-copy-2
-    mul-copy
     sub-copy-2
     part-copy-start-2
     part-copy-end-2

@@ -49,9 +49,6 @@ mul-from c = omega arith
 add-copy : tie.Need-add-copy
 add-copy c = omega arith
 
-mul-copy : tie.Need-mul-copy
-mul-copy c = omega arith
-
 sub-copy : tie.Need-sub-copy
 sub-copy c = omega arith
 
@@ -75,9 +72,6 @@ slice-aggregate-multiply c = sym (front-long (c .before .before .before))
 
 add-multiply : tie.Need-add-multiply
 add-multiply c = omega arith
-
-mul-multiply : tie.Need-mul-multiply
-mul-multiply c = omega arith
 
 sub-multiply : tie.Need-sub-multiply
 sub-multiply c = omega arith
@@ -121,7 +115,6 @@ put-values-spec =
     (tie.spec
     mul-from
     add-copy
-    mul-copy
     sub-copy
     part-copy-start
     part-copy-end
@@ -130,7 +123,6 @@ put-values-spec =
     slice-relend-prefix-multiply
     slice-aggregate-multiply
     add-multiply
-    mul-multiply
     sub-multiply
     part-multiply-start
     part-multiply-end

@@ -1,7 +1,6 @@
 -- `points::put_reduced` meets its contract. The loop has written the remainders before i.
 use mathlib.Core.Path.{_≡_, _∙_}
 use Prim.Native.Nat.{ℕ, _%_, _≤_, _-_}
-use native.Mathlib.Nat.{mod-lt}
 use native.Mathlib.Omega.{arith}
 use lib.ListN.{length, getD}
 use Rattle.residue.proofs.vector.Filled.{filled, filled-none, kept-length, filled-more}
@@ -10,15 +9,15 @@ use Rattle.basis.proofs.points.put_reduced.Statement.{statement}
 use Rattle.basis.proofs.points.put_reduced.Tie as tie
 
 abbrev Inv-loop : tie.InvT-loop
-Inv-loop p from to₀ reciprocal i₀ i-end to i = (i ≤ length from) × (to ≡ filled (λ k. getD from k 0 % p) i to₀)
+Inv-loop p from to₀ i₀ i-end to i = (i ≤ length from) × (to ≡ filled (λ k. getD from k 0 % p) i to₀)
 
 abbrev μ-loop : tie.MeasureT-loop
-μ-loop p from to₀ reciprocal i₀ i-end to i = length from - i
+μ-loop p from to₀ i₀ i-end to i = length from - i
 
 -- at the loop's head
 module _ (l : tie.At-loop Inv-loop μ-loop) where
   abbrev start : tie.Start Inv-loop μ-loop
-  start = l .before .before .before .before
+  start = l .before .before .before
 
   abbrev g : ℕ → ℕ
   g k = getD (start .args .from .now) k 0 % start .args .p
@@ -26,26 +25,14 @@ module _ (l : tie.At-loop Inv-loop μ-loop) where
   long : length (l .loop .to) ≡ length (start .args .to .now)
   long = kept-length g (l .loop .i) (start .args .to .now) (l .loop .to) (l .loop .inv .1)
 
-reciprocal-requires : tie.Need-reciprocal-requires Inv-loop μ-loop
-reciprocal-requires c κs = omega arith
-
 loop-holds : tie.Need-loop-holds Inv-loop μ-loop
 loop-holds c = (omega arith, filled-none _ _)
 
 shared-slice-read-reduce : tie.Need-shared-slice-read-reduce Inv-loop μ-loop
 shared-slice-read-reduce c = omega arith
 
-cast-reduce : tie.Need-cast-reduce Inv-loop μ-loop
-cast-reduce c = omega (arith, c .shared-slice-known2 .given (c .before .before .loop .i))
-
 reduce-requires : tie.Need-reduce-requires Inv-loop μ-loop
-reduce-requires c κs = let r = c .before .before .before in (omega arith, r .reciprocal .ensures)
-
-cast-to : tie.Need-cast-to Inv-loop μ-loop
-cast-to c =
-    let s = start (c .before .before .before) in
-    let b = mod-lt (getD (s .args .from .now) (c .before .before .before .loop .i) 0) {m = s .args .p} (omega arith) in
-    omega (arith, c .reduce .ensures)
+reduce-requires c κs = start (c .before .before) .pre .0
 
 slice-write-to : tie.Need-slice-write-to Inv-loop μ-loop
 slice-write-to c = omega (arith, long (c .before .before .before))
@@ -76,12 +63,9 @@ put-reduced-spec =
     (tie.spec
     Inv-loop
     μ-loop
-    reciprocal-requires
     loop-holds
     shared-slice-read-reduce
-    cast-reduce
     reduce-requires
-    cast-to
     slice-write-to
     add-i
     loop-less

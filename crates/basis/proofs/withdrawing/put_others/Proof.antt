@@ -1,6 +1,6 @@
 -- `withdrawing::put_others` meets its contract: the place of the point decides.
 use borrow.Author.Needs.{needs}
-use mathlib.Core.Path.{_≡_, refl, sym, ap, ap₂, _∙_}
+use mathlib.Core.Path.{_≡_, sym, ap, ap₂, _∙_}
 use mathlib.Core.List.{List}
 use Prim.Native.Nat.{ℕ, _<_}
 use native.Mathlib.Omega.{arith}
@@ -27,28 +27,28 @@ module _ (s : tie.Start) where
   P = residues (s .args .settings .modulus) (s .args .levels .now)
 
   abbrev S : List (List ℕ)
-  S = pointsIn (s .args .settings) (s .args .n) (s .args .states .now)
+  S = pointsIn (s .args .settings) (s .args .n) (s .args .points .now)
 
   long : length (s .args .levels .now) ≡ s .args .settings .variables
-  long = s .pre .1 .1
+  long = s .pre .1 .1 .0
 
--- the table of the points and the place of the named one
+-- the table of the points and the named one
 module _ (c : tie.After-point3) where
   abbrev start : tie.Start
-  start = c .before .before .before .before .before .before .before .before .before .before .before
+  start = c .before .before .before .before .before .before .before
 
   abbrev table : List ℕ
-  table = c .before .before .before .before .before .before .before .read-points .last .1 .1 .1 .0
+  table = start .args .points .now
 
   abbrev point : List ℕ
-  point = c .before .before .before .put-residues .last .1 .1 .0
+  point = c .before .before .put-residues .last .1 .1 .0
 
   is-table : table ≡ fill 512 (inPlaces 8 (S start))
-  is-table = c .before .before .before .before .before .before .before .read-points .ensures
+  is-table = start .pre .1 .0
 
   is-point : point ≡ fill 8 (P start)
   is-point =
-      c .before .before .before .put-residues .ensures
+      c .before .before .put-residues .ensures
       ∙ over-zeros (P start) 8 (omega (arith, length-residues (start .args .settings .modulus) (start .args .levels .now), long start, ok start .few))
 
 -- where it stands
@@ -59,31 +59,22 @@ module _ (q : tie.After-place-of) where
   place : q .place-of .result ≡ placeIn (P s) (S s)
   place =
       q .place-of .ensures
-      ∙ place-is (s .args .settings) (ok s) (s .args .n) (s .pre .0 .1) (s .args .states .now) (s .args .levels .now) (long s) (table (q .before)) (point (q .before)) (is-table (q .before)) (is-point (q .before))
+      ∙ place-is (s .args .settings) (ok s) (s .args .n) (s .pre .0 .1) (s .args .points .now) (s .args .levels .now) (long s) (table (q .before)) (point (q .before)) (is-table (q .before)) (is-point (q .before))
 
   before-end : (q .place-of .result ≡ s .args .n → ⊥) → placeIn (P s) (S s) < s .args .n
-  before-end e = there (s .args .settings) (ok s) (s .args .n) (s .pre .0 .1) (s .args .states .now) (s .args .levels .now) (long s) (λ z. e (place ∙ z))
-
-slice-aggregate-read-points : tie.Need-slice-aggregate-read-points
-slice-aggregate-read-points c = search needs
-
-read-points-requires : tie.Need-read-points-requires
-read-points-requires c κs = let s = c .before .before .before in let m = modulus-range (s .args .settings .modulus) (ok s .modulus) in ((omega (arith, m), omega (arith, m), ok s .few), ((s .pre .0 .1, s .pre .1 .0), refl))
+  before-end e = there (s .args .settings) (ok s) (s .args .n) (s .pre .0 .1) (s .args .points .now) (s .args .levels .now) (long s) (λ z. e (place ∙ z))
 
 cast-put-residues : tie.Need-cast-put-residues
-cast-put-residues c = let s = c .before .before .before .before .before .before in omega (arith, modulus-range (s .args .settings .modulus) (ok s .modulus))
+cast-put-residues c = let s = c .before .before .before in omega (arith, modulus-range (s .args .settings .modulus) (ok s .modulus))
 
 slice-aggregate-put-residues : tie.Need-slice-aggregate-put-residues
 slice-aggregate-put-residues c = search needs
 
 put-residues-requires : tie.Need-put-residues-requires
-put-residues-requires c κs = let s = c .before .before .before .before .before .before .before in omega (arith, long s, ok s .few)
+put-residues-requires c κs = let s = c .before .before .before .before in omega (arith, long s, ok s .few)
 
 slice-aggregate-place-of : tie.Need-slice-aggregate-place-of
 slice-aggregate-place-of c = search needs
-
-slice-aggregate-place-of-2 : tie.Need-slice-aggregate-place-of-2
-slice-aggregate-place-of-2 c = search needs
 
 place-of-requires : tie.Need-place-of-requires
 place-of-requires c κs = (omega (arith, ap length (is-table c) ∙ length-fill 512 _, start c .pre .0 .1), ap length (is-point c) ∙ length-fill 8 _)
@@ -92,45 +83,38 @@ returns : tie.Need-returns
 returns c =
     let q = c .before in
     let s = s q in
-    (absent (s .args .settings) (ok s) (s .args .n) (s .pre .0 .1) (s .args .states .now) (s .args .levels .now) (long s) (sym (place q) ∙ c .if1 .taken), λ z. absurd (omega arith))
-
-slice-aggregate-take-out : tie.Need-slice-aggregate-take-out
-slice-aggregate-take-out c = search needs
+    (absent (s .args .settings) (ok s) (s .args .n) (s .pre .0 .1) (s .args .points .now) (s .args .levels .now) (long s) (sym (place q) ∙ c .if1 .taken), λ z. absurd (omega arith))
 
 take-out-requires : tie.Need-take-out-requires
 take-out-requires c κs =
-    let q = c .before .before .before in
+    let q = c .before .before in
     let s = s q in
-    ((omega (arith, place q, before-end q (c .before .before .if1 .left)), omega (arith, ap length (is-table (q .before)) ∙ length-fill 512 _, s .pre .0 .1)), omega (arith, ap length (s .pre .1 .2), s .pre .0 .1))
+    ((omega (arith, place q, before-end q (c .before .if1 .left)), omega (arith, ap length (is-table (q .before)) ∙ length-fill 512 _, s .pre .0 .1)), omega (arith, ap length (s .pre .1 .1 .1), s .pre .0 .1))
 
 same-length : tie.Need-same-length
 same-length c = search needs
 
 returns-2 : tie.Need-returns-2
 returns-2 c =
-    let q = c .before .before .before .before .before .before in
+    let q = c .before .before .before .before .before in
     let s = s q in
-    let h = before-end q (c .before .before .before .before .before .if1 .left) in (
-      present (s .args .settings) (ok s) (s .args .n) (s .pre .0 .1) (s .args .states .now) (s .args .levels .now) (long s) h,
+    let h = before-end q (c .before .before .before .before .if1 .left) in (
+      present (s .args .settings) (ok s) (s .args .n) (s .pre .0 .1) (s .args .points .now) (s .args .levels .now) (long s) h,
       λ z. c .before .before .take-out .ensures
-          ∙ ap₂ (λ (k : ℕ) (l : List ℕ). over (takenOut 8 (s .args .n) k (table (q .before))) l) (place q) (s .pre .1 .2)
-          ∙ left-is (s .args .settings) (ok s) (s .args .n) (s .pre .0 .1) (s .args .states .now) (s .args .levels .now) (long s) (table (q .before)) (is-table (q .before)) h,
+          ∙ ap₂ (λ (k : ℕ) (l : List ℕ). over (takenOut 8 (s .args .n) k (table (q .before))) l) (place q) (s .pre .1 .1 .1)
+          ∙ left-is (s .args .settings) (ok s) (s .args .n) (s .pre .0 .1) (s .args .points .now) (s .args .levels .now) (long s) (table (q .before)) (is-table (q .before)) h,
     )
 
 pub put-others-spec : {M : Type 1} → statement M
 put-others-spec =
     tie.close
     (tie.spec
-    slice-aggregate-read-points
-    read-points-requires
     cast-put-residues
     slice-aggregate-put-residues
     put-residues-requires
     slice-aggregate-place-of
-    slice-aggregate-place-of-2
     place-of-requires
     returns
-    slice-aggregate-take-out
     take-out-requires
     same-length
     returns-2)

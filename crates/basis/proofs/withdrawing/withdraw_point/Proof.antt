@@ -1,6 +1,6 @@
 -- `withdrawing::withdraw_point` meets its contract: refused, or the points that remain are drawn up.
 use borrow.Author.Needs.{needs}
-use mathlib.Core.Path.{_≡_, sym, _∙_}
+use mathlib.Core.Path.{_≡_, refl, sym, _∙_}
 use mathlib.Core.List.{List}
 use Prim.Native.Nat.{ℕ}
 use native.Mathlib.Omega.{arith}
@@ -17,12 +17,12 @@ abbrev tables : tie.Start → Tables
 tables s = fourTables (s .args .states .now) (s .args .standard .now) (s .args .leads .now) (s .args .coefficients .now)
 
 abbrev start : tie.After-withdraw-refusal → tie.Start
-start w = w .before .before .before .before .before .before .before .before .before .before
+start w = w .before .before .before .before .before .before .before .before .before .before .before .before
 
 -- nothing refuses
 module _ (e : tie.Else1) where
   abbrev w : tie.After-withdraw-refusal
-  w = e .before .before
+  w = e .before .before .before .before
 
   abbrev s : tie.Start
   s = start w
@@ -36,8 +36,14 @@ module _ (e : tie.Else1) where
 slice-aggregate-withdraw-refusal : tie.Need-slice-aggregate-withdraw-refusal
 slice-aggregate-withdraw-refusal c = search needs
 
+slice-aggregate-withdraw-refusal-2 : tie.Need-slice-aggregate-withdraw-refusal-2
+slice-aggregate-withdraw-refusal-2 c = search needs
+
+slice-aggregate-withdraw-refusal-3 : tie.Need-slice-aggregate-withdraw-refusal-3
+slice-aggregate-withdraw-refusal-3 c = search needs
+
 withdraw-refusal-requires : tie.Need-withdraw-refusal-requires
-withdraw-refusal-requires c κs = search needs
+withdraw-refusal-requires c κs = (refl, (refl, refl))
 
 refused-requires : tie.Need-refused-requires
 refused-requires c κs = search needs
@@ -56,7 +62,7 @@ same-length-4 c = search needs
 
 returns : tie.Need-returns
 returns c =
-    let w = c .before .before .before in
+    let w = c .before .before .before .before .before in
     let s = start w in
     alone (c .refused .ensures) (tables s)
     ∙ withdraw-refused (s .args .settings) (s .args .n) (s .args .r) (tables s) (s .args .levels .now) (w .withdraw-refusal .result) (w .withdraw-refusal .ensures .0) (c .before .if1 .taken)
@@ -67,12 +73,18 @@ sub-draw-points c = let s = s c in open-of (s .args .settings) (s .args .n) (s .
 slice-aggregate-draw-points : tie.Need-slice-aggregate-draw-points
 slice-aggregate-draw-points c = search needs
 
+slice-aggregate-draw-points-2 : tie.Need-slice-aggregate-draw-points-2
+slice-aggregate-draw-points-2 c = search needs
+
+slice-aggregate-draw-points-3 : tie.Need-slice-aggregate-draw-points-3
+slice-aggregate-draw-points-3 c = search needs
+
 draw-points-requires : tie.Need-draw-points-requires
 draw-points-requires c κs =
-    let e = c .before .before .before .before .before in
+    let e = c .before .before .before .before .before .before .before in
     let s = s e in (
       left-given (s .args .settings) (s .args .n) (s .args .r) (tables s) (s .args .levels .now) (none e) (left e) (w e .withdraw-refusal .ensures .1 (e .if1 .left)),
-      not-short (tables s) (open-of (s .args .settings) (s .args .n) (s .args .r) (tables s) (s .args .levels .now) (none e) .large),
+      (not-short (tables s) (open-of (s .args .settings) (s .args .n) (s .args .r) (tables s) (s .args .levels .now) (none e) .large), (w e .withdraw-refusal .kept .1 .1 .1 .1 .1 .1 .1 .1 .1 .0, w e .withdraw-refusal .kept .1 .1 .1 .1 .1 .1 .1 .1 .1 .1 .0)),
     )
 
 same-length-5 : tie.Need-same-length-5
@@ -89,8 +101,8 @@ same-length-8 c = search needs
 
 returns-2 : tie.Need-returns-2
 returns-2 c =
-    let d = c .before .before .before .before .before .before .before .before in
-    let e = d .before .before .before .before .before .before in
+    let d = c .before .before .before .before .before .before .before .before .before .before in
+    let e = d .before .before .before .before .before .before .before .before in
     let s = s e in
     d .draw-points .ensures
     ∙ withdraw-done (s .args .settings) (s .args .n) (s .args .r) (tables s) (s .args .levels .now) (none e) _
@@ -101,6 +113,8 @@ withdraw-point-spec =
     tie.close
     (tie.spec
     slice-aggregate-withdraw-refusal
+    slice-aggregate-withdraw-refusal-2
+    slice-aggregate-withdraw-refusal-3
     withdraw-refusal-requires
     refused-requires
     same-length
@@ -110,6 +124,8 @@ withdraw-point-spec =
     returns
     sub-draw-points
     slice-aggregate-draw-points
+    slice-aggregate-draw-points-2
+    slice-aggregate-draw-points-3
     draw-points-requires
     same-length-5
     same-length-6

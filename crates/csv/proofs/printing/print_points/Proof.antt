@@ -19,7 +19,7 @@ use Rattle.csv.specs.Appending.{Room, Put}
 use Rattle.csv.specs.printing.Lines.{basisLines, inTable}
 use Rattle.csv.specs.printing.Text.{linesOf}
 use Rattle.csv.proofs.appending.Appends.{put-within}
-use Rattle.csv.proofs.printing.PointsPrinted.{few, inside, told-room, told}
+use Rattle.csv.proofs.printing.PointsPrinted.{few, inside, multiplied, told-room, told}
 use Rattle.csv.proofs.printing.print_points.Statement.{statement}
 use Rattle.csv.proofs.printing.print_points.Tie as tie
 
@@ -132,6 +132,9 @@ slice-aggregate-draw-5 c = search needs
 draw-requires : tie.Need-draw-requires
 draw-requires c κs = (c .before .before .before .before .before .before .before .before .pre .0, ((refl, (refl, refl)), (refl, refl)))
 
+cast-solve-bytes : tie.Need-cast-solve-bytes
+cast-solve-bytes c = omega (arith, modulus-range _ (c .before .before .before .before .before .before .before .before .before .before .before .before .before .before .pre .0 .settings .modulus))
+
 slice-aggregate-solve-bytes : tie.Need-slice-aggregate-solve-bytes
 slice-aggregate-solve-bytes c = search needs
 
@@ -146,7 +149,7 @@ solve-bytes-requires c κs =
     let d = c .before .before .before .before .before .before .before .before in
     let s = start d in
     let u = d .draw .ensures .pivot-rows in
-    (modulus-range _ (s .pre .0 .settings .modulus), (s .pre .1 .0, ((s .pre .0 .most, u .long-rows, u .long-pivots), ((u .below, inside (under d) (s .args .n) (s .args .points .now) (s .args .values .now) (s .pre .0) (s .pre .1 .0 .0) (s .pre .1 .0 .1) (d .draw .result) (standard d) (leads d) (coefficients d) (rows d) (pivots d) (d .draw .ensures)), refl))))
+    (modulus-range _ (s .pre .0 .settings .modulus), (s .pre .1 .0, ((s .pre .0 .most, u .long-rows, u .long-pivots), ((multiplied (under d) (s .args .n) (s .args .points .now) (s .args .values .now) (s .pre .0) (s .pre .1 .0 .0) (s .pre .1 .0 .1) (d .draw .result) (standard d) (leads d) (coefficients d) (rows d) (pivots d) (d .draw .ensures), inside (under d) (s .args .n) (s .args .points .now) (s .args .values .now) (s .pre .0) (s .pre .1 .0 .0) (s .pre .1 .0 .1) (d .draw .result) (standard d) (leads d) (coefficients d) (rows d) (pivots d) (d .draw .ensures)), refl))))
 
 slice-aggregate-put-names : tie.Need-slice-aggregate-put-names
 slice-aggregate-put-names c = search needs
@@ -237,6 +240,7 @@ print-points-spec =
     slice-aggregate-draw-4
     slice-aggregate-draw-5
     draw-requires
+    cast-solve-bytes
     slice-aggregate-solve-bytes
     slice-aggregate-solve-bytes-2
     slice-aggregate-solve-bytes-3

@@ -13,11 +13,11 @@ use Rattle.basis.specs.Answers.{solution}
 use Rattle.csv.proofs.printing.solve_bytes.Statement.{statement}
 use Rattle.csv.proofs.printing.solve_bytes.Tie as tie
 
-slice-aggregate-widen : tie.Need-slice-aggregate-widen
-slice-aggregate-widen c = search needs
+slice-aggregate-copy : tie.Need-slice-aggregate-copy
+slice-aggregate-copy c = search needs
 
-widen-requires : tie.Need-widen-requires
-widen-requires c κs = search needs
+copy-requires : tie.Need-copy-requires
+copy-requires c κs = search needs
 
 slice-aggregate-solve : tie.Need-slice-aggregate-solve
 slice-aggregate-solve c = search needs
@@ -25,7 +25,7 @@ slice-aggregate-solve c = search needs
 solve-requires : tie.Need-solve-requires
 solve-requires c κs =
     let s = c .before .before .before .before .before .before .before .before .before in
-    let w = c .before .before .before .widen .ensures ∙ over-zeros (s .args .values .now) 128 (omega arith) in
+    let w = c .before .before .before .copy .ensures ∙ over-zeros (s .args .values .now) 128 (omega arith) in
     let l = ap (λ (z : List ℕ). length z) w ∙ length-fill 128 (s .args .values .now) in
     let o = ap (λ (z : List ℕ). length z) (s .pre .1 .1 .1 .1) in (
       s .pre .0,
@@ -43,11 +43,11 @@ same-length c = search needs
 
 returns : tie.Need-returns
 returns c =
-    let widened = c .before .before .before .before .before .before .before in
-    let s = widened .before .before .before .before .before .before in
-    let w = widened .widen .ensures ∙ over-zeros (s .args .values .now) 128 (omega arith) in
+    let copied = c .before .before .before .before .before .before .before in
+    let s = copied .before .before .before .before .before .before in
+    let w = copied .copy .ensures ∙ over-zeros (s .args .values .now) 128 (omega arith) in
     let o = ap (λ (z : List ℕ). length z) (s .pre .1 .1 .1 .1) in
-    let solved = fill 64 (solution (s .args .p) (s .args .n) (s .args .rows .now) (s .args .pivots .now) (widened .widen .last .1 .0)) in
+    let solved = fill 64 (solution (s .args .p) (s .args .n) (s .args .rows .now) (s .args .pivots .now) (copied .copy .last .1 .0)) in
     _∙_ {b = over solved (s .args .out .now)} (c .before .before .before .solve .ensures .1) (over-all solved (s .args .out .now) (length-fill 64 _ ∙ sym o))
     ∙ ap (λ (z : List ℕ). fill 64 (solution (s .args .p) (s .args .n) (s .args .rows .now) (s .args .pivots .now) z)) w
 
@@ -55,8 +55,8 @@ pub solve-bytes-spec : {M : Type 1} → statement M
 solve-bytes-spec =
     tie.close
     (tie.spec
-    slice-aggregate-widen
-    widen-requires
+    slice-aggregate-copy
+    copy-requires
     slice-aggregate-solve
     solve-requires
     same-length

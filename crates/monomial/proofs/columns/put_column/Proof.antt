@@ -31,12 +31,6 @@ add-column c = omega arith
 shared-slice-read-column : tie.Need-shared-slice-read-column Inv-loop μ-loop
 shared-slice-read-column c = omega arith
 
-cast-column : tie.Need-cast-column Inv-loop μ-loop
-cast-column c = omega (arith, c .shared-slice-known .given (8 * c .before .before .loop .i + c .before .before .before .args .k))
-
-mul-column-2 : tie.Need-mul-column-2 Inv-loop μ-loop
-mul-column-2 c = omega arith
-
 slice-write-column : tie.Need-slice-write-column Inv-loop μ-loop
 slice-write-column c = omega (arith, long (c .before .before))
 
@@ -74,8 +68,6 @@ put-column-spec =
     mul-column
     add-column
     shared-slice-read-column
-    cast-column
-    mul-column-2
     slice-write-column
     add-i
     loop-less

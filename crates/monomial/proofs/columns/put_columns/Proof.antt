@@ -29,9 +29,6 @@ mul-from c = omega arith
 add-put-column : tie.Need-add-put-column Inv-loop μ-loop
 add-put-column c = omega arith
 
-mul-put-column : tie.Need-mul-put-column Inv-loop μ-loop
-mul-put-column c = omega arith
-
 sub-put-column : tie.Need-sub-put-column Inv-loop μ-loop
 sub-put-column c = omega arith
 
@@ -77,7 +74,6 @@ put-columns-spec =
     loop-holds
     mul-from
     add-put-column
-    mul-put-column
     sub-put-column
     part-put-column-start
     part-put-column-end

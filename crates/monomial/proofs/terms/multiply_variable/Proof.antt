@@ -60,7 +60,7 @@ returns-2 c =
     let m = c .before .before .before in
     let r = m .before .before .before .before in
     let s = start r in
-    m .multiply-powers .ensures ∙ ap (powered (s .args .p) (s .args .e) (s .args .values .now)) (is-column r)
+    m .multiply-powers .ensures .0 ∙ ap (powered (s .args .p) (s .args .e) (s .args .values .now)) (is-column r)
 
 pub multiply-variable-spec : {M : Type 1} → statement M
 multiply-variable-spec =

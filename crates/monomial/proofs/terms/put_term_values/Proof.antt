@@ -49,9 +49,6 @@ mul-place c = omega arith
 shared-slice-read-c : tie.Need-shared-slice-read-c Inv-loop μ-loop
 shared-slice-read-c c = omega arith
 
-cast-c : tie.Need-cast-c Inv-loop μ-loop
-cast-c c = omega (arith, c .shared-slice-known4 .given (c .before .before .loop .i))
-
 add-add-term : tie.Need-add-add-term Inv-loop μ-loop
 add-add-term c = omega arith
 
@@ -117,7 +114,6 @@ put-term-values-spec =
     loop-holds
     mul-place
     shared-slice-read-c
-    cast-c
     add-add-term
     sub-add-term
     part-add-term-start

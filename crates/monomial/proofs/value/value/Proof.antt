@@ -12,27 +12,21 @@ use Rattle.monomial.proofs.value.value.Statement.{statement}
 use Rattle.monomial.proofs.value.value.Tie as tie
 
 abbrev Inv-loop : tie.InvT-loop
-Inv-loop p point a m product₀ i₀ product i = (i ≤ 8) × (product < p) × Mod p (product * valueAt (drop i point) (drop i a)) (valueAt point a)
+Inv-loop p point a product₀ i₀ product i = (i ≤ 8) × (product < p) × Mod p (product * valueAt (drop i point) (drop i a)) (valueAt point a)
 
 abbrev μ-loop : tie.MeasureT-loop
-μ-loop p point a m product₀ i₀ product i = 8 - i
+μ-loop p point a product₀ i₀ product i = 8 - i
 
 abbrev start : tie.At-loop Inv-loop μ-loop → tie.Start Inv-loop μ-loop
-start l = l .before .before .before .before
-
-reciprocal-requires : tie.Need-reciprocal-requires Inv-loop μ-loop
-reciprocal-requires c κs = omega arith
+start l = l .before .before .before
 
 loop-holds : tie.Need-loop-holds Inv-loop μ-loop
 loop-holds c =
-    let s = c .before .before .before in
+    let s = c .before .before in
     (omega arith, omega arith, of (one-mul (valueAt (s .args .point .now) (s .args .a .now))))
 
 shared-slice-read-power : tie.Need-shared-slice-read-power Inv-loop μ-loop
 shared-slice-read-power c = omega arith
-
-cast-power : tie.Need-cast-power Inv-loop μ-loop
-cast-power c = omega (arith, c .shared-slice-known3 .given (c .before .before .loop .i))
 
 shared-slice-read-power-2 : tie.Need-shared-slice-read-power-2 Inv-loop μ-loop
 shared-slice-read-power-2 c = omega arith
@@ -41,13 +35,13 @@ power-requires : tie.Need-power-requires Inv-loop μ-loop
 power-requires c κs =
     let l = c .before .before .before in
     let s = start l in
-    ((s .pre .0 .0, s .pre .0 .1, l .before .reciprocal .ensures), s .pre .1 .1 (l .loop .i) (omega arith))
+    ((s .pre .0 .0, s .pre .0 .1), s .pre .1 .1 (l .loop .i) (omega arith))
 
-reduced-product-requires : tie.Need-reduced-product-requires Inv-loop μ-loop
-reduced-product-requires c κs =
+mul-requires : tie.Need-mul-requires Inv-loop μ-loop
+mul-requires c κs =
     let l = c .before .before .before .before in
     let h : c .power .result < start l .args .p = rw (c .power .ensures) (mod-lt _ (omega arith)) in
-    ((omega arith, l .before .reciprocal .ensures), (omega arith, omega arith))
+    (omega arith, (omega arith, h))
 
 add-i : tie.Need-add-i Inv-loop μ-loop
 add-i c = omega arith
@@ -60,8 +54,8 @@ loop-again c =
     let l = c .before .before .before .before .before in
     let s = start l in (
       omega arith,
-      rw (c .reduced-product .ensures) (mod-lt _ (omega arith)),
-      rw (c .reduced-product .ensures)
+      rw (c .mul .ensures) (mod-lt _ (omega arith)),
+      rw (c .mul .ensures)
           (value-again (s .args .p) (s .args .point .now) (s .args .a .now) (l .loop .i) (l .loop .product) (l .loop .inv .2) (omega arith) (omega arith) (c .before .power .ensures)),
     )
 
@@ -77,13 +71,11 @@ value-spec =
     (tie.spec
     Inv-loop
     μ-loop
-    reciprocal-requires
     loop-holds
     shared-slice-read-power
-    cast-power
     shared-slice-read-power-2
     power-requires
-    reduced-product-requires
+    mul-requires
     add-i
     loop-less
     loop-again

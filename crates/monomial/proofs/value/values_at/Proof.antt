@@ -49,9 +49,6 @@ value-requires c κs =
     let s = l .before .before .before .before in
     (s .pre .0, ((s .pre .1 .1 .0, length-take-le (8 * l .loop .i + 8 - 8 * l .loop .i) (drop (8 * l .loop .i) (s .args .monomials .now)) (simp length-drop (omega arith)) ∙ omega arith), s .pre .1 .1 .1))
 
-mul-values : tie.Need-mul-values Inv-loop μ-loop
-mul-values c = omega arith
-
 slice-write-values : tie.Need-slice-write-values Inv-loop μ-loop
 slice-write-values c = omega (arith, long (c .before .before .before))
 
@@ -98,7 +95,6 @@ values-at-spec =
     part-value-start
     part-value-end
     value-requires
-    mul-values
     slice-write-values
     add-i
     loop-less

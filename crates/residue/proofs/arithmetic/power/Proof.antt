@@ -12,20 +12,20 @@ use Rattle.residue.proofs.arithmetic.power.Statement.{statement}
 use Rattle.residue.proofs.arithmetic.power.Tie as tie
 
 abbrev Inv-loop : tie.InvT-loop
-Inv-loop p m x e product₀ square₀ left₀ product square left =
+Inv-loop p x e product₀ square₀ left₀ product square left =
     (product < p) × ((square < p) × Mod p (product * square ^ left) (x ^ e))
 
 abbrev μ-loop : tie.MeasureT-loop
-μ-loop p m x e product₀ square₀ left₀ product square left = left
+μ-loop p x e product₀ square₀ left₀ product square left = left
 
 loop-holds : tie.Need-loop-holds Inv-loop μ-loop
 loop-holds c = (omega arith, (omega arith, of (omega arith)))
 
-reduced-product-requires : tie.Need-reduced-product-requires Inv-loop μ-loop
-reduced-product-requires c κs = let r = c .before .before .before in ((r .pre .0 .0, r .pre .0 .2), (omega arith, omega arith))
+mul-requires : tie.Need-mul-requires Inv-loop μ-loop
+mul-requires c κs = let r = c .before .before .before in (r .pre .0 .1, (omega arith, omega arith))
 
-reduced-product-requires-2 : tie.Need-reduced-product-requires-2 Inv-loop μ-loop
-reduced-product-requires-2 c κs = let r = c .before .before .before in ((r .pre .0 .0, r .pre .0 .2), (omega arith, omega arith))
+mul-requires-2 : tie.Need-mul-requires-2 Inv-loop μ-loop
+mul-requires-2 c κs = let r = c .before .before .before in (r .pre .0 .1, (omega arith, omega arith))
 
 loop-less : tie.Need-loop-less Inv-loop μ-loop
 loop-less c = omega arith
@@ -35,8 +35,8 @@ loop-again c =
     let l = c .before .before .before in
     let p = l .before .args .p in
     let two : 0 < p = omega arith in
-    let sq = c .reduced-product2 .ensures in
-    let low : c .reduced-product2 .result < p = rw sq (mod-lt _ two) in
+    let sq = c .mul2 .ensures in
+    let low : c .mul2 .result < p = rw sq (mod-lt _ two) in
     ⊎-elim
     (λ w. let e = w .2 ∙ w .1 .ensures in (rw e (mod-lt _ two), (low, odd _ _ _ (l .loop .inv .1 .1) sq (w .0 .taken) e)))
     (λ w. (rw (w .1) (l .loop .inv .0), (low, even _ _ _ (l .loop .inv .1 .1) sq (w .0 .left) (w .1))))
@@ -55,8 +55,8 @@ power-spec =
     Inv-loop
     μ-loop
     loop-holds
-    reduced-product-requires
-    reduced-product-requires-2
+    mul-requires
+    mul-requires-2
     loop-less
     loop-again
     returns)

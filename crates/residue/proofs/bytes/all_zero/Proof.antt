@@ -1,29 +1,27 @@
--- `bytes::all_zero` meets its contract: the entries from i on are all zero exactly where all are.
-use mathlib.Core.Path.{_≡_, refl, _∙_}
-use Prim.Native.Nat.{_-_, _≤_}
+-- `bytes::all_zero` meets its contract. The largest of the numbers before i is 0 exactly where they all are.
+use mathlib.Core.Path.{_≡_, ap, _∙_}
+use mathlib.Core.Logic.{⊎-elim}
+use Prim.Native.Nat.{ℕ, _-_, _≤_}
 use native.Mathlib.Omega.{arith}
-use lib.ListN.{length, drop}
+use lib.ListN.{length, take}
+use lib.Seq.{take-all}
+use lib.Dec.{eqb}
 use Rattle.residue.specs.Lists.{allZero}
-use Rattle.residue.proofs.rows.Zeros.{zero-on, zero-stop, zero-end}
+use Rattle.residue.proofs.rows.Zeros.{zero-none, zero-larger, zero-kept}
 use Rattle.residue.proofs.bytes.all_zero.Statement.{statement}
 use Rattle.residue.proofs.bytes.all_zero.Tie as tie
 
 abbrev Inv-loop : tie.InvT-loop
-Inv-loop a i₀ i-end i = (i ≤ length a) × (allZero (drop i a) ≡ allZero a)
+Inv-loop a largest₀ i₀ i-end largest i = (i ≤ length a) × (eqb largest 0 ≡ allZero (take i a))
 
 abbrev μ-loop : tie.MeasureT-loop
-μ-loop a i₀ i-end i = length a - i
+μ-loop a largest₀ i₀ i-end largest i = length a - i
 
 loop-holds : tie.Need-loop-holds Inv-loop μ-loop
-loop-holds c = (omega arith, refl)
+loop-holds c = (omega arith, zero-none)
 
-shared-slice-read-if1 : tie.Need-shared-slice-read-if1 Inv-loop μ-loop
-shared-slice-read-if1 c = omega arith
-
-returns : tie.Need-returns Inv-loop μ-loop
-returns c =
-    let l = c .before .before .before in
-    zero-stop (l .before .args .a .now) (l .loop .i) (omega arith) (c .if1 .taken) ∙ l .loop .inv .1
+shared-slice-read-x : tie.Need-shared-slice-read-x Inv-loop μ-loop
+shared-slice-read-x c = omega arith
 
 add-i : tie.Need-add-i Inv-loop μ-loop
 add-i c = omega arith
@@ -34,10 +32,17 @@ loop-less c = omega arith
 loop-again : tie.Need-loop-again Inv-loop μ-loop
 loop-again c =
     let l = c .before .before .before in
-    (omega arith, zero-on (l .before .args .a .now) (l .loop .i) (omega arith) (c .if1 .left) ∙ l .loop .inv .1)
+    let t = l .before .args .a .now in
+    ⊎-elim
+    (λ w. (omega arith, ap (λ (x : ℕ). eqb x 0) (w .1) ∙ zero-larger t (l .loop .i) (l .loop .largest) (omega arith) (l .loop .inv .1) (w .0 .taken)))
+    (λ w. (omega arith, ap (λ (x : ℕ). eqb x 0) (w .1) ∙ zero-kept t (l .loop .i) (l .loop .largest) (omega arith) (l .loop .inv .1) (w .0 .left)))
+    (c .if1 .came)
 
-returns-2 : tie.Need-returns-2 Inv-loop μ-loop
-returns-2 c = let l = c .before in zero-end (l .before .args .a .now) (l .loop .i) (omega arith) ∙ l .loop .inv .1
+returns : tie.Need-returns Inv-loop μ-loop
+returns c =
+    let l = c .before in
+    let t = l .before .args .a .now in
+    l .loop .inv .1 ∙ ap allZero (take-all (l .loop .i) t (omega arith))
 
 pub all-zero-spec : {M : Type 1} → statement M
 all-zero-spec =
@@ -46,9 +51,8 @@ all-zero-spec =
     Inv-loop
     μ-loop
     loop-holds
-    shared-slice-read-if1
-    returns
+    shared-slice-read-x
     add-i
     loop-less
     loop-again
-    returns-2)
+    returns)

@@ -1,77 +1,57 @@
--- `elimination::eliminate` meets its contract. Reduced, the loop's row is the row that has met the first t pivot rows; its entries fit 16 bits.
-use mathlib.Core.Path.{_≡_, sym, ap, ap₂, _∙_}
+-- `elimination::eliminate` meets its contract. The row so far is the one that met the first t pivot rows.
+use mathlib.Core.Path.{_≡_, refl, sym, ap, ap₂, subst, _∙_}
 use mathlib.Core.List.{List}
-use Prim.Native.Nat.{ℕ, _+_, _*_, _-_, _≤_}
+use Prim.Native.Nat.{ℕ, _+_, _*_, _-_, _<_, _≤_}
 use native.Mathlib.Omega.{arith}
-use lib.ListN.{length, getD, take, drop}
-use borrow.Author.Needs.{needs}
+use lib.ListN.{length, getD, take, drop, length-drop}
+use lib.Seq.{take-take, getD-take, getD-drop, length-take-le}
 use Rattle.residue.specs.Vector.{Below}
-use Rattle.residue.specs.Elimination.{cancelled, eliminated, reduced}
-use Rattle.residue.proofs.vector.Vectors.{below-take, below-drop}
-use Rattle.residue.proofs.elimination.Eliminated.{cancelled-length, eliminated-more, eliminated-length, row-long, reduced-length}
+use Rattle.residue.specs.Elimination.{cancelled, eliminated, multiplesOf, ZeroFrom}
+use Rattle.residue.proofs.elimination.Eliminated.{eliminated-none, eliminated-more, eliminated-length, eliminated-below}
 use Rattle.residue.proofs.elimination.eliminate.Statement.{statement}
 use Rattle.residue.proofs.elimination.eliminate.Tie as tie
 
 abbrev Inv-loop : tie.InvT-loop
-Inv-loop p n found rows pivots work₀ count top₀ m t₀ work top t =
-    (t ≤ found) × ((length work ≡ 128) × (((w : List ℕ) → reduced p work₀ ≡ eliminated p rows pivots t₀ w → reduced p work ≡ eliminated p rows pivots t w) × ((top ≤ 65536) × Below top work)))
+Inv-loop p n found rows pivots work₀ zeros t₀ work t = (t ≤ found) × (work ≡ eliminated p rows pivots t work₀)
 
 abbrev μ-loop : tie.MeasureT-loop
-μ-loop p n found rows pivots work₀ count top₀ m t₀ work top t = found - t
-
--- once the blocks are met
-module _ (f : tie.After-eliminate-fours Inv-loop μ-loop) where
-  abbrev begun : tie.Start Inv-loop μ-loop
-  begun = f .before .before .before .before .before .before
-
-  abbrev met : List ℕ
-  met = f .eliminate-fours .last .1 .1 .1 .1 .1 .0
-
-  met-long : length met ≡ 128
-  met-long =
-      let a = begun .args in
-      sym (reduced-length (a .p) met) ∙ ap length (f .eliminate-fours .ensures .0)
-      ∙ eliminated-length (a .p) (a .rows .now) (a .pivots .now) (a .work .now) (begun .pre .1 .1 .0) (4 * f .before .before .fours .result) (omega (arith, f .before .before .fours .ensures))
+μ-loop p n found rows pivots work₀ zeros t₀ work t = found - t
 
 -- at the loop's head
 module _ (l : tie.At-loop Inv-loop μ-loop) where
   abbrev start : tie.Start Inv-loop μ-loop
-  start = begun (l .before .before .before .before)
+  start = l .before .before .before .before
 
-  now-met : reduced (start .args .p) (l .loop .work) ≡ eliminated (start .args .p) (start .args .rows .now) (start .args .pivots .now) (l .loop .t) (start .args .work .now)
-  now-met = l .loop .inv .1 .1 .0 (start .args .work .now) (l .before .before .before .before .eliminate-fours .ensures .0)
+  abbrev block : List ℕ
+  block = take 1152 (drop (1152 * l .loop .t) (start .args .rows .now))
 
-  -- the row that is met next
   abbrev row : List ℕ
-  row = take (128 * l .loop .t + 128 - 128 * l .loop .t) (drop (128 * l .loop .t) (start .args .rows .now))
+  row = take 128 (drop (1152 * l .loop .t) (start .args .rows .now))
 
-  row-fits : l .loop .t + 1 ≤ start .args .found → length row ≡ 128
-  row-fits h =
-      let t = l .loop .t in
-      let e : 128 * t + 128 - 128 * t ≡ 128 = omega arith in
-      ap (λ (k : ℕ). length (take k (drop (128 * t) (start .args .rows .now)))) e ∙ row-long t (start .args .rows .now) (omega arith)
+  block-long : l .loop .t < start .args .found → length block ≡ 1152
+  block-long h = length-take-le 1152 (drop (1152 * l .loop .t) (start .args .rows .now)) (omega (arith, length-drop (1152 * l .loop .t) (start .args .rows .now)))
 
-fours-requires : tie.Need-fours-requires Inv-loop μ-loop
-fours-requires c κs = search needs
+  front : take 128 block ≡ row
+  front = take-take 128 1152 (drop (1152 * l .loop .t) (start .args .rows .now)) (omega arith)
 
-eliminate-fours-requires : tie.Need-eliminate-fours-requires Inv-loop μ-loop
-eliminate-fours-requires c κs =
-    let f = c .before .fours .ensures in
-    let s = c .before .before .before .before .before in (
-      s .pre .0,
-      (λ t j h. s .pre .1 .0 t j (omega (arith, f)), (s .pre .1 .1 .0, ((omega (arith, f), omega (arith, f)), (s .pre .1 .1 .1 .1 .0, λ t h. s .pre .1 .1 .1 .1 .1 t (omega (arith, f)))))),
-    )
+  long : length (l .loop .work) ≡ 128
+  long = ap length (l .loop .inv .1) ∙ eliminated-length (start .args .p) (start .args .rows .now) (start .args .pivots .now) (start .args .work .now) (start .pre .1 .1 .0) (l .loop .t) (omega arith)
 
-reciprocal-requires : tie.Need-reciprocal-requires Inv-loop μ-loop
-reciprocal-requires c κs = omega arith
+  below : Below (start .args .p) (l .loop .work)
+  below = subst (Below (start .args .p)) (sym (l .loop .inv .1))
+      (eliminated-below (start .args .p) (start .args .rows .now) (start .args .pivots .now) (start .args .work .now) (start .pre .1 .1 .0) (omega arith) (start .pre .1 .1 .1 .1 .0 .1) (l .loop .t) (omega arith))
 
-mul-t : tie.Need-mul-t Inv-loop μ-loop
-mul-t c = omega (arith, c .before .before .before .before .before .fours .ensures)
+  -- behind its own coefficient the pivot row is 0
+  zero : (width : ℕ) → l .loop .t < start .args .found → ((i : ℕ) → width ≤ i → i < 128 → start .args .n + l .loop .t + 1 ≤ i) → ZeroFrom width row
+  zero width h behind i w k =
+      let b = behind i w k in
+      let e : start .args .n + (i - start .args .n) ≡ i = omega arith in
+      getD-take 128 (drop (1152 * l .loop .t) (start .args .rows .now)) i 0 k ∙ getD-drop (1152 * l .loop .t) (start .args .rows .now) i 0
+      ∙ ap (λ (j : ℕ). getD (start .args .rows .now) (1152 * l .loop .t + j) 0) (sym e)
+      ∙ start .pre .1 .0 (l .loop .t) (i - start .args .n) h (omega arith) (omega arith)
 
 loop-holds : tie.Need-loop-holds Inv-loop μ-loop
-loop-holds c =
-    let f = c .before .before .before in
-    (omega (arith, f .before .before .fours .ensures), (met-long f, (λ w e. e, f .eliminate-fours .ensures .1)))
+loop-holds c = (omega arith, sym (eliminated-none _ _ _ _))
 
 mul-from : tie.Need-mul-from Inv-loop μ-loop
 mul-from c = omega arith
@@ -82,11 +62,20 @@ shared-slice-read-at c = omega arith
 cast-at : tie.Need-cast-at Inv-loop μ-loop
 cast-at c = let l = c .before .before in omega (arith, start l .pre .1 .1 .1 .1 .1 (l .loop .t) (omega arith))
 
+add-whole : tie.Need-add-whole Inv-loop μ-loop
+add-whole c = omega arith
+
+add-whole-2 : tie.Need-add-whole-2 Inv-loop μ-loop
+add-whole-2 c = omega arith
+
+whole-requires : tie.Need-whole-requires Inv-loop μ-loop
+whole-requires c κs = omega arith
+
+slice-aggregate-cancel : tie.Need-slice-aggregate-cancel Inv-loop μ-loop
+slice-aggregate-cancel c = refl
+
 add-cancel : tie.Need-add-cancel Inv-loop μ-loop
 add-cancel c = omega arith
-
-mul-cancel : tie.Need-mul-cancel Inv-loop μ-loop
-mul-cancel c = omega arith
 
 sub-cancel : tie.Need-sub-cancel Inv-loop μ-loop
 sub-cancel c = omega arith
@@ -99,17 +88,18 @@ part-cancel-end c = omega arith
 
 cancel-requires : tie.Need-cancel-requires Inv-loop μ-loop
 cancel-requires c κs =
-    let l = c .before .before .before .before in
+    let l = c .before .before .before .before .before .before in
     let s = start l in
-    let t = l .loop .t in
-    let h = s .pre .1 .1 .1 .1 .1 t (omega arith) in
-    let n = l .loop .inv .1 .0 in (
-      (s .pre .0 .0, s .pre .0 .1, l .before .reciprocal .ensures),
+    let w = c .before .before .before .whole .ensures in
+    let n : 1152 * l .loop .t + 1152 - 1152 * l .loop .t ≡ 1152 = omega arith in
+    let is = ap (λ (k : ℕ). take k (drop (1152 * l .loop .t) (s .args .rows .now))) n in (
+      (s .pre .0 .0, s .pre .0 .1, w .0, s .pre .1 .1 .1 .1 .1 (l .loop .t) (omega arith)),
       (
-        (row-fits l (omega arith) ∙ sym n, omega (arith, h, n)),
+        (ap length is ∙ block-long l (omega arith), long l, below l),
         (
-          below-take (s .args .p) (128 * t + 128 - 128 * t) (drop (128 * t) (s .args .rows .now)) (below-drop (s .args .p) (128 * t) (s .args .rows .now) (s .pre .1 .1 .1 .1 .0 .0)),
-          l .loop .inv .1 .1 .1,
+          refl,
+          is ∙ s .pre .1 .1 .1 .1 .0 .0 (l .loop .t) (omega arith) ∙ sym (ap (multiplesOf (s .args .p)) (ap (take 128) is ∙ front l)),
+          subst (ZeroFrom _) (sym (ap (take 128) is ∙ front l)) (zero l _ (omega arith) (w .1)),
         ),
       ),
     )
@@ -122,43 +112,25 @@ loop-less c = omega arith
 
 loop-again : tie.Need-loop-again Inv-loop μ-loop
 loop-again c =
-    let called = c .before .before in
-    let l = called .before .before .before .before .before in
+    let l = c .before .before .before .before .before .before .before .before .before in
     let s = start l in
-    let t = l .loop .t in
-    let p = s .args .p in
-    let at = getD (s .args .pivots .now) t 0 in
-    let e : 128 * t + 128 - 128 * t ≡ 128 = omega arith in
-    let n : length (reduced p (l .loop .work)) ≡ length (row l) = reduced-length p (l .loop .work) ∙ l .loop .inv .1 .0 ∙ sym (row-fits l (omega arith)) in
-    let after : List ℕ = called .cancel .last .1 .1 .1 .1 .1 .0 in (
+    let n : 1152 * l .loop .t + 1152 - 1152 * l .loop .t ≡ 1152 = omega arith in
+    let is = ap (λ (k : ℕ). take 128 (take k (drop (1152 * l .loop .t) (s .args .rows .now)))) n ∙ front l in (
       omega arith,
-      (
-        sym (reduced-length p after) ∙ ap length (called .cancel .ensures .0) ∙ cancelled-length p (row l) at (reduced p (l .loop .work)) n ∙ n ∙ row-fits l (omega arith),
-        (
-          λ w k. called .cancel .ensures .0
-              ∙ ap₂ (λ (j : ℕ) (v : List ℕ). cancelled p (take j (drop (128 * t) (s .args .rows .now))) at v) e (l .loop .inv .1 .1 .0 w k)
-              ∙ sym (eliminated-more p (s .args .rows .now) (s .args .pivots .now) w t),
-          called .cancel .ensures .1,
-        ),
-      ),
+      c .before .before .cancel .ensures
+          ∙ ap₂ (λ (r w : List ℕ). cancelled (s .args .p) r (getD (s .args .pivots .now) (l .loop .t) 0) w) is (l .loop .inv .1)
+          ∙ sym (eliminated-more (s .args .p) (s .args .rows .now) (s .args .pivots .now) (s .args .work .now) (l .loop .t)),
     )
 
-fold-requires : tie.Need-fold-requires Inv-loop μ-loop
-fold-requires c κs = omega arith
-
 same-length : tie.Need-same-length Inv-loop μ-loop
-same-length c =
-    let f = c .before .before in
-    let l = f .before .before .before in
-    ap length (f .fold .ensures) ∙ reduced-length (start l .args .p) (l .loop .work) ∙ l .loop .inv .1 .0 ∙ sym (start l .pre .1 .1 .0)
+same-length c = let l = c .before in long l ∙ sym (start l .pre .1 .1 .0)
 
 returns : tie.Need-returns Inv-loop μ-loop
 returns c =
-    let f = c .before .before in
-    let l = f .before .before .before in
+    let l = c .before in
     let s = start l in
     let e : l .loop .t ≡ s .args .found = omega arith in
-    f .fold .ensures ∙ now-met l ∙ ap (λ (k : ℕ). eliminated (s .args .p) (s .args .rows .now) (s .args .pivots .now) k (s .args .work .now)) e
+    l .loop .inv .1 ∙ ap (λ (t : ℕ). eliminated (s .args .p) (s .args .rows .now) (s .args .pivots .now) t (s .args .work .now)) e
 
 pub eliminate-spec : {M : Type 1} → statement M
 eliminate-spec =
@@ -166,16 +138,15 @@ eliminate-spec =
     (tie.spec
     Inv-loop
     μ-loop
-    fours-requires
-    eliminate-fours-requires
-    reciprocal-requires
-    mul-t
     loop-holds
     mul-from
     shared-slice-read-at
     cast-at
+    add-whole
+    add-whole-2
+    whole-requires
+    slice-aggregate-cancel
     add-cancel
-    mul-cancel
     sub-cancel
     part-cancel-start
     part-cancel-end
@@ -183,6 +154,5 @@ eliminate-spec =
     add-t
     loop-less
     loop-again
-    fold-requires
     same-length
     returns)

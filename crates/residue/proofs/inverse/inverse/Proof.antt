@@ -1,13 +1,12 @@
 -- `inverse::inverse` meets its contract. The search along the rest of the primes is the whole search, and the inverses of the ith start at `start`.
-use mathlib.Core.Path.{_≡_, refl, sym, ap, subst, _∙_}
+use mathlib.Core.Path.{_≡_, refl, sym, ap, _∙_}
 use mathlib.Core.Bool.{true}
 use Prim.Native.Nat.{ℕ, _+_, _≤_, _<_, _-_}
-use native.Mathlib.Nat.{lt-of-lt-of-le}
 use native.Mathlib.Omega.{arith}
 use lib.ListN.{getD, drop}
 use Rattle.residue.specs.Modulus.{primes, isOneOf, isModulus}
 use Rattle.residue.proofs.level.Moduli.{search-end, search-on, search-hit, prime-small}
-use Rattle.residue.proofs.inverse.Inverses.{inverses, start, start-small, start-more, inside, entry-is, entry-below, inverse-is, no-modulus, no-residue}
+use Rattle.residue.proofs.inverse.Inverses.{inverses, start, start-small, start-more, inside, entry-is, inverse-is, no-modulus, no-residue}
 use Rattle.residue.proofs.inverse.inverse.Statement.{statement}
 use Rattle.residue.proofs.inverse.inverse.Tie as tie
 
@@ -65,11 +64,6 @@ add-result c = omega (arith, inside (i c) (p c) (x c) (turn c) (prime c) (residu
 array-read-result : tie.Need-array-read-result Inv-loop μ-loop
 array-read-result c = omega (arith, inside (i c) (p c) (x c) (turn c) (prime c) (residue c))
 
-cast-result : tie.Need-cast-result Inv-loop μ-loop
-cast-result c =
-    let e = entry-below (i c) (p c) (x c) (turn c) (prime c) (residue c) in
-    record { fits = lt-of-lt-of-le (subst (λ (k : ℕ). getD inverses (k + x c) 0 < p c) (sym (from c)) e) (omega arith) }
-
 returns-2 : tie.Need-returns-2 Inv-loop μ-loop
 returns-2 c =
     ap (λ (k : ℕ). getD inverses (k + x c) 0) (from c) ∙ entry-is (i c) (p c) (x c) (turn c) (prime c) (residue c)
@@ -113,7 +107,6 @@ inverse-spec =
     cast-prime
     add-result
     array-read-result
-    cast-result
     returns-2
     add-start
     add-i

@@ -27,14 +27,8 @@ module _ (l : tie.At-loop Inv-loop μ-loop) where
 loop-holds : tie.Need-loop-holds Inv-loop μ-loop
 loop-holds c = (omega arith, filled-none _ _)
 
-mul-to : tie.Need-mul-to Inv-loop μ-loop
-mul-to c = omega arith
-
 shared-slice-read-to : tie.Need-shared-slice-read-to Inv-loop μ-loop
 shared-slice-read-to c = omega arith
-
-mul-to-2 : tie.Need-mul-to-2 Inv-loop μ-loop
-mul-to-2 c = omega arith
 
 slice-write-to : tie.Need-slice-write-to Inv-loop μ-loop
 slice-write-to c = omega (arith, long (c .before .before))
@@ -66,9 +60,7 @@ copy-spec =
     Inv-loop
     μ-loop
     loop-holds
-    mul-to
     shared-slice-read-to
-    mul-to-2
     slice-write-to
     add-i
     loop-less

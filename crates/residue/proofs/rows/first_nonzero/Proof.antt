@@ -30,9 +30,6 @@ returns c =
 loop-holds : tie.Need-loop-holds Inv-loop μ-loop
 loop-holds c = (omega arith, passed-none _ _)
 
-mul-if2 : tie.Need-mul-if2 Inv-loop μ-loop
-mul-if2 c = omega arith
-
 shared-slice-read-if2 : tie.Need-shared-slice-read-if2 Inv-loop μ-loop
 shared-slice-read-if2 c = omega arith
 
@@ -70,7 +67,6 @@ first-nonzero-spec =
     all-zero-requires
     returns
     loop-holds
-    mul-if2
     shared-slice-read-if2
     returns-2
     add-q

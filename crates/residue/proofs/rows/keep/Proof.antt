@@ -1,11 +1,30 @@
 -- `rows::keep` meets its contract.
-use mathlib.Core.Path.{refl}
-use Prim.Native.Nat.{_+_, _*_, _-_}
+use mathlib.Core.Path.{_≡_, refl, sym, ap, subst, _∙_}
+use mathlib.Core.List.{List}
+use Prim.Native.Nat.{ℕ, _+_, _*_, _-_}
 use native.Mathlib.Omega.{arith}
+use lib.ListN.{length, getD}
 use borrow.Author.Needs.{needs}
-use Rattle.residue.proofs.rows.Kept.{put-row}
+use Rattle.residue.specs.Inverse.{inverseOf}
+use Rattle.residue.specs.Vector.{Below}
+use Rattle.residue.specs.Rows.{pivotRow}
+use Rattle.residue.specs.Elimination.{multiplesOf}
+use Rattle.residue.proofs.Replaced.{part-long, put-whole}
+use Rattle.residue.proofs.rows.Kept.{pivotRow-length, pivotRow-below}
+use Rattle.residue.proofs.elimination.Multiples.{block-length}
 use Rattle.residue.proofs.rows.keep.Statement.{statement}
 use Rattle.residue.proofs.rows.keep.Tie as tie
+
+-- the row that is kept
+module _ (s : tie.Start) where
+  abbrev made : List ℕ
+  made = pivotRow (s .args .p) (s .args .n + s .args .found) (inverseOf (s .args .p) (getD (s .args .work .now) (s .args .at) 0)) (s .args .work .now)
+
+  made-long : length made ≡ 128
+  made-long = pivotRow-length (s .args .p) (s .args .n + s .args .found) _ (s .args .work .now) (omega arith) ∙ s .pre .1 .0 .1 .1
+
+  made-below : Below (s .args .p) made
+  made-below = pivotRow-below (s .args .p) (s .args .n + s .args .found) _ (s .args .work .now) (omega arith) (omega arith) (s .pre .1 .1 .1)
 
 add-normalise : tie.Need-add-normalise
 add-normalise c = omega arith
@@ -16,23 +35,23 @@ normalise-requires c κs = let s = c .before .before .before .before in (s .pre 
 mul-from : tie.Need-mul-from
 mul-from c = omega arith
 
-add-copy : tie.Need-add-copy
-add-copy c = omega arith
+add-put-multiples : tie.Need-add-put-multiples
+add-put-multiples c = omega arith
 
-mul-copy : tie.Need-mul-copy
-mul-copy c = omega arith
+sub-put-multiples : tie.Need-sub-put-multiples
+sub-put-multiples c = omega arith
 
-sub-copy : tie.Need-sub-copy
-sub-copy c = omega arith
+part-put-multiples-start : tie.Need-part-put-multiples-start
+part-put-multiples-start c = omega arith
 
-part-copy-start : tie.Need-part-copy-start
-part-copy-start c = omega arith
+part-put-multiples-end : tie.Need-part-put-multiples-end
+part-put-multiples-end c = omega arith
 
-part-copy-end : tie.Need-part-copy-end
-part-copy-end c = omega arith
-
-copy-requires : tie.Need-copy-requires
-copy-requires c κs = search needs
+put-multiples-requires : tie.Need-put-multiples-requires
+put-multiples-requires c κs =
+    let s = c .before .before .before .before .before .before .before .before .before in
+    let e = c .before .before .before .before .normalise .ensures in
+    (s .pre .0, ((ap length e ∙ made-long s, part-long (1152 * s .args .found) (1152 * s .args .found + 1152 - 1152 * s .args .found) 1152 (s .args .rows .now) (omega arith) (s .pre .1 .1 .0 .0)), subst (Below (s .args .p)) (sym e) (made-below s)))
 
 cast-pivots : tie.Need-cast-pivots
 cast-pivots c = omega arith
@@ -51,11 +70,14 @@ same-length-3 c = search needs
 
 returns : tie.Need-returns
 returns c =
-    let copied = c .before .before in
-    let made = copied .before .before .before .before .before in
-    let s = made .before .before .before .before .before in (
-      made .normalise .ensures,
-      (put-row (s .args .found) (128 * s .args .found + 128 - 128 * s .args .found) (s .args .rows .now) (omega arith) (copied .copy .ensures) (made .normalise .ensures), refl),
+    let s = c .before .before .before .before .before .before .before .before .before .before .before .before in
+    let e = c .before .before .before .before .before .before .before .normalise .ensures in (
+      e,
+      (
+        put-whole 1152 (s .args .found) (1152 * s .args .found + 1152 - 1152 * s .args .found) _ (s .args .rows .now) (omega arith) (s .pre .1 .1 .0 .0)
+            (block-length (s .args .p) (made s) (made-long s)) (c .before .before .put-multiples .ensures ∙ ap (multiplesOf (s .args .p)) e),
+        refl,
+      ),
     )
 
 pub keep-spec : {M : Type 1} → statement M
@@ -65,12 +87,11 @@ keep-spec =
     add-normalise
     normalise-requires
     mul-from
-    add-copy
-    mul-copy
-    sub-copy
-    part-copy-start
-    part-copy-end
-    copy-requires
+    add-put-multiples
+    sub-put-multiples
+    part-put-multiples-start
+    part-put-multiples-end
+    put-multiples-requires
     cast-pivots
     slice-write-pivots
     same-length

@@ -2,19 +2,18 @@
 use mathlib.Core.Path.{_≡_, refl, sym, ap, _∙_}
 use mathlib.Core.Bool.{Bool, true, false}
 use mathlib.Core.List.{List, _++_}
-use Prim.Native.Nat.{ℕ, _+_, _%_, _<_}
-use native.Mathlib.Nat.{one-mul, mod-eq-of-lt}
+use Prim.Native.Nat.{ℕ, _+_, _<_}
 use native.Mathlib.Decide.{decLt}
 use native.Mathlib.Omega.{arith}
 use lib.ListN.{length, getD, set, take, drop, length-set, take-append-drop}
-use lib.Seq.{length-take-le, length-front, ext-getD}
+use lib.Seq.{length-take-le, length-front}
 use borrow.Author.Needs.{needs}
 use Rattle.residue.specs.Modulus.{isModulus}
 use Rattle.residue.specs.Inverse.{inverseOf}
 use Rattle.residue.specs.Vector.{Below, scaled}
 use Rattle.residue.specs.Rows.{pivotRow}
 use Rattle.residue.proofs.inverse.Inverses.{inverse-below, no-modulus, no-residue}
-use Rattle.residue.proofs.vector.Vectors.{scaled-length, scaled-at, below-take, below-set}
+use Rattle.residue.proofs.vector.Vectors.{scaled-one, below-take, below-set}
 use Rattle.residue.proofs.rows.normalise.Statement.{statement}
 use Rattle.residue.proofs.rows.normalise.Tie as tie
 
@@ -26,12 +25,6 @@ inverse-small p x z = go (isModulus p) refl (decLt x p)
     go true m (no h) = rw (no-residue p x (omega (arith, h))) z
     go false m d = rw (no-modulus p x m) z
 
--- what is scaled by 1 stays
-scaled-one : (p : ℕ) (l : List ℕ) → Below p l → scaled p 1 l ≡ l
-scaled-one p l b =
-    ext-getD 0 (scaled p 1 l) l (scaled-length p 1 l)
-    (λ i h. let k : i < length l = omega (arith, scaled-length p 1 l) in scaled-at p 1 l i k ∙ ap (λ (x : ℕ). x % p) (one-mul (getD l i 0)) ∙ mod-eq-of-lt (b i k))
-
 front-long : (w : List ℕ) (own : ℕ) → own < length w → length (take (own + 1) (set w own 1)) ≡ own + 1
 front-long w own h = length-take-le (own + 1) (set w own 1) (simp length-set (omega arith))
 
@@ -40,17 +33,11 @@ front-below : (s : tie.Start) → Below (s .args .p) (take (s .args .own + 1) (s
 front-below s =
     below-take (s .args .p) (s .args .own + 1) (set (s .args .work .now) (s .args .own) 1) (below-set (s .args .p) (s .args .own) 1 (s .args .work .now) (omega arith) (s .pre .1 .1))
 
-mul-inverse : tie.Need-mul-inverse
-mul-inverse c = search needs
-
 slice-read-inverse : tie.Need-slice-read-inverse
 slice-read-inverse c = search needs
 
 inverse-requires : tie.Need-inverse-requires
 inverse-requires c κs = search needs
-
-mul-work : tie.Need-mul-work
-mul-work c = search needs
 
 slice-write-work : tie.Need-slice-write-work
 slice-write-work c = search needs
@@ -100,10 +87,8 @@ pub normalise-spec : {M : Type 1} → statement M
 normalise-spec =
     tie.close
     (tie.spec
-    mul-inverse
     slice-read-inverse
     inverse-requires
-    mul-work
     slice-write-work
     same-length
     returns

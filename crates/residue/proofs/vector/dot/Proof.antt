@@ -1,54 +1,85 @@
--- `vector::dot` meets its contract. The sum so far is that of the entries before i.
-use mathlib.Core.Path.{_≡_, refl, sym, ap, ap₂, _∙_}
-use Prim.Native.Nat.{ℕ, _+_, _*_, _-_, _%_, _≤_}
+-- `vector::dot` meets its contract. The sum so far is that of the products before i.
+use mathlib.Core.Path.{_≡_, refl, sym, ap, ap₂, subst, _∙_}
+use mathlib.Core.List.{List, _++_}
+use Prim.Native.Nat.{ℕ, _+_, _*_, _-_, _%_, _<_, _≤_}
 use native.Mathlib.Nat.{mod-lt}
 use native.Mathlib.Omega.{arith}
-use lib.ListN.{length, getD, take}
+use lib.ListN.{length, getD, take, replicate, length-replicate, List·getD-append}
 use lib.Seq.{take-all}
-use Rattle.residue.specs.Vector.{dotOf}
-use Rattle.residue.proofs.arithmetic.Reduction.{product-small}
-use Rattle.residue.proofs.vector.Vectors.{dot-more}
+use Rattle.residue.specs.Vector.{Below, pointwise, dotOf}
+use Rattle.residue.proofs.Congruence.{reduce, _plus_}
+use Rattle.residue.proofs.Layouts.{take-over, length-over}
+use Rattle.residue.proofs.arithmetic.Reduction.{kept}
+use Rattle.residue.proofs.vector.Vectors.{dot-more, pointwise-length, pointwise-at}
 use Rattle.residue.proofs.vector.dot.Statement.{statement}
 use Rattle.residue.proofs.vector.dot.Tie as tie
 
 abbrev Inv-loop : tie.InvT-loop
-Inv-loop p a b sum₀ i₀ i-end sum i = (i ≤ length a) × ((sum ≤ 3600 * i) × (sum ≡ dotOf (take i a) (take i b)))
+Inv-loop p a b n products total₀ i₀ total i = (i ≤ length a) × (total ≡ dotOf (take i a) (take i b) % p)
 
 abbrev μ-loop : tie.MeasureT-loop
-μ-loop p a b sum₀ i₀ i-end sum i = length a - i
+μ-loop p a b n products total₀ i₀ total i = length a - i
 
--- in a turn: the two entries are residues
-module _ (c : tie.In-loop Inv-loop μ-loop) where
-  abbrev s : tie.Start Inv-loop μ-loop
-  s = c .before .before
+-- the copy's front
+module _ (c : tie.After-copy Inv-loop μ-loop) where
+  abbrev first : tie.Start Inv-loop μ-loop
+  first = c .before .before .before .before
 
-  product : getD (s .args .a .now) (c .before .loop .i) 0 * getD (s .args .b .now) (c .before .loop .i) 0 ≤ 3600
-  product = product-small _ _ _ (s .pre .0 .1) (s .pre .1 .1 .1 .0 (c .before .loop .i) (c .loop-test .taken)) (s .pre .1 .1 .1 .1 (c .before .loop .i) (omega arith))
+  front : take (length (first .args .a .now)) (c .copy .last .1 .0) ≡ first .args .a .now
+  front = ap (take (length (first .args .a .now))) (c .copy .ensures) ∙ take-over (first .args .a .now) (replicate 256 0)
+
+  copy-long : length (c .copy .last .1 .0) ≡ 256
+  copy-long = ap length (c .copy .ensures) ∙ length-over (first .args .a .now) (replicate 256 0) (omega (arith, length-replicate {A = ℕ} 256 0)) ∙ length-replicate {A = ℕ} 256 0
+
+-- the products
+module _ (c : tie.After-multiply Inv-loop μ-loop) where
+  abbrev begun : tie.Start Inv-loop μ-loop
+  begun = c .before .before .before .before .before .before .before
+
+  abbrev new : List ℕ
+  new = c .multiply .last .1 .0
+
+  new-is : new ≡ pointwise (begun .args .p) (begun .args .a .now) (begun .args .b .now)
+  new-is = c .multiply .ensures ∙ ap (λ (l : List ℕ). pointwise (begun .args .p) l (begun .args .b .now)) (front (c .before .before .before))
+
+  new-long : length new ≡ length (begun .args .a .now)
+  new-long = ap length new-is ∙ pointwise-length (begun .args .p) (begun .args .a .now) (begun .args .b .now) (begun .pre .1 .0)
+
+  entry : (t : List ℕ) (i : ℕ) → i < length (begun .args .a .now) → getD (new ++ t) i 0 ≡ (getD (begun .args .a .now) i 0 * getD (begun .args .b .now) i 0) % begun .args .p
+  entry t i h =
+      List·getD-append new t 0 i (rw new-long h) ∙ ap (λ (l : List ℕ). getD l i 0) new-is
+      ∙ pointwise-at (begun .args .p) (begun .args .a .now) (begun .args .b .now) (begun .pre .1 .0) i h
+
+slice-aggregate-copy : tie.Need-slice-aggregate-copy Inv-loop μ-loop
+slice-aggregate-copy c = refl
+
+copy-requires : tie.Need-copy-requires Inv-loop μ-loop
+copy-requires c κs = c .before .before .before .pre .1 .1 .0
+
+array-borrow-prefix-products : tie.Need-array-borrow-prefix-products Inv-loop μ-loop
+array-borrow-prefix-products c = omega (arith, copy-long (c .before))
+
+slice-aggregate-multiply : tie.Need-slice-aggregate-multiply Inv-loop μ-loop
+slice-aggregate-multiply c = sym (ap length (front (c .before .before)))
+
+multiply-requires : tie.Need-multiply-requires Inv-loop μ-loop
+multiply-requires c κs =
+    let s = c .before .before .before .before .before .before in
+    let e = front (c .before .before) in
+    (s .pre .0, (ap length e ∙ s .pre .1 .0, (subst (Below (s .args .p)) (sym e) (s .pre .1 .1 .1 .0), s .pre .1 .1 .1 .1)))
 
 loop-holds : tie.Need-loop-holds Inv-loop μ-loop
 unfolding dotOf
-loop-holds c = (omega arith, (omega arith, refl))
+loop-holds c = let s = c .before .before .before .before .before .before .before .before in (omega arith, kept (s .args .p) 0 (omega arith))
 
-mul-sum : tie.Need-mul-sum Inv-loop μ-loop
-mul-sum c = omega arith
+array-read-add : tie.Need-array-read-add Inv-loop μ-loop
+array-read-add c = omega arith
 
-shared-slice-read-sum : tie.Need-shared-slice-read-sum Inv-loop μ-loop
-shared-slice-read-sum c = omega arith
-
-mul-sum-2 : tie.Need-mul-sum-2 Inv-loop μ-loop
-mul-sum-2 c = omega arith
-
-shared-slice-read-sum-2 : tie.Need-shared-slice-read-sum-2 Inv-loop μ-loop
-shared-slice-read-sum-2 c = omega arith
-
-mul-sum-3 : tie.Need-mul-sum-3 Inv-loop μ-loop
-mul-sum-3 c = omega (arith, product (c .before .before))
-
-cast-sum : tie.Need-cast-sum Inv-loop μ-loop
-cast-sum c = omega (arith, product (c .before .before))
-
-add-sum : tie.Need-add-sum Inv-loop μ-loop
-add-sum c = omega (arith, product (c .before .before))
+add-requires : tie.Need-add-requires Inv-loop μ-loop
+add-requires c κs =
+    let l = c .before in
+    let s = c .before .before .before .before .before .before .before .before .before .before in
+    (s .pre .0 .1, (rw (l .loop .inv .1) (mod-lt _ (omega arith)), rw (entry (c .before .before .before) _ (l .loop .i) (omega arith)) (mod-lt _ (omega arith))))
 
 add-i : tie.Need-add-i Inv-loop μ-loop
 add-i c = omega arith
@@ -58,25 +89,19 @@ loop-less c = omega arith
 
 loop-again : tie.Need-loop-again Inv-loop μ-loop
 loop-again c =
-    let l = c .before .before .before in
-    let t = c .before .before in
-    let e = dot-more (s t .args .a .now) (s t .args .b .now) (l .loop .i) (t .loop-test .taken) (omega arith) in
-    (omega arith, (omega (arith, product t), ap (λ (z : ℕ). z + getD (s t .args .a .now) (l .loop .i) 0 * getD (s t .args .b .now) (l .loop .i) 0) (l .loop .inv .1 .1) ∙ sym e))
-
-rem-result : tie.Need-rem-result Inv-loop μ-loop
-rem-result c = omega arith
-
-cast-result : tie.Need-cast-result Inv-loop μ-loop
-cast-result c =
-    let s = c .before .before in
-    omega (arith, mod-lt (c .before .loop .sum) {m = s .args .p} (omega arith))
+    let l = c .before .before in
+    let a = c .before .before .before .before .before .before .before .before .before .before .before .args in
+    let i : ℕ = l .loop .i in
+    let e = dot-more (a .a .now) (a .b .now) i (omega arith) (omega arith) in
+    let both = (reduce (a .p) (dotOf (take i (a .a .now)) (take i (a .b .now))) plus reduce (a .p) (getD (a .a .now) i 0 * getD (a .b .now) i 0)) .same in
+    (omega arith, c .add .ensures ∙ ap₂ (λ (u v : ℕ). (u + v) % a .p) (l .loop .inv .1) (entry (c .before .before .before .before) _ i (omega arith)) ∙ both ∙ ap (λ (u : ℕ). u % a .p) (sym e))
 
 returns : tie.Need-returns Inv-loop μ-loop
 returns c =
     let l = c .before in
-    let s = l .before in
+    let s = c .before .before .before .before .before .before .before .before .before .before in
     let e = ap₂ dotOf (take-all (l .loop .i) (s .args .a .now) (omega arith)) (take-all (l .loop .i) (s .args .b .now) (omega arith)) in
-    ap (λ (z : ℕ). z % s .args .p) (l .loop .inv .1 .1 ∙ e)
+    l .loop .inv .1 ∙ ap (λ (z : ℕ). z % s .args .p) e
 
 pub dot-spec : {M : Type 1} → statement M
 dot-spec =
@@ -84,17 +109,15 @@ dot-spec =
     (tie.spec
     Inv-loop
     μ-loop
+    slice-aggregate-copy
+    copy-requires
+    array-borrow-prefix-products
+    slice-aggregate-multiply
+    multiply-requires
     loop-holds
-    mul-sum
-    shared-slice-read-sum
-    mul-sum-2
-    shared-slice-read-sum-2
-    mul-sum-3
-    cast-sum
-    add-sum
+    array-read-add
+    add-requires
     add-i
     loop-less
     loop-again
-    rem-result
-    cast-result
     returns)

@@ -4,7 +4,6 @@ use mathlib.Core.List.{List}
 use Prim.Native.Nat.{ℕ, _*_, _-_, _%_, _<_, _≤_}
 use native.Mathlib.Omega.{arith}
 use lib.ListN.{length, getD}
-use Rattle.residue.proofs.arithmetic.Reduction.{product-small}
 use Rattle.residue.proofs.vector.Filled.{filled, filled-none, kept-length, own, filled-more, filled-all}
 use Rattle.residue.proofs.vector.Vectors.{scaled-length, scaled-at}
 use Rattle.residue.proofs.vector.scale.Statement.{statement}
@@ -14,15 +13,15 @@ abbrev entry : ℕ → ℕ → List ℕ → ℕ → ℕ
 entry p c dst i = (c * getD dst i 0) % p
 
 abbrev Inv-loop : tie.InvT-loop
-Inv-loop p dst₀ c m i₀ i-end dst i = (i ≤ length dst₀) × (dst ≡ filled (entry p c dst₀) i dst₀)
+Inv-loop p dst₀ c i₀ i-end dst i = (i ≤ length dst₀) × (dst ≡ filled (entry p c dst₀) i dst₀)
 
 abbrev μ-loop : tie.MeasureT-loop
-μ-loop p dst₀ c m i₀ i-end dst i = length dst₀ - i
+μ-loop p dst₀ c i₀ i-end dst i = length dst₀ - i
 
 -- at the loop's head
 module _ (l : tie.At-loop Inv-loop μ-loop) where
   abbrev start : tie.Start Inv-loop μ-loop
-  start = l .before .before .before
+  start = l .before .before
 
   abbrev g : ℕ → ℕ
   g = entry (start .args .p) (start .args .c) (start .args .dst .now)
@@ -33,37 +32,22 @@ module _ (l : tie.At-loop Inv-loop μ-loop) where
   here : getD (l .loop .dst) (l .loop .i) 0 ≡ getD (start .args .dst .now) (l .loop .i) 0
   here = own g (l .loop .i) (start .args .dst .now) (l .loop .dst) (l .loop .inv .1) 0
 
--- in a turn: the entry is a residue
+-- in a turn: the entries are residues
 module _ (c : tie.In-loop Inv-loop μ-loop) where
   abbrev s : tie.Start Inv-loop μ-loop
   s = start (c .before)
 
-  factor : getD (c .before .loop .dst) (c .before .loop .i) 0 < s .args .p
-  factor = rw (here (c .before)) (s .pre .1 .0 (c .before .loop .i) (c .loop-test .taken))
-
-  product : s .args .c * getD (c .before .loop .dst) (c .before .loop .i) 0 ≤ 3600
-  product = product-small _ _ _ (s .pre .0 .1) (s .pre .1 .1) factor
-
-reciprocal-requires : tie.Need-reciprocal-requires Inv-loop μ-loop
-reciprocal-requires c κs = c .before .pre .0 .0
+  own-residue : getD (c .before .loop .dst) (c .before .loop .i) 0 < s .args .p
+  own-residue = rw (here (c .before)) (s .pre .1 .0 (c .before .loop .i) (c .loop-test .taken))
 
 loop-holds : tie.Need-loop-holds Inv-loop μ-loop
 loop-holds c = (omega arith, filled-none _ _)
 
-mul-reduce : tie.Need-mul-reduce Inv-loop μ-loop
-mul-reduce c = omega arith
+slice-read-mul : tie.Need-slice-read-mul Inv-loop μ-loop
+slice-read-mul c = omega (arith, long (c .before .before))
 
-slice-read-reduce : tie.Need-slice-read-reduce Inv-loop μ-loop
-slice-read-reduce c = omega (arith, long (c .before .before))
-
-mul-reduce-2 : tie.Need-mul-reduce-2 Inv-loop μ-loop
-mul-reduce-2 c = omega (arith, product (c .before))
-
-reduce-requires : tie.Need-reduce-requires Inv-loop μ-loop
-reduce-requires c κs = let r = c .before .before .before in (r .before .before .pre .0 .0, r .reciprocal .ensures)
-
-mul-dst : tie.Need-mul-dst Inv-loop μ-loop
-mul-dst c = omega arith
+mul-requires : tie.Need-mul-requires Inv-loop μ-loop
+mul-requires c κs = let t = c .before in (s t .pre .0 .1, (s t .pre .1 .1, own-residue t))
 
 slice-write-dst : tie.Need-slice-write-dst Inv-loop μ-loop
 slice-write-dst c = omega (arith, long (c .before .before .before))
@@ -77,9 +61,8 @@ loop-less c = omega arith
 loop-again : tie.Need-loop-again Inv-loop μ-loop
 loop-again c =
     let l = c .before .before .before in
-    let x = c .before .before .loop-test .taken in
     let e = ap (λ (d : ℕ). (start l .args .c * d) % start l .args .p) (here l) in
-    (omega arith, filled-more (g l) (l .loop .i) (start l .args .dst .now) (l .loop .dst) (l .loop .inv .1) (c .reduce .result) x (c .reduce .ensures ∙ e))
+    (omega arith, filled-more (g l) (l .loop .i) (start l .args .dst .now) (l .loop .dst) (l .loop .inv .1) (c .mul .result) (omega arith) (c .mul .ensures ∙ e))
 
 same-length : tie.Need-same-length Inv-loop μ-loop
 same-length c = long (c .before)
@@ -98,13 +81,9 @@ scale-spec =
     (tie.spec
     Inv-loop
     μ-loop
-    reciprocal-requires
     loop-holds
-    mul-reduce
-    slice-read-reduce
-    mul-reduce-2
-    reduce-requires
-    mul-dst
+    slice-read-mul
+    mul-requires
     slice-write-dst
     add-i
     loop-less

@@ -4,7 +4,6 @@ use mathlib.Core.List.{List}
 use Prim.Native.Nat.{ℕ, _*_, _-_, _%_, _<_, _≤_}
 use native.Mathlib.Omega.{arith}
 use lib.ListN.{length, getD}
-use Rattle.residue.proofs.arithmetic.Reduction.{product-small}
 use Rattle.residue.proofs.vector.Filled.{filled, filled-none, kept-length, own, filled-more, filled-all}
 use Rattle.residue.proofs.vector.Vectors.{pointwise-length, pointwise-at}
 use Rattle.residue.proofs.vector.square.Statement.{statement}
@@ -14,15 +13,15 @@ abbrev entry : ℕ → List ℕ → ℕ → ℕ
 entry p dst i = (getD dst i 0 * getD dst i 0) % p
 
 abbrev Inv-loop : tie.InvT-loop
-Inv-loop p dst₀ m i₀ i-end dst i = (i ≤ length dst₀) × (dst ≡ filled (entry p dst₀) i dst₀)
+Inv-loop p dst₀ i₀ i-end dst i = (i ≤ length dst₀) × (dst ≡ filled (entry p dst₀) i dst₀)
 
 abbrev μ-loop : tie.MeasureT-loop
-μ-loop p dst₀ m i₀ i-end dst i = length dst₀ - i
+μ-loop p dst₀ i₀ i-end dst i = length dst₀ - i
 
 -- at the loop's head
 module _ (l : tie.At-loop Inv-loop μ-loop) where
   abbrev start : tie.Start Inv-loop μ-loop
-  start = l .before .before .before
+  start = l .before .before
 
   abbrev g : ℕ → ℕ
   g = entry (start .args .p) (start .args .dst .now)
@@ -33,43 +32,25 @@ module _ (l : tie.At-loop Inv-loop μ-loop) where
   here : getD (l .loop .dst) (l .loop .i) 0 ≡ getD (start .args .dst .now) (l .loop .i) 0
   here = own g (l .loop .i) (start .args .dst .now) (l .loop .dst) (l .loop .inv .1) 0
 
--- in a turn: the entry is a residue
+-- in a turn: the entries are residues
 module _ (c : tie.In-loop Inv-loop μ-loop) where
   abbrev s : tie.Start Inv-loop μ-loop
   s = start (c .before)
 
-  factor : getD (c .before .loop .dst) (c .before .loop .i) 0 < s .args .p
-  factor = rw (here (c .before)) (s .pre .1 (c .before .loop .i) (c .loop-test .taken))
-
-  product : getD (c .before .loop .dst) (c .before .loop .i) 0 * getD (c .before .loop .dst) (c .before .loop .i) 0 ≤ 3600
-  product = product-small _ _ _ (s .pre .0 .1) factor factor
-
-reciprocal-requires : tie.Need-reciprocal-requires Inv-loop μ-loop
-reciprocal-requires c κs = c .before .pre .0 .0
+  own-residue : getD (c .before .loop .dst) (c .before .loop .i) 0 < s .args .p
+  own-residue = rw (here (c .before)) (s .pre .1 (c .before .loop .i) (c .loop-test .taken))
 
 loop-holds : tie.Need-loop-holds Inv-loop μ-loop
 loop-holds c = (omega arith, filled-none _ _)
 
-mul-reduce : tie.Need-mul-reduce Inv-loop μ-loop
-mul-reduce c = omega arith
+slice-read-mul : tie.Need-slice-read-mul Inv-loop μ-loop
+slice-read-mul c = omega (arith, long (c .before .before))
 
-slice-read-reduce : tie.Need-slice-read-reduce Inv-loop μ-loop
-slice-read-reduce c = omega (arith, long (c .before .before))
+slice-read-mul-2 : tie.Need-slice-read-mul-2 Inv-loop μ-loop
+slice-read-mul-2 c = omega (arith, long (c .before .before .before))
 
-mul-reduce-2 : tie.Need-mul-reduce-2 Inv-loop μ-loop
-mul-reduce-2 c = omega arith
-
-slice-read-reduce-2 : tie.Need-slice-read-reduce-2 Inv-loop μ-loop
-slice-read-reduce-2 c = omega (arith, long (c .before .before .before))
-
-mul-reduce-3 : tie.Need-mul-reduce-3 Inv-loop μ-loop
-mul-reduce-3 c = omega (arith, product (c .before .before))
-
-reduce-requires : tie.Need-reduce-requires Inv-loop μ-loop
-reduce-requires c κs = let r = c .before .before .before .before in (r .before .before .pre .0 .0, r .reciprocal .ensures)
-
-mul-dst : tie.Need-mul-dst Inv-loop μ-loop
-mul-dst c = omega arith
+mul-requires : tie.Need-mul-requires Inv-loop μ-loop
+mul-requires c κs = let t = c .before .before in (s t .pre .0 .1, (own-residue t, own-residue t))
 
 slice-write-dst : tie.Need-slice-write-dst Inv-loop μ-loop
 slice-write-dst c = omega (arith, long (c .before .before .before .before))
@@ -84,7 +65,7 @@ loop-again : tie.Need-loop-again Inv-loop μ-loop
 loop-again c =
     let l = c .before .before .before .before in
     let e = ap (λ (d : ℕ). (d * d) % start l .args .p) (here l) in
-    (omega arith, filled-more (g l) (l .loop .i) (start l .args .dst .now) (l .loop .dst) (l .loop .inv .1) (c .reduce .result) (omega arith) (c .reduce .ensures ∙ e))
+    (omega arith, filled-more (g l) (l .loop .i) (start l .args .dst .now) (l .loop .dst) (l .loop .inv .1) (c .mul .result) (omega arith) (c .mul .ensures ∙ e))
 
 same-length : tie.Need-same-length Inv-loop μ-loop
 same-length c = long (c .before)
@@ -92,8 +73,10 @@ same-length c = long (c .before)
 returns : tie.Need-returns Inv-loop μ-loop
 returns c =
     let l = c .before in
-    let d = start l .args .dst .now in
-    l .loop .inv .1 ∙ filled-all (g l) (l .loop .i) _ d 0 (omega arith) (pointwise-length (start l .args .p) d d refl) (pointwise-at (start l .args .p) d d refl)
+    let s = start l in
+    l .loop .inv .1
+    ∙ filled-all (g l) (l .loop .i) _ (s .args .dst .now) 0 (omega arith) (pointwise-length (s .args .p) (s .args .dst .now) (s .args .dst .now) refl)
+    (pointwise-at (s .args .p) (s .args .dst .now) (s .args .dst .now) refl)
 
 pub square-spec : {M : Type 1} → statement M
 square-spec =
@@ -101,15 +84,10 @@ square-spec =
     (tie.spec
     Inv-loop
     μ-loop
-    reciprocal-requires
     loop-holds
-    mul-reduce
-    slice-read-reduce
-    mul-reduce-2
-    slice-read-reduce-2
-    mul-reduce-3
-    reduce-requires
-    mul-dst
+    slice-read-mul
+    slice-read-mul-2
+    mul-requires
     slice-write-dst
     add-i
     loop-less

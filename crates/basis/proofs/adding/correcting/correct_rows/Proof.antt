@@ -38,8 +38,8 @@ module _ (l : tie.At-loop Inv-loop μ-loop) where
   own-long : l .loop .i < s .args .k → length (rowAt 64 (l .loop .i) (s .args .table .now)) ≡ 64
   own-long h = length-take-le 64 (drop (64 * l .loop .i) (s .args .table .now)) (simp length-drop (omega arith))
 
-  widened : l .loop .i < s .args .k → (w : List ℕ) → w ≡ over (take (64 * l .loop .i + 64 - 64 * l .loop .i) (drop (64 * l .loop .i) (l .loop .table))) (replicate 64 0) → w ≡ rowAt 64 (l .loop .i) (s .args .table .now)
-  widened h w e =
+  copyed : l .loop .i < s .args .k → (w : List ℕ) → w ≡ over (take (64 * l .loop .i + 64 - 64 * l .loop .i) (drop (64 * l .loop .i) (l .loop .table))) (replicate 64 0) → w ≡ rowAt 64 (l .loop .i) (s .args .table .now)
+  copyed h w e =
       let d : 64 * l .loop .i + 64 - 64 * l .loop .i ≡ 64 = omega arith in
       let at : 64 * l .loop .i ≡ 64 * length done = ap (λ (n : ℕ). 64 * n) (sym (rows-length (s .args .p) (s .args .place) (s .args .inverse) (s .args .gone .now) (s .args .point .now) (s .args .values .now) (s .args .leads .now) (s .args .table .now) (l .loop .i))) in
       e ∙ ap (λ (z : List ℕ). over z (replicate 64 0)) (ap (λ (n : ℕ). take n (drop (64 * l .loop .i) (l .loop .table))) d ∙ over-own done (s .args .table .now) (l .loop .table) (l .loop .inv .1) (64 * l .loop .i) at)
@@ -54,23 +54,23 @@ mul-from c = omega arith
 mul-first : tie.Need-mul-first Inv-loop μ-loop
 mul-first c = omega arith
 
-add-widen : tie.Need-add-widen Inv-loop μ-loop
-add-widen c = omega arith
+add-copy : tie.Need-add-copy Inv-loop μ-loop
+add-copy c = omega arith
 
-sub-widen : tie.Need-sub-widen Inv-loop μ-loop
-sub-widen c = omega arith
+sub-copy : tie.Need-sub-copy Inv-loop μ-loop
+sub-copy c = omega arith
 
-part-widen-start : tie.Need-part-widen-start Inv-loop μ-loop
-part-widen-start c = omega arith
+part-copy-start : tie.Need-part-copy-start Inv-loop μ-loop
+part-copy-start c = omega arith
 
-part-widen-end : tie.Need-part-widen-end Inv-loop μ-loop
-part-widen-end c = omega (arith, long (c .before .before))
+part-copy-end : tie.Need-part-copy-end Inv-loop μ-loop
+part-copy-end c = omega (arith, long (c .before .before))
 
-slice-aggregate-widen : tie.Need-slice-aggregate-widen Inv-loop μ-loop
-slice-aggregate-widen c = omega arith
+slice-aggregate-copy : tie.Need-slice-aggregate-copy Inv-loop μ-loop
+slice-aggregate-copy c = omega arith
 
-widen-requires : tie.Need-widen-requires Inv-loop μ-loop
-widen-requires c κs =
+copy-requires : tie.Need-copy-requires Inv-loop μ-loop
+copy-requires c κs =
     let l = c .before .before .before .before in
     omega (arith, length-take (64 * l .loop .i + 64 - 64 * l .loop .i) (drop (64 * l .loop .i) (l .loop .table)))
 
@@ -109,7 +109,7 @@ correct-requires c κs =
     let t = long l in
     let a = length-take-le (8 * i + 8 - 8 * i) (drop (8 * i) (s .args .leads .now)) (simp length-drop (omega arith)) in
     let r = length-take-le (64 * i + 64 - 64 * i) (drop (64 * i) (l .loop .table)) (simp length-drop (omega arith)) in
-    let w = widened l (omega arith) _ (c .before .before .before .before .widen .ensures) in (
+    let w = copyed l (omega arith) _ (c .before .before .before .before .copy .ensures) in (
       (s .pre .0),
       (
         (s .pre .1 .0 .1, omega arith, s .pre .1 .0 .2),
@@ -142,7 +142,7 @@ loop-again c =
     let new : List ℕ = correctedRow (s .args .p) (s .args .place) (s .args .inverse) (s .args .gone .now) (s .args .point .now) (s .args .values .now) (rowAt 8 i (s .args .leads .now)) (rowAt 64 i (s .args .table .now)) in
     let at : 64 * i ≡ 64 * length old = ap (λ (n : ℕ). 64 * n) (sym (rows-length (s .args .p) (s .args .place) (s .args .inverse) (s .args .gone .now) (s .args .point .now) (s .args .values .now) (s .args .leads .now) (s .args .table .now) i)) in
     let is : c .before .before .before .correct .last .1 .1 .1 .1 .1 .1 .1 .1 .0 ≡ new = c .before .before .before .correct .ensures .1
-    ∙ ap₂ (λ (n : ℕ) (z : List ℕ). correctedRow (s .args .p) (s .args .place) (s .args .inverse) (s .args .gone .now) (s .args .point .now) (s .args .values .now) (take n (drop (8 * i) (s .args .leads .now))) z) d (widened l (omega arith) _ (c .before .before .before .before .before .before .before .before .widen .ensures)) in (
+    ∙ ap₂ (λ (n : ℕ) (z : List ℕ). correctedRow (s .args .p) (s .args .place) (s .args .inverse) (s .args .gone .now) (s .args .point .now) (s .args .values .now) (take n (drop (8 * i) (s .args .leads .now))) z) d (copyed l (omega arith) _ (c .before .before .before .before .before .before .before .before .copy .ensures)) in (
       omega arith,
       over-more old new (s .args .table .now) (l .loop .table) _ (64 * i) (64 * i + 64 - 64 * i) (l .loop .inv .1) at (omega arith) e is (length-row (s .args .p) (s .args .place) (s .args .inverse) (s .args .gone .now) (s .args .point .now) (s .args .values .now) (rowAt 8 i (s .args .leads .now)) (rowAt 64 i (s .args .table .now)))
           ∙ ap (λ (z : List (List ℕ)). over (inPlaces 64 z) (s .args .table .now)) (sym (corrected-more (s .args .p) (s .args .place) (s .args .inverse) (s .args .gone .now) (s .args .point .now) (s .args .values .now) (s .args .leads .now) (s .args .table .now) i)),
@@ -167,12 +167,12 @@ correct-rows-spec =
     loop-holds
     mul-from
     mul-first
-    add-widen
-    sub-widen
-    part-widen-start
-    part-widen-end
-    slice-aggregate-widen
-    widen-requires
+    add-copy
+    sub-copy
+    part-copy-start
+    part-copy-end
+    slice-aggregate-copy
+    copy-requires
     add-correct
     sub-correct
     part-correct-start

@@ -2,7 +2,7 @@
 use mathlib.Core.Path.{_≡_, sym, ap, ap₂, _∙_}
 use mathlib.Core.List.{List}
 use Prim.Native.Nat.{ℕ, _≤_, _<_, _*_, _-_, _+_, _%_}
-use native.Mathlib.Nat.{mod-lt, mod-add-mod}
+use native.Mathlib.Nat.{mod-lt, mod-eq-of-lt, mod-add-mod}
 use native.Mathlib.Omega.{arith}
 use lib.ListN.{length, getD, take, drop, length-drop}
 use lib.Seq.{length-take-le, getD-take, getD-drop}
@@ -18,30 +18,27 @@ use Rattle.basis.proofs.adding.correcting.first_row.Statement.{statemen
 use Rattle.basis.proofs.adding.correcting.first_row.Tie as tie
 
 abbrev Inv-terms : tie.InvT-terms
-Inv-terms p n r point values leads coefficients modulus m i from first sum₀ j₀ sum j = (j ≤ n) × (sum ≤ 60 + 60 * j) × Mod p sum (sum₀ + dotOf (take j (rowAt 64 i coefficients)) (take j values))
+Inv-terms p n r point values leads coefficients i from first sum₀ j₀ sum j = (j ≤ n) × (sum < p) × Mod p sum (sum₀ + dotOf (take j (rowAt 64 i coefficients)) (take j values))
 
 abbrev μ-terms : tie.MeasureT-terms
-μ-terms p n r point values leads coefficients modulus m i from first sum₀ j₀ sum j = n - j
+μ-terms p n r point values leads coefficients i from first sum₀ j₀ sum j = n - j
 
 abbrev Inv-rows : tie.InvT-rows
-Inv-rows p n r point values leads coefficients modulus m i₀ i = (i ≤ r) × (firstFrom (valueOfRow p n point values leads coefficients) i (r - i) ≡ firstFrom (valueOfRow p n point values leads coefficients) 0 r)
+Inv-rows p n r point values leads coefficients i₀ i = (i ≤ r) × (firstFrom (valueOfRow p n point values leads coefficients) i (r - i) ≡ firstFrom (valueOfRow p n point values leads coefficients) 0 r)
 
 abbrev μ-rows : tie.MeasureT-rows
-μ-rows p n r point values leads coefficients modulus m i₀ i = r - i
+μ-rows p n r point values leads coefficients i₀ i = r - i
 
 abbrev start : tie.At-rows Inv-terms μ-terms Inv-rows μ-rows → tie.Start Inv-terms μ-terms Inv-rows μ-rows
-start a = a .before .before .before .before .before .before
+start a = a .before .before .before .before .before
 
 -- the value of a row
 abbrev f : tie.Start Inv-terms μ-terms Inv-rows μ-rows → ℕ → ℕ
 f s = valueOfRow (s .args .p) (s .args .n) (s .args .point .now) (s .args .values .now) (s .args .leads .now) (s .args .coefficients .now)
 
-small-value : (c : tie.After-value Inv-terms μ-terms Inv-rows μ-rows) → c .value .result ≤ 60
-small-value c =
-    let a = c .before .before .before in
-    let v : ℕ = valueAt (start a .args .point .now) (take (8 * a .rows .i + 8 - 8 * a .rows .i) (drop (8 * a .rows .i) (start a .args .leads .now))) in
-    let h : v % start a .args .p < start a .args .p = mod-lt v (omega arith) in
-    omega (arith, c .value .ensures)
+-- a remainder is a residue
+left : (s : tie.Start Inv-terms μ-terms Inv-rows μ-rows) {x : ℕ} (y : ℕ) → x ≡ y % s .args .p → x < s .args .p
+left s y e = rw e (mod-lt y (omega arith))
 
 -- in a turn of the inner loop: the index, and the two numbers there
 abbrev index : tie.At-terms Inv-terms μ-terms Inv-rows μ-rows → ℕ
@@ -60,20 +57,14 @@ module _ (c : tie.After-shared-slice-known6 Inv-terms μ-terms Inv-rows μ-rows)
   abbrev y : ℕ
   y = getD (s .args .values .now) (l .terms .j) 0
 
-  x-small : x < 256
-  x-small = omega (arith, c .before .shared-slice-known5 .given (index l))
+  x-small : x < s .args .p
+  x-small = s .pre .1 .1 .1 .1 .1 (index l) (omega arith)
 
-  y-small : y < 61
-  y-small = omega (arith, s .pre .1 .1 .1 .1 (l .terms .j) (omega arith))
-
--- a term is a residue
-small-term : (c : tie.After-reduced-product Inv-terms μ-terms Inv-rows μ-rows) → c .reduced-product .result ≤ 60
-small-term c =
-    let h : (x (c .before) * y (c .before)) % s (c .before) .args .p < s (c .before) .args .p = mod-lt (x (c .before) * y (c .before)) (omega arith) in
-    omega (arith, c .reduced-product .ensures)
+  y-small : y < s .args .p
+  y-small = s .pre .1 .1 .1 .1 .0 (l .terms .j) (omega arith)
 
 -- the value that was tested is that of row i
-value : (c : tie.Then2 Inv-terms μ-terms Inv-rows μ-rows) → let a = c .before .before .before .before .before in c .before .terms .sum % start a .args .p ≡ f (start a) (a .rows .i)
+value : (c : tie.Then2 Inv-terms μ-terms Inv-rows μ-rows) → let a = c .before .before .before .before .before in c .before .terms .sum ≡ f (start a) (a .rows .i)
 unfolding valueOfRow rowValueAt
 value c =
     let a = c .before .before .before .before .before in
@@ -85,14 +76,11 @@ value c =
     let first : c .before .before .value .result ≡ v % s .args .p = c .before .before .value .ensures ∙ ap (λ (n : ℕ). valueAt (s .args .point .now) (take n (drop (8 * i) (s .args .leads .now))) % s .args .p) e in
     let rest : dotOf (take (c .before .terms .j) (rowAt 64 i (s .args .coefficients .now))) (take (c .before .terms .j) (s .args .values .now)) ≡ d =
     ap (λ (n : ℕ). dotOf (take n (rowAt 64 i (s .args .coefficients .now))) (take n (s .args .values .now))) (c .if2 .taken) in
-    c .before .terms .inv .2 .same ∙ ap (λ (z : ℕ). z % s .args .p) (ap₂ _+_ first rest) ∙ mod-add-mod v (s .args .p) d
-
-reciprocal-requires : tie.Need-reciprocal-requires Inv-terms μ-terms Inv-rows μ-rows
-reciprocal-requires c κs = omega arith
+    sym (mod-eq-of-lt (c .before .terms .inv .1)) ∙ c .before .terms .inv .2 .same ∙ ap (λ (z : ℕ). z % s .args .p) (ap₂ _+_ first rest) ∙ mod-add-mod v (s .args .p) d
 
 rows-holds : tie.Need-rows-holds Inv-terms μ-terms Inv-rows μ-rows
 rows-holds c =
-    let s = c .before .before .before .before .before in
+    let s = c .before .before .before .before in
     let e : s .args .r - 0 ≡ s .args .r = omega arith in
     (omega arith, ap (firstFrom (f s) 0) e)
 
@@ -120,39 +108,24 @@ value-requires c κs =
     let s = start a in
     ((s .pre .0 .0, s .pre .0 .1), ((s .pre .1 .0 .0, length-take-le (8 * a .rows .i + 8 - 8 * a .rows .i) (drop (8 * a .rows .i) (s .args .leads .now)) (simp length-drop (omega arith)) ∙ omega arith), s .pre .1 .1 .1 .0))
 
-cast-sum : tie.Need-cast-sum Inv-terms μ-terms Inv-rows μ-rows
-cast-sum c = omega (arith, small-value c)
-
 terms-holds : tie.Need-terms-holds Inv-terms μ-terms Inv-rows μ-rows
 unfolding dotOf
-terms-holds c = (omega arith, omega (arith, small-value c), of (omega arith))
+terms-holds c = (omega arith, left (start (c .before .before .before)) _ (c .value .ensures), of (omega arith))
 
-rem-if3 : tie.Need-rem-if3 Inv-terms μ-terms Inv-rows μ-rows
-rem-if3 c = omega arith
+add-mul : tie.Need-add-mul Inv-terms μ-terms Inv-rows μ-rows
+add-mul c = omega arith
 
-add-c : tie.Need-add-c Inv-terms μ-terms Inv-rows μ-rows
-add-c c = omega arith
+shared-slice-read-mul : tie.Need-shared-slice-read-mul Inv-terms μ-terms Inv-rows μ-rows
+shared-slice-read-mul c = omega arith
 
-shared-slice-read-c : tie.Need-shared-slice-read-c Inv-terms μ-terms Inv-rows μ-rows
-shared-slice-read-c c = omega arith
+shared-slice-read-mul-2 : tie.Need-shared-slice-read-mul-2 Inv-terms μ-terms Inv-rows μ-rows
+shared-slice-read-mul-2 c = omega arith
 
-cast-c : tie.Need-cast-c Inv-terms μ-terms Inv-rows μ-rows
-cast-c c = omega (arith, c .shared-slice-known5 .given (index (c .before .before)))
+mul-requires : tie.Need-mul-requires Inv-terms μ-terms Inv-rows μ-rows
+mul-requires c κs = (s c .pre .0 .1, (x-small c, y-small c))
 
-mul-reduced-product : tie.Need-mul-reduced-product Inv-terms μ-terms Inv-rows μ-rows
-mul-reduced-product c = omega arith
-
-shared-slice-read-reduced-product : tie.Need-shared-slice-read-reduced-product Inv-terms μ-terms Inv-rows μ-rows
-shared-slice-read-reduced-product c = omega arith
-
-reduced-product-requires : tie.Need-reduced-product-requires Inv-terms μ-terms Inv-rows μ-rows
-reduced-product-requires c κs = ((s c .pre .0 .0, l c .before .before .before .before .before .reciprocal .ensures), (x-small c, omega (arith, y-small c)))
-
-cast-sum-2 : tie.Need-cast-sum-2 Inv-terms μ-terms Inv-rows μ-rows
-cast-sum-2 c = omega (arith, small-term c)
-
-add-sum : tie.Need-add-sum Inv-terms μ-terms Inv-rows μ-rows
-add-sum c = omega (arith, small-term c)
+add-requires : tie.Need-add-requires Inv-terms μ-terms Inv-rows μ-rows
+add-requires c κs = let k = c .before in (s k .pre .0 .1, (l k .terms .inv .1, left (s k) _ (c .mul .ensures)))
 
 add-j : tie.Need-add-j Inv-terms μ-terms Inv-rows μ-rows
 add-j c = omega arith
@@ -162,7 +135,7 @@ terms-less c = omega arith
 
 terms-again : tie.Need-terms-again Inv-terms μ-terms Inv-rows μ-rows
 terms-again c =
-    let k = c .before in
+    let k = c .before .before in
     let a = l k .before .before .before .before in
     let j : ℕ = l k .terms .j in
     let values : List ℕ = s k .args .values .now in
@@ -171,8 +144,12 @@ terms-again c =
     let long : length row ≡ 64 = length-take-le 64 (drop (64 * a .rows .i) table) (simp length-drop (omega arith)) in
     let e : getD row j 0 ≡ x k = getD-take 64 (drop (64 * a .rows .i) table) j 0 (omega arith) ∙ getD-drop (64 * a .rows .i) table j 0 in
     let m : dotOf (take (j + 1) row) (take (j + 1) values) ≡ dotOf (take j row) (take j values) + x k * y k =
-    dot-more row values j (omega arith) (omega arith) ∙ ap (λ (z : ℕ). dotOf (take j row) (take j values) + z * y k) e in
-    (omega arith, omega (arith, small-term c), (l k .terms .inv .2 plus (of (c .reduced-product .ensures) then reduce (s k .args .p) (x k * y k))) then of (omega arith))
+    dot-more row values j (omega arith) (omega arith) ∙ ap (λ (z : ℕ). dotOf (take j row) (take j values) + z * y k) e in (
+      omega arith,
+      left (s k) _ (c .add .ensures),
+      of (c .add .ensures) then reduce (s k .args .p) (l k .terms .sum + c .before .mul .result)
+          then (l k .terms .inv .2 plus (of (c .before .mul .ensures) then reduce (s k .args .p) (x k * y k))) then of (omega arith),
+    )
 
 add-i : tie.Need-add-i Inv-terms μ-terms Inv-rows μ-rows
 add-i c = omega arith
@@ -203,7 +180,6 @@ first-row-spec =
     μ-terms
     Inv-rows
     μ-rows
-    reciprocal-requires
     rows-holds
     mul-from
     mul-first
@@ -212,17 +188,12 @@ first-row-spec =
     part-value-start
     part-value-end
     value-requires
-    cast-sum
     terms-holds
-    rem-if3
-    add-c
-    shared-slice-read-c
-    cast-c
-    mul-reduced-product
-    shared-slice-read-reduced-product
-    reduced-product-requires
-    cast-sum-2
-    add-sum
+    add-mul
+    shared-slice-read-mul
+    shared-slice-read-mul-2
+    mul-requires
+    add-requires
     add-j
     terms-less
     terms-again

@@ -58,7 +58,7 @@ first-row-requires c κs =
       (low s, high s, omega (arith, s .pre .1 .1 .0)),
       (
         (h .point-size, omega (arith, s .pre .1 .1 .0, d .values-at .kept .1 .1 .1 .1 .0)),
-        ((omega (arith, h .most, h .leads-size), omega (arith, h .most, h .rows-size)), (s .pre .1 .1 .1 .0 .below, small d)),
+        ((omega (arith, h .most, h .leads-size), omega (arith, h .most, h .rows-size)), (s .pre .1 .1 .1 .0 .below, (small d, h .residues))),
       ),
     )
 
@@ -77,7 +77,7 @@ grow-requires c κs =
         (
           (h .standard-size, h .leads-size, h .rows-size, h .point-size, d .values-at .kept .1 .1 .1 .1 .0),
           (
-            (points-below (s .pre .0), h .residues, s .pre .1 .0 .pivot-rows .below, s .pre .1 .1 .1 .0 .below, small d),
+            (points-below (s .pre .0), h .residues, h .multiplied, s .pre .1 .1 .1 .0 .below, small d),
             ((s .pre .1 .0 .pivot-rows .long-pivots, h .within), (h .exponents, s .pre .1 .1 .1 .1)),
           ),
         ),

@@ -23,16 +23,16 @@ use Rattle.basis.proofs.adding.growing.grow.Statement.{statement}
 use Rattle.basis.proofs.adding.growing.grow.Tie as tie
 
 -- the calls, one from the next
-abbrev start : tie.After-widen → tie.Start
+abbrev start : tie.After-copy → tie.Start
 start d = d .before .before .before .before .before .before .before .before .before .before .before .before .before .before .before .before .before
 
-abbrev widened : tie.After-put-in → tie.After-widen
-widened d = d .before .before .before .before .before .before .before .before .before .before
+abbrev lost : tie.After-put-in → tie.After-copy
+lost d = d .before .before .before .before .before .before .before .before .before .before
 
 abbrev inverted : tie.After-put-in → tie.After-inverse
 inverted d = d .before .before .before .before .before .before
 
-abbrev copied : tie.After-put-in → tie.After-copy
+abbrev copied : tie.After-put-in → tie.After-copy2
 copied d = d .before .before .before .before
 
 abbrev placed : tie.After-keep-others → tie.After-put-in
@@ -58,17 +58,17 @@ module _ (s : tie.Start) where
   row-long : length (rowAt 64 (s .args .j) (s .args .coefficients .now)) ≡ 64
   row-long = length-take-le 64 (drop (64 * s .args .j) (s .args .coefficients .now)) (simp length-drop (omega (arith, s .pre .1 .0, s .pre .1 .1 .0)))
 
-module _ (w : tie.After-widen) where
+module _ (w : tie.After-copy) where
   abbrev s : tie.Start
   s = start w
 
   abbrev gone : List ℕ
-  gone = w .widen .last .1 .0
+  gone = w .copy .last .1 .0
 
   gone-is : gone ≡ rowAt 64 (s .args .j) (s .args .coefficients .now)
   gone-is =
       let d : 64 * s .args .j + 64 - 64 * s .args .j ≡ 64 = omega arith in
-      w .widen .ensures ∙ ap (λ (k : ℕ). over (take k (drop (64 * s .args .j) (s .args .coefficients .now))) (replicate 64 0)) d
+      w .copy .ensures ∙ ap (λ (k : ℕ). over (take k (drop (64 * s .args .j) (s .args .coefficients .now))) (replicate 64 0)) d
       ∙ over-all (rowAt 64 (s .args .j) (s .args .coefficients .now)) (replicate 64 0) (row-long s)
 
   gone-long : length gone ≡ 64
@@ -80,10 +80,10 @@ module _ (w : tie.After-widen) where
 -- the inverse of its value, and its place among the standard monomials
 module _ (d : tie.After-put-in) where
   abbrev o : tie.Start
-  o = start (widened d)
+  o = start (lost d)
 
   abbrev value : ℕ
-  value = rowValueAt (o .args .settings .modulus) (o .args .point .now) (o .args .values .now) (lead o) (gone (widened d))
+  value = rowValueAt (o .args .settings .modulus) (o .args .point .now) (o .args .values .now) (lead o) (gone (lost d))
 
   inverse-is : inverted d .inverse .result ≡ inverseOf (o .args .settings .modulus) value
   inverse-is = inverted d .inverse .ensures ∙ ap (inverseOf (o .args .settings .modulus)) (inverted d .before .row-value .ensures)
@@ -91,8 +91,8 @@ module _ (d : tie.After-put-in) where
   below : inverted d .inverse .result < o .args .settings .modulus
   below = omega (arith, inverse-is, inverse-below (o .args .settings .modulus) value (o .pre .0 .0 .modulus) (value-below _ _ _ _ _ (omega (arith, low o))))
 
-  old : copied d .copy .last .1 .0 ≡ o .args .standard .now
-  old = copied d .copy .ensures ∙ over-all (o .args .standard .now) (o .args .new-standard .now) (o .pre .1 .1 .0 .0 ∙ sym (zeros-long _ 512 (o .pre .1 .1 .1 .1 .1 .1 .0)))
+  old : copied d .copy2 .last .1 .0 ≡ o .args .standard .now
+  old = copied d .copy2 .ensures ∙ over-all (o .args .standard .now) (o .args .new-standard .now) (o .pre .1 .1 .0 .0 ∙ sym (zeros-long _ 512 (o .pre .1 .1 .1 .1 .1 .1 .0)))
 
   place-is : d .put-in .result ≡ placeOf (cmp (orderOf (o .args .settings .order))) (lead o) (groups 8 (o .args .n) (o .args .standard .now))
   place-is = d .put-in .ensures .0 ∙ ap (λ (t : List ℕ). placeOf (cmp (orderOf (o .args .settings .order))) (lead o) (groups 8 (o .args .n) t)) old
@@ -132,32 +132,32 @@ part-lead-start c = omega arith
 part-lead-end : tie.Need-part-lead-end
 part-lead-end c = let s = c .before .before .before .before .before .before .before .before .before .before .before .before .before in omega (arith, s .pre .1 .0, s .pre .1 .1 .0)
 
-mul-widen : tie.Need-mul-widen
-mul-widen c = omega arith
+mul-copy : tie.Need-mul-copy
+mul-copy c = omega arith
 
-mul-widen-2 : tie.Need-mul-widen-2
-mul-widen-2 c = omega arith
+mul-copy-2 : tie.Need-mul-copy-2
+mul-copy-2 c = omega arith
 
-add-widen : tie.Need-add-widen
-add-widen c = omega arith
+add-copy : tie.Need-add-copy
+add-copy c = omega arith
 
-sub-widen : tie.Need-sub-widen
-sub-widen c = omega arith
+sub-copy : tie.Need-sub-copy
+sub-copy c = omega arith
 
-part-widen-start : tie.Need-part-widen-start
-part-widen-start c = omega arith
+part-copy-start : tie.Need-part-copy-start
+part-copy-start c = omega arith
 
-part-widen-end : tie.Need-part-widen-end
-part-widen-end c = let s = c .before .before .before .before .before .before .before .before .before .before .before .before .before .before in omega (arith, s .pre .1 .0, s .pre .1 .1 .0)
+part-copy-end : tie.Need-part-copy-end
+part-copy-end c = let s = c .before .before .before .before .before .before .before .before .before .before .before .before .before .before in omega (arith, s .pre .1 .0, s .pre .1 .1 .0)
 
-slice-aggregate-widen : tie.Need-slice-aggregate-widen
-slice-aggregate-widen c = refl
+slice-aggregate-copy : tie.Need-slice-aggregate-copy
+slice-aggregate-copy c = refl
 
-widen-requires : tie.Need-widen-requires
-widen-requires c κs = omega arith
+copy-requires : tie.Need-copy-requires
+copy-requires c κs = omega arith
 
 slice-aggregate-row-value : tie.Need-slice-aggregate-row-value
-slice-aggregate-row-value c = sym (c .before .before .widen .kept .1 .0)
+slice-aggregate-row-value c = sym (c .before .before .copy .kept .1 .0)
 
 row-value-requires : tie.Need-row-value-requires
 row-value-requires c κs =
@@ -168,21 +168,21 @@ row-value-requires c κs =
 inverse-requires : tie.Need-inverse-requires
 inverse-requires c κs = tt
 
-copy-requires : tie.Need-copy-requires
-copy-requires c κs = let s = start (c .before .before .before .before .before) in omega (arith, s .pre .1 .1 .0 .0, zeros-long _ 512 (s .pre .1 .1 .1 .1 .1 .1 .0))
+copy-requires-2 : tie.Need-copy-requires-2
+copy-requires-2 c κs = let s = start (c .before .before .before .before .before) in omega (arith, s .pre .1 .1 .0 .0, zeros-long _ 512 (s .pre .1 .1 .1 .1 .1 .1 .0))
 
 put-in-requires : tie.Need-put-in-requires
 put-in-requires c κs =
     let s = start (c .before .before .before .before .before .before .before .before .before) in
-    ((omega (arith, s .pre .0 .1, c .before .before .before .copy .kept .1 .0, zeros-long _ 512 (s .pre .1 .1 .1 .1 .1 .1 .0)), omega (arith, s .pre .0 .1)), lead-long s)
+    ((omega (arith, s .pre .0 .1, c .before .before .before .copy2 .kept .1 .0, zeros-long _ 512 (s .pre .1 .1 .1 .1 .1 .1 .0)), omega (arith, s .pre .0 .1)), lead-long s)
 
 slice-aggregate-keep-others : tie.Need-slice-aggregate-keep-others
-slice-aggregate-keep-others c = sym (gone-long (widened (c .before .before .before)))
+slice-aggregate-keep-others c = sym (gone-long (lost (c .before .before .before)))
 
 keep-others-requires : tie.Need-keep-others-requires
 keep-others-requires c κs =
     let d = c .before .before .before .before .before in
-    let w = widened d in
+    let w = lost d in
     let s = start w in (
       (low s, high s, omega (arith, s .pre .0 .1, within d), below d),
       (
@@ -192,7 +192,7 @@ keep-others-requires c κs =
     )
 
 slice-aggregate-add-products : tie.Need-slice-aggregate-add-products
-slice-aggregate-add-products c = sym (gone-long (widened (placed (c .before .before .before .before .before))))
+slice-aggregate-add-products c = sym (gone-long (lost (placed (c .before .before .before .before .before))))
 
 sub-add-products : tie.Need-sub-add-products
 sub-add-products c = omega (arith, o (placed (c .before .before .before .before .before)) .pre .1 .0)
@@ -201,7 +201,7 @@ add-products-requires : tie.Need-add-products-requires
 add-products-requires c κs =
     let k = c .before .before .before .before .before .before .before in
     let d = placed k in
-    let w = widened d in
+    let w = lost d in
     let s = start w in (
       (s .pre .0 .0, (s .pre .0 .1, omega (arith, s .pre .0 .1, within d), below d)),
       (
@@ -217,7 +217,7 @@ add-products-requires c κs =
     )
 
 same-length : tie.Need-same-length
-same-length c = let d = placed (c .before .before .before .before .before .before .before .before .before .before .before .before) in d .put-in .kept .1 .1 .0 ∙ copied d .copy .kept .1 .0
+same-length c = let d = placed (c .before .before .before .before .before .before .before .before .before .before .before .before) in d .put-in .kept .1 .1 .0 ∙ copied d .copy2 .kept .1 .0
 
 same-length-2 : tie.Need-same-length-2
 same-length-2 c = c .before .before .before .before .add-products .kept .1 .1 .1 .1 .1 .1 .1 .1 .1 .1 .1 .1 .0 ∙ c .before .before .before .before .before .before .before .before .before .before .before .before .keep-others .kept .1 .1 .1 .1 .1 .1 .1 .1 .1 .1 .0
@@ -234,7 +234,7 @@ returns c =
       d .put-in .ensures .1 ∙ ap₂ (λ (i : ℕ) (t : List ℕ). withRowAt 8 (s .args .n) i (lead s) t) (place-is d) (old d) ∙ ap (standardGrown (s .args .settings .order) (s .args .n) (s .args .standard .now)) (lead-is s),
       c .before .before .before .before .add-products .ensures
           ∙ grown-by (s .args .settings .modulus) (s .args .settings .variables) (s .args .settings .order) (s .args .n) (s .args .r) (s .args .points .now) (s .args .standard .now) (s .args .leads .now) (s .args .coefficients .now) (s .args .rows .now) (s .args .pivots .now) (s .args .point .now) (s .args .values .now) (s .args .j)
-          _ _ _ _ _ _ (lead-is s) (gone-is (widened d)) (place-is d) (inverse-is d) (k .keep-others .ensures .0) (k .keep-others .ensures .1),
+          _ _ _ _ _ _ (lead-is s) (gone-is (lost d)) (place-is d) (inverse-is d) (k .keep-others .ensures .0) (k .keep-others .ensures .1),
     )
 
 pub grow-spec : {M : Type 1} → statement M
@@ -249,18 +249,18 @@ grow-spec =
     sub-lead
     part-lead-start
     part-lead-end
-    mul-widen
-    mul-widen-2
-    add-widen
-    sub-widen
-    part-widen-start
-    part-widen-end
-    slice-aggregate-widen
-    widen-requires
+    mul-copy
+    mul-copy-2
+    add-copy
+    sub-copy
+    part-copy-start
+    part-copy-end
+    slice-aggregate-copy
+    copy-requires
     slice-aggregate-row-value
     row-value-requires
     inverse-requires
-    copy-requires
+    copy-requires-2
     put-in-requires
     slice-aggregate-keep-others
     keep-others-requires

@@ -72,9 +72,6 @@ move-on-requires c κs = omega arith
 add-correct : tie.Need-add-correct
 add-correct c = omega arith
 
-mul-work : tie.Need-mul-work
-mul-work c = omega arith
-
 sub-correct : tie.Need-sub-correct
 sub-correct c = omega arith
 
@@ -157,7 +154,6 @@ put-row-spec =
     mul-move-on
     move-on-requires
     add-correct
-    mul-work
     sub-correct
     part-work-start
     part-work-end

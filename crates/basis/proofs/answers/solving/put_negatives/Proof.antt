@@ -3,7 +3,6 @@ use mathlib.Core.Path.{_≡_, _∙_}
 use Prim.Native.Nat.{ℕ, _-_, _%_, _≤_}
 use native.Mathlib.Omega.{arith}
 use lib.ListN.{length, getD}
-use native.Mathlib.Nat.{mod-lt}
 use Rattle.residue.proofs.vector.Filled.{filled, filled-none, kept-length, filled-more}
 use Rattle.residue.proofs.bytes.Copies.{mapped}
 use Rattle.basis.proofs.answers.solving.put_negatives.Statement.{statement}
@@ -29,22 +28,11 @@ module _ (l : tie.At-loop Inv-loop μ-loop) where
 loop-holds : tie.Need-loop-holds Inv-loop μ-loop
 loop-holds c = (omega arith, filled-none _ _)
 
-mul-neg : tie.Need-mul-neg Inv-loop μ-loop
-mul-neg c = omega arith
-
 shared-slice-read-neg : tie.Need-shared-slice-read-neg Inv-loop μ-loop
 shared-slice-read-neg c = omega arith
 
 neg-requires : tie.Need-neg-requires Inv-loop μ-loop
 neg-requires c κs = let l = c .before .before in let s = start l in (s .pre .0, s .pre .1 .0 (l .loop .i) (omega arith))
-
-cast-to : tie.Need-cast-to Inv-loop μ-loop
-cast-to c =
-    let l = c .before .before .before in
-    let s = start l in
-    let h = s .pre .1 .0 (l .loop .i) (omega arith) in
-    let b = mod-lt (s .args .p - getD (s .args .from .now) (l .loop .i) 0) {m = s .args .p} (omega arith) in
-    omega (arith, c .neg .ensures)
 
 slice-write-to : tie.Need-slice-write-to Inv-loop μ-loop
 slice-write-to c = omega (arith, long (c .before .before .before))
@@ -76,10 +64,8 @@ put-negatives-spec =
     Inv-loop
     μ-loop
     loop-holds
-    mul-neg
     shared-slice-read-neg
     neg-requires
-    cast-to
     slice-write-to
     add-i
     loop-less

@@ -34,9 +34,6 @@ eliminate-requires c κs =
 add-put-answer : tie.Need-add-put-answer
 add-put-answer c = omega arith
 
-mul-put-answer : tie.Need-mul-put-answer
-mul-put-answer c = omega arith
-
 sub-put-answer : tie.Need-sub-put-answer
 sub-put-answer c = omega arith
 
@@ -90,7 +87,6 @@ solve-spec =
     (tie.spec
     eliminate-requires
     add-put-answer
-    mul-put-answer
     sub-put-answer
     part-put-answer-start
     part-put-answer-end

@@ -41,9 +41,6 @@ loaded v =
     v .put-term-values .ensures ∙ ap (λ (l : List ℕ). over (termValues (s .args .p) l (s .args .exponents .now) (s .args .n) (s .args .points .now)) (replicate 128 0)) (front w)
     ∙ over-zeros vs 128 (omega (arith, length-terms (s .args .p) (R w) (s .args .exponents .now) (s .args .n) (s .args .points .now)))
 
-cast-put-residues : tie.Need-cast-put-residues
-cast-put-residues c = omega arith
-
 slice-aggregate-put-residues : tie.Need-slice-aggregate-put-residues
 slice-aggregate-put-residues c = refl
 
@@ -104,7 +101,6 @@ pub solve-terms-spec : {M : Type 1} → statement M
 solve-terms-spec =
     tie.close
     (tie.spec
-    cast-put-residues
     slice-aggregate-put-residues
     put-residues-requires
     array-share-prefix-found

@@ -31,13 +31,10 @@ module _ (w : tie.After-put-residues) where
   front = front-of R (w .put-residues .last .1 .1 .0) 64 (start .args .n) (w .put-residues .ensures) long
 
 -- and in the working row
-loaded : (v : tie.After-widen) → v .widen .last .1 .0 ≡ fill 128 (R (v .before .before .before .before))
+loaded : (v : tie.After-copy) → v .copy .last .1 .0 ≡ fill 128 (R (v .before .before .before .before))
 loaded v =
     let w = v .before .before .before .before in
-    v .widen .ensures ∙ ap (λ (l : List ℕ). over l (replicate 128 0)) (front w) ∙ over-zeros (R w) 128 (omega (arith, long w, start w .pre .1 .0 .0))
-
-cast-put-residues : tie.Need-cast-put-residues
-cast-put-residues c = omega arith
+    v .copy .ensures ∙ ap (λ (l : List ℕ). over l (replicate 128 0)) (front w) ∙ over-zeros (R w) 128 (omega (arith, long w, start w .pre .1 .0 .0))
 
 slice-aggregate-put-residues : tie.Need-slice-aggregate-put-residues
 slice-aggregate-put-residues c = refl
@@ -48,17 +45,17 @@ put-residues-requires c κs = omega arith
 array-share-prefix-found : tie.Need-array-share-prefix-found
 array-share-prefix-found c = search needs
 
-slice-aggregate-widen : tie.Need-slice-aggregate-widen
-slice-aggregate-widen c = let w = c .before .before in sym (ap length (front w) ∙ long w)
+slice-aggregate-copy : tie.Need-slice-aggregate-copy
+slice-aggregate-copy c = let w = c .before .before in sym (ap length (front w) ∙ long w)
 
-slice-aggregate-widen-2 : tie.Need-slice-aggregate-widen-2
-slice-aggregate-widen-2 c = refl
+slice-aggregate-copy-2 : tie.Need-slice-aggregate-copy-2
+slice-aggregate-copy-2 c = refl
 
-widen-requires : tie.Need-widen-requires
-widen-requires c κs = let w = c .before .before .before in omega (arith, ap length (front w), long w, start w .pre .1 .0 .0)
+copy-requires : tie.Need-copy-requires
+copy-requires c κs = let w = c .before .before .before in omega (arith, ap length (front w), long w, start w .pre .1 .0 .0)
 
 slice-aggregate-solve : tie.Need-slice-aggregate-solve
-slice-aggregate-solve c = sym (c .before .before .widen .kept .1 .0)
+slice-aggregate-solve c = sym (c .before .before .copy .kept .1 .0)
 
 solve-requires : tie.Need-solve-requires
 solve-requires c κs =
@@ -88,13 +85,12 @@ pub solve-values-spec : {M : Type 1} → statement M
 solve-values-spec =
     tie.close
     (tie.spec
-    cast-put-residues
     slice-aggregate-put-residues
     put-residues-requires
     array-share-prefix-found
-    slice-aggregate-widen
-    slice-aggregate-widen-2
-    widen-requires
+    slice-aggregate-copy
+    slice-aggregate-copy-2
+    copy-requires
     slice-aggregate-solve
     solve-requires
     same-length
