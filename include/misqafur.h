@@ -1,5 +1,5 @@
-/* misqafur.h: the calls of libmisqafur.a, for hosts in C (C99 or later) and C++ (C++11 or later) on
- * x86-64 Linux.
+/* misqafur.h: the calls of libmisqafur.a and libmisqafur.so, for hosts in C (C99 or later) and C++ (C++11
+ * or later) on x86-64 Linux.
  *
  * From up to 64 points whose coordinates are residues modulo a prime p, the library works out the
  * standard monomials and the reduced Groebner basis of the ideal of all polynomials that vanish at
