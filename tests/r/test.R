@@ -39,7 +39,7 @@ for (file in texts[!large | seq_along(texts) %% 8 == 0])
 
 # Refusals leave the sheet, and come with their numbers.
 three <- draw_up(sheet(5, 2, "grlex"), data.frame(g1 = c(0, 1, 2), g2 = c(0, 2, 1)))
-tries <- list(list(3, quote(sheet(4, 2))), list(3, quote(sheet(-5, 2))), list(3, quote(sheet(5.5, 2))), list(4, quote(sheet(5, 9))),
+tries <- list(list(3, quote(sheet(4, 2))), list(3, quote(sheet(-5, 2))), list(3, quote(sheet(5.5, 2))), list(4, quote(sheet(5, 9))), list(4, quote(sheet(5, 2.5))), list(4, quote(sheet(5, NA))),
               list(4, quote(sheet(5, character(0)))), list(5, quote(sheet(5, 2, "Lex"))), list(7, quote(add_state(three, 1))),
               list(9, quote(add_state(three, c(5, 0)))), list(9, quote(add_state(three, c(NA, 0)))), list(9, quote(add_state(three, c(0.5, 0)))),
               list(11, quote(add_state(three, c(-4, 2)))), list(12, quote(withdraw_state(three, c(4, 4)))), list(7, quote(interpolate(three, 1:2))),

@@ -23,7 +23,7 @@ whole <- function(numbers) {
 
 # A sheet without states. `genes` is their number, or their names.
 sheet <- function(modulus, genes, order = "grevlex") {
-  names <- if (is.character(genes)) genes else paste0("g", seq_len(max(0, min(genes, 99))))
+  names <- if (is.character(genes)) genes else if (genes %in% 1:8) paste0("g", seq_len(genes)) else character(0)
   number <- if (is.character(order)) match(order, orders, nomatch = 4) - 1 else order
   raw <- taken(.Call(C_init, modulus, length(names), number))
   structure(list(raw = raw, genes = names, modulus = modulus, order = orders[number + 1]), class = "misqafur_sheet")
