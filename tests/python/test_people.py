@@ -169,6 +169,10 @@ class Pictures(unittest.TestCase):
         for names in (["a<b>&c", "d]]>"], ["a\x01", "b"], ["\ud800", "b"], ["", '"']):
             self.assertEqual(self.drawn(misqafur.Sheet(5, names).draw_up(A))[0], 3)
 
+    def test_the_page_shows_it(self):
+        sheet, _ = misqafur.read((ROOT / "examples/three.csv").read_bytes())
+        self.assertEqual(misqafur.staircase(sheet), (ROOT / "docs/readers/stairs.svg").read_text(encoding="utf-8"))
+
     def test_stored(self):
         for text in sorted((ROOT / "tests/texts/vectors").glob("*.csv"))[::5]:
             sheet, _ = misqafur.read(text.read_bytes())
