@@ -76,5 +76,17 @@ if (requireNamespace("mpoly", quietly = TRUE)) {
   read <- suppressMessages(mpoly::mp(basis(three)))
   expect(length(read) == 3 && read[[1]] == mpoly::mp("g2^2 + g2 + 4 g1"), "mpoly reads the basis")
 } else cat("r: not tried, mpoly is not installed\n")
+
+# The cell cycle's data set against the copy of the published network that BoolNet carries.
+if (requireNamespace("BoolNet", quietly = TRUE)) {
+  data(cellcycle, package = "BoolNet")
+  table <- read.csv(file.path(root, "examples/cellcycle/states.csv"))
+  for (i in seq_len(nrow(table))) {
+    state <- setNames(rep(0, 10), cellcycle$genes)
+    state[c("CycD", names(table)[1:6])] <- c(1, unlist(table[i, 1:6]))
+    after <- BoolNet::stateTransition(cellcycle, state)
+    expect(all(after[sub("next[.]", "", names(table)[-(1:6)])] == table[i, -(1:6)]), paste("state", i, "of the cell cycle"))
+  }
+} else cat("r: not tried, BoolNet is not installed\n")
 cat(sprintf("r: %d passed, %d failed\n", passed, failed))
 quit(status = as.integer(failed > 0 || passed == 0))
