@@ -1,25 +1,26 @@
-# Installs the archive, the header, the pkg-config file and the program; builds nothing itself.
-# `rt staticlib misqafur` writes the archive, `rt check` the program.
+# Installs the archive, the shared library made from it, the header, pkg-config files, the manual pages, the Python module
+# and the program. `rt staticlib misqafur` writes the archive, `rt check misqafur_cli` the program.
+# A relative PREFIX or LIBDIR begins at this folder. PYTHONDIR is where the Python module goes (tools/install says where that is).
 
 PREFIX = /usr/local
+LIBDIR = $(PREFIX)/lib
+PYTHONDIR =
 ARCHIVE = target/staticlib/libmisqafur.a
 PROGRAM = target/bin/misqafur_cli
-VERSION = 1.0.0
+export PREFIX LIBDIR PYTHONDIR DESTDIR ARCHIVE PROGRAM
 
-.PHONY: install uninstall check-install
+.PHONY: shared install uninstall check-install
 
-install: $(ARCHIVE) $(PROGRAM)
-	install -d '$(DESTDIR)$(PREFIX)/lib/pkgconfig' '$(DESTDIR)$(PREFIX)/include' '$(DESTDIR)$(PREFIX)/bin'
-	install -m 644 '$(ARCHIVE)' '$(DESTDIR)$(PREFIX)/lib/libmisqafur.a'
-	install -m 644 include/misqafur.h '$(DESTDIR)$(PREFIX)/include/misqafur.h'
-	install -m 755 '$(PROGRAM)' '$(DESTDIR)$(PREFIX)/bin/misqafur'
-	sed -e 's|@PREFIX@|$(PREFIX)|' -e 's|@VERSION@|$(VERSION)|' misqafur.pc.in \
-	    >'$(DESTDIR)$(PREFIX)/lib/pkgconfig/misqafur.pc'
+# The shared library alone, in target/shared, where the Python module finds it from within the repository.
+shared: $(ARCHIVE)
+	tools/shared '$(ARCHIVE)' target/shared
+
+install: shared $(PROGRAM)
+	tools/install
 
 uninstall:
-	rm -f '$(DESTDIR)$(PREFIX)/lib/libmisqafur.a' '$(DESTDIR)$(PREFIX)/include/misqafur.h' \
-	    '$(DESTDIR)$(PREFIX)/bin/misqafur' '$(DESTDIR)$(PREFIX)/lib/pkgconfig/misqafur.pc'
+	tools/install --remove
 
-# Installs into a folder of its own, builds the example host with what pkg-config says, and runs it.
+# Installs into folders of its own, builds the example host with what pkg-config says, and runs all that was installed.
 check-install:
-	ARCHIVE='$(ARCHIVE)' PROGRAM='$(PROGRAM)' examples/check
+	examples/check

@@ -1,5 +1,5 @@
-/* misqafur.h: the calls of libmisqafur.a, for hosts in C (C99 or later) and C++ (C++11 or later) on
- * x86-64 Linux.
+/* misqafur.h: the calls of libmisqafur.a and libmisqafur.so, for hosts in C (C99 or later) and C++ (C++11
+ * or later) on x86-64 Linux.
  *
  * From up to 64 points whose coordinates are residues modulo a prime p, the library works out the
  * standard monomials and the reduced Groebner basis of the ideal of all polynomials that vanish at
@@ -50,32 +50,33 @@
  * threads may call at once, as long as no thread writes what another has lent. Every call returns.
  * MISQAFUR_STACK bytes of stack are enough for any call.
  *
+ * A host that keeps whole sheets uses struct misqafur_sheet and the misqafur_sheet_ helpers at the end:
+ * they hand settings, counts, tables and their lengths to the calls, and keep the counts that come back.
+ *
  * Example: three points modulo 5, an interpolant, and the element x1*x2 + x2 + x1.
  *
  *   #include <misqafur.h>
  *   #include <stdio.h>
  *
- *   static uint8_t states[MISQAFUR_STATES_SIZE], standard[MISQAFUR_STANDARD_SIZE];
- *   static uint8_t leads[MISQAFUR_LEADS_SIZE], coefficients[MISQAFUR_COEFFICIENTS_SIZE];
+ *   static struct misqafur_sheet sheet;
  *
  *   int main(void)
  *   {
  *       const uint8_t levels[6] = {0, 0, 1, 2, 2, 1};
  *       const uint8_t values[3] = {1, 0, misqafur_level(-2)};
  *       uint8_t interpolant[MISQAFUR_RESIDUES_SIZE];
- *       uint64_t answer = misqafur_draw_up(5, 2, MISQAFUR_GRLEX, states, sizeof states, standard, sizeof standard,
- *                                          leads, sizeof leads, coefficients, sizeof coefficients, levels, 6);
- *       if (misqafur_refusal(answer) != 0)
+ *       uint32_t refusal = misqafur_sheet_init(&sheet, 5, 2, MISQAFUR_GRLEX);
+ *       if (refusal == 0)
+ *           refusal = misqafur_sheet_draw_up(&sheet, levels, 6);
+ *       if (refusal == 0)
+ *           refusal = misqafur_sheet_interpolate(&sheet, values, 3, interpolant, sizeof interpolant);
+ *       if (refusal != 0) {
+ *           fprintf(stderr, "%s\n", misqafur_refusal_text(refusal));
  *           return 1;
- *       uint32_t n = misqafur_points(answer), r = misqafur_elements(answer);
- *       answer = misqafur_interpolate(5, 2, MISQAFUR_GRLEX, n, r, states, sizeof states, standard, sizeof standard,
- *                                     leads, sizeof leads, coefficients, sizeof coefficients, values, 3,
- *                                     interpolant, sizeof interpolant);
- *       if (misqafur_refusal(answer) != 0)
- *           return 1;
+ *       }
  *       printf("%d + %d x2 + %d x1\n", interpolant[0], interpolant[1], interpolant[2]);         // 1 + 2 x2 + 0 x1
- *       printf("x1^%d x2^%d\n", leads[8], leads[9]);                                            // x1^1 x2^1
- *       printf("%d %d %d\n", coefficients[64], coefficients[65], coefficients[66]);             // 0 1 1
+ *       printf("x1^%d x2^%d\n", sheet.leads[8], sheet.leads[9]);                                // x1^1 x2^1
+ *       printf("%d %d %d\n", sheet.coefficients[64], sheet.coefficients[65], sheet.coefficients[66]); // 0 1 1
  *       return 0;
  *   }
  */
@@ -84,6 +85,14 @@
 
 #include <stddef.h>
 #include <stdint.h>
+#include <string.h>
+
+/* The version; and the number in the shared library's name, which changes when a call's arguments or tables do. */
+#define MISQAFUR_VERSION_MAJOR 1
+#define MISQAFUR_VERSION_MINOR 0
+#define MISQAFUR_VERSION_PATCH 0
+#define MISQAFUR_VERSION "1.0.0"
+#define MISQAFUR_ABI 1
 
 #define MISQAFUR_STATES_SIZE 512
 #define MISQAFUR_STANDARD_SIZE 512
@@ -104,6 +113,30 @@
 
 /* Bytes of stack that are enough for any call. */
 #define MISQAFUR_STACK 163840
+
+/* The refusals by name; misqafur_refusal_text has a sentence for each. */
+enum misqafur_refusals {
+    MISQAFUR_TAKEN = 0,
+    MISQAFUR_REFUSED_TEXT_LENGTH = 1,
+    MISQAFUR_REFUSED_TEXT_FORM = 2,
+    MISQAFUR_REFUSED_MODULUS = 3,
+    MISQAFUR_REFUSED_VARIABLES = 4,
+    MISQAFUR_REFUSED_ORDER = 5,
+    MISQAFUR_REFUSED_SIZE = 6,
+    MISQAFUR_REFUSED_LENGTH = 7,
+    MISQAFUR_REFUSED_COUNT = 8,
+    MISQAFUR_REFUSED_RANGE = 9,
+    MISQAFUR_REFUSED_BASIS = 10,
+    MISQAFUR_REFUSED_REPEATED = 11,
+    MISQAFUR_REFUSED_ABSENT = 12
+};
+
+/* An answer is to be looked at: compilers that know how warn where it is not. */
+#if defined(__GNUC__)
+#define MISQAFUR_ANSWER __attribute__((warn_unused_result))
+#else
+#define MISQAFUR_ANSWER
+#endif
 
 #ifdef __cplusplus
 extern "C" {
@@ -214,6 +247,40 @@ uint32_t misqafur_wiring(uint64_t modulus, uint64_t variables, uint64_t order, u
 uint64_t misqafur_read_text(const uint8_t *text, size_t text_length, uint8_t *states, size_t states_length,
                             uint8_t *values, size_t values_length);
 
+/* What compilers that know how are told of the calls above: the answer is to be looked at, and a call reads or
+ * writes as many bytes of a buffer as its length says, at most. The numbers are the arguments' places. */
+#if defined(__GNUC__)
+#if defined(__has_attribute)
+#if __has_attribute(access)
+#define MISQAFUR_LENT(mode, at) , access(mode, at, at + 1)
+#endif
+#endif
+#ifndef MISQAFUR_LENT
+#define MISQAFUR_LENT(mode, at)
+#endif
+#define MISQAFUR_LENT_TABLES(mode, at) \
+    MISQAFUR_LENT(mode, at) MISQAFUR_LENT(mode, at + 2) MISQAFUR_LENT(mode, at + 4) MISQAFUR_LENT(mode, at + 6)
+#define MISQAFUR_TOLD(call, lent) __typeof__(call) call __attribute__((warn_unused_result lent))
+#pragma GCC diagnostic push
+#pragma GCC diagnostic ignored "-Wredundant-decls"
+MISQAFUR_TOLD(misqafur_add_point, MISQAFUR_LENT_TABLES(read_write, 6) MISQAFUR_LENT(read_only, 14));
+MISQAFUR_TOLD(misqafur_withdraw_point, MISQAFUR_LENT_TABLES(read_write, 6) MISQAFUR_LENT(read_only, 14));
+MISQAFUR_TOLD(misqafur_draw_up, MISQAFUR_LENT_TABLES(write_only, 4) MISQAFUR_LENT(read_only, 12));
+MISQAFUR_TOLD(misqafur_check, MISQAFUR_LENT_TABLES(read_only, 6));
+MISQAFUR_TOLD(misqafur_interpolate,
+              MISQAFUR_LENT_TABLES(read_only, 6) MISQAFUR_LENT(read_only, 14) MISQAFUR_LENT(write_only, 16));
+MISQAFUR_TOLD(misqafur_remainder, MISQAFUR_LENT_TABLES(read_only, 6) MISQAFUR_LENT(read_only, 14)
+                                      MISQAFUR_LENT(read_only, 16) MISQAFUR_LENT(write_only, 18));
+MISQAFUR_TOLD(misqafur_wiring,
+              MISQAFUR_LENT_TABLES(read_only, 6) MISQAFUR_LENT(read_only, 14) MISQAFUR_LENT(write_only, 16));
+MISQAFUR_TOLD(misqafur_read_text,
+              MISQAFUR_LENT(read_only, 1) MISQAFUR_LENT(write_only, 3) MISQAFUR_LENT(write_only, 5));
+#pragma GCC diagnostic pop
+#undef MISQAFUR_TOLD
+#undef MISQAFUR_LENT_TABLES
+#undef MISQAFUR_LENT
+#endif
+
 /* A level, value or coefficient as the byte that the calls take. Any number outside -127 to 127 becomes
  * 128, which is -128: with every modulus that byte is refused with 9, as the number itself is to be. */
 static inline uint8_t misqafur_level(int level)
@@ -303,6 +370,141 @@ static inline uint32_t misqafur_read_variables(uint64_t answer)
 static inline uint32_t misqafur_read_order(uint64_t answer)
 {
     return (uint32_t)((answer >> 32) & 255u);
+}
+
+/* What a refusal says, as a sentence for the people at the desk, to whom a point is a state and a variable a gene.
+ * Any number has one. */
+static inline const char *misqafur_refusal_text(uint32_t refusal)
+{
+    switch (refusal) {
+    case MISQAFUR_TAKEN:
+        return "taken: nothing was refused";
+    case MISQAFUR_REFUSED_TEXT_LENGTH:
+        return "the text is longer than 16,384 bytes";
+    case MISQAFUR_REFUSED_TEXT_FORM:
+        return "the text breaks the rules, or a record's field count differs from the header's";
+    case MISQAFUR_REFUSED_MODULUS:
+        return "the modulus is not one of the 18 primes from 2 to 61";
+    case MISQAFUR_REFUSED_VARIABLES:
+        return "the number of genes is not 1 to 8";
+    case MISQAFUR_REFUSED_ORDER:
+        return "the order is not lex, grlex or grevlex (0, 1 or 2)";
+    case MISQAFUR_REFUSED_SIZE:
+        return "a lent table or buffer is shorter than its size";
+    case MISQAFUR_REFUSED_LENGTH:
+        return "a length is wrong: a state needs one level for each gene, and each state one value";
+    case MISQAFUR_REFUSED_COUNT:
+        return "there are more than 64 states, or a polynomial has more than 256 terms";
+    case MISQAFUR_REFUSED_RANGE:
+        return "a level, value or coefficient is outside -(p-1) to p-1, or an exponent belongs to no gene";
+    case MISQAFUR_REFUSED_BASIS:
+        return "the counts and tables are not the sheet of their states under these settings";
+    case MISQAFUR_REFUSED_REPEATED:
+        return "a state equals an earlier one";
+    case MISQAFUR_REFUSED_ABSENT:
+        return "the state to be withdrawn is not on the sheet";
+    default:
+        return "no refusal has this number";
+    }
+}
+
+/* ---- A whole sheet: its settings, its counts and its tables in one place of the host's ---- */
+
+struct misqafur_sheet {
+    uint64_t modulus, variables, order;
+    uint64_t n, r;
+    uint8_t states[MISQAFUR_STATES_SIZE], standard[MISQAFUR_STANDARD_SIZE];
+    uint8_t leads[MISQAFUR_LEADS_SIZE], coefficients[MISQAFUR_COEFFICIENTS_SIZE];
+};
+
+/* What the calls are handed of a sheet: its settings, and its tables with their lengths. */
+#define MISQAFUR_SHEET_SETTINGS(sheet) (sheet)->modulus, (sheet)->variables, (sheet)->order
+#define MISQAFUR_SHEET_TABLES(sheet)                                                                       \
+    (sheet)->states, sizeof (sheet)->states, (sheet)->standard, sizeof (sheet)->standard, (sheet)->leads, \
+        sizeof (sheet)->leads, (sheet)->coefficients, sizeof (sheet)->coefficients
+
+/* Keeps the counts of an answer in the sheet, where the call took what it was handed. Answers the refusal. */
+static inline MISQAFUR_ANSWER uint32_t misqafur_sheet_keep(struct misqafur_sheet *sheet, uint32_t answer)
+{
+    if (misqafur_refusal(answer) == 0) {
+        sheet->n = misqafur_points(answer);
+        sheet->r = misqafur_elements(answer);
+    }
+    return misqafur_refusal(answer);
+}
+
+/* The helpers below answer the refusal of the call that they are named after, 0 for none; after a refusal
+ * the sheet is as it was. Whatever the sheet holds, they are as safe as the calls. */
+
+static inline MISQAFUR_ANSWER uint32_t misqafur_sheet_check(const struct misqafur_sheet *sheet)
+{
+    return misqafur_check(MISQAFUR_SHEET_SETTINGS(sheet), sheet->n, sheet->r, MISQAFUR_SHEET_TABLES(sheet));
+}
+
+/* Makes the sheet of no points under these settings. Answers 3, 4 or 5 where no call takes them. */
+static inline MISQAFUR_ANSWER uint32_t misqafur_sheet_init(struct misqafur_sheet *sheet, uint64_t modulus,
+                                                           uint64_t variables, uint64_t order)
+{
+    memset(sheet, 0, sizeof *sheet);
+    sheet->modulus = modulus;
+    sheet->variables = variables;
+    sheet->order = order;
+    sheet->r = 1;
+    return misqafur_sheet_check(sheet);
+}
+
+static inline MISQAFUR_ANSWER uint32_t misqafur_sheet_add(struct misqafur_sheet *sheet,
+                                                          const uint8_t *levels, size_t levels_length)
+{
+    return misqafur_sheet_keep(sheet, misqafur_add_point(MISQAFUR_SHEET_SETTINGS(sheet), sheet->n, sheet->r,
+                                                         MISQAFUR_SHEET_TABLES(sheet), levels, levels_length));
+}
+
+static inline MISQAFUR_ANSWER uint32_t misqafur_sheet_withdraw(struct misqafur_sheet *sheet,
+                                                               const uint8_t *levels, size_t levels_length)
+{
+    return misqafur_sheet_keep(sheet, misqafur_withdraw_point(MISQAFUR_SHEET_SETTINGS(sheet), sheet->n, sheet->r,
+                                                              MISQAFUR_SHEET_TABLES(sheet), levels, levels_length));
+}
+
+/* Draws up all points at once, in place of those that the sheet has. A host that wants to know the cancellations calls
+ * misqafur_draw_up itself. */
+static inline MISQAFUR_ANSWER uint32_t misqafur_sheet_draw_up(struct misqafur_sheet *sheet,
+                                                              const uint8_t *levels, size_t levels_length)
+{
+    return misqafur_sheet_keep(sheet, (uint32_t)misqafur_draw_up(MISQAFUR_SHEET_SETTINGS(sheet),
+                                                                 MISQAFUR_SHEET_TABLES(sheet), levels, levels_length));
+}
+
+static inline MISQAFUR_ANSWER uint32_t misqafur_sheet_interpolate(const struct misqafur_sheet *sheet,
+                                                                  const uint8_t *values, size_t values_length,
+                                                                  uint8_t *out, size_t out_length)
+{
+    return misqafur_interpolate(MISQAFUR_SHEET_SETTINGS(sheet), sheet->n, sheet->r, MISQAFUR_SHEET_TABLES(sheet),
+                                values, values_length, out, out_length);
+}
+
+static inline MISQAFUR_ANSWER uint32_t misqafur_sheet_remainder(const struct misqafur_sheet *sheet,
+                                                                const uint8_t *term_coefficients,
+                                                                size_t term_coefficients_length,
+                                                                const uint8_t *exponents, size_t exponents_length,
+                                                                uint8_t *out, size_t out_length)
+{
+    return misqafur_remainder(MISQAFUR_SHEET_SETTINGS(sheet), sheet->n, sheet->r, MISQAFUR_SHEET_TABLES(sheet),
+                              term_coefficients, term_coefficients_length, exponents, exponents_length,
+                              out, out_length);
+}
+
+/* Writes the length of the list to count, where it is not refused. */
+static inline MISQAFUR_ANSWER uint32_t misqafur_sheet_wiring(const struct misqafur_sheet *sheet,
+                                                             const uint8_t *values, size_t values_length,
+                                                             uint8_t *out, size_t out_length, uint32_t *count)
+{
+    uint32_t answer = misqafur_wiring(MISQAFUR_SHEET_SETTINGS(sheet), sheet->n, sheet->r,
+                                      MISQAFUR_SHEET_TABLES(sheet), values, values_length, out, out_length);
+    if (misqafur_refusal(answer) == 0)
+        *count = misqafur_wiring_count(answer);
+    return misqafur_refusal(answer);
 }
 
 #ifdef __cplusplus

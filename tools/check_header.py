@@ -1,7 +1,8 @@
 #!/usr/bin/env python3
 """Holds the prototypes in include/misqafur.h to the exports of crates/misqafur/src: the same names, and for each the
 same arguments in the same order, with the same types and const, and the same answer. A slice is a pointer and its
-length. Says `header: N prototypes match the exports`, or each difference, and then ends with status 1.
+length, and the block in which compilers are told of the calls has to name each of them, as read or written.
+Says `header: N prototypes match the exports`, or each difference, and then ends with status 1.
 
 Each run first tries the comparison itself: every edit in TRIES of a small pair that matches has to be noticed.
 """
@@ -13,6 +14,8 @@ ROOT = pathlib.Path(__file__).resolve().parent.parent
 NUMBERS = {"u8": "uint8_t", "u32": "uint32_t", "u64": "uint64_t"}
 EXPORT = re.compile(r'#\[no_mangle\]\s+pub extern "C" fn (\w+)\s*\(([^)]*)\)(?:\s*->\s*([^\s{]+))?')
 PROTOTYPE = re.compile(r"([\w\s*]+?)\b(\w+)\s*\(([^)]*)\)\s*;")
+TOLD = re.compile(r"^MISQAFUR_TOLD\((\w+),([^;]*)\);", re.M)
+LENT = re.compile(r"MISQAFUR_LENT(_TABLES)?\((\w+), (\d+)\)")
 
 
 class Unclear(Exception):
@@ -56,10 +59,12 @@ def exports(source):
 
 def prototypes(header):
     """Each name that the header declares, with its answer and arguments."""
-    header = re.sub(r"/\*.*?\*/|//[^\n]*", " ", header, flags=re.S)
+    header = re.sub(r"/\*.*?\*/|//[^\n]*|\\\n", " ", header, flags=re.S)
     header = re.sub(r"#ifdef __cplusplus.*?#endif", " ", header, flags=re.S)
     header = re.sub(r"^\s*#[^\n]*", " ", header, flags=re.M)
     header = re.sub(r"static inline [^{;]*\{.*?^\}", " ", header, flags=re.S | re.M)
+    header = re.sub(r"^(struct|enum) \w+ \{[^}]*\};", " ", header, flags=re.M)
+    header = TOLD.sub(" ", header)
     found = {}
     for answer, name, arguments in PROTOTYPE.findall(header):
         if name in found:
@@ -67,8 +72,34 @@ def prototypes(header):
         found[name] = (spaced(answer), [spaced(argument) for argument in pieces(arguments)])
     rest = PROTOTYPE.sub(" ", header).split()
     if rest:
-        raise Unclear("the header has more than prototypes and inline functions: " + " ".join(rest)[:60])
+        raise Unclear("the header has more than prototypes, types and inline functions: " + " ".join(rest)[:60])
     return found
+
+
+def told(header):
+    """What compilers are told of each call: its buffers by the place of their pointer, and how they are used."""
+    tables = re.search(r"#define MISQAFUR_LENT_TABLES\(mode, at\)((?:[^\n]*\\\n)*[^\n]*)", header)
+    count = tables.group(1).count("MISQAFUR_LENT(") if tables else 0
+    found = {}
+    for name, lent in TOLD.findall(header):
+        places = found.setdefault(name, {})
+        for whole, mode, at in LENT.findall(lent):
+            for k in range(count if whole else 1):
+                places[int(at) + 2 * k] = mode
+    return found
+
+
+def untold(given, said):
+    """What is not told of the calls' buffers, or told wrongly."""
+    modes = {"const uint8_t": ["read_only"], "uint8_t": ["read_write", "write_only"]}
+    for name in sorted(set(given) | set(said)):
+        arguments = given.get(name, ("", []))[1]
+        due = {place: modes[a.partition(" *")[0]] for place, a in enumerate(arguments, 1) if "*" in a}
+        places = said.get(name, {})
+        if name not in given or name not in said or due.keys() != places.keys():
+            yield f"{name}: compilers are told of the buffers at {sorted(places)}, they are at {sorted(due)}"
+        elif any(places[place] not in due[place] for place in due):
+            yield f"{name}: compilers are told another use of a buffer than its const says"
 
 
 def differences(source, header):
@@ -83,7 +114,7 @@ def differences(source, header):
     for name in wanted:
         if name in given:
             found += [f"{name}: {text}" for text in changes(wanted[name], given[name])]
-    return found
+    return found + list(untold(given, told(header)))
 
 
 def changes(wanted, given):
@@ -103,11 +134,22 @@ pub extern "C" fn one(order: u64, text: &[u8], out: &mut [u8]) -> u32
     ensures { it } { 0 }
 #[no_mangle]
 pub extern "C" fn two(n: u64, r: u64,) -> u64 { 0 }
+#[no_mangle]
+pub extern "C" fn six(a: &mut [u8], b: &mut [u8]) -> u32 { 0 }
 """
 HEADER = """
 uint32_t one(uint64_t order, const uint8_t *text, size_t text_length,
              uint8_t *out, size_t out_length);
 uint64_t two(uint64_t n, uint64_t r);
+enum kinds {
+    KIND = 1
+};
+#define MISQAFUR_LENT_TABLES(mode, at) \\
+    MISQAFUR_LENT(mode, at) MISQAFUR_LENT(mode, at + 2)
+uint32_t six(uint8_t *a, size_t a_length, uint8_t *b, size_t b_length);
+MISQAFUR_TOLD(one, MISQAFUR_LENT(read_only, 2) MISQAFUR_LENT(write_only, 4));
+MISQAFUR_TOLD(two, );
+MISQAFUR_TOLD(six, MISQAFUR_LENT_TABLES(read_write, 1));
 static inline int three(int a)
 {
     return a;
@@ -126,6 +168,9 @@ TRIES = [
     (HEADER, "static", "uint64_t two(uint64_t n, uint64_t r);\nstatic"),
     (SOURCE, "n: u64", "n: u16"), (SOURCE, '#[no_mangle]\npub extern "C" fn two', 'pub extern "C" fn two'),
     (SOURCE, 'pub extern "C" fn two', "pub fn two"), (SOURCE, SOURCE, ""), (HEADER, HEADER, ""),
+    (HEADER, "TOLD(one", "TOLD(uno"), (HEADER, "MISQAFUR_TOLD(two, );", ""), (HEADER, "read_only, 2", "read_only, 3"),
+    (HEADER, "read_only, 2", "write_only, 2"), (HEADER, "write_only, 4", "read_only, 4"),
+    (HEADER, " MISQAFUR_LENT(write_only, 4)", ""), (HEADER, " MISQAFUR_LENT(mode, at + 2)", ""),
 ]
 
 

@@ -65,8 +65,9 @@ static void read_lengths(struct block *b, const char *rest)
     b->known &= numbers(rest, lengths, 4) == 4;
     memset(b->bytes, 170, 4 * sizeof b->bytes[0]);
     if (b->based)
-        reference_draw_up(b->base[0], b->base[1], b->base[2], b->bytes[STATES], ROOM, b->bytes[STANDARD], ROOM,
-                          b->bytes[LEADS], ROOM, b->bytes[COEFFICIENTS], ROOM, b->points, b->points_read);
+        b->known &= (reference_draw_up(b->base[0], b->base[1], b->base[2], b->bytes[STATES], ROOM,
+                                       b->bytes[STANDARD], ROOM, b->bytes[LEADS], ROOM,
+                                       b->bytes[COEFFICIENTS], ROOM, b->points, b->points_read) & 255u) == 0;
     for (int t = 0; b->run && t < 4; t++)
         memset(b->bytes[t], 0, table_sizes[t]);
     for (int t = 0; b->known && t < 4; t++)

@@ -91,8 +91,9 @@ static void read_lengths(struct block *b, const char *line)
     need(numbers(line, lengths, 4) == 4);
     memset(b->bytes, 170, 4 * sizeof b->bytes[0]);
     if (b->call.kind != DRAW_UP)
-        reference_draw_up(b->base[0], b->base[1], b->base[2], b->bytes[STATES], ROOM, b->bytes[STANDARD], ROOM,
-                          b->bytes[LEADS], ROOM, b->bytes[COEFFICIENTS], ROOM, b->points, b->points_read);
+        need((reference_draw_up(b->base[0], b->base[1], b->base[2], b->bytes[STATES], ROOM,
+                                b->bytes[STANDARD], ROOM, b->bytes[LEADS], ROOM,
+                                b->bytes[COEFFICIENTS], ROOM, b->points, b->points_read) & 255u) == 0);
     for (int t = 0; t < 4; t++)
         b->call.buffer[t] = (struct bytes){b->bytes[t], (size_t)lengths[t]};
 }

@@ -1,0 +1,682 @@
+"""Model sheets of gene states modulo a small prime, over the shared library of Misqafur.
+
+    import misqafur
+    sheet = misqafur.Sheet(5, 2, "grlex")                  # modulus, number of genes (or their names), order
+    sheet.draw_up([(0, 0), (1, 2), (2, 1)])
+    print(sheet.basis[0])                                  # g2^2 + g2 + 4*g1
+    print(sheet.interpolate([1, 0, 3]))                    # 1 + 2*g2
+    sheet.add((4, 0)); sheet.withdraw((-1, 0))             # one state more, and gone again
+    print(sheet.remainder("g1^2*g2"))                      # 2*g1
+
+    sheet, values = misqafur.read(open("states.csv", "rb").read())
+
+On the command line `python3 -m misqafur report FILE.csv` prints a sheet for people, and `python3 -m misqafur --help` the rest.
+States, values and exponents may be lists, numpy arrays or data frames. A call that the library refuses raises Refusal and
+changes nothing. The library is looked for by the variable MISQAFUR_LIBRARY, then beside this file and in the folders above
+it (also in their lib, lib64 and target/shared), then where the system's loader looks.
+"""
+import argparse
+import ctypes
+import functools
+import keyword
+import operator
+import os
+import pathlib
+import re
+import sys
+import textwrap
+from xml.sax.saxutils import escape
+
+ABI = 1
+ORDERS = ("lex", "grlex", "grevlex")
+TABLES = {"states": 512, "standard": 512, "leads": 3592, "coefficients": 28736}
+RESIDUES, WIRING, MOST_GENES = 64, 8, 8
+
+# The header's sentences, and for a person what to do.
+REFUSALS = {
+    1: ("the text is longer than 16,384 bytes", "Leave out states, or shorten the gene names."),
+    2: ("the text breaks the rules, or a record's field count differs from the header's",
+        "The header is the gene names and `mod P` (as `g1,g2,mod 5`); each further record a level for each gene and a value."),
+    3: ("the modulus is not one of the 18 primes from 2 to 61",
+        "Take 2, 3, 5, 7, 11, 13, 17, 19, 23, 29, 31, 37, 41, 43, 47, 53, 59 or 61."),
+    4: ("the number of genes is not 1 to 8", "Choose at most 8 genes."),
+    5: ("the order is not lex, grlex or grevlex (0, 1 or 2)", "Name one of these three."),
+    6: ("a lent table or buffer is shorter than its size", "This is a fault of the program that lends it."),
+    7: ("a length is wrong: a state needs one level for each gene, and each state one value",
+        "Give each state as many levels as there are genes, and as many values as states."),
+    8: ("there are more than 64 states, or a polynomial has more than 256 terms", "Keep the 64 states that matter most."),
+    9: ("a level, value or coefficient is outside -(p-1) to p-1, or an exponent belongs to no gene",
+        "Levels and values modulo p run from 0 to p-1; -1 stands for p-1, and so on. Take a larger prime, or correct the number."),
+    10: ("the counts and tables are not the sheet of their states under these settings",
+         "Draw the sheet up anew from its states."),
+    11: ("a state equals an earlier one", "Keep one of the two. States are compared modulo p: modulo 5, -1 and 4 are the same."),
+    12: ("the state to be withdrawn is not on the sheet", "Look for its levels among the states of the sheet."),
+}
+
+# What a wiring list says of the target.
+WIRING_MEANS = ("the genes that every function with these values needs: two states differ in that gene alone and have different values; "
+                "of a gene that is not here the states do not show whether it matters")
+
+
+class Refusal(ValueError):
+    """What the library refused: its number, and for a text the record at fault, the header being 1."""
+
+    def __init__(self, number, record=None):
+        self.number, self.record = number, record
+        self.sentence = REFUSALS[number][0]
+        super().__init__(f"refused with {number}{f' at record {record}' if record else ''}: {self.sentence}")
+
+
+# ---- The library
+
+_SETTINGS, _COUNTS, _BUFFER = [ctypes.c_uint64] * 3, [ctypes.c_uint64] * 2, [ctypes.c_void_p, ctypes.c_size_t]
+_SHEET = _SETTINGS + _COUNTS + _BUFFER * len(TABLES)
+_CALLS = {
+    "add_point": (ctypes.c_uint32, _SHEET + _BUFFER),
+    "withdraw_point": (ctypes.c_uint32, _SHEET + _BUFFER),
+    "draw_up": (ctypes.c_uint64, _SETTINGS + _BUFFER * len(TABLES) + _BUFFER),
+    "check": (ctypes.c_uint32, _SHEET),
+    "interpolate": (ctypes.c_uint32, _SHEET + _BUFFER * 2),
+    "remainder": (ctypes.c_uint32, _SHEET + _BUFFER * 3),
+    "wiring": (ctypes.c_uint32, _SHEET + _BUFFER * 2),
+    "read_text": (ctypes.c_uint64, _BUFFER * 3),
+}
+
+
+def _places():
+    """Where the library may be, the first place first."""
+    name = f"libmisqafur.so.{ABI}"
+    if os.environ.get("MISQAFUR_LIBRARY"):
+        yield os.environ["MISQAFUR_LIBRARY"]
+        return
+    for folder in pathlib.Path(__file__).resolve().parents:
+        for below in ("", "lib", "lib64", "target/shared"):
+            if (folder / below / name).exists():
+                yield str(folder / below / name)
+    yield name
+
+
+@functools.lru_cache(maxsize=None)
+def _library():
+    place = next(_places())
+    try:
+        library = ctypes.CDLL(place)
+    except OSError as error:
+        raise ImportError(f"{place} cannot be loaded ({error}): install Misqafur, or set MISQAFUR_LIBRARY to the file") from error
+    for name, (answer, arguments) in _CALLS.items():
+        call = getattr(library, "misqafur_" + name)
+        call.restype, call.argtypes = answer, arguments
+    return library
+
+
+def _call(name, *arguments):
+    """Calls the library; bytes and tables go with their lengths. Raises what it refuses, and else answers the number."""
+    words = [word for a in arguments for word in ((a,) if isinstance(a, int) else (a, len(a)))]
+    answer = getattr(_library(), "misqafur_" + name)(*words)
+    refusal = answer & 255
+    if refusal:
+        raise Refusal(refusal, answer >> 8 if name == "read_text" else None)
+    return answer >> 8
+
+
+# ---- Numbers from Python
+
+def _plain(values):
+    """A sequence, an array or a data frame as a list."""
+    if hasattr(values, "to_numpy"):
+        values = values.to_numpy()
+    return values.tolist() if hasattr(values, "tolist") else list(values)
+
+
+def _integer(value):
+    if isinstance(value, float) and value.is_integer():
+        return int(value)
+    try:
+        return operator.index(value)
+    except TypeError:
+        raise TypeError(f"{value!r} is no whole number") from None
+
+
+def _number(value):
+    """A setting as the library takes it; what does not fit is a number that it refuses."""
+    value = _integer(value)
+    return value if 0 <= value < 2**64 else 2**64 - 1
+
+
+def _levels(values):
+    """Levels, values or coefficients as bytes; 128 stands for any that no modulus takes."""
+    numbers = [_integer(value) for value in _plain(values)]
+    return bytes(number & 255 if abs(number) < 128 else 128 for number in numbers)
+
+
+# ---- Polynomials
+
+SYNTAXES = {"plain": "^", "singular": "^", "macaulay2": "^", "sympy": "**"}
+_RESERVED = {"ring", "ideal", "poly", "int", "list", "matrix", "vector", "map", "proc", "string", "number", "def", "symbol", "new", "then", "do",
+             "Poly", "symbols", "modulus", "true", "quit", "exit", "ZZ", "QQ", "of", "when", "method", "local", "basis", "sheet", "genes"}
+
+
+def _words_or_numbers(names, word):
+    """The names where they are words and all different, else x1, x2 and so on."""
+    if len(set(names)) == len(names) and all(name.isprintable() and re.fullmatch(word, name) for name in names):
+        return tuple(names)
+    return tuple(f"x{k}" for k in range(1, len(names) + 1))
+
+
+def shown_names(names):
+    """Names as people see them in a polynomial: the genes' own, or x1, x2 and so on."""
+    return _words_or_numbers(names, r"""[^\W\d][^\s+*^,;"'`]*""")
+
+
+def safe_names(names):
+    """Names that an algebra package takes: the genes' own, or x1, x2 and so on."""
+    taken = any(keyword.iskeyword(name) or name in _RESERVED for name in names)
+    return _words_or_numbers(names, "(?!)" if taken else "[A-Za-z][A-Za-z0-9]*")
+
+
+class Polynomial:
+    """A polynomial modulo p in named genes; terms are (coefficient, exponents), and keep their order for printing."""
+
+    def __init__(self, modulus, names, terms):
+        self.modulus, self.names = modulus, tuple(names)
+        sums = {}
+        for coefficient, exponents in terms:
+            exponents = tuple(_integer(e) for e in _plain(exponents))
+            if len(exponents) != len(self.names) or min(exponents, default=0) < 0:
+                raise ValueError(f"{exponents} are not {len(self.names)} exponents")
+            sums[exponents] = (sums.get(exponents, 0) + _integer(coefficient)) % modulus
+        self._sums = {exponents: coefficient for exponents, coefficient in sums.items() if coefficient}
+
+    @property
+    def terms(self):
+        return [(coefficient, exponents) for exponents, coefficient in self._sums.items()]
+
+    @classmethod
+    def parse(cls, modulus, names, text):
+        """What str prints, and the like: signed terms with * and ^ (or **)."""
+        shown = shown_names(names)
+        words = "|".join(re.escape(name) for name in sorted(shown, key=len, reverse=True))
+        factor = rf"(?:\d+|(?:{words})(?:\s*(?:\^|\*\*)\s*\d+)?)"
+        term = rf"\s*([+-]?)\s*({factor}(?:\s*\*\s*{factor})*)\s*"
+        terms, at = [], 0
+        while at < len(text) or not terms:
+            found = re.compile(term).match(text, at)
+            if not found or (terms and not found.group(1)):
+                raise ValueError(f"{text[at:].strip()!r} is no polynomial in {', '.join(shown)}")
+            coefficient, exponents = -1 if found.group(1) == "-" else 1, [0] * len(shown)
+            for part in re.findall(factor, found.group(2)):
+                name, _, power = re.sub(r"\s*(\^|\*\*)\s*(\d+)$", r"\0\2", part).partition("\0")
+                if name in shown:
+                    exponents[shown.index(name)] += int(power or 1)
+                else:
+                    coefficient *= int(name)
+            terms.append((coefficient, exponents))
+            at = found.end()
+        return cls(modulus, names, terms)
+
+    def text(self, syntax="plain"):
+        """As text in plain words, or for Singular, Macaulay2 or sympy."""
+        power, names = SYNTAXES[syntax], shown_names(self.names) if syntax == "plain" else safe_names(self.names)
+        return " + ".join(_term(coefficient, exponents, names, power) for coefficient, exponents in self.terms) or "0"
+
+    def __call__(self, state):
+        """The value at a state, a level for each gene."""
+        levels = [_integer(level) for level in _plain(state)]
+        if len(levels) != len(self.names):
+            raise Refusal(7)
+        total = 0
+        for coefficient, exponents in self.terms:
+            for level, exponent in zip(levels, exponents):
+                coefficient = coefficient * pow(level, exponent, self.modulus) % self.modulus
+            total += coefficient
+        return total % self.modulus
+
+    def __eq__(self, other):
+        if not isinstance(other, Polynomial):
+            return NotImplemented
+        return (self.modulus, self.names, self._sums) == (other.modulus, other.names, other._sums)
+
+    def __hash__(self):
+        return hash((self.modulus, self.names, frozenset(self._sums.items())))
+
+    def __str__(self):
+        return self.text()
+
+    def __repr__(self):
+        return f"<{self} modulo {self.modulus}>"
+
+
+def _term(coefficient, exponents, names, power):
+    factors = [name + (f"{power}{e}" if e > 1 else "") for name, e in zip(names, exponents) if e]
+    return "*".join([str(coefficient)] * (coefficient != 1 or not factors) + factors)
+
+
+# ---- Sheets
+
+class Sheet:
+    """The standard monomials and the reduced Groebner basis of states of genes, modulo a prime. It begins without states.
+
+    After a drawing up `cancellations` says how many that took, which its time goes with; else it is None.
+    """
+
+    def __init__(self, modulus, genes, order="grevlex"):
+        if isinstance(genes, str):
+            raise TypeError("genes are a number, or a list of names")
+        named = hasattr(genes, "__iter__")
+        self.names = tuple(str(name) for name in genes) if named else tuple(f"g{k}" for k in range(1, min(_number(genes), 99) + 1))
+        self.modulus = _number(modulus)
+        self.order = order if order in ORDERS else dict(enumerate(ORDERS)).get(order)
+        self._n, self._r, self.cancellations = 0, 1, None
+        self._tables = {name: (ctypes.c_uint8 * size)() for name, size in TABLES.items()}
+        self.check()
+
+    @property
+    def _settings(self):
+        return self.modulus, len(self.names), ORDERS.index(self.order) if self.order in ORDERS else len(ORDERS)
+
+    def _handed(self):
+        return (*self._settings, self._n, self._r, *self._tables.values())
+
+    def _keep(self, answer):
+        self._n, self._r, self.cancellations = answer & 255, answer >> 8 & 65535, None
+        return self
+
+    def add(self, state):
+        """Adds a state: a level for each gene."""
+        return self._keep(_call("add_point", *self._handed(), _levels(state)))
+
+    def withdraw(self, state):
+        """Takes a state out again, named by its levels."""
+        return self._keep(_call("withdraw_point", *self._handed(), _levels(state)))
+
+    def draw_up(self, states):
+        """Draws up all states at once, in place of those that the sheet has."""
+        rows = [_plain(row) for row in _plain(states)]
+        if any(len(row) != len(self.names) for row in rows):
+            raise Refusal(7)
+        levels = _levels(level for row in rows for level in row)
+        answer = _call("draw_up", *self._settings, *self._tables.values(), levels)
+        self._keep(answer).cancellations = answer >> 24
+        return self
+
+    def check(self):
+        """Whether the tables are the sheet of their states: raises if not, or if no sheet has these settings."""
+        _call("check", *self._handed())
+        return True
+
+    def interpolate(self, values):
+        """The combination of standard monomials that has these values at the states, in their order."""
+        out = (ctypes.c_uint8 * RESIDUES)()
+        _call("interpolate", *self._handed(), _levels(values), out)
+        return self._combination(out)
+
+    def remainder(self, polynomial):
+        """The combination of standard monomials that equals a polynomial at the states: a Polynomial, a text, or a list of terms."""
+        if isinstance(polynomial, str):
+            polynomial = Polynomial.parse(self.modulus, self.names, polynomial)
+        terms = polynomial.terms if isinstance(polynomial, Polynomial) else [(c, _plain(e)) for c, e in polynomial]
+        out = (ctypes.c_uint8 * RESIDUES)()
+        exponents = b"".join(_exponents(e, len(self.names)) for _, e in terms)
+        _call("remainder", *self._handed(), _levels([c for c, _ in terms]), exponents, out)
+        return self._combination(out)
+
+    def wiring(self, values):
+        """The wiring list of these values, the genes that every function with them needs: numbers from 1, increasing."""
+        out = (ctypes.c_uint8 * WIRING)()
+        return list(out[:_call("wiring", *self._handed(), _levels(values), out)])
+
+    def _rows(self, table, count):
+        return [tuple(self._tables[table][8 * i:8 * i + len(self.names)]) for i in range(count)]
+
+    def _combination(self, residues, *before):
+        return Polynomial(self.modulus, self.names, [*before, *zip(residues[:self._n], self.standard)])
+
+    @property
+    def states(self):
+        return self._rows("states", self._n)
+
+    @property
+    def standard(self):
+        """The exponents of the standard monomials, increasing in the order."""
+        return self._rows("standard", self._n)
+
+    @property
+    def leads(self):
+        """The exponents of the leading monomials, increasing."""
+        return self._rows("leads", self._r)
+
+    @property
+    def basis(self):
+        """The polynomials of the basis: each its leading monomial plus a combination of standard ones."""
+        rows = (self._tables["coefficients"][RESIDUES * i:RESIDUES * (i + 1)] for i in range(self._r))
+        return [self._combination(row, (1, lead)) for row, lead in zip(rows, self.leads)]
+
+    def polynomial(self, text):
+        """A polynomial in the genes of this sheet, from text as str prints it."""
+        return Polynomial.parse(self.modulus, self.names, text)
+
+    def export(self, syntax):
+        """The basis as a script for Singular, Macaulay2 or sympy."""
+        names, texts = safe_names(self.names), [polynomial.text(syntax) for polynomial in self.basis]
+        order = {"singular": ("lp", "Dp", "dp"), "macaulay2": ("Lex", "GLex", "GRevLex"), "sympy": ORDERS}[syntax][ORDERS.index(self.order)]
+        said = f"{len(self)} states, {', '.join(map(repr, self.names))}"
+        if syntax == "singular":
+            return f"// {said}\nring sheet = {self.modulus}, ({', '.join(names)}), {order};\nideal basis = {', '.join(texts)};\n"
+        if syntax == "macaulay2":
+            ring = f"ZZ/{self.modulus}[{', '.join(names)}, MonomialOrder => {order}]"
+            return f"-- {said}\nsheet = {ring};\nbasis' = ideal({', '.join(texts)});\n"
+        polys = ",\n         ".join(f"Poly({text}, *genes, modulus={self.modulus})" for text in texts)
+        genes = f"genes = {', '.join(names)}, = symbols({' '.join(names)!r}, seq=True)"
+        return f"# {said}; order {order}\nfrom sympy import Poly, symbols\n\n{genes}\nbasis = [{polys}]\n"
+
+    def __len__(self):
+        return self._n
+
+    def __repr__(self):
+        return f"<sheet of {self._n} states of {', '.join(self.names)} modulo {self.modulus}, {self.order}>"
+
+
+def _exponents(exponents, genes):
+    """8 exponents of a term, or what the library refuses."""
+    numbers = [_integer(e) for e in exponents]
+    if len(numbers) > MOST_GENES or len(numbers) < genes:
+        raise Refusal(7)
+    if any(not 0 <= e <= 255 for e in numbers):
+        raise ValueError("exponents run from 0 to 255")
+    return bytes(numbers) + bytes(MOST_GENES - len(numbers))
+
+
+# ---- Texts
+
+_FIELD = re.compile(rb'"((?:[^"]|"")*)"|([^,"\r\n]*)')
+
+
+def _records(text):
+    """The fields of a text's records, as far as it is well formed; what breaks the rules ends its record as one field more."""
+    records, fields, at = [], [], 0
+    while at <= len(text):
+        found = _FIELD.match(text, at)
+        fields.append(found.group(1).replace(b'""', b'"') if found.group(1) is not None else found.group(2))
+        at = found.end()
+        if text[at:at + 1] == b",":
+            at += 1
+            continue
+        if at < len(text) and not re.match(rb"\r?\n", text[at:at + 2]):
+            end = re.compile(rb"\r?\n|\Z").search(text, at)
+            fields[-1] += text[at:end.start()]
+            at = end.start()
+        at += 2 if text[at:at + 2] == b"\r\n" else 1
+        records.append(fields)
+        fields = []
+        if at == len(text):
+            break
+    return records
+
+
+def _said(field):
+    return field.decode("utf-8", "backslashreplace")
+
+
+def read(text):
+    """The sheet and the values of a text, as bytes: gene names, `mod P` and an order in its header, states below."""
+    states, values = (ctypes.c_uint8 * TABLES["states"])(), (ctypes.c_uint8 * RESIDUES)()
+    answer = _call("read_text", bytes(text), states, values)
+    n, modulus, genes, order = (answer >> shift & 255 for shift in (0, 8, 16, 24))
+    names = [_said(field).removeprefix("\ufeff") for field in _records(text)[0][:-1]]
+    sheet = Sheet(modulus, names, ORDERS[order])
+    sheet.draw_up([states[8 * i:8 * i + genes] for i in range(n)])
+    return sheet, list(values[:n])
+
+
+# ---- Reports
+
+_LAST_FIELD = rb"mod \d{1,3}( (lex|grlex|grevlex))?"
+_MARK = b"\xef\xbb\xbf"
+
+
+def _habits(text):
+    """What other programs do to texts, as far as it is seen in this one: sentences for a person."""
+    header, *records = _records(text)
+    if text[:2] in (b"\xff\xfe", b"\xfe\xff"):
+        yield "It is in UTF-16: save it as UTF-8 or plain text."
+    if text.startswith(_MARK):
+        yield "It begins with a byte-order mark, which counts as part of the first gene's name: save it as UTF-8 without one."
+    for sign, name in ((b";", "semicolons"), (b"\t", "tabs")):
+        if len(header) == 1 and sign in header[0]:
+            yield f"Its fields are divided by {name}: write commas (in R write.csv and not write.csv2, in pandas sep=',')."
+    if header[0] in (b"", _MARK) and len(header) > 1:
+        numbers = [record[0] for record in records if record != [b""]]
+        if numbers and numbers in ([b"%d" % (i + start) for i in range(len(numbers))] for start in (0, 1)):
+            yield "Its first column is row numbers, without a name: write with row.names=FALSE in R, index=False in pandas."
+    if re.search(rb"\n\r?\n\Z", text):
+        yield "There is a blank line at its end: delete it."
+
+
+def _record_hints(text, refusal):
+    """What is wrong with the record at fault, where it can be seen."""
+    records, number = _records(text), refusal.record
+    if not number or number > len(records):
+        return
+    header, fields = records[0], records[number - 1]
+    if refusal.number == 2 and number == 1 and not re.fullmatch(_LAST_FIELD, header[-1]):
+        yield f"The header's last field has to be `mod P`, as `mod 5` or `mod 5 grlex`, and is `{_said(header[-1])[:60]}`."
+    elif refusal.number == 2 and len(fields) != len(header):
+        yield f"Record {number} has {len(fields)} field{'s' * (len(fields) != 1)}, the header {len(header)}."
+    elif refusal.number == 2:
+        for field in fields:
+            if not re.fullmatch(rb"-?\d{1,3}", field):
+                yield f"Record {number}: `{_said(field)[:60]}` is no level: an optional minus sign and one to three digits, no blank, no point."
+    modulus = re.match(rb"mod (\d+)", header[-1])
+    p = int(modulus.group(1)) if modulus else 0
+    if refusal.number == 9:
+        for place, field in enumerate(fields):
+            if abs(int(field)) >= p:
+                whose = "the value" if place == len(fields) - 1 else _said(header[place]) or "without a name"
+                yield f"Record {number}, field {place + 1} ({whose}): {_said(field)} is not from {1 - p} to {p - 1}."
+    if refusal.number == 11:
+        residues = [[int(field) % p for field in record[:-1]] for record in records[1:number]]
+        yield f"Record {number} repeats the state of record {residues.index(residues[-1]) + 2}."
+
+
+def _wrapped(text, first="  "):
+    """A paragraph in lines of at most 100; a plus sign stays with the term after it."""
+    lines = textwrap.wrap(text.replace(" + ", " +\0"), 100, initial_indent=first, subsequent_indent=" " * len(first), break_long_words=False,
+                          break_on_hyphens=False)
+    return "\n".join(lines).replace("\0", " ")
+
+
+def _counted(number, word):
+    return f"{number} {word}{'' if number == 1 else 's'}"
+
+
+def refusal_report(text, refusal):
+    """What was refused, what it means and what to do."""
+    where = f", record {refusal.record}" if refusal.record else ""
+    hints = [*_habits(text), *_record_hints(text, refusal)] if refusal.number != 1 else []
+    if refusal.number != 2 or not hints:
+        hints.append(REFUSALS[refusal.number][1])
+    told = "" if not refusal.record else " (Record 1 is the header.)"
+    lines = [_wrapped(f"Refused with {refusal.number}{where}: {refusal.sentence}.{told}"), "", "What to do:"]
+    return "\n".join(lines + [_wrapped(hint, "  - ") for hint in hints])
+
+
+def report(sheet, values, habits=()):
+    """A sheet and the values of a target gene for a person to read."""
+    names = shown_names(sheet.names)
+    wiring = ", ".join(names[k - 1] for k in sheet.wiring(values)) or "none"
+    standard = ", ".join(str(Polynomial(sheet.modulus, sheet.names, [(1, e)])) for e in sheet.standard) or "none"
+    size = f"{_counted(len(sheet), 'state')} of {_counted(len(names), 'gene')} ({', '.join(names)})"
+    lines = [_wrapped(f"{size}, levels modulo {sheet.modulus}, order {sheet.order}")]
+    lines += [_wrapped(f"{name} is {own!r}") for name, own in zip(names, sheet.names) if name != own]
+    lines += [_wrapped(habit, "  ! ") for habit in habits]
+    lines += ["", "The target gene as a polynomial (at each state it has the value that the text gives):"]
+    lines += [_wrapped(str(sheet.interpolate(values)), "    ")]
+    lines += ["", f"Wiring: {wiring}", _wrapped(f"({WIRING_MEANS})")]
+    lines += ["", f"What holds at every state: {_counted(len(sheet.basis), 'polynomial')} that are 0 there; any other that is 0 there is a",
+              "combination of them (the reduced Groebner basis)."]
+    width = len(str(len(sheet.basis)))
+    lines += [_wrapped(str(polynomial), f"    {i:{width}}. ") for i, polynomial in enumerate(sheet.basis, 1)]
+    lines += ["", "Standard monomials, one for each state:", _wrapped(standard, "    ")]
+    return "\n".join(lines)
+
+
+# ---- The staircase
+
+_COLOURS = {"standard": "#cfe3f5", "lead": "#f4a340", "multiple": "#ececec"}
+_RAISED = str.maketrans("0123456789", "⁰¹²³⁴⁵⁶⁷⁸⁹")
+
+
+def _rectangle(x, y, width, height, kind):
+    return f'<rect class="{kind}" x="{x}" y="{y}" width="{width}" height="{height}" fill="{_COLOURS[kind]}" stroke="#ffffff"/>'
+
+
+def _xml(text):
+    """Text as XML can hold it."""
+    return escape(re.sub("[^\t -\ud7ff\ue000-\ufffd\U00010000-\U0010ffff]", "\ufffd", text))
+
+
+def _word(x, y, text, size=12, anchor="middle", more=""):
+    return f'<text x="{x}" y="{y}" font-size="{size}" text-anchor="{anchor}"{more}>{_xml(text)}</text>'
+
+
+def _monomial(exponents, names):
+    return "·".join(name + (str(e).translate(_RAISED) if e > 1 else "") for name, e in zip(names, exponents) if e) or "1"
+
+
+def staircase(sheet, genes=(1, 2)):
+    """An SVG picture of the monomials in two genes: standard ones, leading ones, and multiples of those above the stairs."""
+    chosen = [k - 1 for k in genes][:len(sheet.names)]
+    rest = [k for k in range(len(sheet.names)) if k not in chosen]
+    standard, leads = ({(*(e[k] for k in chosen), 0)[:2] for e in monomials if not any(e[k] for k in rest)}
+                       for monomials in (sheet.standard, sheet.leads))
+    columns, rows = (max(e[i] for e in leads) + 1 for i in (0, 1))
+    names = [shown_names(sheet.names)[k] for k in chosen]
+    cell = max(10, min(72, 720 // columns, 720 // rows))
+    size = min(14, int(cell / 0.62 / max(len(_monomial(e, names)) for e in standard | leads)))
+    left, top = 64, 64
+    wide, high = max(left + cell * columns + 24, 560), top + cell * rows + 96
+    picture = [f'<svg xmlns="http://www.w3.org/2000/svg" width="{wide}" height="{high}" viewBox="0 0 {wide} {high}"',
+               '     font-family="sans-serif" fill="#222222">', f"<title>Staircase of {_xml(' and '.join(names))}</title>", f'<rect width="{wide}" height="{high}" fill="#ffffff"/>',
+               _word(left, 24, f"Monomials in {' and '.join(names)}", 16, "start"), _word(left, 44, _caption(sheet, standard, leads), 12, "start")]
+    for a in range(columns):
+        for b in range(rows):
+            kind = "standard" if (a, b) in standard else "lead" if (a, b) in leads else "multiple"
+            x, y = left + cell * a, top + cell * (rows - 1 - b)
+            picture.append(_rectangle(x, y, cell, cell, kind))
+            if kind != "multiple" and size >= 8:
+                picture.append(_word(x + cell // 2, y + cell // 2 + size // 3, _monomial((a, b), names), size))
+    picture.append(_stairs(standard, rows, columns, cell, left, top))
+    picture += _axes(names, rows, columns, cell, left, top)
+    picture += _legend(left, top + cell * rows + 72)
+    return "\n".join(picture + ["</svg>"]) + "\n"
+
+
+def _caption(sheet, standard, leads):
+    hidden = len(sheet) - len(standard), len(sheet.leads) - len(leads)
+    more = f"; {hidden[0]} standard and {hidden[1]} leading ones with other genes are not drawn" if any(hidden) else ""
+    return f"{_counted(len(sheet), 'state')}, modulo {sheet.modulus}, {sheet.order}{more}"
+
+
+def _stairs(standard, rows, columns, cell, left, top):
+    """The line between standard monomials and the others, from the upper edge to the right one."""
+    corners = [(0, rows)]
+    for a in range(columns):
+        height = sum((a, b) in standard for b in range(rows))
+        corners += [(a, height), (a + 1, height)]
+    points = " ".join(f"{left + cell * a},{top + cell * (rows - b)}" for a, b in corners)
+    return f'<polyline class="stairs" points="{points}" fill="none" stroke="#1f4e79" stroke-width="{3 if cell > 20 else 2}"/>'
+
+
+def _axes(names, rows, columns, cell, left, top):
+    """The exponents along both edges, as many as fit, and whose they are."""
+    step, below = max(1, -(-18 // cell)), top + cell * rows
+    yield from (_word(left + cell * a + cell // 2, below + 16, str(a)) for a in range(0, columns, step))
+    yield _word(left + cell * columns / 2, below + 36, f"exponent of {names[0]}")
+    if len(names) > 1:
+        yield from (_word(left - 8, top + cell * (rows - 1 - b) + cell // 2 + 4, str(b), 12, "end") for b in range(0, rows, step))
+        middle = top + cell * rows / 2
+        yield _word(20, middle, f"exponent of {names[1]}", 12, "middle", f' transform="rotate(-90 20 {middle})"')
+
+
+def _legend(left, y):
+    for x, kind, text in ((0, "standard", "standard"), (104, "lead", "leading, of the basis"), (272, "multiple", "multiple of a leading one")):
+        yield _rectangle(left + x, y - 12, 16, 16, kind)
+        yield _word(left + x + 22, y + 1, text, 12, "start")
+
+
+# ---- The command line
+
+def _texts(files, many):
+    """Each text with its name; with `many` a file holds several, divided by blank lines."""
+    for name in files:
+        data = sys.stdin.buffer.read() if name == "-" else pathlib.Path(name).read_bytes()
+        if not many:
+            yield name, data
+            continue
+        texts = [text for text in re.split(rb"(?:\r?\n){2,}", data.strip(b"\r\n")) if text]
+        yield from ((f"{name}, text {i} of {len(texts)}", text + b"\n") for i, text in enumerate(texts, 1))
+
+
+def _gene_numbers(sheet, words):
+    """Two genes by their names or numbers, as A,B."""
+    numbers = [sheet.names.index(word) + 1 if word in sheet.names else int(word) if word.isdigit() else 0 for word in words.split(",")]
+    if len(numbers) != 2 or numbers[0] == numbers[1] or not all(1 <= k <= len(sheet.names) for k in numbers):
+        raise SystemExit(f"misqafur: {words} are not two genes of {', '.join(sheet.names)}")
+    return numbers
+
+
+def _report_texts(words):
+    """The command `report`. Answers how many texts were refused."""
+    texts, refused = list(_texts(words.files, words.many)), 0
+    if words.svg and len(texts) != 1:
+        raise SystemExit("misqafur: --svg takes one text")
+    shows = len(texts) > 1 and (words.progress or sys.stderr.isatty())
+    for count, (name, text) in enumerate(texts, 1):
+        if shows:
+            print(f"\r{count} of {len(texts)} texts, {refused} refused", end="\n" if count == len(texts) else "", file=sys.stderr, flush=True)
+        try:
+            sheet, values = read(text)
+            said = report(sheet, values, _habits(text))
+            if words.svg:
+                chosen = _gene_numbers(sheet, words.genes) if words.genes else (1, 2)
+                pathlib.Path(words.svg).write_text(staircase(sheet, chosen), encoding="utf-8")
+        except Refusal as refusal:
+            refused += 1
+            said = refusal_report(text, refusal)
+        print(f"== {name}\n{said}\n")
+    return refused
+
+
+def main(arguments=None):
+    parser = argparse.ArgumentParser(prog="python3 -m misqafur", description="Model sheets of gene states modulo a small prime, for people.")
+    commands = parser.add_subparsers(dest="command", required=True)
+    told = commands.add_parser("report", help="print sheets, or what was refused and what to do; status 1 if any was refused")
+    told.add_argument("files", nargs="+", metavar="FILE.csv", help="a text: gene names and `mod P`, then states and values (- for standard input)")
+    told.add_argument("--svg", metavar="OUT.svg", help="draw the staircase of standard and leading monomials of two genes")
+    told.add_argument("--genes", metavar="A,B", help="the two genes to draw, by name or number (the first two if not given)")
+    told.add_argument("--many", action="store_true", help="a file holds many texts, divided by blank lines")
+    told.add_argument("--progress", action="store_true", help="say how far many texts have come, also where standard error is no terminal")
+    script = commands.add_parser("export", help="print the basis of a text as a script for an algebra package")
+    script.add_argument("syntax", choices=[name for name in SYNTAXES if name != "plain"])
+    script.add_argument("files", nargs=1, metavar="FILE.csv")
+    words = parser.parse_args(arguments)
+    sys.stdout.reconfigure(errors="backslashreplace")
+    try:
+        if words.command == "report":
+            return 1 if _report_texts(words) else 0
+        (name, text), = _texts(words.files, False)
+        print(read(text)[0].export(words.syntax), end="")
+    except Refusal as refusal:
+        print(f"== {name}\n{refusal_report(text, refusal)}", file=sys.stderr)
+        return 1
+    except BrokenPipeError:
+        os.dup2(os.open(os.devnull, os.O_WRONLY), sys.stdout.fileno())
+        return 2
+    except (OSError, ImportError) as error:
+        print(f"misqafur: {error}", file=sys.stderr)
+        return 2
+    return 0
+
+
+if __name__ == "__main__":
+    sys.exit(main())

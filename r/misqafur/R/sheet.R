@@ -1,0 +1,112 @@
+# Sheets of gene states. A sheet is a value: what changes one answers another, and a call that is refused changes nothing.
+
+orders <- c("lex", "grlex", "grevlex")
+
+# Raises a refusal as a condition of class misqafur_refusal, with its number and record; else what was answered.
+taken <- function(answer, record = NULL) {
+  number <- answer[[1]]
+  if (number == 0) return(answer[[2]])
+  where <- if (is.null(record)) "" else paste(" at record", record)
+  text <- sprintf("refused with %d%s: %s", number, where, .Call(C_refusal_text, number))
+  stop(structure(class = c("misqafur_refusal", "error", "condition"),
+                 list(message = text, call = NULL, number = number, record = record)))
+}
+
+# Whole numbers as integers; any that is none, or too large, becomes NA, which the library refuses.
+whole <- function(numbers) {
+  if (is.data.frame(numbers)) numbers <- as.matrix(numbers)
+  if (!is.numeric(numbers) && !is.logical(numbers)) stop("levels and values are whole numbers")
+  plain <- as.vector(numbers)
+  plain[is.na(plain) | plain != trunc(plain) | abs(plain) > 1000] <- NA
+  as.integer(plain)
+}
+
+# A sheet without states. `genes` is their number, or their names.
+sheet <- function(modulus, genes, order = "grevlex") {
+  names <- if (is.character(genes)) genes else if (genes %in% 1:8) paste0("g", seq_len(genes)) else character(0)
+  number <- if (is.character(order)) match(order, orders, nomatch = 4) - 1 else order
+  raw <- taken(.Call(C_init, modulus, length(names), number))
+  structure(list(raw = raw, genes = names, modulus = modulus, order = orders[number + 1]), class = "misqafur_sheet")
+}
+
+# A state as levels: a vector, or one row of a data frame.
+add_state <- function(sheet, state) {
+  sheet$raw <- taken(.Call(C_add, sheet$raw, whole(state)))
+  sheet
+}
+
+withdraw_state <- function(sheet, state) {
+  sheet$raw <- taken(.Call(C_withdraw, sheet$raw, whole(state)))
+  sheet
+}
+
+# All states at once, in place of those that the sheet has: a data frame or a matrix with a row for each.
+draw_up <- function(sheet, states) {
+  states <- as.matrix(states)
+  if (nrow(states) > 0 && ncol(states) != length(sheet$genes)) taken(list(7L))
+  sheet$raw <- taken(.Call(C_draw_up, sheet$raw, whole(t(states))))
+  sheet
+}
+
+# TRUE, or an error where the sheet is not that of its states.
+check_sheet <- function(sheet) {
+  taken(.Call(C_check, sheet$raw))
+  TRUE
+}
+
+# The polynomial over the standard monomials that has these values at the states, as a string.
+interpolate <- function(sheet, values) {
+  polynomial_text(sheet, taken(.Call(C_interpolate, sheet$raw, whole(values))), standard(sheet))
+}
+
+# The polynomial over the standard monomials that equals a polynomial, a string, at the states.
+remainder <- function(sheet, polynomial) {
+  terms <- polynomial_terms(sheet, polynomial)
+  exponents <- cbind(terms$exponents, matrix(0L, nrow(terms$exponents), max(0, 8 - length(sheet$genes))))
+  residues <- taken(.Call(C_remainder, sheet$raw, terms$coefficients, as.integer(t(exponents))))
+  polynomial_text(sheet, residues, standard(sheet))
+}
+
+# The wiring list of these values: the genes' numbers, with their names.
+wiring <- function(sheet, values) {
+  list <- taken(.Call(C_wiring, sheet$raw, whole(values)))
+  structure(list, names = sheet$genes[list])
+}
+
+table_of <- function(sheet, place, names = sheet$genes) {
+  table <- taken(.Call(C_tables, sheet$raw))[[place]]
+  colnames(table) <- names
+  table
+}
+
+states <- function(sheet) as.data.frame(table_of(sheet, 1), optional = TRUE)
+
+# The exponents of the standard monomials and of the leading monomials, increasing in the order.
+standard <- function(sheet) table_of(sheet, 2)
+leads <- function(sheet) table_of(sheet, 3)
+
+# The polynomials of the basis, as strings: each its leading monomial and a combination of standard ones.
+basis <- function(sheet) {
+  rows <- table_of(sheet, 4, NULL)
+  heads <- leads(sheet)
+  below <- standard(sheet)
+  vapply(seq_len(nrow(rows)), function(i) {
+    polynomial_text(sheet, c(1L, rows[i, ]), rbind(heads[i, ], below))
+  }, "")
+}
+
+# The sheet and the values of a text: gene names and `mod P` in its header, states and values below.
+read_sheet <- function(file) {
+  bytes <- readBin(file, "raw", 1e6)
+  answer <- .Call(C_read_text, bytes)
+  parts <- taken(answer, if (answer[[1]] != 0) answer[[2]][[1]])
+  text <- enc2utf8(iconv(rawToChar(bytes[bytes != 0]), "UTF-8", "UTF-8", sub = "byte"))
+  names <- scan(text = sub("^\ufeff", "", text), what = "", sep = ",", quote = "\"", n = parts[[2]], quiet = TRUE, encoding = "UTF-8")
+  list(sheet = draw_up(sheet(parts[[1]], names, orders[parts[[3]] + 1]), parts[[4]]), values = as.vector(parts[[5]]))
+}
+
+print.misqafur_sheet <- function(x, ...) {
+  cat(sprintf("sheet of %d states of %s modulo %d, %s\n", nrow(states(x)), paste(x$genes, collapse = ", "), as.integer(x$modulus), x$order))
+  cat(paste0("  ", basis(x), "\n"), sep = "")
+  invisible(x)
+}

@@ -1,0 +1,187 @@
+/* The header's helpers over whole sheets against the plain calls: the same random call is made both ways on equal sheets,
+ * and refusal, counts and every byte have to be equal afterwards. usage: helpers CALLS [SEED] */
+#include "misqafur.h"
+
+#include <stdio.h>
+#include <stdlib.h>
+
+enum kind { ADD, WITHDRAW, DRAW_UP, CHECK, INTERPOLATE, REMAINDER, WIRING, KINDS };
+
+/* What a call is handed beside the sheet, and what it answers. */
+struct terms {
+    uint8_t levels[600], exponents[8 * 300];
+    size_t levels_length, exponents_length, out_length;
+};
+struct ends {
+    uint32_t refusal, count;
+    uint8_t out[80];
+};
+
+static uint64_t state = 1;
+static long passed, failed, seen[KINDS][16];
+
+static uint32_t below(uint32_t bound)
+{
+    state ^= state << 13;
+    state ^= state >> 7;
+    state ^= state << 17;
+    return (uint32_t)((state >> 32) % bound);
+}
+
+static uint32_t rarely(void)
+{
+    return below(12) == 0;
+}
+
+static void expect(int good, const char *what, long index)
+{
+    passed += good;
+    failed += !good;
+    if (!good && failed < 20)
+        printf("differs: %s, call %ld\n", what, index);
+}
+
+/* The plain calls, their arguments written out. */
+static struct ends plainly(enum kind kind, struct misqafur_sheet *s, const struct terms *t, struct ends ends)
+{
+    uint32_t answer = 0;
+#define SHEET s->modulus, s->variables, s->order, s->n, s->r, TABLES
+#define TABLES s->states, 512, s->standard, 512, s->leads, 3592, s->coefficients, 28736
+    if (kind == ADD)
+        answer = misqafur_add_point(SHEET, t->levels, t->levels_length);
+    if (kind == WITHDRAW)
+        answer = misqafur_withdraw_point(SHEET, t->levels, t->levels_length);
+    if (kind == DRAW_UP)
+        answer = (uint32_t)misqafur_draw_up(s->modulus, s->variables, s->order, TABLES, t->levels, t->levels_length);
+    if (kind == CHECK)
+        answer = misqafur_check(SHEET);
+    if (kind == INTERPOLATE)
+        answer = misqafur_interpolate(SHEET, t->levels, t->levels_length, ends.out, t->out_length);
+    if (kind == REMAINDER)
+        answer = misqafur_remainder(SHEET, t->levels, t->levels_length, t->exponents, t->exponents_length, ends.out,
+                                    t->out_length);
+    if (kind == WIRING)
+        answer = misqafur_wiring(SHEET, t->levels, t->levels_length, ends.out, t->out_length);
+    ends.refusal = answer & 255u;
+    if (ends.refusal == 0 && kind <= DRAW_UP) {
+        s->n = (answer >> 8) & 255u;
+        s->r = answer >> 16;
+    }
+    if (ends.refusal == 0 && kind == WIRING)
+        ends.count = answer >> 8;
+    return ends;
+}
+
+static struct ends by_helper(enum kind kind, struct misqafur_sheet *s, const struct terms *t, struct ends ends)
+{
+    switch (kind) {
+    case ADD: ends.refusal = misqafur_sheet_add(s, t->levels, t->levels_length); break;
+    case WITHDRAW: ends.refusal = misqafur_sheet_withdraw(s, t->levels, t->levels_length); break;
+    case DRAW_UP: ends.refusal = misqafur_sheet_draw_up(s, t->levels, t->levels_length); break;
+    case CHECK: ends.refusal = misqafur_sheet_check(s); break;
+    case INTERPOLATE:
+        ends.refusal = misqafur_sheet_interpolate(s, t->levels, t->levels_length, ends.out, t->out_length);
+        break;
+    case REMAINDER:
+        ends.refusal = misqafur_sheet_remainder(s, t->levels, t->levels_length, t->exponents, t->exponents_length, ends.out,
+                                                t->out_length);
+        break;
+    default:
+        ends.refusal = misqafur_sheet_wiring(s, t->levels, t->levels_length, ends.out, t->out_length, &ends.count);
+    }
+    return ends;
+}
+
+/* Levels, values or terms that fit the sheet, or now and then do not. */
+static void make_terms(struct terms *t, enum kind kind, const struct misqafur_sheet *s)
+{
+    const uint32_t p = (uint32_t)s->modulus, m = (uint32_t)s->variables, n = (uint32_t)s->n;
+    const uint32_t points = rarely() ? 60 + below(8) : below(12), terms = rarely() ? 250 + below(9) : below(6);
+    t->levels_length = (kind <= WITHDRAW ? m : kind == DRAW_UP ? m * points : kind == REMAINDER ? terms : n) + rarely();
+    t->exponents_length = 8 * t->levels_length + rarely();
+    t->out_length = (kind == WIRING ? 8 : 64) - rarely() + below(3);
+    for (size_t i = 0; i < sizeof t->levels; i++)
+        t->levels[i] = misqafur_level((int)below(2 * p - 1) - (int)(p - 1));
+    if (rarely() && t->levels_length > 0)
+        t->levels[below((uint32_t)t->levels_length)] = misqafur_level((int)p);
+    for (size_t i = 0; i < sizeof t->exponents; i++)
+        t->exponents[i] = (uint8_t)(i % 8 < m ? below(4) : 0);
+    if (kind == WITHDRAW && n > 0 && below(3) != 0)
+        memcpy(t->levels, s->states + 8 * below(n), 8);
+}
+
+/* One call both ways; now and then the sheet handed in is a damaged copy. */
+static void try_call(long index, struct misqafur_sheet *sheet)
+{
+    static struct misqafur_sheet ours, theirs;
+    struct terms terms;
+    struct ends before = {99, 99, {0}}, plain, helped;
+    enum kind kind = below(2) == 0 ? ADD : (enum kind)below(KINDS);
+    const int damaged = rarely() == 1;
+    make_terms(&terms, kind, sheet);
+    memset(before.out, 170, sizeof before.out);
+    ours = *sheet;
+    if (damaged)
+        ((uint8_t *)&ours)[offsetof(struct misqafur_sheet, n) + below(6000)] ^= 1;
+    theirs = ours;
+    plain = plainly(kind, &theirs, &terms, before);
+    helped = by_helper(kind, &ours, &terms, before);
+    expect(memcmp(&plain, &helped, sizeof plain) == 0, "what is answered", index);
+    expect(memcmp(&ours, &theirs, sizeof ours) == 0, "the sheet", index);
+    seen[kind][plain.refusal & 15]++;
+    if (!damaged)
+        *sheet = ours;
+}
+
+/* A fresh sheet: settings that are taken or not, and as document 01 has it. */
+static void begin(long index, struct misqafur_sheet *sheet)
+{
+    static const uint64_t primes[] = {2, 3, 5, 7, 61, 4, 0};
+    static const uint8_t zeros[MISQAFUR_COEFFICIENTS_SIZE] = {0};
+    uint64_t p = primes[below(7)], m = below(10), order = below(4);
+    uint32_t due = p == 4 || p == 0 ? 3 : m < 1 || m > 8 ? 4 : order > 2 ? 5 : 0;
+    memset(sheet, 170, sizeof *sheet);
+    expect(misqafur_sheet_init(sheet, p, m, order) == due, "the refusal of settings", index);
+    expect(sheet->modulus == p && sheet->variables == m && sheet->order == order && sheet->n == 0 && sheet->r == 1 &&
+               memcmp(sheet->states, zeros, 512) == 0 && memcmp(sheet->standard, zeros, 512) == 0 &&
+               memcmp(sheet->leads, zeros, 3592) == 0 && memcmp(sheet->coefficients, zeros, 28736) == 0,
+           "the fresh sheet", index);
+    if (due != 0)
+        expect(misqafur_sheet_init(sheet, 5, 2, MISQAFUR_GREVLEX) == 0, "settings that are taken", index);
+}
+
+/* Every refusal has a sentence of its own, and every other number the last one. */
+static void texts(void)
+{
+    for (uint32_t a = 0; a < 256; a++)
+        for (uint32_t b = 0; b < a; b++)
+            expect((strcmp(misqafur_refusal_text(a), misqafur_refusal_text(b)) == 0) == (b > MISQAFUR_REFUSED_ABSENT),
+                   "the sentences of refusals", (long)a);
+}
+
+/* With enough calls, each kind was taken and refused in the ways that it can be. */
+static void all_seen(void)
+{
+    static const int due[KINDS][6] = {{0, 7, 9, 10, 11}, {0, 7, 9, 10, 12}, {0, 7, 8, 9, 11}, {0, 10}, {0, 6, 7, 9, 10},
+                                      {0, 6, 7, 8, 9, 10}, {0, 6, 7, 9, 10}};
+    for (int kind = 0; kind < KINDS; kind++)
+        for (int i = 0; i < 6; i++)
+            expect(seen[kind][due[kind][i]] > 0, "an answer that never came", 10 * kind + due[kind][i]);
+}
+
+int main(int count, char **words)
+{
+    static struct misqafur_sheet sheet;
+    const long calls = count > 1 ? atol(words[1]) : 20000;
+    state = count > 2 ? strtoull(words[2], NULL, 10) * 2 + 1 : 1;
+    for (long i = 0; i < calls; i++) {
+        if (i % 60 == 0)
+            begin(i, &sheet);
+        try_call(i, &sheet);
+    }
+    texts();
+    if (calls >= 20000)
+        all_seen();
+    printf("helpers: %ld passed, %ld failed\n", passed, failed);
+    return failed != 0 || passed == 0;
+}
