@@ -8,6 +8,7 @@ use crate::checking::recognise;
 use crate::points;
 use crate::settings::add_sizes;
 use crate::settings::refused;
+use crate::settings::too_short;
 use specification::settings::Answer;
 use specification::settings::Settings;
 ghost use mathlib.Core.Path.{_≡_};
@@ -40,15 +41,13 @@ fn add_refusal(
     ensures { λ k. ⌜ (k ≡ 0 → Solves settings (pointsIn settings n (now (states .entry))) (now (rows .exit)) (now (pivots .exit))) ⌝ }
     ensures { λ k. ⌜ (k ≡ 0 → now (point .exit) ≡ fill 8 (residues (settings .modulus) (now (levels .entry)))) ⌝ }
 {
-    let refusal = add_sizes(
-        settings,
+    let short = too_short(
         states.len(),
         standard.len(),
         leads.len(),
         coefficients.len(),
-        levels.len(),
-        n,
     );
+    let refusal = add_sizes(settings, short, levels.len(), n);
     if refusal != 0 {
         return refusal;
     }

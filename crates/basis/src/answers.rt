@@ -5,6 +5,7 @@ pub mod solving;
 use crate::checking::recognise;
 use crate::points;
 use crate::settings::remainder_sizes;
+use crate::settings::too_short;
 use crate::settings::values_sizes;
 use residue::bytes;
 use specification::settings::Settings;
@@ -42,17 +43,13 @@ fn values_refusal(
     ensures { λ k. ⌜ (k ≡ 0 → now (points .exit) ≡ fill 512 (inPlaces 8 (pointsIn settings n (now (states .entry))))) ⌝ }
     ensures { λ k. ⌜ (k ≡ 0 → Solves settings (pointsIn settings n (now (states .entry))) (now (rows .exit)) (now (pivots .exit))) ⌝ }
 {
-    let refusal = values_sizes(
-        settings,
+    let short = too_short(
         states.len(),
         standard.len(),
         leads.len(),
         coefficients.len(),
-        out.len(),
-        size,
-        values.len(),
-        n,
     );
+    let refusal = values_sizes(settings, short, out.len(), size, values.len(), n);
     if refusal != 0 {
         return refusal;
     }
@@ -215,17 +212,13 @@ fn remainder_refusal(
     ensures { λ k. ⌜ (k ≡ 0 → Solves settings (pointsIn settings n (now (states .entry))) (now (rows .exit)) (now (pivots .exit))) ⌝ }
 {
     let terms = term_coefficients.len();
-    let refusal = remainder_sizes(
-        settings,
+    let short = too_short(
         states.len(),
         standard.len(),
         leads.len(),
         coefficients.len(),
-        out.len(),
-        terms,
-        exponents.len(),
-        n,
     );
+    let refusal = remainder_sizes(settings, short, out.len(), terms, exponents.len(), n);
     if refusal != 0 {
         return refusal;
     }

@@ -2,6 +2,7 @@
 use crate::drawing::draw;
 use crate::points;
 use crate::settings::check_sizes;
+use crate::settings::too_short;
 use residue::bytes;
 use specification::settings::Settings;
 ghost use mathlib.Core.Path.{_≡_};
@@ -111,14 +112,13 @@ pub fn check(
     ensures { λ k. ⌜ k ≡ checkRefusal settings n r
         (fourTables (now (states .entry)) (now (standard .entry)) (now (leads .entry)) (now (coefficients .entry))) ⌝ }
 {
-    let refusal = check_sizes(
-        settings,
+    let short = too_short(
         states.len(),
         standard.len(),
         leads.len(),
         coefficients.len(),
-        n,
     );
+    let refusal = check_sizes(settings, short, n);
     if refusal != 0 {
         return refusal;
     }

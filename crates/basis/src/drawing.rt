@@ -10,6 +10,7 @@ use crate::drawing::turns::reduce;
 use crate::points;
 use crate::settings::draw_sizes;
 use crate::settings::refused_drawing;
+use crate::settings::too_short;
 use monomial::candidate::Candidate;
 use monomial::candidate::next;
 use monomial::columns::put_columns;
@@ -170,14 +171,13 @@ pub fn draw_up(
         ≡ drawOutcome settings (fourTables (now (states .entry)) (now (standard .entry)) (now (leads .entry)) (now (coefficients .entry)))
         (now (levels .entry)) ⌝ }
 {
-    let refusal = draw_sizes(
-        settings,
+    let short = too_short(
         states.len(),
         standard.len(),
         leads.len(),
         coefficients.len(),
-        levels.len(),
     );
+    let refusal = draw_sizes(settings, short, levels.len());
     if refusal != 0 {
         return refused_drawing(refusal);
     }

@@ -10,6 +10,7 @@ ghost use Prim.Native.Nat.{_*_, _/_, _%_};
 ghost use lib.Dec.{eqb, leb, ltb};
 ghost use Rattle.specification.specs.Refusal.{firstOf};
 ghost use Rattle.specification.specs.Settings.{settingsCases};
+ghost use Rattle.specification.specs.Tables.{shortLengths};
 
 // The answer of a refused call.
 pub fn refused(refusal: u8) -> Answer
@@ -53,20 +54,29 @@ pub fn settings_refusal(settings: Settings) -> u8
     3
 }
 
-// Whether one of four tables of these lengths is shorter than its size.
-fn too_short(states: usize, standard: usize, leads: usize, coefficients: usize) -> bool
-    ensures { λ b. ⌜ b ≡ (ltb states 512 || ltb standard 512 || ltb leads 3592 || ltb coefficients 28736) ⌝ }
+// The sizes of the lent tables in bytes.
+pub const STATES: usize = 512;
+
+pub const STANDARD: usize = 512;
+
+pub const LEADS: usize = 3592;
+
+pub const COEFFICIENTS: usize = 28736;
+
+// Whether one of the lent tables, of these lengths, is shorter than its size.
+pub fn too_short(states: usize, standard: usize, leads: usize, coefficients: usize) -> bool
+    ensures { λ b. ⌜ b ≡ shortLengths states standard leads coefficients ⌝ }
 {
-    if states < 512 {
+    if states < STATES {
         return true;
     }
-    if standard < 512 {
+    if standard < STANDARD {
         return true;
     }
-    if leads < 3592 {
+    if leads < LEADS {
         return true;
     }
-    coefficients < 28736
+    coefficients < COEFFICIENTS
 }
 
 // A table or buffer is too short, a length is wrong, there are too many points or terms.
@@ -108,21 +118,11 @@ fn rest(k: usize, m: u64) -> usize
     k % m as usize
 }
 
-// Adding one point of this many levels to n points.
-pub fn add_sizes(
-    settings: Settings,
-    states: usize,
-    standard: usize,
-    leads: usize,
-    coefficients: usize,
-    levels: usize,
-    n: u64,
-) -> u8
+// Adding one point of this many levels to n points; `short` is whether a lent table is too short, here and below.
+pub fn add_sizes(settings: Settings, short: bool, levels: usize, n: u64) -> u8
     ensures { λ k. ⌜ k ≡ firstOf 0 (settingsCases settings
-        ++ ((ltb states 512 || ltb standard 512 || ltb leads 3592 || ltb coefficients 28736, 6) ∷ (not (eqb levels (settings .variables)), 7) ∷ (leb 64 n, 8)
-        ∷ [])) ⌝ }
+        ++ ((short, 6) ∷ (not (eqb levels (settings .variables)), 7) ∷ (leb 64 n, 8) ∷ [])) ⌝ }
 {
-    let short = too_short(states, standard, leads, coefficients);
     by_sizes(
         settings,
         short,
@@ -132,96 +132,58 @@ pub fn add_sizes(
 }
 
 // Withdrawing the one of n points that has this many levels.
-pub fn withdraw_sizes(
-    settings: Settings,
-    states: usize,
-    standard: usize,
-    leads: usize,
-    coefficients: usize,
-    levels: usize,
-    n: u64,
-) -> u8
+pub fn withdraw_sizes(settings: Settings, short: bool, levels: usize, n: u64) -> u8
     ensures { λ k. ⌜ k ≡ firstOf 0 (settingsCases settings
-        ++ ((ltb states 512 || ltb standard 512 || ltb leads 3592 || ltb coefficients 28736, 6) ∷ (not (eqb levels (settings .variables)), 7) ∷ (ltb 64 n, 8)
-        ∷ [])) ⌝ }
+        ++ ((short, 6) ∷ (not (eqb levels (settings .variables)), 7) ∷ (ltb 64 n, 8) ∷ [])) ⌝ }
 {
-    let short = too_short(states, standard, leads, coefficients);
     by_sizes(settings, short, levels as u64 != settings.variables, 64 < n)
 }
 
 // Drawing up from this many levels.
-pub fn draw_sizes(
-    settings: Settings,
-    states: usize,
-    standard: usize,
-    leads: usize,
-    coefficients: usize,
-    levels: usize,
-) -> u8
+pub fn draw_sizes(settings: Settings, short: bool, levels: usize) -> u8
     ensures { λ k. ⌜ k ≡ firstOf 0 (settingsCases settings
-        ++ ((ltb states 512 || ltb standard 512 || ltb leads 3592 || ltb coefficients 28736, 6) ∷ (not (eqb (levels % settings .variables) 0), 7)
-        ∷ (ltb 64 (levels / settings .variables), 8) ∷ [])) ⌝ }
+        ++ ((short, 6) ∷ (not (eqb (levels % settings .variables) 0), 7) ∷ (ltb 64 (levels / settings .variables), 8) ∷ [])) ⌝ }
 {
     let m = settings.variables;
-    let short = too_short(states, standard, leads, coefficients);
     let left = rest(levels, m);
     let points = quotient(levels, m);
     by_sizes(settings, short, left != 0, 64 < points)
 }
 
 // Checking the tables of n points.
-pub fn check_sizes(
-    settings: Settings,
-    states: usize,
-    standard: usize,
-    leads: usize,
-    coefficients: usize,
-    n: u64,
-) -> u8
-    ensures { λ k. ⌜ k ≡ firstOf 0 (settingsCases settings
-        ++ ((ltb states 512 || ltb standard 512 || ltb leads 3592 || ltb coefficients 28736, 6) ∷ (false, 7) ∷ (ltb 64 n, 8) ∷ [])) ⌝ }
+pub fn check_sizes(settings: Settings, short: bool, n: u64) -> u8
+    ensures { λ k. ⌜ k ≡ firstOf 0 (settingsCases settings ++ ((short, 6) ∷ (false, 7) ∷ (ltb 64 n, 8) ∷ [])) ⌝ }
 {
-    let short = too_short(states, standard, leads, coefficients);
     by_sizes(settings, short, false, 64 < n)
 }
 
 // An answer of the given size, from this many values at n points.
 pub fn values_sizes(
     settings: Settings,
-    states: usize,
-    standard: usize,
-    leads: usize,
-    coefficients: usize,
+    short: bool,
     buffer: usize,
     size: usize,
     values: usize,
     n: u64,
 ) -> u8
     ensures { λ k. ⌜ k ≡ firstOf 0 (settingsCases settings
-        ++ ((ltb states 512 || ltb standard 512 || ltb leads 3592 || ltb coefficients 28736 || ltb buffer size, 6) ∷ (not (eqb values n), 7) ∷ (ltb 64 n, 8)
-        ∷ [])) ⌝ }
+        ++ ((short || ltb buffer size, 6) ∷ (not (eqb values n), 7) ∷ (ltb 64 n, 8) ∷ [])) ⌝ }
 {
-    let short = too_short(states, standard, leads, coefficients);
     by_sizes(settings, short || buffer < size, values as u64 != n, 64 < n)
 }
 
 // The remainder of a polynomial of so many terms and exponents.
 pub fn remainder_sizes(
     settings: Settings,
-    states: usize,
-    standard: usize,
-    leads: usize,
-    coefficients: usize,
+    short: bool,
     buffer: usize,
     terms: usize,
     exponents: usize,
     n: u64,
 ) -> u8
     ensures { λ k. ⌜ k ≡ firstOf 0 (settingsCases settings
-        ++ ((ltb states 512 || ltb standard 512 || ltb leads 3592 || ltb coefficients 28736 || ltb buffer 64, 6) ∷ (not (eqb exponents (8 * terms)), 7)
-        ∷ (ltb 64 n || ltb 256 terms, 8) ∷ [])) ⌝ }
+        ++ ((short || ltb buffer 64, 6) ∷ (not (eqb exponents (8 * terms)), 7) ∷ (ltb 64 n || ltb 256 terms, 8) ∷ [])) ⌝ }
 {
-    let short = too_short(states, standard, leads, coefficients);
     let whole = exponents / 8 == terms && exponents % 8 == 0;
     by_sizes(
         settings,

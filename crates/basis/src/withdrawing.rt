@@ -4,6 +4,7 @@ use crate::checking::recognise;
 use crate::drawing::draw_points;
 use crate::points;
 use crate::settings::refused;
+use crate::settings::too_short;
 use crate::settings::withdraw_sizes;
 use monomial::insert::take_out;
 use specification::settings::Answer;
@@ -60,15 +61,13 @@ fn withdraw_refusal(
     ensures { λ k. ⌜ (k ≡ 0 → now (left .exit)
         ≡ fill 512 (inPlaces 8 (remaining (residues (settings .modulus) (now (levels .entry))) (pointsIn settings n (now (states .entry)))))) ⌝ }
 {
-    let refusal = withdraw_sizes(
-        settings,
+    let short = too_short(
         states.len(),
         standard.len(),
         leads.len(),
         coefficients.len(),
-        levels.len(),
-        n,
     );
+    let refusal = withdraw_sizes(settings, short, levels.len(), n);
     if refusal != 0 {
         return refusal;
     }

@@ -3,6 +3,7 @@ use crate::packing::pack_wired;
 use crate::signed::put_signed;
 use basis::answers;
 use basis::settings::remainder_sizes;
+use basis::settings::too_short;
 use basis::settings::values_sizes;
 use specification::settings::Settings;
 ghost use mathlib.Core.Path.{_≡_};
@@ -37,17 +38,13 @@ pub extern "C" fn misqafur_interpolate(
         order,
     };
     let count = values.len();
-    let refusal = values_sizes(
-        settings,
+    let short = too_short(
         states.len(),
         standard.len(),
         leads.len(),
         coefficients.len(),
-        out.len(),
-        64,
-        count,
-        n,
     );
+    let refusal = values_sizes(settings, short, out.len(), 64, count, n);
     if refusal != 0 {
         return refusal as u32;
     }
@@ -93,17 +90,13 @@ pub extern "C" fn misqafur_remainder(
         order,
     };
     let count = term_coefficients.len();
-    let refusal = remainder_sizes(
-        settings,
+    let short = too_short(
         states.len(),
         standard.len(),
         leads.len(),
         coefficients.len(),
-        out.len(),
-        count,
-        exponents.len(),
-        n,
     );
+    let refusal = remainder_sizes(settings, short, out.len(), count, exponents.len(), n);
     if refusal != 0 {
         return refusal as u32;
     }
@@ -149,17 +142,13 @@ pub extern "C" fn misqafur_wiring(
         order,
     };
     let count = values.len();
-    let refusal = values_sizes(
-        settings,
+    let short = too_short(
         states.len(),
         standard.len(),
         leads.len(),
         coefficients.len(),
-        out.len(),
-        8,
-        count,
-        n,
     );
+    let refusal = values_sizes(settings, short, out.len(), 8, count, n);
     if refusal != 0 {
         return refusal as u32;
     }

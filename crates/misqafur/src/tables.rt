@@ -7,6 +7,7 @@ use basis::checking;
 use basis::drawing;
 use basis::settings::add_sizes;
 use basis::settings::draw_sizes;
+use basis::settings::too_short;
 use basis::settings::withdraw_sizes;
 use basis::withdrawing;
 use specification::settings::Settings;
@@ -42,15 +43,13 @@ pub extern "C" fn misqafur_add_point(
         order,
     };
     let count = levels.len();
-    let refusal = add_sizes(
-        settings,
+    let short = too_short(
         states.len(),
         standard.len(),
         leads.len(),
         coefficients.len(),
-        count,
-        n,
     );
+    let refusal = add_sizes(settings, short, count, n);
     if refusal != 0 {
         return refusal as u32;
     }
@@ -93,15 +92,13 @@ pub extern "C" fn misqafur_withdraw_point(
         order,
     };
     let count = levels.len();
-    let refusal = withdraw_sizes(
-        settings,
+    let short = too_short(
         states.len(),
         standard.len(),
         leads.len(),
         coefficients.len(),
-        count,
-        n,
     );
+    let refusal = withdraw_sizes(settings, short, count, n);
     if refusal != 0 {
         return refusal as u32;
     }
@@ -142,14 +139,13 @@ pub extern "C" fn misqafur_draw_up(
         order,
     };
     let count = levels.len();
-    let refusal = draw_sizes(
-        settings,
+    let short = too_short(
         states.len(),
         standard.len(),
         leads.len(),
         coefficients.len(),
-        count,
     );
+    let refusal = draw_sizes(settings, short, count);
     if refusal != 0 {
         return refusal as u64;
     }

@@ -73,10 +73,13 @@ written new old = record {
   coefficients = over (new .coefficients) (old .coefficients);
 }
 
--- a lent table is shorter than its size
+-- a lent table is shorter than its size: by the tables' lengths, and of tables
+unfoldable pub shortLengths : ℕ → ℕ → ℕ → ℕ → Bool
+shortLengths states standard leads coefficients =
+    ltb states statesSize || ltb standard standardSize || ltb leads leadsSize || ltb coefficients coefficientsSize
+
 unfoldable pub tooShort : Tables → Bool
-tooShort t = ltb (length (t .states)) statesSize || ltb (length (t .standard)) standardSize || ltb (length (t .leads)) leadsSize
-    || ltb (length (t .coefficients)) coefficientsSize
+tooShort t = shortLengths (length (t .states)) (length (t .standard)) (length (t .leads)) (length (t .coefficients))
 
 -- the first n points of a table of points
 unfoldable pub pointsIn : Settings → ℕ → List ℕ → List (List ℕ)

@@ -16,7 +16,7 @@ use Rattle.specification.specs.declared.settings.Settings.{Settings}
 use Rattle.specification.specs.Refusal.{Case, firstOf}
 use Rattle.specification.specs.Settings.{settingsCases}
 use Rattle.specification.specs.Levels.{noRepeat}
-use Rattle.specification.specs.Tables.{Tables, rowCount, tablesOf, written, tooShort, pointsIn, recognised, statesSize, standardSize, leadsSize, coefficientsSize}
+use Rattle.specification.specs.Tables.{Tables, rowCount, tablesOf, written, shortLengths, tooShort, pointsIn, recognised, statesSize, standardSize, leadsSize, coefficientsSize}
 use Rattle.specification.proofs.Cases.{none-holds, first-on}
 use Rattle.specification.proofs.agreement.Points.{Points, points-back}
 
@@ -52,11 +52,11 @@ pub record Large (t : Tables) : Type 0 where
   pub coefficients : coefficientsSize ≤ length (t .coefficients)
 
 pub not-short : (t : Tables) → Large t → tooShort t ≡ false
-unfolding tooShort
+unfolding tooShort shortLengths
 not-short t h = simp (le-ltb (length (t .states)) statesSize (h .states), le-ltb (length (t .standard)) standardSize (h .standard), le-ltb (length (t .leads)) leadsSize (h .leads), le-ltb (length (t .coefficients)) coefficientsSize (h .coefficients))
 
 pub large-of : (t : Tables) → tooShort t ≡ false → Large t
-unfolding tooShort
+unfolding tooShort shortLengths
 large-of t e =
     let a = neither (ltb (length (t .states)) statesSize || ltb (length (t .standard)) standardSize || ltb (length (t .leads)) leadsSize) (ltb (length (t .coefficients)) coefficientsSize) e in
     let b = neither (ltb (length (t .states)) statesSize || ltb (length (t .standard)) standardSize) (ltb (length (t .leads)) leadsSize) (a .0) in

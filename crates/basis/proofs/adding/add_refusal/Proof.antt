@@ -1,6 +1,6 @@
 -- `adding::add_refusal` meets its contract: at each return the tests that led there decide the number.
 use borrow.Author.Tests.{leb-false, eqb-true, not-true, not-false}
-use mathlib.Core.Path.{_≡_, sym, ap, _∙_}
+use mathlib.Core.Path.{_≡_, refl, sym, ap, _∙_}
 use mathlib.Core.Bool.{true, not}
 use mathlib.Core.List.{List}
 use Prim.Native.Nat.{ℕ, _<_}
@@ -12,9 +12,11 @@ use Rattle.residue.proofs.level.Moduli.{modulus-range}
 use Rattle.residue.proofs.Places.{over-zeros}
 use Rattle.residue.proofs.Layouts.{length-fill}
 use Rattle.specification.specs.Levels.{inRange, isAmong}
+use Rattle.specification.specs.Settings.{settingsCases}
 use Rattle.specification.specs.Tables.{Tables, fourTables, tooShort, recognised}
 use Rattle.specification.proofs.agreement.Points.{length-residues}
 use Rattle.specification.proofs.agreement.Refusals.{large-of}
+use Rattle.specification.proofs.Cases.{sizes-are}
 use Rattle.basis.specs.Drawing.{Solves}
 use Rattle.basis.proofs.settings.BySize.{Passed, passed}
 use Rattle.basis.proofs.adding.Addition.{old, new, addSizes, add-size, add-range, add-unknown, add-repeat, add-good, asked}
@@ -34,14 +36,14 @@ newOne s = new (s .args .settings) (s .args .n) (s .args .r) (tables s) (s .args
 
 -- the refusals on numbers
 abbrev start : tie.After-add-sizes → tie.Start
-start d = d .before .before .before .before .before .before .before .before .before
+start d = d .before .before .before .before .before .before .before .before .before .before
 
 abbrev Fine : tie.Start → ℕ
 Fine s = addSizes (s .args .settings) (s .args .n) (s .args .r) (tables s) (s .args .levels .now)
 
 sized : (d : tie.After-add-sizes) → d .add-sizes .result ≡ Fine (start d)
 unfolding tooShort
-sized d = d .add-sizes .ensures
+sized d = d .add-sizes .ensures ∙ sizes-are (settingsCases (start d .args .settings)) (d .before .too-short .ensures) refl refl
 
 -- none of them holds
 module _ (e : tie.Else1) where
@@ -104,6 +106,9 @@ repeats a =
     let h = g w in
     let x = e (f h) in
     a .is-among .ensures ∙ asked (s x .args .settings) (s x .args .n) (s x .args .r) (tables (s x)) (s x .args .levels .now) (room x .settings) (long x) (few x) (known h) _ _ (table h) (place w)
+
+too-short-requires : tie.Need-too-short-requires
+too-short-requires c κs = tt
 
 add-sizes-requires : tie.Need-add-sizes-requires
 add-sizes-requires c κs = tt
@@ -197,6 +202,7 @@ pub add-refusal-spec : {M : Type 1} → statement M
 add-refusal-spec =
     tie.close
     (tie.spec
+    too-short-requires
     add-sizes-requires
     returns
     cast-p

@@ -1,15 +1,18 @@
 -- `answers::remainder_refusal` meets its contract: at each return the tests that led there decide the number.
 use borrow.Author.Tests.{not-true, not-false}
-use mathlib.Core.Path.{_≡_, sym, _∙_}
-use mathlib.Core.Bool.{true}
+use mathlib.Core.Path.{_≡_, refl, sym, ap, _∙_}
+use mathlib.Core.Bool.{Bool, true, _||_}
 use Prim.Native.Nat.{ℕ}
 use native.Mathlib.Omega.{arith}
 use lib.ListN.{length}
+use lib.Dec.{ltb}
 use Rattle.residue.specs.Layout.{groups}
 use Rattle.residue.proofs.level.Moduli.{modulus-range}
 use Rattle.specification.specs.Levels.{inRange}
+use Rattle.specification.specs.Settings.{settingsCases}
 use Rattle.specification.specs.Tables.{Tables, fourTables, tooShort}
 use Rattle.specification.specs.Solving.{withinVariables}
+use Rattle.specification.proofs.Cases.{sizes-are}
 use Rattle.basis.proofs.answers.Refusals.{remainderSizes, remainder-size, remainder-range, remainder-variable, remainder-not, remainder-good}
 use Rattle.basis.proofs.answers.Answered.{Sized, terms-sized, terms-count}
 use Rattle.basis.proofs.answers.remainder_refusal.Statement.{statement}
@@ -21,14 +24,14 @@ tables s = fourTables (s .args .states .now) (s .args .standard .now) (s .args .
 
 -- the refusals on numbers
 abbrev start : tie.After-remainder-sizes → tie.Start
-start d = d .before .before .before .before .before .before .before .before .before .before
+start d = d .before .before .before .before .before .before .before .before .before .before .before
 
 abbrev Fine : tie.Start → ℕ
 Fine o = remainderSizes (o .args .settings) (o .args .n) (o .args .r) (tables o) (o .args .term-coefficients .now) (o .args .exponents .now) (o .args .out .now)
 
 told : (d : tie.After-remainder-sizes) → d .remainder-sizes .result ≡ Fine (start d)
 unfolding tooShort
-told d = d .remainder-sizes .ensures
+told d = d .remainder-sizes .ensures ∙ sizes-are (settingsCases (start d .args .settings)) (ap (λ (z : Bool). z || ltb (length (start d .args .out .now)) 64) (d .before .too-short .ensures)) refl refl
 
 -- none of them holds
 module _ (e : tie.Else1) where
@@ -56,6 +59,9 @@ module _ (g : tie.Else3) where
 
   within : withinVariables (o (e f) .args .settings .variables) (groups 8 (length (o (e f) .args .term-coefficients .now)) (o (e f) .args .exponents .now)) ≡ true
   within = sym (g .before .within-variables .ensures) ∙ not-false _ (g .if3 .left)
+
+too-short-requires : tie.Need-too-short-requires
+too-short-requires c κs = tt
 
 remainder-sizes-requires : tie.Need-remainder-sizes-requires
 remainder-sizes-requires c κs = tt
@@ -133,6 +139,7 @@ pub remainder-refusal-spec : {M : Type 1} → statement M
 remainder-refusal-spec =
     tie.close
     (tie.spec
+    too-short-requires
     remainder-sizes-requires
     returns
     cast-in-range

@@ -1,12 +1,16 @@
 -- `answers::values_refusal` meets its contract: at each return the tests that led there decide the number.
 use borrow.Author.Tests.{not-true, not-false}
-use mathlib.Core.Path.{_≡_, sym, _∙_}
-use mathlib.Core.Bool.{true}
+use mathlib.Core.Path.{_≡_, refl, sym, ap, _∙_}
+use mathlib.Core.Bool.{Bool, true, _||_}
 use Prim.Native.Nat.{ℕ}
 use native.Mathlib.Omega.{arith}
+use lib.ListN.{length}
+use lib.Dec.{ltb}
 use Rattle.residue.proofs.level.Moduli.{modulus-range}
 use Rattle.specification.specs.Levels.{inRange}
+use Rattle.specification.specs.Settings.{settingsCases}
 use Rattle.specification.specs.Tables.{Tables, fourTables, tooShort}
+use Rattle.specification.proofs.Cases.{sizes-are}
 use Rattle.basis.proofs.answers.Refusals.{valuesSizes, values-size, values-range, values-not, values-good}
 use Rattle.basis.proofs.answers.Answered.{Sized, values-sized}
 use Rattle.basis.proofs.answers.values_refusal.Statement.{statement}
@@ -18,14 +22,14 @@ tables s = fourTables (s .args .states .now) (s .args .standard .now) (s .args .
 
 -- the refusals on numbers
 abbrev start : tie.After-values-sizes → tie.Start
-start d = d .before .before .before .before .before .before .before .before .before
+start d = d .before .before .before .before .before .before .before .before .before .before
 
 abbrev Fine : tie.Start → ℕ
 Fine o = valuesSizes (o .args .size) (o .args .settings) (o .args .n) (o .args .r) (tables o) (o .args .values .now) (o .args .out .now)
 
 told : (d : tie.After-values-sizes) → d .values-sizes .result ≡ Fine (start d)
 unfolding tooShort
-told d = d .values-sizes .ensures
+told d = d .values-sizes .ensures ∙ sizes-are (settingsCases (start d .args .settings)) (ap (λ (z : Bool). z || ltb (length (start d .args .out .now)) (start d .args .size)) (d .before .too-short .ensures)) refl refl
 
 -- none of them holds
 module _ (e : tie.Else1) where
@@ -45,6 +49,9 @@ module _ (f : tie.Else2) where
 
   range : inRange (o e .args .settings .modulus) (o e .args .values .now) ≡ true
   range = sym (f .before .in-range .ensures) ∙ not-false _ (f .if2 .left)
+
+too-short-requires : tie.Need-too-short-requires
+too-short-requires c κs = tt
 
 values-sizes-requires : tie.Need-values-sizes-requires
 values-sizes-requires c κs = tt
@@ -110,6 +117,7 @@ pub values-refusal-spec : {M : Type 1} → statement M
 values-refusal-spec =
     tie.close
     (tie.spec
+    too-short-requires
     values-sizes-requires
     returns
     cast-in-range

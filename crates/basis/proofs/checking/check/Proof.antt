@@ -4,8 +4,10 @@ use mathlib.Core.Path.{_≡_, refl, sym, _∙_}
 use mathlib.Core.Bool.{false}
 use lib.Dec.{ltb}
 use Rattle.specification.specs.Refusal.{firstOf}
+use Rattle.specification.specs.Settings.{settingsCases}
 use Rattle.specification.specs.Tables.{Tables, fourTables, tooShort}
 use Rattle.specification.proofs.agreement.Refusals.{large-of}
+use Rattle.specification.proofs.Cases.{sizes-are}
 use Rattle.basis.proofs.settings.BySize.{Passed, passed}
 use Rattle.basis.proofs.checking.Tests.{checkSizes, check-size, check-told}
 use Rattle.basis.proofs.checking.check.Statement.{statement}
@@ -17,11 +19,11 @@ tables s = fourTables (s .args .states .now) (s .args .standard .now) (s .args .
 
 -- the refusals on numbers
 abbrev start : tie.After-check-sizes → tie.Start
-start d = d .before .before .before .before .before
+start d = d .before .before .before .before .before .before
 
 sized : (d : tie.After-check-sizes) → d .check-sizes .result ≡ checkSizes (start d .args .settings) (start d .args .n) (start d .args .r) (tables (start d))
 unfolding tooShort
-sized d = d .check-sizes .ensures
+sized d = d .check-sizes .ensures ∙ sizes-are (settingsCases (start d .args .settings)) (d .before .too-short .ensures) refl refl
 
 -- none of them holds
 module _ (e : tie.Else1) where
@@ -33,6 +35,9 @@ module _ (e : tie.Else1) where
 
   room : Passed (s .args .settings) (tooShort (tables s)) false (ltb 64 (s .args .n))
   room = passed _ _ _ _ fine
+
+too-short-requires : tie.Need-too-short-requires
+too-short-requires c κs = tt
 
 check-sizes-requires : tie.Need-check-sizes-requires
 check-sizes-requires c κs = tt
@@ -73,6 +78,7 @@ pub check-spec : {M : Type 1} → statement M
 check-spec =
     tie.close
     (tie.spec
+    too-short-requires
     check-sizes-requires
     returns
     slice-aggregate-recognise

@@ -13,9 +13,11 @@ use Rattle.residue.proofs.level.Moduli.{modulus-range}
 use Rattle.residue.proofs.Tests.{of-true}
 use Rattle.residue.proofs.Layouts.{length-fill}
 use Rattle.specification.specs.Levels.{inRange, noRepeat}
+use Rattle.specification.specs.Settings.{settingsCases}
 use Rattle.specification.specs.Tables.{Tables, fourTables, tooShort, pointsIn}
 use Rattle.specification.specs.Adding.{holding, costing, cancellationsUnder, pointsOffered}
 use Rattle.specification.proofs.agreement.Points.{Points}
+use Rattle.specification.proofs.Cases.{sizes-are}
 use Rattle.basis.specs.Drawing.{PointsGiven}
 use Rattle.specification.proofs.Recognised.{whole-levels, length-offered, offered-each, offered}
 use Rattle.basis.proofs.drawing.Given.{table-repeat, table-points, given}
@@ -31,11 +33,11 @@ tables s = fourTables (s .args .states .now) (s .args .standard .now) (s .args .
 
 -- the refusals on numbers
 abbrev start : tie.After-draw-sizes → tie.Start
-start d = d .before .before .before .before .before
+start d = d .before .before .before .before .before .before
 
 sized : (d : tie.After-draw-sizes) → d .draw-sizes .result ≡ drawSizes (start d .args .settings) (tables (start d)) (start d .args .levels .now)
 unfolding tooShort
-sized d = d .draw-sizes .ensures
+sized d = d .draw-sizes .ensures ∙ sizes-are (settingsCases (start d .args .settings)) (d .before .too-short .ensures) refl refl
 
 -- none of them holds
 module _ (e : tie.Else1) where
@@ -117,6 +119,9 @@ module _ (g : tie.Else3) where
 
   back : pointsIn (s x .args .settings) (length (levels x) / m x) (table w) ≡ S w
   back = ap₂ (pointsIn (s x .args .settings)) (sym (count w)) (is-table w) ∙ table-points (s x .args .settings) (room x .settings) (S w) points
+
+too-short-requires : tie.Need-too-short-requires
+too-short-requires c κs = tt
 
 draw-sizes-requires : tie.Need-draw-sizes-requires
 draw-sizes-requires c κs = tt
@@ -212,6 +217,7 @@ pub draw-up-spec : {M : Type 1} → statement M
 draw-up-spec =
     tie.close
     (tie.spec
+    too-short-requires
     draw-sizes-requires
     refused-drawing-requires
     returns

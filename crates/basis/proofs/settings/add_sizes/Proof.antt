@@ -1,21 +1,12 @@
 -- `settings::add_sizes` meets its contract.
-use borrow.Author.Needs.{needs}
-use mathlib.Core.Path.{refl, _∙_}
-use Rattle.specification.proofs.Cases.{sizes-are}
-use Rattle.specification.specs.Settings.{settingsCases}
 use Rattle.basis.proofs.settings.add_sizes.Statement.{statement}
 use Rattle.basis.proofs.settings.add_sizes.Tie as tie
 
-too-short-requires : tie.Need-too-short-requires
-too-short-requires c κs = search needs
-
 by-sizes-requires : tie.Need-by-sizes-requires
-by-sizes-requires c κs = search needs
+by-sizes-requires c κs = tt
 
 returns : tie.Need-returns
-returns c =
-    let t = c .before .before in
-    c .by-sizes .ensures ∙ sizes-are (settingsCases (t .before .args .settings)) (t .too-short .ensures) refl refl
+returns c = c .by-sizes .ensures
 
 pub add-sizes-spec : {M : Type 1} → statement M
-add-sizes-spec = tie.close (tie.spec too-short-requires by-sizes-requires returns)
+add-sizes-spec = tie.close (tie.spec by-sizes-requires returns)

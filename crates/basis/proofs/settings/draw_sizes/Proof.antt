@@ -1,5 +1,5 @@
 -- `settings::draw_sizes` meets its contract.
-use mathlib.Core.Path.{ap, _∙_}
+use mathlib.Core.Path.{refl, ap, _∙_}
 use mathlib.Core.Bool.{not}
 use Prim.Native.Nat.{ℕ}
 use lib.Dec.{eqb, ltb}
@@ -7,9 +7,6 @@ use Rattle.specification.proofs.Cases.{sizes-are}
 use Rattle.specification.specs.Settings.{settingsCases}
 use Rattle.basis.proofs.settings.draw_sizes.Statement.{statement}
 use Rattle.basis.proofs.settings.draw_sizes.Tie as tie
-
-too-short-requires : tie.Need-too-short-requires
-too-short-requires c κs = tt
 
 rest-requires : tie.Need-rest-requires
 rest-requires c κs = tt
@@ -24,11 +21,8 @@ returns : tie.Need-returns
 returns c =
     let q = c .before in
     let r = q .before in
-    let t = r .before in
-    let s = t .before in
-    c .by-sizes .ensures ∙ sizes-are (settingsCases (s .args .settings)) (t .too-short .ensures) (ap (λ (x : ℕ). not (eqb x 0)) (r .rest .ensures)) (ap (λ (x : ℕ). ltb 64 x) (q .quotient .ensures))
+    let s = r .before in
+    c .by-sizes .ensures ∙ sizes-are (settingsCases (s .args .settings)) refl (ap (λ (x : ℕ). not (eqb x 0)) (r .rest .ensures)) (ap (λ (x : ℕ). ltb 64 x) (q .quotient .ensures))
 
 pub draw-sizes-spec : {M : Type 1} → statement M
-draw-sizes-spec =
-    tie.close
-    (tie.spec too-short-requires rest-requires quotient-requires by-sizes-requires returns)
+draw-sizes-spec = tie.close (tie.spec rest-requires quotient-requires by-sizes-requires returns)

@@ -8,20 +8,16 @@ use Rattle.specification.specs.Settings.{settingsCases}
 use Rattle.basis.proofs.settings.values_sizes.Statement.{statement}
 use Rattle.basis.proofs.settings.values_sizes.Tie as tie
 
-too-short-requires : tie.Need-too-short-requires
-too-short-requires c κs = tt
-
 by-sizes-requires : tie.Need-by-sizes-requires
 by-sizes-requires c κs = tt
 
 returns : tie.Need-returns
 returns c =
     let o = c .before in
-    let t = o .before in
-    let s = t .before in
+    let s = o .before in
     let b : Bool = ltb (s .args .buffer) (s .args .size) in
     let short = ⊎-elim (λ w. w .1 ∙ w .0 .taken ∙ sym (ap (λ (z : Bool). z || b) (w .0 .taken))) (λ w. w .1 ∙ sym (ap (λ (z : Bool). z || b) (w .0 .left))) (o .if1 .came) in
-    c .by-sizes .ensures ∙ sizes-are (settingsCases (s .args .settings)) (short ∙ ap (λ (z : Bool). z || b) (t .too-short .ensures)) refl refl
+    c .by-sizes .ensures ∙ sizes-are (settingsCases (s .args .settings)) short refl refl
 
 pub values-sizes-spec : {M : Type 1} → statement M
-values-sizes-spec = tie.close (tie.spec too-short-requires by-sizes-requires returns)
+values-sizes-spec = tie.close (tie.spec by-sizes-requires returns)

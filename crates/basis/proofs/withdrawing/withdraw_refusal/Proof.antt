@@ -11,9 +11,11 @@ use lib.Dec.{eqb, ltb}
 use Rattle.residue.proofs.level.Moduli.{modulus-range}
 use Rattle.residue.specs.Layout.{fill, inPlaces}
 use Rattle.specification.specs.Levels.{inRange, residues, isAmong}
+use Rattle.specification.specs.Settings.{settingsCases}
 use Rattle.specification.specs.Tables.{Tables, fourTables, tooShort, pointsIn, recognised}
 use Rattle.specification.specs.Withdrawing.{remaining}
 use Rattle.specification.proofs.agreement.Refusals.{large-of}
+use Rattle.specification.proofs.Cases.{sizes-are}
 use Rattle.basis.proofs.settings.BySize.{Passed, passed}
 use Rattle.basis.proofs.withdrawing.Withdrawal.{withdrawSizes, withdraw-size, withdraw-range, withdraw-unknown, withdraw-told, read-again, table-again}
 use Rattle.basis.proofs.withdrawing.withdraw_refusal.Statement.{statement}
@@ -25,11 +27,11 @@ tables s = fourTables (s .args .states .now) (s .args .standard .now) (s .args .
 
 -- the refusals on numbers
 abbrev start : tie.After-withdraw-sizes → tie.Start
-start d = d .before .before .before .before .before .before .before .before
+start d = d .before .before .before .before .before .before .before .before .before
 
 sized : (d : tie.After-withdraw-sizes) → let s = start d in d .withdraw-sizes .result ≡ withdrawSizes (s .args .settings) (s .args .n) (s .args .r) (tables s) (s .args .levels .now)
 unfolding tooShort
-sized d = d .withdraw-sizes .ensures
+sized d = d .withdraw-sizes .ensures ∙ sizes-are (settingsCases (start d .args .settings)) (d .before .too-short .ensures) refl refl
 
 -- none of them holds
 module _ (e : tie.Else1) where
@@ -49,6 +51,9 @@ module _ (f : tie.Else2) where
 
   range : inRange (s e .args .settings .modulus) (s e .args .levels .now) ≡ true
   range = sym (f .before .in-range .ensures) ∙ not-false _ (f .if2 .left)
+
+too-short-requires : tie.Need-too-short-requires
+too-short-requires c κs = tt
 
 withdraw-sizes-requires : tie.Need-withdraw-sizes-requires
 withdraw-sizes-requires c κs = search needs
@@ -153,6 +158,7 @@ pub withdraw-refusal-spec : {M : Type 1} → statement M
 withdraw-refusal-spec =
     tie.close
     (tie.spec
+    too-short-requires
     withdraw-sizes-requires
     returns
     cast-in-range

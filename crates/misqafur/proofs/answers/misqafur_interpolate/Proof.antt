@@ -1,15 +1,19 @@
 -- `answers::misqafur_interpolate` meets its contract: the refusals on lengths first, then the call over the signed bytes.
 use borrow.Author.Needs.{needs}
-use mathlib.Core.Path.{_≡_, sym, ap, _∙_}
+use mathlib.Core.Path.{_≡_, refl, sym, ap, _∙_}
+use mathlib.Core.Bool.{Bool, _||_}
 use mathlib.Core.List.{List}
 use Prim.Native.Nat.{ℕ, _≤_}
 use native.Mathlib.Omega.{arith}
 use lib.IntN.{ℤ}
 use lib.ListN.{length}
+use lib.Dec.{ltb}
 use lib.Seq.{length-take-le}
 use Rattle.specification.specs.declared.settings.Settings.{Settings}
+use Rattle.specification.specs.Settings.{settingsCases}
 use Rattle.specification.specs.Tables.{Tables, fourTables, tooShort}
 use Rattle.specification.specs.Solving.{interpolateOutcome}
+use Rattle.specification.proofs.Cases.{sizes-are}
 use Rattle.misqafur.proofs.SignedBytes.{signed-part}
 use Rattle.basis.proofs.settings.ByNumber.{fill-refused}
 use Rattle.misqafur.proofs.Sizes.{valuesBySize, values-refused, values-few}
@@ -28,11 +32,11 @@ module _ (s : tie.Start) where
 
 -- the refusals on lengths
 abbrev start : tie.After-values-sizes → tie.Start
-start d = d .before .before .before .before .before .before .before
+start d = d .before .before .before .before .before .before .before .before
 
 sized : (d : tie.After-values-sizes) → d .values-sizes .result ≡ valuesBySize 64 (settings (start d)) (start d .args .n) (tables (start d)) (start d .args .out .now) (length (handed (start d)))
 unfolding tooShort
-sized d = d .values-sizes .ensures
+sized d = d .values-sizes .ensures ∙ sizes-are (settingsCases (settings (start d))) (ap (λ (z : Bool). z || ltb (length (start d .args .out .now)) 64) (d .before .too-short .ensures)) refl refl
 
 few : (e : tie.Else1) → length (handed (start (e .before))) ≤ 64
 few e = let s = start (e .before) in values-few 64 (settings s) (s .args .n) (s .args .r) (tables s) (handed s) (s .args .out .now) (sym (sized (e .before)) ∙ e .if1 .left)
@@ -47,6 +51,9 @@ module _ (w : tie.After-put-signed) where
 
   room : length (handed beginning) ≤ length signed
   room = let k = w .put-signed .kept .1 .0 in omega (arith, few (w .before .before))
+
+too-short-requires : tie.Need-too-short-requires
+too-short-requires c κs = search needs
 
 values-sizes-requires : tie.Need-values-sizes-requires
 values-sizes-requires c κs = search needs
@@ -94,6 +101,7 @@ pub misqafur-interpolate-spec : {M : Type 1} → statement M
 misqafur-interpolate-spec =
     tie.close
     (tie.spec
+    too-short-requires
     values-sizes-requires
     cast-result
     returns

@@ -1,15 +1,19 @@
 -- `answers::misqafur_remainder` meets its contract: the refusals on lengths first, then the call over the signed bytes.
 use borrow.Author.Needs.{needs}
-use mathlib.Core.Path.{_≡_, sym, ap, _∙_}
+use mathlib.Core.Path.{_≡_, refl, sym, ap, _∙_}
+use mathlib.Core.Bool.{Bool, _||_}
 use mathlib.Core.List.{List}
 use Prim.Native.Nat.{ℕ, _≤_}
 use native.Mathlib.Omega.{arith}
 use lib.IntN.{ℤ}
 use lib.ListN.{length}
+use lib.Dec.{ltb}
 use lib.Seq.{length-take-le}
 use Rattle.specification.specs.declared.settings.Settings.{Settings}
+use Rattle.specification.specs.Settings.{settingsCases}
 use Rattle.specification.specs.Tables.{Tables, fourTables, tooShort}
 use Rattle.specification.specs.Solving.{remainderOutcome}
+use Rattle.specification.proofs.Cases.{sizes-are}
 use Rattle.misqafur.proofs.SignedBytes.{signed-part}
 use Rattle.basis.proofs.settings.ByNumber.{fill-refused}
 use Rattle.misqafur.proofs.Sizes.{termsBySize, terms-refused, terms-few}
@@ -28,11 +32,11 @@ module _ (s : tie.Start) where
 
 -- the refusals on lengths
 abbrev start : tie.After-remainder-sizes → tie.Start
-start d = d .before .before .before .before .before .before .before .before
+start d = d .before .before .before .before .before .before .before .before .before
 
 sized : (d : tie.After-remainder-sizes) → d .remainder-sizes .result ≡ termsBySize (settings (start d)) (start d .args .n) (tables (start d)) (start d .args .exponents .now) (start d .args .out .now) (length (handed (start d)))
 unfolding tooShort
-sized d = d .remainder-sizes .ensures
+sized d = d .remainder-sizes .ensures ∙ sizes-are (settingsCases (settings (start d))) (ap (λ (z : Bool). z || ltb (length (start d .args .out .now)) 64) (d .before .too-short .ensures)) refl refl
 
 few : (e : tie.Else1) → length (handed (start (e .before))) ≤ 256
 few e = let s = start (e .before) in terms-few (settings s) (s .args .n) (s .args .r) (tables s) (handed s) (s .args .exponents .now) (s .args .out .now) (sym (sized (e .before)) ∙ e .if1 .left)
@@ -47,6 +51,9 @@ module _ (w : tie.After-put-signed) where
 
   room : length (handed beginning) ≤ length signed
   room = let k = w .put-signed .kept .1 .0 in omega (arith, few (w .before .before))
+
+too-short-requires : tie.Need-too-short-requires
+too-short-requires c κs = search needs
 
 remainder-sizes-requires : tie.Need-remainder-sizes-requires
 remainder-sizes-requires c κs = search needs
@@ -94,6 +101,7 @@ pub misqafur-remainder-spec : {M : Type 1} → statement M
 misqafur-remainder-spec =
     tie.close
     (tie.spec
+    too-short-requires
     remainder-sizes-requires
     cast-result
     returns

@@ -1,6 +1,6 @@
 -- `tables::misqafur_draw_up` meets its contract: the refusals on lengths first, then the call over the signed bytes.
 use borrow.Author.Needs.{needs}
-use mathlib.Core.Path.{_≡_, sym, ap, _∙_}
+use mathlib.Core.Path.{_≡_, refl, sym, ap, _∙_}
 use mathlib.Core.List.{List}
 use Prim.Native.Nat.{ℕ, _≤_}
 use native.Mathlib.Omega.{arith}
@@ -8,8 +8,10 @@ use lib.IntN.{ℤ}
 use lib.ListN.{length}
 use lib.Seq.{length-take-le}
 use Rattle.specification.specs.declared.settings.Settings.{Settings}
+use Rattle.specification.specs.Settings.{settingsCases}
 use Rattle.specification.specs.Tables.{Tables, fourTables, tooShort}
 use Rattle.specification.specs.Adding.{drawOutcome}
+use Rattle.specification.proofs.Cases.{sizes-are}
 use Rattle.misqafur.specs.Packing.{packedDrawing}
 use Rattle.misqafur.proofs.SignedBytes.{signed-part}
 use Rattle.misqafur.proofs.Packed.{packs-drawn}
@@ -27,14 +29,14 @@ module _ (s : tie.Start) where
 -- the refusals on lengths
 module _ (d : tie.After-draw-sizes) where
   abbrev start : tie.Start
-  start = d .before .before .before .before .before .before
+  start = d .before .before .before .before .before .before .before
 
   abbrev levels : List ℕ
   levels = start .args .levels .now
 
   sized : d .draw-sizes .result ≡ drawBySize (settings start) (tables start) (length levels)
   unfolding tooShort
-  sized = d .draw-sizes .ensures
+  sized = d .draw-sizes .ensures ∙ sizes-are (settingsCases (settings start)) (d .before .too-short .ensures) refl refl
 
 few : (e : tie.Else1) → length (levels (e .before)) ≤ 512
 few e = draw-few _ (tables (start (e .before))) (levels (e .before)) (sym (sized (e .before)) ∙ e .if1 .left)
@@ -49,6 +51,9 @@ module _ (w : tie.After-put-signed) where
 
   room : length (levels sizing) ≤ length signed
   room = let k = w .put-signed .kept .1 .0 in omega (arith, few (w .before .before))
+
+too-short-requires : tie.Need-too-short-requires
+too-short-requires c κs = search needs
 
 draw-sizes-requires : tie.Need-draw-sizes-requires
 draw-sizes-requires c κs = search needs
@@ -102,6 +107,7 @@ pub misqafur-draw-up-spec : {M : Type 1} → statement M
 misqafur-draw-up-spec =
     tie.close
     (tie.spec
+    too-short-requires
     draw-sizes-requires
     cast-result
     returns
