@@ -15,7 +15,7 @@ ghost use mathlib.Core.Path.{_≡_};
 ghost use lib.ListN.{replicate};
 ghost use Rattle.residue.specs.Layout.{fill, inPlaces};
 ghost use Rattle.specification.specs.Levels.{residues};
-ghost use Rattle.specification.specs.Tables.{fourTables, pointsIn};
+ghost use Rattle.specification.specs.Tables.{fourTables, pointsIn, statesSize};
 ghost use Rattle.specification.specs.Adding.{ended, addRefusal, addOutcome};
 ghost use Rattle.basis.specs.Drawing.{RowsLong, Solves};
 
@@ -34,10 +34,10 @@ fn add_refusal(
     pivots: &mut [u8],
     point: &mut [u8],
 ) -> u8
-    requires { ⌜ (now points ≡ replicate 512 0) × (RowsLong (now rows) (now pivots) × (now point ≡ replicate 8 0)) ⌝ }
+    requires { ⌜ (now points ≡ replicate statesSize 0) × (RowsLong (now rows) (now pivots) × (now point ≡ replicate 8 0)) ⌝ }
     ensures { λ k. ⌜ k ≡ addRefusal settings n r (fourTables (now (states .entry)) (now (standard .entry)) (now (leads .entry)) (now (coefficients .entry)))
         (now (levels .entry)) ⌝ }
-    ensures { λ k. ⌜ (k ≡ 0 → now (points .exit) ≡ fill 512 (inPlaces 8 (pointsIn settings n (now (states .entry))))) ⌝ }
+    ensures { λ k. ⌜ (k ≡ 0 → now (points .exit) ≡ fill statesSize (inPlaces 8 (pointsIn settings n (now (states .entry))))) ⌝ }
     ensures { λ k. ⌜ (k ≡ 0 → Solves settings (pointsIn settings n (now (states .entry))) (now (rows .exit)) (now (pivots .exit))) ⌝ }
     ensures { λ k. ⌜ (k ≡ 0 → now (point .exit) ≡ fill 8 (residues (settings .modulus) (now (levels .entry)))) ⌝ }
 {

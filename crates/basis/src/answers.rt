@@ -15,7 +15,7 @@ ghost use Prim.Native.Nat.{_*_, _≤_};
 ghost use lib.ListN.{length, replicate};
 ghost use Rattle.residue.specs.Layout.{fill, inPlaces, groups};
 ghost use Rattle.specification.specs.Refusal.{firstOf};
-ghost use Rattle.specification.specs.Tables.{fourTables, pointsIn};
+ghost use Rattle.specification.specs.Tables.{fourTables, pointsIn, statesSize};
 ghost use Rattle.specification.specs.Solving.{answering, valuesCases, interpolateOutcome, listed, wiringOutcome};
 ghost use Rattle.specification.specs.Solving.{withinVariables, remainderCases, remainderOutcome};
 ghost use Rattle.basis.specs.Drawing.{RowsLong, Solves};
@@ -36,11 +36,11 @@ fn values_refusal(
     rows: &mut [u8],
     pivots: &mut [u8],
 ) -> u8
-    requires { ⌜ (now points ≡ replicate 512 0) × RowsLong (now rows) (now pivots) ⌝ }
+    requires { ⌜ (now points ≡ replicate statesSize 0) × RowsLong (now rows) (now pivots) ⌝ }
     ensures { λ k. ⌜ k ≡ firstOf 0 (valuesCases size settings n r
         (fourTables (now (states .entry)) (now (standard .entry)) (now (leads .entry)) (now (coefficients .entry))) (now (values .entry))
         (now (out .entry))) ⌝ }
-    ensures { λ k. ⌜ (k ≡ 0 → now (points .exit) ≡ fill 512 (inPlaces 8 (pointsIn settings n (now (states .entry))))) ⌝ }
+    ensures { λ k. ⌜ (k ≡ 0 → now (points .exit) ≡ fill statesSize (inPlaces 8 (pointsIn settings n (now (states .entry))))) ⌝ }
     ensures { λ k. ⌜ (k ≡ 0 → Solves settings (pointsIn settings n (now (states .entry))) (now (rows .exit)) (now (pivots .exit))) ⌝ }
 {
     let short = too_short(
@@ -204,11 +204,11 @@ fn remainder_refusal(
     rows: &mut [u8],
     pivots: &mut [u8],
 ) -> u8
-    requires { ⌜ (now points ≡ replicate 512 0) × RowsLong (now rows) (now pivots) ⌝ }
+    requires { ⌜ (now points ≡ replicate statesSize 0) × RowsLong (now rows) (now pivots) ⌝ }
     ensures { λ k. ⌜ k ≡ firstOf 0 (remainderCases settings n r
         (fourTables (now (states .entry)) (now (standard .entry)) (now (leads .entry)) (now (coefficients .entry))) (now («term_coefficients» .entry))
         (now (exponents .entry)) (now (out .entry))) ⌝ }
-    ensures { λ k. ⌜ (k ≡ 0 → now (points .exit) ≡ fill 512 (inPlaces 8 (pointsIn settings n (now (states .entry))))) ⌝ }
+    ensures { λ k. ⌜ (k ≡ 0 → now (points .exit) ≡ fill statesSize (inPlaces 8 (pointsIn settings n (now (states .entry))))) ⌝ }
     ensures { λ k. ⌜ (k ≡ 0 → Solves settings (pointsIn settings n (now (states .entry))) (now (rows .exit)) (now (pivots .exit))) ⌝ }
 {
     let terms = term_coefficients.len();

@@ -6,13 +6,14 @@ use crate::settings::too_short;
 use residue::bytes;
 use specification::settings::Settings;
 ghost use mathlib.Core.Path.{_≡_};
-ghost use mathlib.Core.Bool.{true, _&&_};
+ghost use mathlib.Core.Bool.{true, false, _&&_};
 ghost use Prim.Native.Nat.{_≤_};
 ghost use lib.ListN.{length, replicate};
 ghost use Rattle.residue.specs.Layout.{fill, inPlaces, begins};
 ghost use Rattle.specification.specs.Refusal.{firstOf};
 ghost use Rattle.specification.specs.Settings.{settingsCases};
-ghost use Rattle.specification.specs.Tables.{fourTables, pointsIn, recognised};
+ghost use Rattle.specification.specs.Tables.{fourTables, pointsIn, recognised, tooShort};
+ghost use Rattle.specification.specs.Tables.{statesSize, standardSize, leadsSize, coefficientsSize};
 ghost use Rattle.specification.specs.Solving.{checkRefusal};
 ghost use Rattle.basis.specs.Drawing.{RowsLong, Solves};
 
@@ -27,9 +28,10 @@ fn agree(
     leads: &[u8],
     coefficients: &[u8],
 ) -> bool
-    requires { ⌜ (length (now «new_states») ≡ 512)
-        × ((length (now «new_standard») ≡ 512) × ((length (now «new_leads») ≡ 3592) × (length (now «new_coefficients») ≡ 28736))) ⌝ }
-    requires { ⌜ (512 ≤ length (now states)) × ((512 ≤ length (now standard)) × ((3592 ≤ length (now leads)) × (28736 ≤ length (now coefficients)))) ⌝ }
+    requires { ⌜ (length (now «new_states») ≡ statesSize)
+        × ((length (now «new_standard») ≡ standardSize)
+        × ((length (now «new_leads») ≡ leadsSize) × (length (now «new_coefficients») ≡ coefficientsSize))) ⌝ }
+    requires { ⌜ tooShort (fourTables (now states) (now standard) (now leads) (now coefficients)) ≡ false ⌝ }
     ensures { λ r. ⌜ r ≡ (begins (now («new_states» .entry)) (now (states .entry))
         && (begins (now («new_standard» .entry)) (now (standard .entry))
         && (begins (now («new_leads» .entry)) (now (leads .entry)) && begins (now («new_coefficients» .entry)) (now (coefficients .entry))))) ⌝ }
@@ -60,11 +62,11 @@ pub(crate) fn recognise(
     pivots: &mut [u8],
 ) -> bool
     requires { ⌜ (firstOf 0 (settingsCases settings) ≡ 0) × (n ≤ 64) ⌝ }
-    requires { ⌜ (512 ≤ length (now states)) × ((512 ≤ length (now standard)) × ((3592 ≤ length (now leads)) × (28736 ≤ length (now coefficients)))) ⌝ }
-    requires { ⌜ (now points ≡ replicate 512 0) × RowsLong (now rows) (now pivots) ⌝ }
+    requires { ⌜ tooShort (fourTables (now states) (now standard) (now leads) (now coefficients)) ≡ false ⌝ }
+    requires { ⌜ (now points ≡ replicate statesSize 0) × RowsLong (now rows) (now pivots) ⌝ }
     ensures { λ b. ⌜ b ≡ recognised settings n r
         (fourTables (now (states .entry)) (now (standard .entry)) (now (leads .entry)) (now (coefficients .entry))) ⌝ }
-    ensures { λ b. ⌜ now (points .exit) ≡ fill 512 (inPlaces 8 (pointsIn settings n (now (states .entry)))) ⌝ }
+    ensures { λ b. ⌜ now (points .exit) ≡ fill statesSize (inPlaces 8 (pointsIn settings n (now (states .entry)))) ⌝ }
     ensures { λ b. ⌜ (b ≡ true → Solves settings (pointsIn settings n (now (states .entry))) (now (rows .exit)) (now (pivots .exit))) ⌝ }
 {
     points::read_points(settings, n, states, points);

@@ -8,6 +8,9 @@ use crate::drawing::turns::put_exponents;
 use crate::drawing::turns::put_values;
 use crate::drawing::turns::reduce;
 use crate::points;
+use crate::settings::COEFFICIENTS;
+use crate::settings::LEADS;
+use crate::settings::STANDARD;
 use crate::settings::draw_sizes;
 use crate::settings::refused_drawing;
 use crate::settings::too_short;
@@ -22,7 +25,7 @@ use specification::settings::Settings;
 ghost use mathlib.Core.Path.{_≡_};
 ghost use mathlib.Core.Bool.{false};
 ghost use lib.ListN.{length, replicate};
-ghost use Rattle.specification.specs.Tables.{pointsIn, fourTables, tooShort};
+ghost use Rattle.specification.specs.Tables.{pointsIn, fourTables, tooShort, standardSize, leadsSize, coefficientsSize};
 ghost use Rattle.specification.specs.Adding.{holding, drawEnded, costing, cancellationsUnder, drawOutcome};
 ghost use Rattle.basis.specs.Drawing.{RowsLong, PointsGiven, Tabled, DrawnUp};
 
@@ -44,7 +47,7 @@ pub fn draw(
     pivots: &mut [u8],
 ) -> Counts
     requires { ⌜ PointsGiven settings n (now points) ⌝ }
-    requires { ⌜ (now standard ≡ replicate 512 0) × ((now leads ≡ replicate 3592 0) × (now coefficients ≡ replicate 28736 0)) ⌝ }
+    requires { ⌜ (now standard ≡ replicate standardSize 0) × ((now leads ≡ replicate leadsSize 0) × (now coefficients ≡ replicate coefficientsSize 0)) ⌝ }
     requires { ⌜ RowsLong (now rows) (now pivots) ⌝ }
     ensures { λ d. ⌜ DrawnUp settings (pointsIn settings n (now (points .entry))) (d .r) (now (standard .exit)) (now (leads .exit))
         (now (coefficients .exit)) (now (rows .exit)) (now (pivots .exit)) ⌝ }
@@ -99,7 +102,7 @@ fn draw_anew(
     pivots: &mut [u8],
 ) -> Counts
     requires { ⌜ PointsGiven settings n (now points) ⌝ }
-    requires { ⌜ (length (now standard) ≡ 512) × ((length (now leads) ≡ 3592) × (length (now coefficients) ≡ 28736)) ⌝ }
+    requires { ⌜ (length (now standard) ≡ standardSize) × ((length (now leads) ≡ leadsSize) × (length (now coefficients) ≡ coefficientsSize)) ⌝ }
     requires { ⌜ RowsLong (now rows) (now pivots) ⌝ }
     ensures { λ d. ⌜ Tabled settings (pointsIn settings n (now (points .entry))) (d .r)
         (now (standard .exit)) (now (leads .exit)) (now (coefficients .exit)) ⌝ }
@@ -144,9 +147,9 @@ pub(crate) fn draw_points(
         settings,
         n,
         points,
-        &mut standard[..512],
-        &mut leads[..3592],
-        &mut coefficients[..28736],
+        &mut standard[..STANDARD],
+        &mut leads[..LEADS],
+        &mut coefficients[..COEFFICIENTS],
         rows,
         pivots,
     );

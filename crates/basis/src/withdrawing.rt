@@ -17,7 +17,7 @@ ghost use Rattle.residue.specs.Layout.{fill, inPlaces};
 ghost use Rattle.specification.specs.Refusal.{firstOf};
 ghost use Rattle.specification.specs.Settings.{settingsCases};
 ghost use Rattle.specification.specs.Levels.{residues, isAmong};
-ghost use Rattle.specification.specs.Tables.{fourTables, pointsIn};
+ghost use Rattle.specification.specs.Tables.{fourTables, pointsIn, statesSize};
 ghost use Rattle.specification.specs.Adding.{ended};
 ghost use Rattle.specification.specs.Withdrawing.{remaining, withdrawRefusal, withdrawOutcome};
 ghost use Rattle.basis.specs.Drawing.{RowsLong};
@@ -25,11 +25,11 @@ ghost use Rattle.basis.specs.Drawing.{RowsLong};
 // The points of a table without the named one, left in a second table, and 0; or 12, where it is not among them.
 fn put_others(settings: Settings, n: usize, points: &[u8], levels: &[i8], left: &mut [u8]) -> u8
     requires { ⌜ (firstOf 0 (settingsCases settings) ≡ 0) × (n ≤ 64) ⌝ }
-    requires { ⌜ now points ≡ fill 512 (inPlaces 8 (pointsIn settings n (now points))) ⌝ }
-    requires { ⌜ (length (now levels) ≡ settings .variables) × (now left ≡ replicate 512 0) ⌝ }
+    requires { ⌜ now points ≡ fill statesSize (inPlaces 8 (pointsIn settings n (now points))) ⌝ }
+    requires { ⌜ (length (now levels) ≡ settings .variables) × (now left ≡ replicate statesSize 0) ⌝ }
     ensures { λ k. ⌜ k ≡ cond (isAmong (residues (settings .modulus) (now (levels .entry))) (pointsIn settings n (now (points .entry)))) 0 12 ⌝ }
     ensures { λ k. ⌜ (k ≡ 0 → now (left .exit)
-        ≡ fill 512 (inPlaces 8 (remaining (residues (settings .modulus) (now (levels .entry))) (pointsIn settings n (now (points .entry)))))) ⌝ }
+        ≡ fill statesSize (inPlaces 8 (remaining (residues (settings .modulus) (now (levels .entry))) (pointsIn settings n (now (points .entry)))))) ⌝ }
 {
     let mut point = [0u8; 8];
     points::put_residues(settings.modulus as u8, levels, &mut point);
@@ -55,11 +55,11 @@ fn withdraw_refusal(
     rows: &mut [u8],
     pivots: &mut [u8],
 ) -> u8
-    requires { ⌜ (now left ≡ replicate 512 0) × RowsLong (now rows) (now pivots) ⌝ }
+    requires { ⌜ (now left ≡ replicate statesSize 0) × RowsLong (now rows) (now pivots) ⌝ }
     ensures { λ k. ⌜ k ≡ withdrawRefusal settings n r
         (fourTables (now (states .entry)) (now (standard .entry)) (now (leads .entry)) (now (coefficients .entry))) (now (levels .entry)) ⌝ }
     ensures { λ k. ⌜ (k ≡ 0 → now (left .exit)
-        ≡ fill 512 (inPlaces 8 (remaining (residues (settings .modulus) (now (levels .entry))) (pointsIn settings n (now (states .entry)))))) ⌝ }
+        ≡ fill statesSize (inPlaces 8 (remaining (residues (settings .modulus) (now (levels .entry))) (pointsIn settings n (now (states .entry)))))) ⌝ }
 {
     let short = too_short(
         states.len(),

@@ -25,7 +25,7 @@ use Rattle.specification.specs.Tables.{Tables, spaceUnder, pointsUnder, tooShor
 use Rattle.specification.specs.Solving.{interpolantIn, withinVariables, polynomialUnder, remainderIn}
 use Rattle.specification.specs.Needed.{wiringOf}
 use Rattle.specification.proofs.agreement.Points.{Points, length-residues}
-use Rattle.specification.proofs.agreement.Refusals.{Accepted, Large, large-of}
+use Rattle.specification.proofs.agreement.Refusals.{Accepted}
 use Rattle.specification.proofs.Recognised.{readIn}
 use Rattle.specification.proofs.needed.Filled.{names-tabled}
 use Rattle.basis.specs.Answers.{solution}
@@ -59,14 +59,14 @@ module _ (s : Settings) (ok : Accepted s) (n r : ℕ) (t : Tables) (few : n ≤ 
 pub record Sized (size : ℕ) (s : Settings) (n : ℕ) (t : Tables) (buffer : List ℕ) : Type 0 where
   pub none : firstOf 0 (settingsCases s) ≡ 0
   pub settings : Accepted s
-  pub large : Large t
+  pub long : tooShort t ≡ false
   pub room : size ≤ length buffer
   pub few : n ≤ 64
 
 sized : {size : ℕ} {s : Settings} {n : ℕ} {t : Tables} {buffer : List ℕ} {wrong many : Bool} → Passed s (tooShort t || ltb (length buffer) size) wrong many → ltb 64 n ≡ false → Sized size s n t buffer
 sized {size} {s} {n} {t} {buffer} h few =
     let l = neither (tooShort t) (ltb (length buffer) size) (h .long) in
-    record { none = h .none; settings = h .settings; large = large-of t (l .0); room = ltb-false (length buffer) size (l .1); few = ltb-false 64 n few }
+    record { none = h .none; settings = h .settings; long = l .0; room = ltb-false (length buffer) size (l .1); few = ltb-false 64 n few }
 
 -- Values at the points.
 module _ (size : ℕ) (s : Settings) (n r : ℕ) (t : Tables) (values : List ℤ) (buffer : List ℕ) (fine : valuesSizes size s n r t values buffer ≡ 0) where

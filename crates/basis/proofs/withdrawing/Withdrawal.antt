@@ -22,7 +22,7 @@ use Rattle.specification.specs.Adding.{refused, holding}
 use Rattle.specification.proofs.Recognised.{length-read, read-each, none-of}
 use Rattle.specification.proofs.CallByCall.{known-points}
 use Rattle.specification.proofs.agreement.Points.{Points, length-residues}
-use Rattle.specification.proofs.agreement.Refusals.{Accepted, accepted, Large, large-of}
+use Rattle.specification.proofs.agreement.Refusals.{Accepted, accepted}
 use Rattle.specification.proofs.agreement.Removal.{points-left, left-one}
 use Rattle.basis.specs.Points.{placeIn}
 use Rattle.basis.specs.Drawing.{PointsGiven}
@@ -116,7 +116,7 @@ module _ (s : Settings) (n r : ℕ) (t : Tables) (levels : List ℤ) where
   -- Nothing refuses.
   pub record Open : Type 0 where
     pub settings : Accepted s
-    pub large : Large t
+    pub long : tooShort t ≡ false
     pub left : Points s (remaining new old)
     pub count : length (remaining new old) ≡ n - 1
     pub some : 0 < n
@@ -132,7 +132,7 @@ module _ (s : Settings) (n r : ℕ) (t : Tables) (levels : List ℤ) where
       let many = length-read s ok n (t .states) in
       record {
         settings = ok;
-        large = large-of t (w .1 .0);
+        long = w .1 .0;
         left = points-left s new old (known-points s ok n r t few (not-false _ (w .1 .1 .1 .1 .1 .0)));
         count = omega (arith, fewer, many);
         some = omega (arith, fewer, many);

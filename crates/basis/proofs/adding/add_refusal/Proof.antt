@@ -15,7 +15,6 @@ use Rattle.specification.specs.Levels.{inRange, isAmong}
 use Rattle.specification.specs.Settings.{settingsCases}
 use Rattle.specification.specs.Tables.{Tables, fourTables, tooShort, recognised}
 use Rattle.specification.proofs.agreement.Points.{length-residues}
-use Rattle.specification.proofs.agreement.Refusals.{large-of}
 use Rattle.specification.proofs.Cases.{sizes-are}
 use Rattle.basis.specs.Drawing.{Solves}
 use Rattle.basis.proofs.settings.BySize.{Passed, passed}
@@ -132,8 +131,7 @@ returns-2 c =
 recognise-requires : tie.Need-recognise-requires
 recognise-requires c κs =
     let x = e (c .before .before .before) in
-    let l = large-of (tables (s x)) (room x .long) in
-    ((room x .none, omega (arith, few x)), ((l .states, (l .standard, (l .leads, l .coefficients))), (s x .pre .0, s x .pre .1 .0)))
+    ((room x .none, omega (arith, few x)), (room x .long, (s x .pre .0, s x .pre .1 .0)))
 
 same-length : tie.Need-same-length
 same-length c = c .before .before .before .before .before .before .before .recognise .kept .1 .1 .1 .1 .1 .1 .1 .0

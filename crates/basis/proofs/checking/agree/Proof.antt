@@ -2,17 +2,30 @@
 use native.Mathlib.Omega.{arith}
 use borrow.Author.Tests.{not-true, not-false}
 use mathlib.Core.Path.{sym, _∙_}
+use Rattle.specification.specs.Tables.{Tables, fourTables}
+use Rattle.specification.proofs.agreement.Refusals.{Large, large-of}
 use Rattle.basis.proofs.checking.agree.Statement.{statement}
 use Rattle.basis.proofs.checking.agree.Tie as tie
 
+-- the lent tables
+module _ (k : tie.After-shared-slice-known8) where
+  abbrev start : tie.Start
+  start = k .before .before .before .before .before .before .before .before
+
+  abbrev tables : Tables
+  tables = fourTables (start .args .states .now) (start .args .standard .now) (start .args .leads .now) (start .args .coefficients .now)
+
+  large : Large tables
+  large = large-of tables (start .pre .1)
+
 begins-requires : tie.Need-begins-requires
-begins-requires c κs = omega arith
+begins-requires c κs = omega (arith, large c .states)
 
 returns : tie.Need-returns
 returns c = simp (sym (c .before .begins .ensures) ∙ not-true _ (c .if1 .taken))
 
 begins-requires-2 : tie.Need-begins-requires-2
-begins-requires-2 c κs = omega arith
+begins-requires-2 c κs = omega (arith, large (c .before .before) .standard)
 
 returns-2 : tie.Need-returns-2
 returns-2 c =
@@ -20,7 +33,7 @@ returns-2 c =
     simp (sym (a .before .begins .ensures) ∙ not-false _ (a .if1 .left), sym (c .before .begins2 .ensures) ∙ not-true _ (c .if2 .taken))
 
 begins-requires-3 : tie.Need-begins-requires-3
-begins-requires-3 c κs = omega arith
+begins-requires-3 c κs = omega (arith, large (c .before .before .before .before) .leads)
 
 returns-3 : tie.Need-returns-3
 returns-3 c =
@@ -33,7 +46,7 @@ returns-3 c =
     )
 
 begins-requires-4 : tie.Need-begins-requires-4
-begins-requires-4 c κs = omega arith
+begins-requires-4 c κs = omega (arith, large (c .before .before .before .before .before .before) .coefficients)
 
 returns-4 : tie.Need-returns-4
 returns-4 c =

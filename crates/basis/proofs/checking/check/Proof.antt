@@ -6,7 +6,6 @@ use lib.Dec.{ltb}
 use Rattle.specification.specs.Refusal.{firstOf}
 use Rattle.specification.specs.Settings.{settingsCases}
 use Rattle.specification.specs.Tables.{Tables, fourTables, tooShort}
-use Rattle.specification.proofs.agreement.Refusals.{large-of}
 use Rattle.specification.proofs.Cases.{sizes-are}
 use Rattle.basis.proofs.settings.BySize.{Passed, passed}
 use Rattle.basis.proofs.checking.Tests.{checkSizes, check-size, check-told}
@@ -57,8 +56,7 @@ slice-aggregate-recognise-3 c = refl
 recognise-requires : tie.Need-recognise-requires
 recognise-requires c κs =
     let e = c .before .before .before in
-    let l = large-of (tables (s e)) (room e .long) in
-    ((room e .none, ltb-false 64 (s e .args .n) (room e .few)), ((l .states, (l .standard, (l .leads, l .coefficients))), (refl, (refl, refl))))
+    ((room e .none, ltb-false 64 (s e .args .n) (room e .few)), (room e .long, (refl, (refl, refl))))
 
 returns-2 : tie.Need-returns-2
 unfolding firstOf

@@ -13,7 +13,7 @@ use Rattle.residue.proofs.Layouts.{length-fill}
 use Rattle.specification.specs.Levels.{noRepeat}
 use Rattle.specification.specs.Tables.{Tables, fourTables, tablesOf, pointsIn}
 use Rattle.specification.proofs.agreement.Points.{Points}
-use Rattle.specification.proofs.agreement.Refusals.{Accepted, accepted}
+use Rattle.specification.proofs.agreement.Refusals.{Accepted, accepted, large-of}
 use Rattle.basis.specs.Drawing.{PointsGiven, DrawnUp}
 use Rattle.basis.proofs.points.PointTables.{length-points, points-in}
 use Rattle.specification.proofs.Recognised.{read-each, read}
@@ -96,7 +96,7 @@ read-points-requires c κs =
     let s = c .before .before .before .before .before .before .before .before in
     let ok = accepted (s .args .settings) (s .pre .0 .0) in
     let p = modulus-range (s .args .settings .modulus) (ok .modulus) in
-    ((p .0, p .1, ok .few), ((s .pre .0 .1, s .pre .1 .0 .0), s .pre .1 .1 .0))
+    ((p .0, p .1, ok .few), ((s .pre .0 .1, large-of (tables s) (s .pre .1 .0) .states), s .pre .1 .1 .0))
 
 no-repeat-requires : tie.Need-no-repeat-requires
 no-repeat-requires c κs = let w = c .before .before .before in omega (arith, long w, start w .pre .0 .1)

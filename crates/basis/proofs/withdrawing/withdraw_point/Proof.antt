@@ -7,7 +7,6 @@ use native.Mathlib.Omega.{arith}
 use Rattle.specification.specs.Tables.{Tables, fourTables}
 use Rattle.specification.specs.Adding.{Outcome, DrawOutcome}
 use Rattle.specification.specs.Withdrawing.{withdrawRefusal}
-use Rattle.specification.proofs.agreement.Refusals.{not-short}
 use Rattle.basis.proofs.settings.ByNumber.{alone}
 use Rattle.basis.proofs.withdrawing.Withdrawal.{open-of, left-given, left-points, withdraw-refused, withdraw-done}
 use Rattle.basis.proofs.withdrawing.withdraw_point.Statement.{statement}
@@ -89,7 +88,7 @@ draw-points-requires c κs =
     let e = c .before .before .before .before .before .before .before in
     let s = s e in (
       left-given (s .args .settings) (s .args .n) (s .args .r) (tables s) (s .args .levels .now) (none e) (left e) (w e .withdraw-refusal .ensures .1 (e .if1 .left)),
-      (not-short (tables s) (open-of (s .args .settings) (s .args .n) (s .args .r) (tables s) (s .args .levels .now) (none e) .large), (w e .withdraw-refusal .kept .1 .1 .1 .1 .1 .1 .1 .1 .1 .0, w e .withdraw-refusal .kept .1 .1 .1 .1 .1 .1 .1 .1 .1 .1 .0)),
+      (open-of (s .args .settings) (s .args .n) (s .args .r) (tables s) (s .args .levels .now) (none e) .long, (w e .withdraw-refusal .kept .1 .1 .1 .1 .1 .1 .1 .1 .1 .0, w e .withdraw-refusal .kept .1 .1 .1 .1 .1 .1 .1 .1 .1 .1 .0)),
     )
 
 same-length-5 : tie.Need-same-length-5

@@ -14,7 +14,6 @@ use Rattle.specification.specs.Levels.{inRange, residues, isAmong}
 use Rattle.specification.specs.Settings.{settingsCases}
 use Rattle.specification.specs.Tables.{Tables, fourTables, tooShort, pointsIn, recognised}
 use Rattle.specification.specs.Withdrawing.{remaining}
-use Rattle.specification.proofs.agreement.Refusals.{large-of}
 use Rattle.specification.proofs.Cases.{sizes-are}
 use Rattle.basis.proofs.settings.BySize.{Passed, passed}
 use Rattle.basis.proofs.withdrawing.Withdrawal.{withdrawSizes, withdraw-size, withdraw-range, withdraw-unknown, withdraw-told, read-again, table-again}
@@ -80,8 +79,7 @@ slice-aggregate-recognise c = search needs
 recognise-requires : tie.Need-recognise-requires
 recognise-requires c κs =
     let x = e (c .before .before .before) in
-    let l = large-of (tables (s x)) (room x .long) in
-    ((room x .none, ltb-false 64 _ (room x .few)), ((l .states, (l .standard, (l .leads, l .coefficients))), (refl, s x .pre .1)))
+    ((room x .none, ltb-false 64 _ (room x .few)), (room x .long, (refl, s x .pre .1)))
 
 -- whether the tables are recognised, and the table of their points
 module _ (k : tie.After-recognise) where
