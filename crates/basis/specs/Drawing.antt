@@ -11,7 +11,7 @@ use Rattle.residue.specs.Layout.{fill, inPlaces, over}
 use Rattle.specification.specs.declared.settings.Settings.{Settings}
 use Rattle.specification.specs.Levels.{noRepeat}
 use Rattle.specification.specs.BasisOf.{interpolantOf}
-use Rattle.specification.specs.Tables.{spaceUnder, pointsUnder, rowCount, tablesOf, pointsIn}
+use Rattle.specification.specs.Tables.{spaceUnder, pointsUnder, rowCount, tablesOf, pointsIn, statesSize}
 use Rattle.specification.proofs.agreement.Refusals.{Accepted}
 
 -- A working row: empty, and with values at its front.
@@ -36,7 +36,7 @@ settingsOf p m order = record { modulus = p; variables = m; order = order }
 pub record PointsGiven (s : Settings) (n : ℕ) (points : List ℕ) : Type 0 where
   pub settings : Accepted s
   pub most : n ≤ 64
-  pub table : points ≡ fill 512 (inPlaces 8 (pointsIn s n points))
+  pub table : points ≡ fill statesSize (inPlaces 8 (pointsIn s n points))
   pub once : T (noRepeat (pointsIn s n points))
 
 -- Pivot rows for all the standard monomials: elimination leaves of any n values the negatives of their interpolant's coefficients.

@@ -11,7 +11,7 @@ ghost use Rattle.residue.specs.Level.{residueOf};
 ghost use Rattle.residue.specs.Layout.{groups, fill, inPlaces, over};
 ghost use Rattle.residue.specs.Lists.{keyOf};
 ghost use Rattle.specification.specs.Levels.{residueOr0, inRange, residues, isAmong, noRepeat};
-ghost use Rattle.specification.specs.Tables.{pointsIn};
+ghost use Rattle.specification.specs.Tables.{pointsIn, statesSize};
 ghost use Rattle.basis.specs.Points.{placeIn};
 
 // Whether each level has a residue.
@@ -50,8 +50,8 @@ pub fn put_residues(p: u8, levels: &[i8], to: &mut [u8])
 pub fn put_points(p: u8, m: usize, count: usize, levels: &[i8], states: &mut [u8])
     requires { ⌜ (m ≤ 8) × (count ≤ 64) ⌝ }
     requires { ⌜ length (now levels) ≡ m * count ⌝ }
-    requires { ⌜ now states ≡ replicate 512 0 ⌝ }
-    ensures { λ _. ⌜ now (states .exit) ≡ fill 512 (inPlaces 8 (groups m count (residues p (now (levels .entry))))) ⌝ }
+    requires { ⌜ now states ≡ replicate statesSize 0 ⌝ }
+    ensures { λ _. ⌜ now (states .exit) ≡ fill statesSize (inPlaces 8 (groups m count (residues p (now (levels .entry))))) ⌝ }
 {
     for i in 0..count {
         let level = m * i;
@@ -74,9 +74,9 @@ fn put_reduced(p: u8, from: &[u8], to: &mut [u8])
 // The n points of a table, each cut to its m coordinates and reduced, in a table of zeros.
 pub fn read_points(settings: Settings, n: usize, states: &[u8], points: &mut [u8])
     requires { ⌜ (2 ≤ settings .modulus) × (settings .modulus ≤ 61) × (settings .variables ≤ 8) ⌝ }
-    requires { ⌜ (n ≤ 64) × (512 ≤ length (now states)) ⌝ }
-    requires { ⌜ now points ≡ replicate 512 0 ⌝ }
-    ensures { λ _. ⌜ now (points .exit) ≡ fill 512 (inPlaces 8 (pointsIn settings n (now (states .entry)))) ⌝ }
+    requires { ⌜ (n ≤ 64) × (statesSize ≤ length (now states)) ⌝ }
+    requires { ⌜ now points ≡ replicate statesSize 0 ⌝ }
+    ensures { λ _. ⌜ now (points .exit) ≡ fill statesSize (inPlaces 8 (pointsIn settings n (now (states .entry)))) ⌝ }
 {
     let p = settings.modulus as u8;
     let m = settings.variables as usize;

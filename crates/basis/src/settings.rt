@@ -55,13 +55,13 @@ pub fn settings_refusal(settings: Settings) -> u8
 }
 
 // The sizes of the lent tables in bytes.
-pub const STATES: usize = 512;
+pub(crate) const STATES: usize = 512;
 
-pub const STANDARD: usize = 512;
+pub(crate) const STANDARD: usize = 512;
 
-pub const LEADS: usize = 3592;
+pub(crate) const LEADS: usize = 3592;
 
-pub const COEFFICIENTS: usize = 28736;
+pub(crate) const COEFFICIENTS: usize = 28736;
 
 // Whether one of the lent tables, of these lengths, is shorter than its size.
 pub fn too_short(states: usize, standard: usize, leads: usize, coefficients: usize) -> bool

@@ -13,6 +13,7 @@ ghost use Rattle.residue.specs.Elimination.{eliminated, Multiplied};
 ghost use Rattle.residue.specs.Layout.{fill, over};
 ghost use Rattle.monomial.specs.Terms.{termValues};
 ghost use Rattle.specification.specs.Levels.{residues};
+ghost use Rattle.specification.specs.Tables.{statesSize};
 ghost use Rattle.basis.specs.Answers.{solution};
 
 // Minus residues, as bytes.
@@ -82,7 +83,7 @@ pub fn solve_terms(
 )
     requires { ⌜ (2 ≤ p) × (p ≤ 61) ⌝ }
     requires { ⌜ (length (now coefficients) ≤ 256) × (length (now exponents) ≡ 8 * length (now coefficients)) ⌝ }
-    requires { ⌜ (n ≤ 64) × ((length (now points) ≡ 512) × (64 ≤ length (now out))) ⌝ }
+    requires { ⌜ (n ≤ 64) × ((length (now points) ≡ statesSize) × (64 ≤ length (now out))) ⌝ }
     requires { ⌜ (1152 * n ≤ length (now rows)) × (n ≤ length (now pivots)) ⌝ }
     requires { ⌜ (Multiplied p n (now rows)) × ((Below p (residues p (now coefficients))) × (Below p (now points))) ⌝ }
     requires { ⌜ ((t : ℕ) → t < n → getD (now pivots) t 0 < n) ⌝ }

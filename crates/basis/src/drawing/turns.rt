@@ -10,6 +10,7 @@ ghost use Rattle.residue.specs.Vector.{Below};
 ghost use Rattle.residue.specs.Elimination.{eliminated, cancellations, Multiplied, ZeroBehind};
 ghost use Rattle.residue.specs.Layout.{withPlace};
 ghost use Rattle.monomial.specs.Monomial.{timesVariable};
+ghost use Rattle.specification.specs.Tables.{standardSize, leadsSize, coefficientsSize};
 ghost use Rattle.basis.specs.Drawing.{emptyRow, rowWith, RowsLong, productValues};
 
 // The working row of given values after it met the pivot rows, and how many cancellations that took.
@@ -46,7 +47,7 @@ pub fn keep_lead(
     coefficients: &mut [u8],
 )
     requires { ⌜ (n ≤ 64) × ((found ≤ n) × (r < 449)) ⌝ }
-    requires { ⌜ (length (now exponents) ≡ 8) × ((length (now leads) ≡ 3592) × (length (now coefficients) ≡ 28736)) ⌝ }
+    requires { ⌜ (length (now exponents) ≡ 8) × ((length (now leads) ≡ leadsSize) × (length (now coefficients) ≡ coefficientsSize)) ⌝ }
     requires { ⌜ length (now work) ≡ 128 ⌝ }
     ensures { λ _. ⌜ now (leads .exit) ≡ withPlace 8 r (now (exponents .entry)) (now (leads .entry)) ⌝ }
     ensures { λ _. ⌜ now (coefficients .exit) ≡ withPlace 64 r (take found (drop n (now (work .entry)))) (now (coefficients .entry)) ⌝ }
@@ -68,7 +69,7 @@ pub fn keep_standard(
 )
     requires { ⌜ found < 64 ⌝ }
     requires { ⌜ (length (now exponents) ≡ 8) × (length (now own) ≡ 64) ⌝ }
-    requires { ⌜ (length (now standard) ≡ 512) × (length (now values) ≡ 4096) ⌝ }
+    requires { ⌜ (length (now standard) ≡ standardSize) × (length (now values) ≡ 4096) ⌝ }
     ensures { λ _. ⌜ now (standard .exit) ≡ withPlace 8 found (now (exponents .entry)) (now (standard .entry)) ⌝ }
     ensures { λ _. ⌜ now (values .exit) ≡ withPlace 64 found (now (own .entry)) (now (values .entry)) ⌝ }
 {
@@ -80,7 +81,7 @@ pub fn keep_standard(
 
 // The exponents of x_(k+1) times standard monomial t.
 pub fn put_exponents(k: usize, t: usize, standard: &[u8], exponents: &mut [u8])
-    requires { ⌜ (k < 8) × ((t < 64) × ((length (now standard) ≡ 512) × (length (now exponents) ≡ 8))) ⌝ }
+    requires { ⌜ (k < 8) × ((t < 64) × ((length (now standard) ≡ standardSize) × (length (now exponents) ≡ 8))) ⌝ }
     requires { ⌜ getD (now standard) (8 * t + k) 0 < 255 ⌝ }
     ensures { λ _. ⌜ now (exponents .exit) ≡ timesVariable k (take 8 (drop (8 * t) (now (standard .entry)))) ⌝ }
 {
