@@ -27,7 +27,7 @@ use Rattle.specification.specs.Space.{Space}
 use Rattle.specification.specs.Polynomial.{Distinct}
 use Rattle.specification.specs.BasisOf.{standardOf, leadsOf, rowOf, rowsOf, interpolantOf}
 use Rattle.specification.specs.Instance.{Monomial, Point, reduced, pointOf}
-use Rattle.specification.specs.Tables.{spaceUnder, pointsUnder, rowCount, tablesOf, pointsIn}
+use Rattle.specification.specs.Tables.{spaceUnder, pointsUnder, standardUnder, leadsUnder, rowsUnder, rowCount, tablesOf, pointsIn}
 use Rattle.specification.proofs.Repeats.{is-among}
 use Rattle.specification.proofs.agreement.Points.{IsPoint, Points, points-more}
 use Rattle.specification.proofs.agreement.Drawings as Drawings
@@ -143,12 +143,12 @@ module _ {s : Settings} {n r : ℕ} {points standard leads coefficients rows piv
   many : length S < 64
   many = omega (arith, count)
 
-  rows-many : r ≡ length (leadsOf D S)
+  rows-many : r ≡ length (leadsUnder s K)
   unfolding rowCount
   rows-many = drawn .tabled .row-count
 
-  fits : length (leadsOf D S) + m ≤ 450
-  fits = bound (length (leadsOf D S)) (length S) m many (given .settings .some) (given .settings .few) (leads-length D L S d)
+  fits : length (leadsUnder s K) + m ≤ 450
+  fits = bound (length (leadsUnder s K)) (length S) m many (given .settings .some) (given .settings .few) (leads-length D L S d)
     where
       bound : (r n m : ℕ) → n < 64 → 1 ≤ m → m ≤ 8 → r + n ≤ 1 + n * m → r + m ≤ 450
       bound r n zero a b c e = absurd (omega arith)
@@ -161,15 +161,15 @@ module _ {s : Settings} {n r : ℕ} {points standard leads coefficients rows piv
   most-rows = omega (arith, few-rows, given .settings .some)
 
   -- the tables
-  standard-is : standard ≡ table q m o (given .settings .few) L 512 (standardOf D S)
+  standard-is : standard ≡ table q m o (given .settings .few) L 512 (standardUnder s K)
   unfolding tablesOf
   standard-is = drawn .tabled .standard-table
 
-  leads-are : leads ≡ table q m o (given .settings .few) L 3592 (leadsOf D S)
+  leads-are : leads ≡ table q m o (given .settings .few) L 3592 (leadsUnder s K)
   unfolding tablesOf
   leads-are = drawn .tabled .leads-table
 
-  rows-are : coefficients ≡ fill 28736 (inPlaces 64 (rowsOf D S))
+  rows-are : coefficients ≡ fill 28736 (inPlaces 64 (rowsUnder s K))
   unfolding tablesOf
   rows-are = drawn .tabled .coefficients-table
 
@@ -177,12 +177,12 @@ module _ {s : Settings} {n r : ℕ} {points standard leads coefficients rows piv
   point-is = new .filled ∙ ap (fill 8) (sym coordinates)
 
   -- coefficients are residues, and exponents small
-  row-below : (c : List ℕ) → Among c (rowsOf D S) → Below p c
-  row-below c mem i h = let w = among-map (rowOf D S) (leadsOf D S) c mem in
+  row-below : (c : List ℕ) → Among c (rowsUnder s K) → Below p c
+  row-below c mem i h = let w = among-map (rowOf D S) (leadsUnder s K) c mem in
       rw raised (row-is D L S d (w .0) .residues (getD c i 0) (subst (λ (z : List ℕ). Among (getD c i 0) z) (w .2) (getD-among c i 0 h)))
 
-  lead-below : (a : List ℕ) → Among a (map (λ (a : Monomial m). a .0) (leadsOf D S)) → Below 255 a
-  lead-below a mem i h = let w = among-map (λ (a : Monomial m). a .0) (leadsOf D S) a mem in
+  lead-below : (a : List ℕ) → Among a (map (λ (a : Monomial m). a .0) (leadsUnder s K)) → Below 255 a
+  lead-below a mem i h = let w = among-map (λ (a : Monomial m). a .0) (leadsUnder s K) a mem in
       rw (w .2) (omega (arith, lead-exponent q m (orderOf o) (ground given .prime) S d (w .0) (w .1) i, many))
 
   -- how many points there are now, and that they have few rows
@@ -217,32 +217,32 @@ module _ {s : Settings} {n r : ℕ} {points standard leads coefficients rows piv
     leads-size = ap length leads-are ∙ length-fill 3592 _;
     rows-size = ap length rows-are ∙ length-fill 28736 _;
     point-size = ap length (new .filled) ∙ length-fill 8 _;
-    residues = λ i h. subst (λ (t : List ℕ). getD t i 0 < p) (sym rows-are) (table-small p 64 28736 (rowsOf D S) (omega (arith, raised)) row-below i);
+    residues = λ i h. subst (λ (t : List ℕ). getD t i 0 < p) (sym rows-are) (table-small p 64 28736 (rowsUnder s K) (omega (arith, raised)) row-below i);
     exponents = λ i. subst (λ (t : List ℕ). getD t i 0 < 255) (sym leads-are)
-        (table-small 255 8 3592 (map (λ (a : Monomial m). a .0) (leadsOf D S)) (omega arith) lead-below i);
+        (table-small 255 8 3592 (map (λ (a : Monomial m). a .0) (leadsUnder s K)) (omega arith) lead-below i);
     within = subst (λ (k : ℕ). (t : ℕ) → t < k → getD pivots t 0 < k) (sym (length-map K (pointOf q m)) ∙ count) (drawn .pivot-rows .inside);
     multiplied = subst (λ (k : ℕ). Multiplied p k rows) (sym (length-map K (pointOf q m)) ∙ count) (drawn .pivot-rows .multiples);
   }
 
   -- the values of the standard monomials
   abbrev due : List ℕ
-  due = valuesAt q m (orderOf o) (given .settings .few) (standardOf D S) P (few-standard q m o (given .settings .few) L S d many (given .settings .some) fits P far)
+  due = valuesAt q m (orderOf o) (given .settings .few) (standardUnder s K) P (few-standard q m o (given .settings .few) L S d many (given .settings .some) fits P far)
 
-  standard-count : length (standardOf D S) ≡ n
+  standard-count : length (standardUnder s K) ≡ n
   standard-count = standard-length D L S d ∙ count
 
   values-are : over (map (λ a. valueAt point a % p) (groups 8 n standard)) (replicate 64 0) ≡ due
   values-are =
       let f : Monomial m → List ℕ = λ b. fill 8 (b .0) in
-      let back : groups 8 n standard ≡ map f (standardOf D S) = ap₂ (λ (k : ℕ) (t : List ℕ). groups 8 k t) (sym standard-count) standard-is ∙ read q m o (given .settings .few) L 512 (standardOf D S) (omega (arith, standard-count)) in
+      let back : groups 8 n standard ≡ map f (standardUnder s K) = ap₂ (λ (k : ℕ) (t : List ℕ). groups 8 k t) (sym standard-count) standard-is ∙ read q m o (given .settings .few) L 512 (standardUnder s K) (omega (arith, standard-count)) in
       let value : (b : Monomial m) → valueAt (fill 8 (P .0)) (fill 8 (b .0)) % suc q ≡ valueAt (P .0) (b .0) % suc q =
       λ b. ap (λ (z : ℕ). z % suc q) (value-fill (P .0) (b .0) (P .1 .0 ∙ sym (b .1)) (rw (P .1 .0) (given .settings .few))) in
-      let n64 = length-map (standardOf D S) (λ (b : Monomial m). valueAt (P .0) (b .0) % suc q) in
+      let n64 = length-map (standardUnder s K) (λ (b : Monomial m). valueAt (P .0) (b .0) % suc q) in
       ap (λ (z : List ℕ). over z (replicate 64 0))
-      (ap (map (λ a. valueAt point a % p)) back ∙ map-map (λ a. valueAt point a % p) f (standardOf D S)
-      ∙ ap₂ (λ (z : List ℕ) (k : ℕ). map (λ (b : Monomial m). valueAt z (fill 8 (b .0)) % k) (standardOf D S)) point-is raised
-      ∙ map-same (λ (b : Monomial m). valueAt (fill 8 (P .0)) (fill 8 (b .0)) % suc q) (λ b. valueAt (P .0) (b .0) % suc q) (standardOf D S) (λ b mem. value b))
-      ∙ over-zeros (map (λ (b : Monomial m). valueAt (P .0) (b .0) % suc q) (standardOf D S)) 64 (omega (arith, standard-count))
+      (ap (map (λ a. valueAt point a % p)) back ∙ map-map (λ a. valueAt point a % p) f (standardUnder s K)
+      ∙ ap₂ (λ (z : List ℕ) (k : ℕ). map (λ (b : Monomial m). valueAt z (fill 8 (b .0)) % k) (standardUnder s K)) point-is raised
+      ∙ map-same (λ (b : Monomial m). valueAt (fill 8 (P .0)) (fill 8 (b .0)) % suc q) (λ b. valueAt (P .0) (b .0) % suc q) (standardUnder s K) (λ b mem. value b))
+      ∙ over-zeros (map (λ (b : Monomial m). valueAt (P .0) (b .0) % suc q) (standardUnder s K)) 64 (omega (arith, standard-count))
 
   solves-it : (vs : List ℕ) → length vs ≡ length S → Below (suc q) vs
       → eliminated (suc q) rows pivots (length S) (fill 128 vs) ≡ fill 128 (replicate (length S) 0 ++ map (λ c. (suc q - c) % suc q) (interpolantOf D S vs))
@@ -268,7 +268,7 @@ module _ {s : Settings} {n r : ℕ} {points standard leads coefficients rows piv
     added k ns nl nc es eg =
         let all : pointsUnder s (K ++ (take m point ∷ [])) ≡ S ++ (P ∷ []) = map-append (pointOf q m) K (take m point ∷ []) in
         let b = basis-snoc D L S P d far in
-        let l : leadsOf D (P ∷ S) ≡ leadsOf D (pointsUnder s (K ++ (take m point ∷ []))) = sym (b .1) ∙ ap (leadsOf D) (sym all) in
+        let l : leadsOf D (P ∷ S) ≡ leadsUnder s (K ++ (take m point ∷ [])) = sym (b .1) ∙ ap (leadsOf D) (sym all) in
         let g : grown k nl nc ≡ grown (length (leadsOf D (P ∷ S))) (table q m o (given .settings .few) L 3592 (leadsOf D (P ∷ S))) (fill 28736 (inPlaces 64 (rowsOf D (P ∷ S)))) =
         eg ∙ same-grown m o rows pivots raised (sym count) rows-many (given .table ∙ ap (λ (z : List (List ℕ)). fill 512 (inPlaces 8 z)) (sym lists)) standard-is leads-are rows-are point-is (ev ∙ values-are) found
         ∙ grown-are q m o (given .settings .few) L S d many (given .settings .some) fits P far rows pivots solves-it in

@@ -26,9 +26,9 @@ use Rattle.monomial.specs.Order.{orderOf}
 use Rattle.specification.specs.declared.settings.Settings.{Settings}
 use Rattle.specification.specs.Space.{Space}
 use Rattle.specification.specs.Basis.{Fits}
-use Rattle.specification.specs.BasisOf.{standardOf, leadsOf, valueAt, interpolantOf}
+use Rattle.specification.specs.BasisOf.{valueAt, interpolantOf}
 use Rattle.specification.specs.Instance.{Residues, Point, reduced, pointOf}
-use Rattle.specification.specs.Tables.{spaceUnder, pointsUnder, rowCount, tablesOf, pointsIn}
+use Rattle.specification.specs.Tables.{spaceUnder, pointsUnder, standardUnder, leadsUnder, rowCount, tablesOf, pointsIn}
 use Rattle.specification.proofs.Instance.{laws, residues-reduced, point-of}
 use Rattle.specification.proofs.ideal.Laws.{Laws}
 use Rattle.specification.proofs.ideal.Lists.{getD-among}
@@ -146,41 +146,41 @@ module _ {s : Settings} {n : ℕ} {points : List ℕ} (given : PointsGiven s n p
 
   -- all is found
   module _ {css : List (List ℕ)} {standard leads coefficients rows pivots values ranks steps : List ℕ}
-      (H : Held q m n (orderOf order) S (standardOf D S) (leadsOf D S) css standard leads coefficients rows pivots values ranks steps) where
-    full : length (standardOf D S) ≡ n
+      (H : Held q m n (orderOf order) S (standardUnder s K) (leadsUnder s K) css standard leads coefficients rows pivots values ranks steps) where
+    full : length (standardUnder s K) ≡ n
     full = standard-length D L S (ground .distinct) ∙ ground .count
 
-    P : PivotRows q n n (valuesOf D (standardOf D S) S (pointOf q m [])) rows pivots
-    P = subst (λ (k : ℕ). PivotRows q n k (valuesOf D (standardOf D S) S (pointOf q m [])) rows pivots) full (H .pivot-rows)
+    P : PivotRows q n n (valuesOf D (standardUnder s K) S (pointOf q m [])) rows pivots
+    P = subst (λ (k : ℕ). PivotRows q n k (valuesOf D (standardUnder s K) S (pointOf q m [])) rows pivots) full (H .pivot-rows)
 
     solved : (vs : List ℕ) → length vs ≡ n → Below p vs
         → eliminated p rows pivots n (fill 128 vs) ≡ fill 128 (replicate n 0 ++ map (λ c. (p - c) % p) (interpolantOf D S vs))
     solved vs l b =
         ap (λ (z : ℕ). eliminated z rows pivots n (fill 128 vs)) raised
-        ∙ solves q n n (valuesOf D (standardOf D S) S (pointOf q m [])) rows pivots P (λ i. getD vs i 0) cs (fits .long ∙ full)
+        ∙ solves q n n (valuesOf D (standardUnder s K) S (pointOf q m [])) rows pivots P (λ i. getD vs i 0) cs (fits .long ∙ full)
         (λ i h. fits .residues (getD cs i 0) (getD-among cs i 0 h)) value vs l (subst (λ (z : ℕ). Below z vs) raised b) (λ i h. of refl)
         ∙ sym (ap (λ (z : ℕ). fill 128 (replicate n 0 ++ map (λ c. (z - c) % z) cs)) raised)
       where
         cs : List ℕ
         cs = interpolantOf D S vs
 
-        fits : Fits D S (standardOf D S) (valueAt D S vs) (interpolantOf D S vs)
+        fits : Fits D S (standardUnder s K) (valueAt D S vs) (interpolantOf D S vs)
         fits = interpolant-fits D L S (ground .distinct) (valueAt D S vs)
 
-        value : (i : ℕ) → i < n → Mod (suc q) (combination (valuesOf D (standardOf D S) S (pointOf q m [])) n (λ j. getD (interpolantOf D S vs) j 0) i) (getD vs i 0)
+        value : (i : ℕ) → i < n → Mod (suc q) (combination (valuesOf D (standardUnder s K) S (pointOf q m [])) n (λ j. getD (interpolantOf D S vs) j 0) i) (getD vs i 0)
         value i h =
-            of (ap (λ (k : ℕ). combination (valuesOf D (standardOf D S) S (pointOf q m [])) k (λ j. getD (interpolantOf D S vs) j 0) i) (sym full)
-            ∙ sym (terms-places D (interpolantOf D S vs) (standardOf D S) (getD S i (pointOf q m [])) (fits .long)))
+            of (ap (λ (k : ℕ). combination (valuesOf D (standardUnder s K) S (pointOf q m [])) k (λ j. getD (interpolantOf D S vs) j 0) i) (sym full)
+            ∙ sym (terms-places D (interpolantOf D S vs) (standardUnder s K) (getD S i (pointOf q m [])) (fits .long)))
             then interpolant-values D L S (ground .distinct) vs i (pointOf q m []) (omega (arith, ground .count)) (omega arith)
 
-    pub drawn-up : {r : ℕ} → r ≡ length (leadsOf D S) → DrawnUp s K r standard leads coefficients rows pivots
+    pub drawn-up : {r : ℕ} → r ≡ length (leadsUnder s K) → DrawnUp s K r standard leads coefficients rows pivots
     unfolding rowCount tablesOf
     drawn-up e = record {
       tabled = record {
         row-count = e;
         standard-table = H .standard-table;
         leads-table = H .leads-table;
-        coefficients-table = H .coefficients-table ∙ ap (λ (z : List (List ℕ)). fill 28736 (inPlaces 64 z)) (rows-only D S L (ground .distinct) (leadsOf D S) css (H .rows-are));
+        coefficients-table = H .coefficients-table ∙ ap (λ (z : List (List ℕ)). fill 28736 (inPlaces 64 z)) (rows-only D S L (ground .distinct) (leadsUnder s K) css (H .rows-are));
       };
       pivot-rows = record {
         long-rows = P .long-rows;

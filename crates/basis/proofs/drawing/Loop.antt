@@ -20,9 +20,8 @@ use Rattle.monomial.specs.Rank.{stepsOf, rankBound}
 use Rattle.monomial.specs.Columns.{columnOf}
 use Rattle.monomial.specs.Candidate.{searchEnds, nextOf}
 use Rattle.specification.specs.declared.settings.Settings.{Settings}
-use Rattle.specification.specs.BasisOf.{standardOf}
 use Rattle.specification.specs.Instance.{Monomial, Point}
-use Rattle.specification.specs.Tables.{spaceUnder, pointsUnder, pointsIn}
+use Rattle.specification.specs.Tables.{spaceUnder, pointsUnder, standardUnder, pointsIn}
 use Rattle.specification.specs.Adding.{cancellationsUnder}
 use Rattle.specification.proofs.Instance.{laws}
 use Rattle.specification.proofs.ideal.Laws.{Laws}
@@ -267,7 +266,7 @@ module _ {s : Settings} {n : ℕ} {points : List ℕ} where
           pub ends : DrawnUp s (pointsIn s n points) r standard leads coefficients rows pivots
           ends =
               drawn-up given
-              (subst (λ (l : List (Monomial m)). Held (p - 1) m n o S (standardOf (spaceUnder s) S) l (h .css) standard leads coefficients rows pivots values ranks steps) (all-found .1)
+              (subst (λ (l : List (Monomial m)). Held (p - 1) m n o S (standardUnder s (pointsIn s n points)) l (h .css) standard leads coefficients rows pivots values ranks steps) (all-found .1)
               (subst (λ (l : List (Monomial m)). Held (p - 1) m n o S l (h .lds) (h .css) standard leads coefficients rows pivots values ranks steps) (all-found .0) (h .held)))
               (h .r-is ∙ ap length (all-found .1))
 

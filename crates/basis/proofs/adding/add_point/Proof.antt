@@ -17,10 +17,13 @@ tables s = fourTables (s .args .states .now) (s .args .standard .now) (s .args .
 abbrev start : tie.After-add-refusal → tie.Start
 start d = d .before .before .before .before .before .before .before .before .before .before .before .before .before
 
+abbrev asked : tie.After-point2 → tie.After-add-refusal
+asked c = c .before .before .before .before
+
 -- nothing refuses
 module _ (e : tie.Else1) where
   abbrev d : tie.After-add-refusal
-  d = e .before .before .before .before .before
+  d = asked (e .before)
 
   abbrev s : tie.Start
   s = start d
@@ -46,9 +49,12 @@ module _ (e : tie.Else1) where
       let z = e .if1 .left in
       ready (s .args .settings) (s .args .n) (s .args .r) (tables s) (s .args .levels .now) none points rows pivots point (f .0 z) (f .1 .0 z) (f .1 .1 z)
 
--- where the tables are written
-abbrev writing : tie.After-slice-known8 → tie.Else1
-writing c = c .before .before .before .before .before .before .before .before .before .before .before .before .before .before .before .before .before
+-- the tables are lent, and written
+abbrev lent : tie.After-add-accepted-arg4 → tie.Else1
+lent c = c .before .before .before .before .before .before .before .before
+
+abbrev written : tie.After-slice-known8 → tie.After-add-accepted
+written c = c .before .before .before .before .before .before .before .before
 
 slice-aggregate-add-refusal : tie.Need-slice-aggregate-add-refusal
 slice-aggregate-add-refusal c = refl
@@ -83,43 +89,43 @@ same-length-4 c = refl
 returns : tie.Need-returns
 unfolding addOutcome
 returns c =
-    let d = c .before .before .before .before .before .before in
+    let d = asked (c .before .before) in
     alone (c .refused .ensures) (tables (start d)) ∙ when-refused (tables (start d)) _ _ (d .add-refusal .result) (d .add-refusal .ensures .0) (c .before .if1 .taken)
 
 slice-aggregate-add-accepted : tie.Need-slice-aggregate-add-accepted
-slice-aggregate-add-accepted c = sym (c .before .before .before .before .before .before .add-refusal .kept .1 .1 .1 .1 .1 .1 .1 .1 .0)
+slice-aggregate-add-accepted c = sym (d (c .before) .add-refusal .kept .1 .1 .1 .1 .1 .1 .1 .1 .0)
 
 slice-aggregate-add-accepted-2 : tie.Need-slice-aggregate-add-accepted-2
-slice-aggregate-add-accepted-2 c = sym (c .before .before .before .before .before .before .before .add-refusal .kept .1 .1 .1 .1 .1 .1 .1 .1 .1 .0)
+slice-aggregate-add-accepted-2 c = sym (d (c .before .before) .add-refusal .kept .1 .1 .1 .1 .1 .1 .1 .1 .1 .0)
 
 slice-aggregate-add-accepted-3 : tie.Need-slice-aggregate-add-accepted-3
-slice-aggregate-add-accepted-3 c = sym (c .before .before .before .before .before .before .before .before .add-refusal .kept .1 .1 .1 .1 .1 .1 .1 .1 .1 .1 .0)
+slice-aggregate-add-accepted-3 c = sym (d (c .before .before .before) .add-refusal .kept .1 .1 .1 .1 .1 .1 .1 .1 .1 .1 .0)
 
 slice-aggregate-add-accepted-4 : tie.Need-slice-aggregate-add-accepted-4
-slice-aggregate-add-accepted-4 c = sym (c .before .before .before .before .before .before .before .before .before .add-refusal .kept .1 .1 .1 .1 .1 .1 .1 .1 .1 .1 .1 .0)
+slice-aggregate-add-accepted-4 c = sym (d (c .before .before .before .before) .add-refusal .kept .1 .1 .1 .1 .1 .1 .1 .1 .1 .1 .1 .0)
 
 add-accepted-requires : tie.Need-add-accepted-requires
 add-accepted-requires c κs =
-    let y = handed (c .before .before .before .before .before .before .before .before) in
+    let y = handed (lent c) in
     (y .given, (y .long, (y .drawn, (y .room, y .point))))
 
 same-length-5 : tie.Need-same-length-5
-same-length-5 c = c .before .before .before .before .before .before .before .before .add-accepted .kept .1 .1 .1 .1 .1 .1 .1 .0
+same-length-5 c = written c .add-accepted .kept .1 .1 .1 .1 .1 .1 .1 .0
 
 same-length-6 : tie.Need-same-length-6
-same-length-6 c = c .before .before .before .before .before .before .before .before .add-accepted .kept .1 .1 .1 .1 .1 .1 .1 .1 .0
+same-length-6 c = written c .add-accepted .kept .1 .1 .1 .1 .1 .1 .1 .1 .0
 
 same-length-7 : tie.Need-same-length-7
-same-length-7 c = c .before .before .before .before .before .before .before .before .add-accepted .kept .1 .1 .1 .1 .1 .1 .1 .1 .1 .0
+same-length-7 c = written c .add-accepted .kept .1 .1 .1 .1 .1 .1 .1 .1 .1 .0
 
 same-length-8 : tie.Need-same-length-8
 same-length-8 c = search needs
 
 returns-2 : tie.Need-returns-2
 returns-2 c =
-    let e = writing c in
+    let e = lent (written c .before) in
     let z = s e in
-    c .before .before .before .before .before .before .before .before .add-accepted .ensures
+    written c .add-accepted .ensures
     ∙ added (z .args .settings) (z .args .n) (z .args .r) (tables z) (z .args .levels .now) (points e) (rows e) (pivots e) (point e) (none e) (handed e)
 
 pub add-point-spec : {M : Type 1} → statement M

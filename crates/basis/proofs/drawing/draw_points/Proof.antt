@@ -22,40 +22,46 @@ module _ (s : tie.Start) where
   large : Large tables
   large = large-of tables (s .pre .1 .0)
 
--- the points are copied
+-- the places, one from the next: the tables are lent, the points are copied
+abbrev opened : tie.After-copy-arg → tie.Start
+opened c = c .before .before .before .before .before .before .before .before
+
 abbrev start : tie.After-copy → tie.Start
-start k = k .before .before .before .before .before .before .before .before .before
+start k = opened (k .before)
+
+abbrev lent : tie.After-slice-known7 → tie.After-copy
+lent c = c .before .before
 
 copy-requires : tie.Need-copy-requires
-copy-requires c κs = let s = c .before .before .before .before .before .before .before .before in omega (arith, points-long (s .pre .0), large s .states)
+copy-requires c κs = let s = opened c in omega (arith, points-long (s .pre .0), large s .states)
 
 slice-relend-prefix-draw-anew : tie.Need-slice-relend-prefix-draw-anew
-slice-relend-prefix-draw-anew c = large (start (c .before .before)) .standard
+slice-relend-prefix-draw-anew c = large (start (lent c)) .standard
 
 slice-aggregate-draw-anew : tie.Need-slice-aggregate-draw-anew
-slice-aggregate-draw-anew c = let s = start (c .before .before .before) in sym (length-take-le 512 (s .args .standard .now) (large s .standard))
+slice-aggregate-draw-anew c = let s = start (lent (c .before)) in sym (length-take-le 512 (s .args .standard .now) (large s .standard))
 
 slice-relend-prefix-draw-anew-2 : tie.Need-slice-relend-prefix-draw-anew-2
-slice-relend-prefix-draw-anew-2 c = large (start (c .before .before .before)) .leads
+slice-relend-prefix-draw-anew-2 c = large (start (lent (c .before))) .leads
 
 slice-aggregate-draw-anew-2 : tie.Need-slice-aggregate-draw-anew-2
-slice-aggregate-draw-anew-2 c = let s = start (c .before .before .before .before) in sym (length-take-le 3592 (s .args .leads .now) (large s .leads))
+slice-aggregate-draw-anew-2 c = let s = start (lent (c .before .before)) in sym (length-take-le 3592 (s .args .leads .now) (large s .leads))
 
 slice-relend-prefix-draw-anew-3 : tie.Need-slice-relend-prefix-draw-anew-3
-slice-relend-prefix-draw-anew-3 c = large (start (c .before .before .before .before)) .coefficients
+slice-relend-prefix-draw-anew-3 c = large (start (lent (c .before .before))) .coefficients
 
 slice-aggregate-draw-anew-3 : tie.Need-slice-aggregate-draw-anew-3
-slice-aggregate-draw-anew-3 c = let s = start (c .before .before .before .before .before) in sym (length-take-le 28736 (s .args .coefficients .now) (large s .coefficients))
+slice-aggregate-draw-anew-3 c = let s = start (lent (c .before .before .before)) in sym (length-take-le 28736 (s .args .coefficients .now) (large s .coefficients))
 
 draw-anew-requires : tie.Need-draw-anew-requires
 draw-anew-requires c κs =
-    let s = start (c .before .before .before .before .before .before .before) in
+    let s = start (lent (c .before .before .before .before .before)) in
     (s .pre .0, ((length-take-le 512 (s .args .standard .now) (large s .standard), (length-take-le 3592 (s .args .leads .now) (large s .leads), length-take-le 28736 (s .args .coefficients .now) (large s .coefficients))), s .pre .1 .1))
 
 -- the fronts are drawn up
 module _ (d : tie.After-draw-anew) where
   abbrev copied : tie.After-copy
-  copied = d .before .before .before .before .before .before .before .before
+  copied = lent (d .before .before .before .before .before .before)
 
   abbrev o : tie.Start
   o = start copied

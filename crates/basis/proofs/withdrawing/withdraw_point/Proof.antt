@@ -1,5 +1,4 @@
 -- `withdrawing::withdraw_point` meets its contract: refused, or the points that remain are drawn up.
-use borrow.Author.Needs.{needs}
 use mathlib.Core.Path.{_≡_, refl, sym, ap, _∙_}
 use mathlib.Core.List.{List}
 use Prim.Native.Nat.{ℕ}
@@ -16,13 +15,27 @@ use Rattle.basis.proofs.withdrawing.withdraw_point.Tie as tie
 abbrev tables : tie.Start → Tables
 tables s = fourTables (s .args .states .now) (s .args .standard .now) (s .args .leads .now) (s .args .coefficients .now)
 
+-- the places, one from the next: it is tested whether anything refuses
 abbrev start : tie.After-withdraw-refusal → tie.Start
 start w = w .before .before .before .before .before .before .before .before .before .before .before .before
+
+abbrev asked : tie.After-pivots2 → tie.After-withdraw-refusal
+asked c = c .before .before .before
+
+-- the points left are drawn up
+abbrev lent : tie.After-rows3 → tie.Else1
+lent c = c .before .before .before .before .before .before
+
+abbrev passed : tie.After-pivots3 → tie.Else1
+passed c = lent (c .before)
+
+abbrev drawn : tie.After-pivots4 → tie.After-draw-points
+drawn c = c .before .before .before .before .before .before .before .before .before .before
 
 -- nothing refuses
 module _ (e : tie.Else1) where
   abbrev w : tie.After-withdraw-refusal
-  w = e .before .before .before .before
+  w = asked (e .before)
 
   abbrev s : tie.Start
   s = start w
@@ -38,35 +51,35 @@ abbrev uncosted : DrawOutcome → Outcome
 uncosted o = record { answer = record { refusal = o .answer .refusal; n = o .answer .n; r = o .answer .r }; tables = o .tables }
 
 slice-aggregate-withdraw-refusal : tie.Need-slice-aggregate-withdraw-refusal
-slice-aggregate-withdraw-refusal c = search needs
+slice-aggregate-withdraw-refusal c = refl
 
 slice-aggregate-withdraw-refusal-2 : tie.Need-slice-aggregate-withdraw-refusal-2
-slice-aggregate-withdraw-refusal-2 c = search needs
+slice-aggregate-withdraw-refusal-2 c = refl
 
 slice-aggregate-withdraw-refusal-3 : tie.Need-slice-aggregate-withdraw-refusal-3
-slice-aggregate-withdraw-refusal-3 c = search needs
+slice-aggregate-withdraw-refusal-3 c = refl
 
 withdraw-refusal-requires : tie.Need-withdraw-refusal-requires
 withdraw-refusal-requires c κs = (refl, (refl, refl))
 
 refused-requires : tie.Need-refused-requires
-refused-requires c κs = search needs
+refused-requires c κs = tt
 
 same-length : tie.Need-same-length
-same-length c = search needs
+same-length c = refl
 
 same-length-2 : tie.Need-same-length-2
-same-length-2 c = search needs
+same-length-2 c = refl
 
 same-length-3 : tie.Need-same-length-3
-same-length-3 c = search needs
+same-length-3 c = refl
 
 same-length-4 : tie.Need-same-length-4
-same-length-4 c = search needs
+same-length-4 c = refl
 
 returns : tie.Need-returns
 returns c =
-    let w = c .before .before .before .before .before in
+    let w = asked (c .before .before) in
     let s = start w in
     alone (c .refused .ensures) (tables s)
     ∙ withdraw-refused (s .args .settings) (s .args .n) (s .args .r) (tables s) (s .args .levels .now) (w .withdraw-refusal .result) (w .withdraw-refusal .ensures .0) (c .before .if1 .taken)
@@ -75,38 +88,38 @@ sub-draw-points : tie.Need-sub-draw-points
 sub-draw-points c = let s = s c in open-of (s .args .settings) (s .args .n) (s .args .r) (tables s) (s .args .levels .now) (none c) .some
 
 slice-aggregate-draw-points : tie.Need-slice-aggregate-draw-points
-slice-aggregate-draw-points c = search needs
+slice-aggregate-draw-points c = sym (w (c .before) .withdraw-refusal .kept .1 .1 .1 .1 .1 .1 .1 .1 .0)
 
 slice-aggregate-draw-points-2 : tie.Need-slice-aggregate-draw-points-2
-slice-aggregate-draw-points-2 c = search needs
+slice-aggregate-draw-points-2 c = sym (w (lent c) .withdraw-refusal .kept .1 .1 .1 .1 .1 .1 .1 .1 .1 .0)
 
 slice-aggregate-draw-points-3 : tie.Need-slice-aggregate-draw-points-3
-slice-aggregate-draw-points-3 c = search needs
+slice-aggregate-draw-points-3 c = sym (w (passed c) .withdraw-refusal .kept .1 .1 .1 .1 .1 .1 .1 .1 .1 .1 .0)
 
 draw-points-requires : tie.Need-draw-points-requires
 draw-points-requires c κs =
-    let e = c .before .before .before .before .before .before .before in
+    let e = passed c in
     let s = s e in (
       left-given (s .args .settings) (s .args .n) (s .args .r) (tables s) (s .args .levels .now) (none e) (left e) (w e .withdraw-refusal .ensures .1 (e .if1 .left)),
       (open-of (s .args .settings) (s .args .n) (s .args .r) (tables s) (s .args .levels .now) (none e) .long, (w e .withdraw-refusal .kept .1 .1 .1 .1 .1 .1 .1 .1 .1 .0, w e .withdraw-refusal .kept .1 .1 .1 .1 .1 .1 .1 .1 .1 .1 .0)),
     )
 
 same-length-5 : tie.Need-same-length-5
-same-length-5 c = search needs
+same-length-5 c = drawn c .draw-points .kept .1 .1 .1 .0
 
 same-length-6 : tie.Need-same-length-6
-same-length-6 c = search needs
+same-length-6 c = drawn c .draw-points .kept .1 .1 .1 .1 .0
 
 same-length-7 : tie.Need-same-length-7
-same-length-7 c = search needs
+same-length-7 c = drawn c .draw-points .kept .1 .1 .1 .1 .1 .0
 
 same-length-8 : tie.Need-same-length-8
-same-length-8 c = search needs
+same-length-8 c = drawn c .draw-points .kept .1 .1 .1 .1 .1 .1 .0
 
 returns-2 : tie.Need-returns-2
 returns-2 c =
-    let d = c .before .before .before .before .before .before .before .before .before .before in
-    let e = d .before .before .before .before .before .before .before .before in
+    let d = drawn c in
+    let e = passed (d .before) in
     let s = s e in
     ap uncosted (d .draw-points .ensures)
     ∙ withdraw-done (s .args .settings) (s .args .n) (s .args .r) (tables s) (s .args .levels .now) (none e) _

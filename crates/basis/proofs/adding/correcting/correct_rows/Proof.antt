@@ -21,8 +21,23 @@ Inv-loop p place inverse gone point values k leads table₀ i₀ table i = (i �
 abbrev μ-loop : tie.MeasureT-loop
 μ-loop p place inverse gone point values k leads table₀ i₀ table i = k - i
 
+-- the places, one from the next
 abbrev start : tie.At-loop Inv-loop μ-loop → tie.Start Inv-loop μ-loop
 start l = l .before .before .before .before .before .before
+
+-- in a turn the row is copied
+abbrev turn : tie.After-coefficients Inv-loop μ-loop → tie.In-loop Inv-loop μ-loop
+turn c = c .before .before .before
+
+abbrev entered : tie.After-copy Inv-loop μ-loop → tie.In-loop Inv-loop μ-loop
+entered c = turn (c .before)
+
+-- and corrected
+abbrev copied : tie.After-coefficients3 Inv-loop μ-loop → tie.After-copy Inv-loop μ-loop
+copied c = c .before .before .before
+
+abbrev corrected : tie.After-slice-known2 Inv-loop μ-loop → tie.After-correct Inv-loop μ-loop
+corrected c = c .before .before .before
 
 -- the table is as long as it came, and its row i is still its own
 module _ (l : tie.At-loop Inv-loop μ-loop) where
@@ -71,7 +86,7 @@ slice-aggregate-copy c = omega arith
 
 copy-requires : tie.Need-copy-requires Inv-loop μ-loop
 copy-requires c κs =
-    let l = c .before .before .before .before in
+    let l = turn c .before in
     omega (arith, length-take (64 * l .loop .i + 64 - 64 * l .loop .i) (drop (64 * l .loop .i) (l .loop .table)))
 
 add-correct : tie.Need-add-correct Inv-loop μ-loop
@@ -99,17 +114,18 @@ part-correct-start-2 : tie.Need-part-correct-start-2 Inv-loop μ-loop
 part-correct-start-2 c = omega arith
 
 part-correct-end-2 : tie.Need-part-correct-end-2 Inv-loop μ-loop
-part-correct-end-2 c = omega (arith, long (c .before .before .before .before .before .before .before .before))
+part-correct-end-2 c = omega (arith, long (entered (copied c) .before))
 
 correct-requires : tie.Need-correct-requires Inv-loop μ-loop
 correct-requires c κs =
-    let l = c .before .before .before .before .before .before .before .before .before in
+    let k = copied (c .before) in
+    let l = entered k .before in
     let s = start l in
     let i : ℕ = l .loop .i in
     let t = long l in
     let a = length-take-le (8 * i + 8 - 8 * i) (drop (8 * i) (s .args .leads .now)) (simp length-drop (omega arith)) in
     let r = length-take-le (64 * i + 64 - 64 * i) (drop (64 * i) (l .loop .table)) (simp length-drop (omega arith)) in
-    let w = copyed l (omega arith) _ (c .before .before .before .before .copy .ensures) in (
+    let w = copyed l (omega arith) _ (k .copy .ensures) in (
       (s .pre .0),
       (
         (s .pre .1 .0 .1, omega arith, s .pre .1 .0 .2),
@@ -131,18 +147,20 @@ loop-less c = omega arith
 
 loop-again : tie.Need-loop-again Inv-loop μ-loop
 loop-again c =
-    let l = c .before .before .before .before .before .before .before .before .before .before .before .before .before in
+    let d = corrected c in
+    let k = copied (d .before .before) in
+    let l = entered k .before in
     let s = start l in
     let i : ℕ = l .loop .i in
-    let low = c .before .before .before .before .before .before .before .before .before .before .before .before .loop-test .taken in
+    let low = entered k .loop-test .taken in
     let room = s .pre .1 .1 .0 .1 in
     let e : 64 * i + 64 - 64 * i ≡ 64 = omega arith in
-    let d : 8 * i + 8 - 8 * i ≡ 8 = omega arith in
+    let b : 8 * i + 8 - 8 * i ≡ 8 = omega arith in
     let old : List (List ℕ) = correctedRows (s .args .p) (s .args .place) (s .args .inverse) (s .args .gone .now) (s .args .point .now) (s .args .values .now) (s .args .leads .now) (s .args .table .now) i in
     let new : List ℕ = correctedRow (s .args .p) (s .args .place) (s .args .inverse) (s .args .gone .now) (s .args .point .now) (s .args .values .now) (rowAt 8 i (s .args .leads .now)) (rowAt 64 i (s .args .table .now)) in
     let at : 64 * i ≡ 64 * length old = ap (λ (n : ℕ). 64 * n) (sym (rows-length (s .args .p) (s .args .place) (s .args .inverse) (s .args .gone .now) (s .args .point .now) (s .args .values .now) (s .args .leads .now) (s .args .table .now) i)) in
-    let is : c .before .before .before .correct .last .1 .1 .1 .1 .1 .1 .1 .1 .0 ≡ new = c .before .before .before .correct .ensures .1
-    ∙ ap₂ (λ (n : ℕ) (z : List ℕ). correctedRow (s .args .p) (s .args .place) (s .args .inverse) (s .args .gone .now) (s .args .point .now) (s .args .values .now) (take n (drop (8 * i) (s .args .leads .now))) z) d (copyed l (omega arith) _ (c .before .before .before .before .before .before .before .before .copy .ensures)) in (
+    let is : d .correct .last .1 .1 .1 .1 .1 .1 .1 .1 .0 ≡ new = d .correct .ensures .1
+    ∙ ap₂ (λ (n : ℕ) (z : List ℕ). correctedRow (s .args .p) (s .args .place) (s .args .inverse) (s .args .gone .now) (s .args .point .now) (s .args .values .now) (take n (drop (8 * i) (s .args .leads .now))) z) b (copyed l (omega arith) _ (k .copy .ensures)) in (
       omega arith,
       over-more old new (s .args .table .now) (l .loop .table) _ (64 * i) (64 * i + 64 - 64 * i) (l .loop .inv .1) at (omega arith) e is (length-row (s .args .p) (s .args .place) (s .args .inverse) (s .args .gone .now) (s .args .point .now) (s .args .values .now) (rowAt 8 i (s .args .leads .now)) (rowAt 64 i (s .args .table .now)))
           ∙ ap (λ (z : List (List ℕ)). over (inPlaces 64 z) (s .args .table .now)) (sym (corrected-more (s .args .p) (s .args .place) (s .args .inverse) (s .args .gone .now) (s .args .point .now) (s .args .values .now) (s .args .leads .now) (s .args .table .now) i)),

@@ -25,48 +25,54 @@ module _ (s : tie.Start) where
   abbrev all : List (List ℕ)
   all = allPoints (s .args .settings) (s .args .n) (s .args .points .now) (s .args .point .now)
 
--- the states are written
+-- the places, one from the next: the tables are lent, the states are written
+abbrev opened : tie.After-slice-known4 → tie.Start
+opened c = c .before .before .before .before .before .before .before .before
+
 abbrev start : tie.After-add-state → tie.Start
-start k = k .before .before .before .before .before .before .before .before .before .before
+start k = opened (k .before .before)
+
+abbrev lent : tie.After-slice-known5 → tie.After-add-state
+lent c = c .before .before
 
 slice-relend-prefix-add-state : tie.Need-slice-relend-prefix-add-state
-slice-relend-prefix-add-state c = large (c .before .before .before .before .before .before .before .before) .states
+slice-relend-prefix-add-state c = large (opened c) .states
 
 slice-aggregate-add-state : tie.Need-slice-aggregate-add-state
-slice-aggregate-add-state c = let s = c .before .before .before .before .before .before .before .before .before in sym (length-take-le 512 (s .args .states .now) (large s .states))
+slice-aggregate-add-state c = let s = opened (c .before) in sym (length-take-le 512 (s .args .states .now) (large s .states))
 
 add-state-requires : tie.Need-add-state-requires
 add-state-requires c κs =
-    let s = c .before .before .before .before .before .before .before .before .before in
+    let s = opened (c .before) in
     (s .pre .1 .1 .1 .0, (points-long (s .pre .0), (ap length (s .pre .1 .1 .1 .1 .filled) ∙ length-fill 8 _, length-take-le 512 (s .args .states .now) (large s .states))))
 
 slice-relend-prefix-add-tables : tie.Need-slice-relend-prefix-add-tables
-slice-relend-prefix-add-tables c = large (start (c .before .before)) .standard
+slice-relend-prefix-add-tables c = large (start (lent c)) .standard
 
 slice-aggregate-add-tables : tie.Need-slice-aggregate-add-tables
-slice-aggregate-add-tables c = let s = start (c .before .before .before) in sym (length-take-le 512 (s .args .standard .now) (large s .standard))
+slice-aggregate-add-tables c = let s = start (lent (c .before)) in sym (length-take-le 512 (s .args .standard .now) (large s .standard))
 
 slice-relend-prefix-add-tables-2 : tie.Need-slice-relend-prefix-add-tables-2
-slice-relend-prefix-add-tables-2 c = large (start (c .before .before .before)) .leads
+slice-relend-prefix-add-tables-2 c = large (start (lent (c .before))) .leads
 
 slice-aggregate-add-tables-2 : tie.Need-slice-aggregate-add-tables-2
-slice-aggregate-add-tables-2 c = let s = start (c .before .before .before .before) in sym (length-take-le 3592 (s .args .leads .now) (large s .leads))
+slice-aggregate-add-tables-2 c = let s = start (lent (c .before .before)) in sym (length-take-le 3592 (s .args .leads .now) (large s .leads))
 
 slice-relend-prefix-add-tables-3 : tie.Need-slice-relend-prefix-add-tables-3
-slice-relend-prefix-add-tables-3 c = large (start (c .before .before .before .before)) .coefficients
+slice-relend-prefix-add-tables-3 c = large (start (lent (c .before .before))) .coefficients
 
 slice-aggregate-add-tables-3 : tie.Need-slice-aggregate-add-tables-3
-slice-aggregate-add-tables-3 c = let s = start (c .before .before .before .before .before) in sym (length-take-le 28736 (s .args .coefficients .now) (large s .coefficients))
+slice-aggregate-add-tables-3 c = let s = start (lent (c .before .before .before)) in sym (length-take-le 28736 (s .args .coefficients .now) (large s .coefficients))
 
 add-tables-requires : tie.Need-add-tables-requires
 add-tables-requires c κs =
-    let s = start (c .before .before .before .before .before) in
+    let s = start (lent (c .before .before .before)) in
     (s .pre .0, (s .pre .1 .1 .0, (s .pre .1 .1 .1 .0, s .pre .1 .1 .1 .1)))
 
 -- the other tables are written
 module _ (d : tie.After-add-tables) where
   abbrev put : tie.After-add-state
-  put = d .before .before .before .before .before .before
+  put = lent (d .before .before .before .before)
 
   abbrev o : tie.Start
   o = start put

@@ -22,21 +22,56 @@ use Rattle.basis.proofs.adding.Growth.{grown-by}
 use Rattle.basis.proofs.adding.growing.grow.Statement.{statement}
 use Rattle.basis.proofs.adding.growing.grow.Tie as tie
 
--- the calls, one from the next
+-- the places, one from the next: the settings are read, the lead is lent
+abbrev opened : tie.After-struct-known → tie.Start
+opened d = d .before .before .before .before .before .before .before .before .before .before .before .before
+
+abbrev leading : tie.After-lead → tie.Start
+leading d = opened (d .before .before)
+
+-- its row is copied
 abbrev start : tie.After-copy → tie.Start
-start d = d .before .before .before .before .before .before .before .before .before .before .before .before .before .before .before .before .before
+start d = leading (d .before .before .before)
 
-abbrev lost : tie.After-put-in → tie.After-copy
-lost d = d .before .before .before .before .before .before .before .before .before .before
+abbrev shown : tie.After-gone3 → tie.After-copy
+shown d = d .before .before
 
-abbrev inverted : tie.After-put-in → tie.After-inverse
-inverted d = d .before .before .before .before .before .before
+-- its value is inverted
+abbrev valued : tie.After-inverse → tie.After-copy
+valued d = shown (d .before .before)
+
+-- the standard monomials are copied, and the lead is put in
+abbrev inverting : tie.After-copy2 → tie.After-inverse
+inverting d = d .before .before
+
+abbrev copying : tie.After-put-in-arg → tie.After-copy2
+copying d = d .before .before .before
 
 abbrev copied : tie.After-put-in → tie.After-copy2
-copied d = d .before .before .before .before
+copied d = copying (d .before)
+
+abbrev inverted : tie.After-put-in → tie.After-inverse
+inverted d = inverting (copied d)
+
+abbrev lost : tie.After-put-in → tie.After-copy
+lost d = valued (inverted d)
+
+-- the other leads are kept
+abbrev inserted : tie.After-gone4 → tie.After-put-in
+inserted d = d .before .before .before
 
 abbrev placed : tie.After-keep-others → tie.After-put-in
-placed d = d .before .before .before .before .before .before
+placed d = inserted (d .before .before .before)
+
+-- the products are added
+abbrev others : tie.After-gone5 → tie.After-keep-others
+others d = d .before .before .before .before .before
+
+abbrev grown-on : tie.After-add-products → tie.After-keep-others
+grown-on d = others (d .before .before .before)
+
+abbrev done : tie.After-slice-known9 → tie.After-add-products
+done d = d .before .before .before .before
 
 -- the lead of row j, and its coefficients
 module _ (s : tie.Start) where
@@ -109,10 +144,10 @@ module _ (k : tie.After-keep-others) where
   rows-long = k .keep-others .kept .1 .1 .1 .1 .1 .1 .1 .1 .1 .1 .1 .0 ∙ zeros-long _ 28736 (o (placed k) .pre .1 .1 .1 .1 .1 .1 .2)
 
 cast-p : tie.Need-cast-p
-cast-p c = omega (arith, high (c .before .before .before .before .before .before .before .before .before .before .before .before))
+cast-p c = omega (arith, high (opened c))
 
 cast-order : tie.Need-cast-order
-cast-order c = omega (arith, c .before .before .before .before .before .before .before .before .before .before .before .before .before .pre .0 .0 .order)
+cast-order c = omega (arith, opened (c .before) .pre .0 .0 .order)
 
 mul-lead : tie.Need-mul-lead
 mul-lead c = omega arith
@@ -130,7 +165,7 @@ part-lead-start : tie.Need-part-lead-start
 part-lead-start c = omega arith
 
 part-lead-end : tie.Need-part-lead-end
-part-lead-end c = let s = c .before .before .before .before .before .before .before .before .before .before .before .before .before in omega (arith, s .pre .1 .0, s .pre .1 .1 .0)
+part-lead-end c = let s = opened (c .before) in omega (arith, s .pre .1 .0, s .pre .1 .1 .0)
 
 mul-copy : tie.Need-mul-copy
 mul-copy c = omega arith
@@ -148,7 +183,7 @@ part-copy-start : tie.Need-part-copy-start
 part-copy-start c = omega arith
 
 part-copy-end : tie.Need-part-copy-end
-part-copy-end c = let s = c .before .before .before .before .before .before .before .before .before .before .before .before .before .before in omega (arith, s .pre .1 .0, s .pre .1 .1 .0)
+part-copy-end c = let s = leading c in omega (arith, s .pre .1 .0, s .pre .1 .1 .0)
 
 slice-aggregate-copy : tie.Need-slice-aggregate-copy
 slice-aggregate-copy c = refl
@@ -157,11 +192,11 @@ copy-requires : tie.Need-copy-requires
 copy-requires c κs = omega arith
 
 slice-aggregate-row-value : tie.Need-slice-aggregate-row-value
-slice-aggregate-row-value c = sym (c .before .before .copy .kept .1 .0)
+slice-aggregate-row-value c = sym (shown c .copy .kept .1 .0)
 
 row-value-requires : tie.Need-row-value-requires
 row-value-requires c κs =
-    let w = c .before .before in
+    let w = shown c in
     let s = start w in
     ((low s, high s), ((s .pre .1 .1 .0 .3, lead-long s), ((gone-long w ∙ sym (s .pre .1 .1 .0 .4), omega (arith, gone-long w)), (s .pre .1 .1 .1 .0 .3, (s .pre .1 .1 .1 .0 .4, gone-below w)))))
 
@@ -169,19 +204,20 @@ inverse-requires : tie.Need-inverse-requires
 inverse-requires c κs = tt
 
 copy-requires-2 : tie.Need-copy-requires-2
-copy-requires-2 c κs = let s = start (c .before .before .before .before .before) in omega (arith, s .pre .1 .1 .0 .0, zeros-long _ 512 (s .pre .1 .1 .1 .1 .1 .1 .0))
+copy-requires-2 c κs = let s = start (valued (c .before)) in omega (arith, s .pre .1 .1 .0 .0, zeros-long _ 512 (s .pre .1 .1 .1 .1 .1 .1 .0))
 
 put-in-requires : tie.Need-put-in-requires
 put-in-requires c κs =
-    let s = start (c .before .before .before .before .before .before .before .before .before) in
-    ((omega (arith, s .pre .0 .1, c .before .before .before .copy2 .kept .1 .0, zeros-long _ 512 (s .pre .1 .1 .1 .1 .1 .1 .0)), omega (arith, s .pre .0 .1)), lead-long s)
+    let k = copying c in
+    let s = start (valued (inverting k)) in
+    ((omega (arith, s .pre .0 .1, k .copy2 .kept .1 .0, zeros-long _ 512 (s .pre .1 .1 .1 .1 .1 .1 .0)), omega (arith, s .pre .0 .1)), lead-long s)
 
 slice-aggregate-keep-others : tie.Need-slice-aggregate-keep-others
-slice-aggregate-keep-others c = sym (gone-long (lost (c .before .before .before)))
+slice-aggregate-keep-others c = sym (gone-long (lost (inserted c)))
 
 keep-others-requires : tie.Need-keep-others-requires
 keep-others-requires c κs =
-    let d = c .before .before .before .before .before in
+    let d = inserted (c .before .before) in
     let w = lost d in
     let s = start w in (
       (low s, high s, omega (arith, s .pre .0 .1, within d), below d),
@@ -192,14 +228,14 @@ keep-others-requires c κs =
     )
 
 slice-aggregate-add-products : tie.Need-slice-aggregate-add-products
-slice-aggregate-add-products c = sym (gone-long (lost (placed (c .before .before .before .before .before))))
+slice-aggregate-add-products c = sym (gone-long (lost (placed (others c))))
 
 sub-add-products : tie.Need-sub-add-products
-sub-add-products c = omega (arith, o (placed (c .before .before .before .before .before)) .pre .1 .0)
+sub-add-products c = omega (arith, o (placed (others c)) .pre .1 .0)
 
 add-products-requires : tie.Need-add-products-requires
 add-products-requires c κs =
-    let k = c .before .before .before .before .before .before .before in
+    let k = others (c .before .before) in
     let d = placed k in
     let w = lost d in
     let s = start w in (
@@ -217,22 +253,22 @@ add-products-requires c κs =
     )
 
 same-length : tie.Need-same-length
-same-length c = let d = placed (c .before .before .before .before .before .before .before .before .before .before .before .before) in d .put-in .kept .1 .1 .0 ∙ copied d .copy2 .kept .1 .0
+same-length c = let d = placed (grown-on (done c)) in d .put-in .kept .1 .1 .0 ∙ copied d .copy2 .kept .1 .0
 
 same-length-2 : tie.Need-same-length-2
-same-length-2 c = c .before .before .before .before .add-products .kept .1 .1 .1 .1 .1 .1 .1 .1 .1 .1 .1 .1 .0 ∙ c .before .before .before .before .before .before .before .before .before .before .before .before .keep-others .kept .1 .1 .1 .1 .1 .1 .1 .1 .1 .1 .0
+same-length-2 c = done c .add-products .kept .1 .1 .1 .1 .1 .1 .1 .1 .1 .1 .1 .1 .0 ∙ grown-on (done c) .keep-others .kept .1 .1 .1 .1 .1 .1 .1 .1 .1 .1 .0
 
 same-length-3 : tie.Need-same-length-3
-same-length-3 c = c .before .before .before .before .add-products .kept .1 .1 .1 .1 .1 .1 .1 .1 .1 .1 .1 .1 .1 .0 ∙ c .before .before .before .before .before .before .before .before .before .before .before .before .keep-others .kept .1 .1 .1 .1 .1 .1 .1 .1 .1 .1 .1 .0
+same-length-3 c = done c .add-products .kept .1 .1 .1 .1 .1 .1 .1 .1 .1 .1 .1 .1 .1 .0 ∙ grown-on (done c) .keep-others .kept .1 .1 .1 .1 .1 .1 .1 .1 .1 .1 .1 .0
 
 returns : tie.Need-returns
 unfolding standardGrown
 returns c =
-    let k = c .before .before .before .before .before .before .before .before .before .before .before .before in
+    let k = grown-on (done c) in
     let d = placed k in
     let s = o d in (
       d .put-in .ensures .1 ∙ ap₂ (λ (i : ℕ) (t : List ℕ). withRowAt 8 (s .args .n) i (lead s) t) (place-is d) (old d) ∙ ap (standardGrown (s .args .settings .order) (s .args .n) (s .args .standard .now)) (lead-is s),
-      c .before .before .before .before .add-products .ensures
+      done c .add-products .ensures
           ∙ grown-by (s .args .settings .modulus) (s .args .settings .variables) (s .args .settings .order) (s .args .n) (s .args .r) (s .args .points .now) (s .args .standard .now) (s .args .leads .now) (s .args .coefficients .now) (s .args .rows .now) (s .args .pivots .now) (s .args .point .now) (s .args .values .now) (s .args .j)
           _ _ _ _ _ _ (lead-is s) (gone-is (lost d)) (place-is d) (inverse-is d) (k .keep-others .ensures .0) (k .keep-others .ensures .1),
     )

@@ -19,16 +19,36 @@ Inv-loop n points rows pivots place inverse gone point values k lead leads₀ co
 abbrev μ-loop : tie.MeasureT-loop
 μ-loop n points rows pivots place inverse gone point values k lead leads₀ coefficients₀ p order m others count₀ v₀ leads coefficients count v = m - v
 
+-- the places, one from the next: the settings are read, the leads are copied
+abbrev opened : tie.After-struct-known Inv-loop μ-loop → tie.Start Inv-loop μ-loop
+opened c = c .before .before .before .before .before .before .before .before .before .before
+
+abbrev kept : tie.At-loop Inv-loop μ-loop → tie.After-copy Inv-loop μ-loop
+kept l = l .before .before
+
 abbrev start : tie.At-loop Inv-loop μ-loop → tie.Start Inv-loop μ-loop
-start l = l .before .before .before .before .before .before .before .before .before .before .before .before .before .before .before .before
+start l = opened (kept l .before .before .before .before)
+
+-- in a turn the lead is copied, times a variable, and added
+abbrev turn : tie.After-copy2 Inv-loop μ-loop → tie.In-loop Inv-loop μ-loop
+turn c = c .before .before
+
+abbrev multiplied : tie.After-a3 Inv-loop μ-loop → tie.After-copy2 Inv-loop μ-loop
+multiplied c = c .before .before .before
+
+abbrev put : tie.After-slice-known4 Inv-loop μ-loop → tie.After-add-product Inv-loop μ-loop
+put c = c .before .before .before .before
+
+abbrev made : tie.After-slice-known4 Inv-loop μ-loop → tie.After-copy2 Inv-loop μ-loop
+made c = multiplied (put c .before .before .before)
 
 -- the others are the leads as they were
 module _ (l : tie.At-loop Inv-loop μ-loop) where
   abbrev others : List ℕ
-  others = l .before .before .copy .last .1 .0
+  others = kept l .copy .last .1 .0
 
   others-are : others ≡ start l .args .leads .now
-  others-are = l .before .before .copy .ensures ∙ over-all (start l .args .leads .now) (replicate 3592 0) (start l .pre .1 .1 .1 .0 .1 ∙ sym (length-replicate {A = ℕ} 3592 0))
+  others-are = kept l .copy .ensures ∙ over-all (start l .args .leads .now) (replicate 3592 0) (start l .pre .1 .1 .1 .0 .1 ∙ sym (length-replicate {A = ℕ} 3592 0))
 
 -- the copy is the lead
 copied : (s : tie.Start Inv-loop μ-loop) (a : List ℕ) → a ≡ over (s .args .lead .now) (replicate 8 0) → a ≡ s .args .lead .now
@@ -47,10 +67,10 @@ module _ (s : tie.Start Inv-loop μ-loop) where
   high = modulus-range (s .args .settings .modulus) (s .pre .0 .0 .modulus) .1
 
 cast-p : tie.Need-cast-p Inv-loop μ-loop
-cast-p c = omega (arith, high (c .before .before .before .before .before .before .before .before .before .before))
+cast-p c = omega (arith, high (opened c))
 
 cast-order : tie.Need-cast-order Inv-loop μ-loop
-cast-order c = omega (arith, c .before .before .before .before .before .before .before .before .before .before .before .pre .0 .0 .order)
+cast-order c = omega (arith, opened (c .before) .pre .0 .0 .order)
 
 slice-aggregate-copy : tie.Need-slice-aggregate-copy Inv-loop μ-loop
 slice-aggregate-copy c = omega arith
@@ -72,7 +92,7 @@ array-read-a c = omega arith
 
 add-a : tie.Need-add-a Inv-loop μ-loop
 add-a c =
-    let l = c .before .before .before .before in
+    let l = turn (c .before) .before in
     let s = start l in
     rw (copied s _ (c .before .copy2 .ensures)) (omega (arith, s .pre .1 .1 .1 .1 .1 .1 (l .loop .v)))
 
@@ -80,26 +100,28 @@ array-write-a : tie.Need-array-write-a Inv-loop μ-loop
 array-write-a c = omega arith
 
 slice-aggregate-add-product : tie.Need-slice-aggregate-add-product Inv-loop μ-loop
-slice-aggregate-add-product c = sym (c .before .before .before .before .before .before .before .copy .kept .1 .0)
+slice-aggregate-add-product c = sym (kept (turn (c .before .before) .before) .copy .kept .1 .0)
 
 slice-aggregate-add-product-2 : tie.Need-slice-aggregate-add-product-2 Inv-loop μ-loop
 slice-aggregate-add-product-2 c =
-    let s = start (c .before .before .before .before .before .before) in
-    simp length-set (sym (ap length (copied s _ (c .before .before .before .copy2 .ensures)) ∙ s .pre .1 .1 .0 .3))
+    let k = multiplied c in
+    let s = start (turn k .before) in
+    simp length-set (sym (ap length (copied s _ (k .copy2 .ensures)) ∙ s .pre .1 .1 .0 .3))
 
 add-product-requires : tie.Need-add-product-requires Inv-loop μ-loop
 add-product-requires c κs =
-    let l = c .before .before .before .before .before .before .before .before in
+    let k = multiplied (c .before .before) in
+    let l = turn k .before in
     let s = start l in
     let z = sized l in
-    let e = copied s _ (c .before .before .before .before .before .copy2 .ensures) in (
+    let e = copied s _ (k .copy2 .ensures) in (
       (low s, high s, s .pre .0 .1 .0, s .pre .0 .1 .1, s .pre .0 .1 .2),
       (
         s .pre .1 .0,
         (
           (s .pre .1 .1 .0 .0, s .pre .1 .1 .0 .1, s .pre .1 .1 .0 .2, simp length-set (ap length e ∙ s .pre .1 .1 .0 .3)),
           (
-            (omega (arith, l .before .before .copy .kept .1 .0, s .pre .1 .1 .1 .0), omega (arith, z .most, s .pre .1 .1 .1 .0, c .before .before .before .before .before .before .before .loop-test .taken), z .leads, z .coefficients),
+            (omega (arith, kept l .copy .kept .1 .0, s .pre .1 .1 .1 .0), omega (arith, z .most, s .pre .1 .1 .1 .0, turn k .loop-test .taken), z .leads, z .coefficients),
             (s .pre .1 .1 .1 .1 .0, s .pre .1 .1 .1 .1 .1 .0),
           ),
         ),
@@ -107,19 +129,20 @@ add-product-requires c κs =
     )
 
 add-v : tie.Need-add-v Inv-loop μ-loop
-add-v c = omega (arith, c .before .before .before .before .before .before .before .before .before .before .before .before .loop-test .taken, start (c .before .before .before .before .before .before .before .before .before .before .before .before .before) .pre .0 .0 .few)
+add-v c = let t = turn (made c) in omega (arith, t .loop-test .taken, start (t .before) .pre .0 .0 .few)
 
 loop-less : tie.Need-loop-less Inv-loop μ-loop
 loop-less c = omega arith
 
 loop-again : tie.Need-loop-again Inv-loop μ-loop
 loop-again c =
-    let l = c .before .before .before .before .before .before .before .before .before .before .before .before .before in
+    let k = made c in
+    let l = turn k .before in
     let s = start l in
     let v : ℕ = l .loop .v in
-    let e : set (c .before .before .before .before .before .before .before .before .before .before .copy2 .last .1 .0) v (getD (c .before .before .before .before .before .before .before .before .before .before .copy2 .last .1 .0) v 0 + 1) ≡ timesVariable v (s .args .lead .now) = ap (timesVariable v) (copied s _ (c .before .before .before .before .before .before .before .before .before .before .copy2 .ensures)) in (
-      omega (arith, c .before .before .before .before .before .before .before .before .before .before .before .before .loop-test .taken),
-      c .before .before .before .before .add-product .ensures ∙ ap₂ (λ (a : List ℕ) (g : Grown). productPut (s .args .settings .modulus) (s .args .settings .order) (s .args .n) (s .args .points .now) (s .args .rows .now) (s .args .pivots .now) (s .args .place) (s .args .inverse) (s .args .gone .now) (s .args .point .now) (s .args .values .now) (s .args .k) (others l) a g) e (l .loop .inv .1)
+    let e : set (k .copy2 .last .1 .0) v (getD (k .copy2 .last .1 .0) v 0 + 1) ≡ timesVariable v (s .args .lead .now) = ap (timesVariable v) (copied s _ (k .copy2 .ensures)) in (
+      omega (arith, turn k .loop-test .taken),
+      put c .add-product .ensures ∙ ap₂ (λ (a : List ℕ) (g : Grown). productPut (s .args .settings .modulus) (s .args .settings .order) (s .args .n) (s .args .points .now) (s .args .rows .now) (s .args .pivots .now) (s .args .place) (s .args .inverse) (s .args .gone .now) (s .args .point .now) (s .args .values .now) (s .args .k) (others l) a g) e (l .loop .inv .1)
           ∙ sym (products-more (s .args .settings .modulus) (s .args .settings .order) (s .args .n) (s .args .points .now) (s .args .rows .now) (s .args .pivots .now) (s .args .place) (s .args .inverse) (s .args .gone .now) (s .args .point .now) (s .args .values .now) (s .args .k) (others l) (s .args .lead .now) (grown (s .args .k) (s .args .leads .now) (s .args .coefficients .now)) v),
     )
 

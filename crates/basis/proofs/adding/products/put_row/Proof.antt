@@ -23,9 +23,30 @@ one : {p : ℕ} (i : ℕ) → i < 1 → 2 ≤ p → getD (1 ∷ []) i 0 < p
 one zero h k = omega arith
 one (suc i) h k = absurd (omega arith)
 
--- the values are those of the monomial, zeros behind: residues
+-- the places, one from the next: the values are put, and reduced
+abbrev opened : tie.After-work → tie.Start
+opened d = d .before .before .before .before .before .before .before .before .before .before
+
 abbrev start : tie.After-put-term-values → tie.Start
-start d = d .before .before .before .before .before .before .before .before .before .before .before
+start d = opened (d .before)
+
+abbrev valued : tie.After-work3 → tie.After-put-term-values
+valued d = d .before .before
+
+-- room is made, and the row is corrected in it
+abbrev reduced : tie.After-move-on → tie.After-eliminate
+reduced d = d .before .before .before
+
+abbrev begun : tie.After-move-on → tie.After-put-term-values
+begun d = valued (reduced d .before)
+
+abbrev moved : tie.After-work5 → tie.After-move-on
+moved d = d .before .before .before
+
+abbrev corrected : tie.After-slice-known3 → tie.After-correct
+corrected d = d .before .before .before
+
+-- the values are those of the monomial, zeros behind: residues
 
 module _ (d : tie.After-put-term-values) where
   abbrev s : tie.Start
@@ -48,15 +69,15 @@ slice-aggregate-put-term-values-2 c = refl
 
 put-term-values-requires : tie.Need-put-term-values-requires
 put-term-values-requires c κs =
-    let s = c .before .before .before .before .before .before .before .before .before .before in
+    let s = opened c in
     ((s .pre .0 .0, s .pre .0 .1), ((λ i h. one i h (s .pre .0 .0)), (s .pre .1 .1 .0 .3, ((omega arith, (s .pre .1 .0 .0, s .pre .1 .1 .1 .1 .0 .0)), refl))))
 
 slice-aggregate-eliminate : tie.Need-slice-aggregate-eliminate
-slice-aggregate-eliminate c = sym (c .before .before .put-term-values .kept .1 .1 .1 .1 .1 .0)
+slice-aggregate-eliminate c = sym (valued c .put-term-values .kept .1 .1 .1 .1 .1 .0)
 
 eliminate-requires : tie.Need-eliminate-requires
 eliminate-requires c κs =
-    let d = c .before .before in
+    let d = valued c in
     let s = start d in
     ((s .pre .0 .0, s .pre .0 .1, omega arith), (λ t j h l m. absurd (omega arith), (d .put-term-values .kept .1 .1 .1 .1 .1 .0, ((omega arith, omega arith), ((s .pre .1 .1 .1 .1 .0 .1, below d), λ t h. omega (arith, s .pre .1 .1 .1 .1 .1 t (omega (arith, h))))))))
 
@@ -82,7 +103,7 @@ part-work-end : tie.Need-part-work-end
 part-work-end c = omega arith
 
 add-correct-2 : tie.Need-add-correct-2
-add-correct-2 c = omega (arith, c .before .before .before .before .before .before .before .before .before .before .before .before .before .before .before .before .before .before .before .before .pre .1 .1 .1 .0)
+add-correct-2 c = omega (arith, start (begun (moved c)) .pre .1 .1 .1 .0)
 
 sub-correct-2 : tie.Need-sub-correct-2
 sub-correct-2 c = omega arith
@@ -91,20 +112,21 @@ part-correct-start : tie.Need-part-correct-start
 part-correct-start c = omega arith
 
 part-correct-end : tie.Need-part-correct-end
-part-correct-end c = omega (arith, c .before .before .before .before .before .before .before .before .before .before .before .before .before .before .before .before .before .before .before .before .pre .1 .1 .1 .0)
+part-correct-end c = omega (arith, start (begun (moved c)) .pre .1 .1 .1 .0)
 
 correct-requires : tie.Need-correct-requires
 correct-requires c κs =
-    let d = c .before .before .before .before .before .before .before .before .before .before in
+    let m = moved (c .before) in
+    let d = begun m in
     let s = start d in
     let n : ℕ = s .args .n in
     let i : ℕ = s .args .i in
-    let moved = c .before .before .before .before .move-on .last .1 .1 .1 .0 in
-    let long = c .before .before .before .before .move-on .kept .1 .1 .1 .0 in
+    let table = m .move-on .last .1 .1 .1 .0 in
+    let long = m .move-on .kept .1 .1 .1 .0 in
     let e : n + 64 - n ≡ 64 = omega arith in
-    let r = length-take-le (64 * i + 64 - 64 * i) (drop (64 * i) moved) (simp length-drop (omega arith)) in
-    let w = c .before .before .before .before .before .before .before .eliminate .last .1 .1 .1 .1 .1 .0 in
-    let h = c .before .before .before .before .before .before .before .eliminate .kept .1 .1 .1 .1 .1 .0 in
+    let r = length-take-le (64 * i + 64 - 64 * i) (drop (64 * i) table) (simp length-drop (omega arith)) in
+    let w = reduced m .eliminate .last .1 .1 .1 .1 .1 .0 in
+    let h = reduced m .eliminate .kept .1 .1 .1 .1 .1 .0 in
     let l = d .put-term-values .kept .1 .1 .1 .1 .1 .0 in
     let z = length-take-le (n + 64 - n) (drop n w) (simp length-drop (omega arith)) in (
       (s .pre .0 .0, s .pre .0 .1, s .pre .0 .3, s .pre .0 .4),
@@ -116,7 +138,7 @@ correct-requires c κs =
             (s .pre .1 .1 .1 .1 .0 .3, s .pre .1 .1 .1 .1 .0 .4),
             (
               s .pre .1 .1 .1 .1 .0 .2,
-              below-take (s .args .p) (n + 64 - n) (drop n w) (below-drop (s .args .p) n w (subst (Below (s .args .p)) (sym (c .before .before .before .before .before .before .before .eliminate .ensures .0))
+              below-take (s .args .p) (n + 64 - n) (drop n w) (below-drop (s .args .p) n w (subst (Below (s .args .p)) (sym (reduced m .eliminate .ensures .0))
                   (eliminated-below (s .args .p) (s .args .rows .now) (s .args .pivots .now) _ l (omega arith) (below d) n (omega arith)))),
             ),
           ),
@@ -130,16 +152,18 @@ same-length c = omega arith
 returns : tie.Need-returns
 unfolding reducedRow
 returns c =
-    let d = c .before .before .before .before .before .before .before .before .before .before .before .before .before .before in
+    let k = corrected c in
+    let m = moved (k .before .before) in
+    let d = begun m in
     let s = start d in
     let n : ℕ = s .args .n in
     let i : ℕ = s .args .i in
     let e : n + 64 - n ≡ 64 = omega arith in
-    let cs : take (n + 64 - n) (drop n (c .before .before .before .before .before .before .before .before .before .before .before .eliminate .last .1 .1 .1 .1 .1 .0)) ≡ reducedRow (s .args .p) n (s .args .points .now) (s .args .rows .now) (s .args .pivots .now) (s .args .a .now) =
-    ap (λ (k : ℕ). take k (drop n (c .before .before .before .before .before .before .before .before .before .before .before .eliminate .last .1 .1 .1 .1 .1 .0))) e
-    ∙ ap (λ (z : List ℕ). take 64 (drop n z)) (c .before .before .before .before .before .before .before .before .before .before .before .eliminate .ensures .0 ∙ ap (eliminated (s .args .p) (s .args .rows .now) (s .args .pivots .now) n) (loaded d)) in
-    row-in 64 (s .args .k) i (64 * i + 64 - 64 * i) _ (s .args .table .now) (c .before .before .before .before .before .before .before .before .move-on .last .1 .1 .1 .0) (c .before .before .before .correct .last .1 .1 .1 .1 .1 .1 .1 .1 .0) (omega arith) (omega arith) (omega arith) (c .before .before .before .before .before .before .before .before .move-on .ensures)
-    (c .before .before .before .correct .ensures .1 ∙ ap (correctedRow (s .args .p) (s .args .place) (s .args .inverse) (s .args .gone .now) (s .args .point .now) (s .args .values .now) (s .args .a .now)) cs)
+    let cs : take (n + 64 - n) (drop n (reduced m .eliminate .last .1 .1 .1 .1 .1 .0)) ≡ reducedRow (s .args .p) n (s .args .points .now) (s .args .rows .now) (s .args .pivots .now) (s .args .a .now) =
+    ap (λ (k : ℕ). take k (drop n (reduced m .eliminate .last .1 .1 .1 .1 .1 .0))) e
+    ∙ ap (λ (z : List ℕ). take 64 (drop n z)) (reduced m .eliminate .ensures .0 ∙ ap (eliminated (s .args .p) (s .args .rows .now) (s .args .pivots .now) n) (loaded d)) in
+    row-in 64 (s .args .k) i (64 * i + 64 - 64 * i) _ (s .args .table .now) (m .move-on .last .1 .1 .1 .0) (k .correct .last .1 .1 .1 .1 .1 .1 .1 .1 .0) (omega arith) (omega arith) (omega arith) (m .move-on .ensures)
+    (k .correct .ensures .1 ∙ ap (correctedRow (s .args .p) (s .args .place) (s .args .inverse) (s .args .gone .now) (s .args .point .now) (s .args .values .now) (s .args .a .now)) cs)
 
 pub put-row-spec : {M : Type 1} → statement M
 put-row-spec =
