@@ -5,7 +5,7 @@ pub mod Candidates
 pub mod Matrix
 pub mod FoundRows
 pub mod ProductValues
-pub mod Held
+pub mod TablesHold
 pub mod Decisions
 pub mod Hands
 pub mod Grounds

@@ -18,7 +18,7 @@ use Rattle.basis.specs.Adding.{Grown, grown, rowValueAt, othersOf, other
 use Rattle.basis.proofs.adding.Writes.{length-row}
 
 -- the tables keep their sizes, and v products are at most v leads more
-pub record Sized (k v : ℕ) (g : Grown) : Type 0 where
+pub record GrownSized (k v : ℕ) (g : Grown) : Type 0 where
   pub most : g .count ≤ k + v
   pub leads : length (g .leads) ≡ 3592
   pub coefficients : length (g .coefficients) ≡ 28736
@@ -35,7 +35,7 @@ module _ (p order n : ℕ) (points rows pivots : List ℕ) (place inverse : ℕ)
   abbrev pub put : List ℕ → Grown → Grown
   put = putWithRow p order n points rows pivots place inverse gone point values
 
-  put-sized : (k v : ℕ) (a : List ℕ) (g : Grown) → length a ≡ 8 → k + v ≤ 448 → Sized k v g → Sized k (v + 1) (put a g)
+  put-sized : (k v : ℕ) (a : List ℕ) (g : Grown) → length a ≡ 8 → k + v ≤ 448 → GrownSized k v g → GrownSized k (v + 1) (put a g)
   unfolding putWithRow
   put-sized k v a g l h z =
       let i = place-within (cmp (orderOf order)) a (g .leads) (g .count) in
@@ -70,28 +70,32 @@ module _ (p order n : ℕ) (points rows pivots : List ℕ) (place inverse : ℕ)
       unfolding productsPut
       products-none g = refl
 
-      pub products-more : (g : Grown) (v : ℕ) → productsPut p order n points rows pivots place inverse gone point values k others lead (v + 1) g
+      products-more : (g : Grown) (v : ℕ) → productsPut p order n points rows pivots place inverse gone point values k others lead (v + 1) g
           ≡ productPut p order n points rows pivots place inverse gone point values k others (timesVariable v lead) (productsPut p order n points rows pivots place inverse gone point values k others lead v g)
       unfolding productsPut
       products-more g v = ap (λ (j : ℕ). productsPut p order n points rows pivots place inverse gone point values k others lead j g) (add-one v)
 
+      pub products-next : (g₀ : Grown) {g g′ : Grown} {a : List ℕ} (v : ℕ) → a ≡ timesVariable v lead → g ≡ productsPut p order n points rows pivots place inverse gone point values k others lead v g₀ → g′ ≡ productPut p order n points rows pivots place inverse gone point values k others a g
+          → g′ ≡ productsPut p order n points rows pivots place inverse gone point values k others lead (v + 1) g₀
+      products-next g₀ v ea eg e = e ∙ ap₂ (λ (b : List ℕ) (h : Grown). productPut p order n points rows pivots place inverse gone point values k others b h) ea eg ∙ sym (products-more g₀ v)
+
       pub products-sized : (leads coefficients : List ℕ) → length lead ≡ 8 → length leads ≡ 3592 → length coefficients ≡ 28736 → (v : ℕ) → k + v ≤ 449
-          → Sized k v (productsPut p order n points rows pivots place inverse gone point values k others lead v (grown k leads coefficients))
+          → GrownSized k v (productsPut p order n points rows pivots place inverse gone point values k others lead v (grown k leads coefficients))
       unfolding productsPut productPut
       products-sized leads coefficients l a b zero h = record { most = omega arith; leads = a; coefficients = b }
       products-sized leads coefficients l a b (suc v) h =
           let g : Grown = productsPut p order n points rows pivots place inverse gone point values k others lead v (grown k leads coefficients) in
-          let z : Sized k v g = products-sized leads coefficients l a b v (omega arith) in
+          let z : GrownSized k v g = products-sized leads coefficients l a b v (omega arith) in
           go (dividedBy (groups 8 k others) (timesVariable v lead)) g z (put-sized k v (timesVariable v lead) g (length-set lead v _ ∙ l) (omega arith) z)
         where
-          go : (t : Bool) (g : Grown) → Sized k v g → Sized k (v + 1) (put (timesVariable v lead) g) → Sized k (suc v) (cond t g (put (timesVariable v lead) g))
+          go : (t : Bool) (g : Grown) → GrownSized k v g → GrownSized k (v + 1) (put (timesVariable v lead) g) → GrownSized k (suc v) (cond t g (put (timesVariable v lead) g))
           go true g z y = record { most = omega (arith, z .most); leads = z .leads; coefficients = z .coefficients }
           go false g z y = record { most = omega (arith, y .most); leads = y .leads; coefficients = y .coefficients }
 
 -- what the functions made of the tables, put together
-pub grown-by : (p m order n r : ℕ) (points standard leads coefficients rows pivots point values : List ℕ) (j : ℕ) (lead gone : List ℕ) (place i : ℕ) (others coefficients′ : List ℕ)
+pub grown-by : {g : Grown} (p m order n r : ℕ) (points standard leads coefficients rows pivots point values : List ℕ) (j : ℕ) (lead gone : List ℕ) (place i : ℕ) (others coefficients′ : List ℕ)
     → lead ≡ rowAt 8 j leads → gone ≡ rowAt 64 j coefficients → place ≡ placeOf (cmp (orderOf order)) lead (groups 8 n standard) → i ≡ inverseOf p (rowValueAt p point values lead gone)
     → others ≡ othersOf r j leads → coefficients′ ≡ othersCorrected p place i gone point values r j leads coefficients
-    → productsPut p order n points rows pivots place i gone point values (r - 1) others lead m (grown (r - 1) others coefficients′) ≡ grownBy p m order n r points standard leads coefficients rows pivots point values j
+    → g ≡ productsPut p order n points rows pivots place i gone point values (r - 1) others lead m (grown (r - 1) others coefficients′) → g ≡ grownBy p m order n r points standard leads coefficients rows pivots point values j
 unfolding grownBy
-grown-by p m order n r points standard leads coefficients rows pivots point values j lead gone place i others coefficients′ el eg ep ei eo ec = rw (ec, eo, ei, ep, eg, el)
+grown-by p m order n r points standard leads coefficients rows pivots point values j lead gone place i others coefficients′ el eg ep ei eo ec e = e ∙ rw (ec, eo, ei, ep, eg, el)

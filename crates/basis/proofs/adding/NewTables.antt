@@ -268,7 +268,7 @@ module _ (q m o : ℕ) (few : m ≤ 8) (L : Laws (spaceOf q m (orderOf o))) wher
           let i : inverse ≡ inverseOf (suc q) (rowValueAt (suc q) point values (bytes α) gone) =
           sym (ap (inverseOf (suc q)) (row-value-filled q m (orderOf o) few (standardOf D S) P few-standard α (rowOf D S α) (row-is D L S d α .long))) in
           sym (grown-by (suc q) m o (length S) (length (leadsOf D S)) points (table 512 (standardOf D S)) leadsT rowsT rows pivots point values j (bytes α) gone place inverse (table 3592 others)
-          (rowsOver (rowOf D (P ∷ S)) others) lead (sym (row-at q m (orderOf o) few L S d short most P j inside)) at i (sym others-are) (sym kept-are))
+          (rowsOver (rowOf D (P ∷ S)) others) lead (sym (row-at q m (orderOf o) few L S d short most P j inside)) at i (sym others-are) (sym kept-are) refl)
           ∙ ap (λ (t : ℕ). productsPut (suc q) o (length S) points rows pivots place inverse gone point values t (table 3592 others) (bytes α) m (grown t (table 3592 others) (rowsOver (rowOf D (P ∷ S)) others))) k
           ∙ products-are m (omega arith) ∙ ap leadsOver (sym (grows .1))
 

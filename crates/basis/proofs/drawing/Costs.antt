@@ -17,11 +17,11 @@ use Rattle.specification.proofs.Instance.{laws}
 use Rattle.specification.proofs.cancellations.Under.{inverse-at}
 use Rattle.specification.proofs.cancellations.Turns.{own-column}
 use Rattle.specification.proofs.cancellations.Progress.{Ready, Passed, pass-lead, pass-standard}
-use Rattle.basis.proofs.drawing.Held.{Ground, Held, InHand}
+use Rattle.basis.proofs.drawing.TablesHold.{Ground, TablesHold, InHand}
 use Rattle.basis.proofs.drawing.Decisions.{work-long, work-below, standard-more}
 
 module _ {q m n : ℕ} {order : Order} {S : List (Point (suc q) m)} {p : ℕ} (G : Ground q m n order S p) {std lds : List (Monomial m)} {css : List (List ℕ)}
-    {standard leads coefficients rows pivots values ranks steps : List ℕ} (H : Held q m n order S std lds css standard leads coefficients rows pivots values ranks steps) {b : Monomial m}
+    {standard leads coefficients rows pivots values ranks steps : List ℕ} (H : TablesHold q m n order S std lds css standard leads coefficients rows pivots values ranks steps) {b : Monomial m}
     {at exponents : List ℕ} {rank : ℕ} {own : List ℕ} (B : InHand q m n order S std lds b at exponents rank own) {total : ℕ} (R : Ready (spaceOf q m order) S n std lds total rows pivots b)
     {work : List ℕ} (left : work ≡ eliminated p rows pivots (length std) (fill 128 (take n own))) {k : ℕ}
     (cost : k ≡ cancellations p rows pivots (length std) (fill 128 (take n own))) where

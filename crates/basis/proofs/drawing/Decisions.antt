@@ -39,7 +39,7 @@ use Rattle.basis.proofs.drawing.ReducedRows.{loaded}
 use Rattle.basis.proofs.drawing.Candidates.{ranked-more}
 use Rattle.basis.proofs.drawing.Matrix.{valuesOf, same-values, more-values, new-values, is-row, not-combined, row-spanned}
 use Rattle.basis.proofs.drawing.FoundRows.{longer, places-longer, rows-count, rows-more, rows-longer}
-use Rattle.basis.proofs.drawing.Held.{Ground, Held, InHand, Decided, pointAt}
+use Rattle.basis.proofs.drawing.TablesHold.{Ground, TablesHold, InHand, Decided, pointAt}
 
 -- the exponents of a monomial more in a table
 exponents-more : {m : ℕ} (N k : ℕ) (l : List (Monomial m)) (b : Monomial m) (exponents t : List ℕ) → t ≡ fill N (inPlaces 8 (map (λ a. a .0) l)) → k ≡ length l → 8 * k + 8 ≤ N
@@ -70,7 +70,7 @@ module _ {q m n : ℕ} {order : Order} {S : List (Point (suc q) m)} {p : ℕ} (G
         bound r k a b h = let g : k * m ≤ k * 8 = mul-le-mul-left k a in omega arith
 
   module _ {std lds : List (Monomial m)} {css : List (List ℕ)} {standard leads coefficients rows pivots values ranks steps : List ℕ}
-      (H : Held q m n order S std lds css standard leads coefficients rows pivots values ranks steps) {b : Monomial m} {at exponents : List ℕ} {rank : ℕ} {own : List ℕ}
+      (H : TablesHold q m n order S std lds css standard leads coefficients rows pivots values ranks steps) {b : Monomial m} {at exponents : List ℕ} {rank : ℕ} {own : List ℕ}
       (B : InHand q m n order S std lds b at exponents rank own) {work : List ℕ}
       (left : work ≡ eliminated p rows pivots (length std) (fill 128 (take n own))) where
     abbrev found : ℕ
@@ -127,7 +127,7 @@ module _ {q m n : ℕ} {order : Order} {S : List (Point (suc q) m)} {p : ℕ} (G
       pub lead-decided : Decided q m n order S std (lds ++ (b ∷ [])) at
       lead-decided = record { last = b; drawn = drawn; long = B .long; positions = B .positions }
 
-      pub lead-held : Held q m n order S std (lds ++ (b ∷ [])) (css ++ (cs ∷ [])) standard (withPlace 8 (length lds) exponents leads) (withPlace 64 (length lds) cs coefficients)
+      pub lead-held : TablesHold q m n order S std (lds ++ (b ∷ [])) (css ++ (cs ∷ [])) standard (withPlace 8 (length lds) exponents leads) (withPlace 64 (length lds) cs coefficients)
           rows pivots values ranks steps
       lead-held = record {
         standard-table = H .standard-table;
@@ -209,7 +209,7 @@ module _ {q m n : ℕ} {order : Order} {S : List (Point (suc q) m)} {p : ℕ} (G
               of (place-before 64 found own values fits (B .own-long) (64 * t + i) (omega (arith, G .most))) then H .values-at t i k l
               then of (more-values D std S none b t i k)
 
-      pub standard-held : Held q m n order S (std ++ (b ∷ [])) lds (longer css) (withPlace 8 found exponents standard) leads coefficients (rows′ p) (set pivots found pivot)
+      pub standard-held : TablesHold q m n order S (std ++ (b ∷ [])) lds (longer css) (withPlace 8 found exponents standard) leads coefficients (rows′ p) (set pivots found pivot)
           (withPlace 64 found own values) (set ranks found rank) steps
       standard-held = record {
         standard-table = exponents-more 512 found std b exponents standard (H .standard-table) refl (omega (arith, standard-more, G .most)) (B .exponents-are);

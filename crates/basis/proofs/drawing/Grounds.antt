@@ -40,7 +40,7 @@ use Rattle.basis.proofs.drawing.Given.{given-count}
 use Rattle.basis.proofs.drawing.ReducedRows.{solves}
 use Rattle.basis.proofs.drawing.Matrix.{valuesOf, terms-places}
 use Rattle.basis.proofs.drawing.FoundRows.{rows-only}
-use Rattle.basis.proofs.drawing.Held.{Ground, Held, pointAt}
+use Rattle.basis.proofs.drawing.TablesHold.{Ground, TablesHold, pointAt}
 
 -- residues, by their places
 residues-below : (p : ℕ) (l : List ℕ) → Residues p l → Below p l
@@ -146,7 +146,7 @@ module _ {s : Settings} {n : ℕ} {points : List ℕ} (given : PointsGiven s n p
 
   -- all is found
   module _ {css : List (List ℕ)} {standard leads coefficients rows pivots values ranks steps : List ℕ}
-      (H : Held q m n (orderOf order) S (standardUnder s K) (leadsUnder s K) css standard leads coefficients rows pivots values ranks steps) where
+      (H : TablesHold q m n (orderOf order) S (standardUnder s K) (leadsUnder s K) css standard leads coefficients rows pivots values ranks steps) where
     full : length (standardUnder s K) ≡ n
     full = standard-length D L S (ground .distinct) ∙ ground .count
 

@@ -32,7 +32,7 @@ use Rattle.basis.proofs.drawing.ProductValues.{product-long, product-be
 use Rattle.specification.proofs.drawing.UpTo.{bordered-start, front-start, start-standard, start-lead, front-next, take-standard, take-lead}
 use Rattle.basis.proofs.drawing.Positions.{productAt, positions-start}
 use Rattle.basis.proofs.drawing.Candidates.{Found}
-use Rattle.basis.proofs.drawing.Held.{Ground, Held, InHand, pointAt}
+use Rattle.basis.proofs.drawing.TablesHold.{Ground, TablesHold, InHand, pointAt}
 
 -- the exponents of 1
 one-filled : (k m : ℕ) → fill k (replicate m 0) ≡ replicate k 0
@@ -56,7 +56,7 @@ module _ {q m n : ℕ} {order : Order} {S : List (Point (suc q) m)} {p : ℕ} (G
   L = laws q m order (G .prime)
 
   pub start-held : {standard leads coefficients rows pivots : List ℕ} → standard ≡ replicate 512 0 → leads ≡ replicate 3592 0 → coefficients ≡ replicate 28736 0 → length rows ≡ 73728
-      → length pivots ≡ 64 → Held q m n order S [] [] [] standard leads coefficients rows pivots (replicate 4096 0) (replicate 64 0) (stepsOf order)
+      → length pivots ≡ 64 → TablesHold q m n order S [] [] [] standard leads coefficients rows pivots (replicate 4096 0) (replicate 64 0) (stepsOf order)
   start-held {rows = rows} {pivots = pivots} s l c r e = record {
     standard-table = s ∙ no-places 8 512;
     leads-table = l ∙ no-places 8 3592;
@@ -89,7 +89,7 @@ module _ {q m n : ℕ} {order : Order} {S : List (Point (suc q) m)} {p : ℕ} (G
   }
 
   module _ {std lds : List (Monomial m)} {css : List (List ℕ)} {standard leads coefficients rows pivots values ranks steps : List ℕ}
-      (H : Held q m n order S std lds css standard leads coefficients rows pivots values ranks steps) {k t r : ℕ} {at : List ℕ}
+      (H : TablesHold q m n order S std lds css standard leads coefficients rows pivots values ranks steps) {k t r : ℕ} {at : List ℕ}
       (F : Found q m order S std lds k t r at) where
     abbrev parent : Monomial m
     parent = getD std t (D .one)

@@ -30,14 +30,14 @@ use Rattle.basis.specs.Drawing.{productValues, PointsGiven, DrawnUp}
 use Rattle.basis.proofs.drawing.Positions.{productAt}
 use Rattle.basis.proofs.drawing.Candidates.{Outcome, Found, next-candidate}
 use Rattle.basis.proofs.drawing.FoundRows.{longer}
-use Rattle.basis.proofs.drawing.Held.{Ground, Held, InHand, Decided}
+use Rattle.basis.proofs.drawing.TablesHold.{Ground, TablesHold, InHand, Decided}
 use Rattle.basis.proofs.drawing.Decisions.{few-standard, few-leads, work-long, work-below, lead-room, lead-decided, lead-held, standard-more, standard-decided, standard-held}
 use Rattle.basis.proofs.drawing.Hands.{start-held, start-hand, few-found, exponent-small, next-hand}
 use Rattle.basis.proofs.drawing.Grounds.{ground, coordinate, drawn-up}
 use Rattle.basis.proofs.drawing.Costs.{lead-passed, standard-passed}
 
 -- What the code's calls ask of the tables.
-pub record Sized (p n found : ℕ) (standard leads coefficients rows pivots values ranks : List ℕ) : Type 0 where
+pub record DrawingSized (p n found : ℕ) (standard leads coefficients rows pivots values ranks : List ℕ) : Type 0 where
   pub found-room : found ≤ n
   pub standard-long : length standard ≡ 512
   pub leads-long : length leads ≡ 3592
@@ -65,7 +65,7 @@ module _ (s : Settings) (n : ℕ) (points : List ℕ) where
     pub hand : Monomial (s .variables)
     pub found-is : found ≡ length std
     pub r-is : r ≡ length lds
-    pub held : Held (s .modulus - 1) (s .variables) n (orderOf (s .order)) (pointsOf s n points) std lds css standard leads coefficients rows pivots values ranks steps
+    pub held : TablesHold (s .modulus - 1) (s .variables) n (orderOf (s .order)) (pointsOf s n points) std lds css standard leads coefficients rows pivots values ranks steps
     pub in-hand : InHand (s .modulus - 1) (s .variables) n (orderOf (s .order)) (pointsOf s n points) std lds hand at exponents rank own
     pub ready : Ready (spaceUnder s) (pointsOf s n points) n std lds total rows pivots hand
     pub few : found + r ≤ 513
@@ -77,7 +77,7 @@ module _ (s : Settings) (n : ℕ) (points : List ℕ) where
     pub css : List (List ℕ)
     pub found-is : found ≡ length std
     pub r-is : r ≡ length lds
-    pub held : Held (s .modulus - 1) (s .variables) n (orderOf (s .order)) (pointsOf s n points) std lds css standard leads coefficients rows pivots values ranks steps
+    pub held : TablesHold (s .modulus - 1) (s .variables) n (orderOf (s .order)) (pointsOf s n points) std lds css standard leads coefficients rows pivots values ranks steps
     pub decided : Decided (s .modulus - 1) (s .variables) n (orderOf (s .order)) (pointsOf s n points) std lds at
     pub last : Monomial (s .variables)
     pub passed : Passed (spaceUnder s) (pointsOf s n points) n std lds total rows pivots last
@@ -129,8 +129,8 @@ module _ {s : Settings} {n : ℕ} {points : List ℕ} where
 
     module _ {found : ℕ} {standard leads coefficients rows pivots values ranks steps : List ℕ} where
       -- the tables' sizes, from what they hold
-      sized : {std lds : List (Monomial m)} {css : List (List ℕ)} → found ≡ length std → Held (p - 1) m n o S std lds css standard leads coefficients rows pivots values ranks steps
-          → Sized p n found standard leads coefficients rows pivots values ranks
+      sized : {std lds : List (Monomial m)} {css : List (List ℕ)} → found ≡ length std → TablesHold (p - 1) m n o S std lds css standard leads coefficients rows pivots values ranks steps
+          → DrawingSized p n found standard leads coefficients rows pivots values ranks
       sized e H = record {
         found-room = omega (arith, H .pivot-rows .room);
         standard-long = ap length (H .standard-table) ∙ length-fill 512 _;
@@ -148,7 +148,7 @@ module _ {s : Settings} {n : ℕ} {points : List ℕ} where
       }
 
       module _ {r total : ℕ} {at exponents : List ℕ} {rank : ℕ} {own : List ℕ} (h : Head s n points found r total standard leads coefficients rows pivots values ranks steps at exponents rank own) where
-        pub head-sized : Sized p n found standard leads coefficients rows pivots values ranks
+        pub head-sized : DrawingSized p n found standard leads coefficients rows pivots values ranks
         head-sized = sized (h .found-is) (h .held)
 
         pub exponents-long : length exponents ≡ 8
@@ -239,7 +239,7 @@ module _ {s : Settings} {n : ℕ} {points : List ℕ} where
                 }
 
       module _ {r total : ℕ} {at : List ℕ} (h : Kept s n points found r total standard leads coefficients rows pivots values ranks steps at) where
-        pub kept-sized : Sized p n found standard leads coefficients rows pivots values ranks
+        pub kept-sized : DrawingSized p n found standard leads coefficients rows pivots values ranks
         kept-sized = sized (h .found-is) (h .held)
 
         pub kept-few : found + r ≤ 513
@@ -266,8 +266,8 @@ module _ {s : Settings} {n : ℕ} {points : List ℕ} where
           pub ends : DrawnUp s (pointsIn s n points) r standard leads coefficients rows pivots
           ends =
               drawn-up given
-              (subst (λ (l : List (Monomial m)). Held (p - 1) m n o S (standardUnder s (pointsIn s n points)) l (h .css) standard leads coefficients rows pivots values ranks steps) (all-found .1)
-              (subst (λ (l : List (Monomial m)). Held (p - 1) m n o S l (h .lds) (h .css) standard leads coefficients rows pivots values ranks steps) (all-found .0) (h .held)))
+              (subst (λ (l : List (Monomial m)). TablesHold (p - 1) m n o S (standardUnder s (pointsIn s n points)) l (h .css) standard leads coefficients rows pivots values ranks steps) (all-found .1)
+              (subst (λ (l : List (Monomial m)). TablesHold (p - 1) m n o S l (h .lds) (h .css) standard leads coefficients rows pivots values ranks steps) (all-found .0) (h .held)))
               (h .r-is ∙ ap length (all-found .1))
 
           pub costs : total ≡ cancellationsUnder s (pointsIn s n points)

@@ -6,7 +6,7 @@ use Rattle.residue.proofs.level.Moduli.{modulus-range}
 use Rattle.residue.proofs.Replaced.{zeros-long}
 use Rattle.basis.proofs.drawing.Grounds.{points-long}
 use Rattle.basis.proofs.drawing.Loop.{head-start, own-below, cost-fits, kept-few, ends, costs, next-small, next-exponent, goes-on}
-use Rattle.basis.proofs.drawing.draw.Proof.Turn.{Inv-loop, μ-loop, opened, stepped, start, given, head-sizes, exponents-8, range, top, work-128, work-residues, reduced, head, lead-fits, inside, standard-fits, as-lead, as-standard, found-64, with-values, above, kept, one-more, sizes, steps-8, steps-small, columns-512, column-small, values-are, joined, sought, onward, chosen}
+use Rattle.basis.proofs.drawing.draw.Proof.Turn.{Inv-loop, μ-loop, opened, stepped, start, given, head-sizes, exponents-8, range, row-room, pivot-room, within-64, top, work-128, work-residues, reduced, head, lead-fits, inside, standard-fits, as-lead, as-standard, found-64, with-values, above, kept, one-more, sizes, steps-8, steps-small, columns-512, column-small, values-are, joined, sought, onward, chosen}
 use Rattle.basis.proofs.drawing.draw.Statement.{statement}
 use Rattle.basis.proofs.drawing.draw.Tie as tie
 mod Turn
@@ -65,7 +65,7 @@ slice-aggregate-first-nonzero : tie.Need-slice-aggregate-first-nonzero Inv-loop 
 slice-aggregate-first-nonzero c = sym (work-128 (c .before .before))
 
 first-nonzero-requires : tie.Need-first-nonzero-requires Inv-loop μ-loop
-first-nonzero-requires c κs = let e = c .before .before in omega (arith, work-128 e, given (top e) .most)
+first-nonzero-requires c κs = let e = c .before .before in row-room (given (top e) .most) (work-128 e)
 
 slice-aggregate-keep-lead : tie.Need-slice-aggregate-keep-lead Inv-loop μ-loop
 slice-aggregate-keep-lead c = sym (exponents-8 (head (c .before .before)))
@@ -117,12 +117,11 @@ keep-requires c κs =
     let e = as-standard (c .before .before .before .before .before .before) in
     let l = head (e .before) in
     let z = head-sizes l in
-    let f = standard-fits (e .before) (e .if1 .left) in
-    let n = given l .most in (
+    let w = pivot-room (standard-fits (e .before) (e .if1 .left)) (given l .most) (z .rows-long) (z .pivots-long) in (
       range l,
       (
-        (inside (e .before) (e .if1 .left), (omega (arith, f, n), work-128 (reduced (e .before)))),
-        ((omega (arith, f, n, z .rows-long), omega (arith, f, n, z .pivots-long)), work-residues (reduced (e .before))),
+        (inside (e .before) (e .if1 .left), (w .0, work-128 (reduced (e .before)))),
+        (w .1, work-residues (reduced (e .before))),
       ),
     )
 
@@ -143,7 +142,7 @@ next-requires c κs =
     let j = c .before .before .before .before in
     let z = sizes j in
     let g = given (above j) in (
-      (g .settings .few, omega (arith, z .found-room, g .most)),
+      (g .settings .few, within-64 (z .found-room) (g .most)),
       ((z .standard-long, z .ranks-long, steps-8 j, above j .loop .inv .in-hand .long), (z .ranks-below, steps-small j)),
     )
 

@@ -268,9 +268,8 @@ returns c =
     let d = placed k in
     let s = o d in (
       d .put-in .ensures .1 ∙ ap₂ (λ (i : ℕ) (t : List ℕ). withRowAt 8 (s .args .n) i (lead s) t) (place-is d) (old d) ∙ ap (standardGrown (s .args .settings .order) (s .args .n) (s .args .standard .now)) (lead-is s),
-      done c .add-products .ensures
-          ∙ grown-by (s .args .settings .modulus) (s .args .settings .variables) (s .args .settings .order) (s .args .n) (s .args .r) (s .args .points .now) (s .args .standard .now) (s .args .leads .now) (s .args .coefficients .now) (s .args .rows .now) (s .args .pivots .now) (s .args .point .now) (s .args .values .now) (s .args .j)
-          _ _ _ _ _ _ (lead-is s) (gone-is (lost d)) (place-is d) (inverse-is d) (k .keep-others .ensures .0) (k .keep-others .ensures .1),
+      grown-by (s .args .settings .modulus) (s .args .settings .variables) (s .args .settings .order) (s .args .n) (s .args .r) (s .args .points .now) (s .args .standard .now) (s .args .leads .now) (s .args .coefficients .now) (s .args .rows .now) (s .args .pivots .now) (s .args .point .now) (s .args .values .now) (s .args .j)
+          _ _ _ _ _ _ (lead-is s) (gone-is (lost d)) (place-is d) (inverse-is d) (k .keep-others .ensures .0) (k .keep-others .ensures .1) (done c .add-products .ensures),
     )
 
 pub grow-spec : {M : Type 1} → statement M

@@ -8,8 +8,8 @@ use Rattle.residue.specs.Layout.{over}
 use Rattle.residue.proofs.level.Moduli.{modulus-range}
 use Rattle.residue.proofs.Layouts.{over-all}
 use Rattle.monomial.specs.Monomial.{timesVariable}
-use Rattle.basis.specs.Adding.{Grown, grown, productsPut, productPut}
-use Rattle.basis.proofs.adding.Growth.{Sized, products-none, products-more, products-sized}
+use Rattle.basis.specs.Adding.{grown, productsPut}
+use Rattle.basis.proofs.adding.Growth.{GrownSized, products-none, products-next, products-sized}
 use Rattle.basis.proofs.adding.products.add_products.Statement.{statement}
 use Rattle.basis.proofs.adding.products.add_products.Tie as tie
 
@@ -54,7 +54,7 @@ module _ (l : tie.At-loop Inv-loop μ-loop) where
 copied : (s : tie.Start Inv-loop μ-loop) (a : List ℕ) → a ≡ over (s .args .lead .now) (replicate 8 0) → a ≡ s .args .lead .now
 copied s a e = e ∙ over-all (s .args .lead .now) (replicate 8 0) (s .pre .1 .1 .0 .3)
 
-sized : (l : tie.At-loop Inv-loop μ-loop) → Sized (start l .args .k) (l .loop .v) (grown (l .loop .count) (l .loop .leads) (l .loop .coefficients))
+sized : (l : tie.At-loop Inv-loop μ-loop) → GrownSized (start l .args .k) (l .loop .v) (grown (l .loop .count) (l .loop .leads) (l .loop .coefficients))
 sized l =
     let s = start l in
     rw (l .loop .inv .1) (products-sized (s .args .settings .modulus) (s .args .settings .order) (s .args .n) (s .args .points .now) (s .args .rows .now) (s .args .pivots .now) (s .args .place) (s .args .inverse) (s .args .gone .now) (s .args .point .now) (s .args .values .now) (s .args .k) (others l) (s .args .lead .now) (s .args .leads .now) (s .args .coefficients .now) (s .pre .1 .1 .0 .3) (s .pre .1 .1 .1 .0 .1) (s .pre .1 .1 .1 .0 .2) (l .loop .v) (omega arith))
@@ -142,8 +142,7 @@ loop-again c =
     let v : ℕ = l .loop .v in
     let e : set (k .copy2 .last .1 .0) v (getD (k .copy2 .last .1 .0) v 0 + 1) ≡ timesVariable v (s .args .lead .now) = ap (timesVariable v) (copied s _ (k .copy2 .ensures)) in (
       omega (arith, turn k .loop-test .taken),
-      put c .add-product .ensures ∙ ap₂ (λ (a : List ℕ) (g : Grown). productPut (s .args .settings .modulus) (s .args .settings .order) (s .args .n) (s .args .points .now) (s .args .rows .now) (s .args .pivots .now) (s .args .place) (s .args .inverse) (s .args .gone .now) (s .args .point .now) (s .args .values .now) (s .args .k) (others l) a g) e (l .loop .inv .1)
-          ∙ sym (products-more (s .args .settings .modulus) (s .args .settings .order) (s .args .n) (s .args .points .now) (s .args .rows .now) (s .args .pivots .now) (s .args .place) (s .args .inverse) (s .args .gone .now) (s .args .point .now) (s .args .values .now) (s .args .k) (others l) (s .args .lead .now) (grown (s .args .k) (s .args .leads .now) (s .args .coefficients .now)) v),
+      products-next (s .args .settings .modulus) (s .args .settings .order) (s .args .n) (s .args .points .now) (s .args .rows .now) (s .args .pivots .now) (s .args .place) (s .args .inverse) (s .args .gone .now) (s .args .point .now) (s .args .values .now) (s .args .k) (others l) (s .args .lead .now) (grown (s .args .k) (s .args .leads .now) (s .args .coefficients .now)) v e (l .loop .inv .1) (put c .add-product .ensures),
     )
 
 same-length : tie.Need-same-length Inv-loop μ-loop

@@ -23,6 +23,10 @@ abbrev μ-loop : tie.MeasureT-loop
 abbrev start : tie.At-loop Inv-loop μ-loop → tie.Start Inv-loop μ-loop
 start l = l .before .before .before .before .before .before
 
+-- the width of a point's place
+eight : (i : ℕ) → 8 * i + 8 - 8 * i ≡ 8
+eight i = omega arith
+
 mul-own : tie.Need-mul-own Inv-loop μ-loop
 mul-own c = omega arith
 
@@ -82,8 +86,8 @@ mark-requires c κs =
     let l = c .before .before .before .before .before .before .before .before .before in
     let s = start l in
     let t = s .args .points .now in (
-      part-long (8 * s .args .i) (8 * s .args .i + 8 - 8 * s .args .i) 8 t (omega arith) (omega arith),
-      part-long (8 * l .loop .j) (8 * l .loop .j + 8 - 8 * l .loop .j) 8 t (omega arith) (omega arith),
+      part-long (8 * s .args .i) (8 * s .args .i + 8 - 8 * s .args .i) 8 t (eight (s .args .i)) (omega arith),
+      part-long (8 * l .loop .j) (8 * l .loop .j + 8 - 8 * l .loop .j) 8 t (eight (l .loop .j)) (omega arith),
       l .loop .inv .1 .0,
     )
 
@@ -103,33 +107,35 @@ loop-again c =
     let at : ℕ = s .args .at in
     let i : ℕ = s .args .i in
     let j : ℕ = l .loop .j in
-    let a : 8 * i + 8 - 8 * i ≡ 8 = omega arith in
-    let b : 8 * j + 8 - 8 * j ≡ 8 = omega arith in
+    let room : n ≤ length vs = omega arith in
+    let early : i < n = omega arith in
+    let later : j < n = omega arith in
+    let next : j + 1 ≤ n = omega arith in
     ⊎-elim
     (λ w. (
-      omega arith,
+      next,
       (
         ap length (w .10) ∙ w .7 .kept .1 .1 .0 ∙ l .loop .inv .1 .0,
         λ k h. ap (λ (marks : List ℕ). isSet marks k || rest n t vs at i k (j + 1)) (w .10)
-            ∙ marked n t vs at i k (s .args .keys .now) (s .pre .1 .0) (omega arith) j (omega arith) (omega arith) (w .0 .taken) (w .3 .taken) (isSet (l .loop .marks) k) (isSet (w .7 .last .1 .1 .0) k)
-            (w .7 .ensures k h ∙ ap₂ (λ (u v : ℕ). isSet (l .loop .marks) k || apart k (take u (drop (8 * i) t)) (take v (drop (8 * j) t))) a b)
+            ∙ marked n t vs at i k (s .args .keys .now) (s .pre .1 .0) room j early later (w .0 .taken) (w .3 .taken) (isSet (l .loop .marks) k) (isSet (w .7 .last .1 .1 .0) k)
+            (w .7 .ensures k h ∙ ap₂ (λ (u v : ℕ). isSet (l .loop .marks) k || apart k (take u (drop (8 * i) t)) (take v (drop (8 * j) t))) (eight i) (eight j))
             ∙ l .loop .inv .1 .1 k h,
       ),
     ))
     (⊎-elim
     (λ w. (
-      omega arith,
+      next,
       (
         ap length (w .4) ∙ l .loop .inv .1 .0,
-        λ k h. ap₂ (λ (marks : List ℕ) (x : Bool). isSet marks k || x) (w .4) (same-value n t vs at i k (s .args .keys .now) (s .pre .1 .0) (omega arith) j (omega arith) (omega arith) (w .3 .left))
+        λ k h. ap₂ (λ (marks : List ℕ) (x : Bool). isSet marks k || x) (w .4) (same-value n t vs at i k (s .args .keys .now) (s .pre .1 .0) room j early later (w .3 .left))
             ∙ l .loop .inv .1 .1 k h,
       ),
     ))
     (λ w. (
-      omega arith,
+      next,
       (
         ap length (w .1) ∙ l .loop .inv .1 .0,
-        λ k h. ap₂ (λ (marks : List ℕ) (x : Bool). isSet marks k || x) (w .1) (other-key n t vs at i k (s .args .keys .now) (s .pre .1 .0) (omega arith) j (omega arith) (omega arith) (w .0 .left))
+        λ k h. ap₂ (λ (marks : List ℕ) (x : Bool). isSet marks k || x) (w .1) (other-key n t vs at i k (s .args .keys .now) (s .pre .1 .0) room j early later (w .0 .left))
             ∙ l .loop .inv .1 .1 k h,
       ),
     )))

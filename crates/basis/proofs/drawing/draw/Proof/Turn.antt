@@ -16,7 +16,7 @@ use Rattle.monomial.proofs.rank.Steps.{steps-long, steps-below}
 use Rattle.monomial.proofs.columns.Entries.{column-below, column-in}
 use Rattle.basis.specs.Drawing.{productValues, PointsGiven}
 use Rattle.basis.proofs.drawing.Grounds.{points-long, points-below}
-use Rattle.basis.proofs.drawing.Loop.{Head, Kept, Sized, head-sized, exponents-long, worked-long, worked-below, room-lead, keeps-lead, room-standard, keeps-standard, kept-as, kept-sized}
+use Rattle.basis.proofs.drawing.Loop.{Head, Kept, DrawingSized, head-sized, exponents-long, worked-long, worked-below, room-lead, keeps-lead, room-standard, keeps-standard, kept-as, kept-sized}
 use Rattle.basis.proofs.drawing.draw.Tie as tie
 
 abbrev pub Inv-loop : tie.InvT-loop
@@ -26,6 +26,16 @@ Inv-loop settings n points standard₀ leads₀ coefficients₀ rows₀ pivots�
 abbrev pub μ-loop : tie.MeasureT-loop
 μ-loop settings n points standard₀ leads₀ coefficients₀ rows₀ pivots₀ p steps columns values₀ ranks₀ at₀ found₀ r₀ cancellations₀ exponents₀ rank₀ own₀ standard leads coefficients rows pivots values ranks at found r cancellations exponents rank own =
     513 - (found + r)
+
+-- what the sizes leave room for: the values of n points in a working row, one pivot row more, and as many monomials as there are points
+pub row-room : {n l : ℕ} → n ≤ 64 → l ≡ 128 → n ≤ l
+row-room h e = omega arith
+
+pub pivot-room : {n found r v : ℕ} → found < n → n ≤ 64 → r ≡ 73728 → v ≡ 64 → (n + found < 128) × ((1152 * found + 1152 ≤ r) × (found < v))
+pivot-room h k er ev = (omega arith, (omega arith, omega arith))
+
+pub within-64 : {n found : ℕ} → found ≤ n → n ≤ 64 → found ≤ 64
+within-64 h k = omega arith
 
 -- before the loop, where the settings are read and the steps of the ranks are written
 abbrev pub opened : tie.After-struct-known Inv-loop μ-loop → tie.Start Inv-loop μ-loop
@@ -42,7 +52,7 @@ module _ (l : tie.At-loop Inv-loop μ-loop) where
   pub given : PointsGiven (start .args .settings) (start .args .n) (start .args .points .now)
   given = start .pre .0
 
-  pub head-sizes : Sized (start .args .settings .modulus) (start .args .n) (l .loop .found) (l .loop .standard) (l .loop .leads) (l .loop .coefficients) (l .loop .rows) (l .loop .pivots) (l .loop .values) (l .loop .ranks)
+  pub head-sizes : DrawingSized (start .args .settings .modulus) (start .args .n) (l .loop .found) (l .loop .standard) (l .loop .leads) (l .loop .coefficients) (l .loop .rows) (l .loop .pivots) (l .loop .values) (l .loop .ranks)
   head-sizes = head-sized given (l .loop .inv)
 
   pub exponents-8 : length (l .loop .exponents) ≡ 8
@@ -130,7 +140,7 @@ module _ (j : tie.Joined1 Inv-loop μ-loop) where
   pub one-more : j .if1 .found + j .if1 .r ≡ above .loop .found + above .loop .r + 1
   one-more = ⊎-elim (λ w. omega (arith, w .17, w .18)) (λ w. omega (arith, w .25, w .26)) (j .if1 .came)
 
-  pub sizes : Sized (start above .args .settings .modulus) (start above .args .n) (j .if1 .found) (j .if1 .standard) (j .if1 .leads) (j .if1 .coefficients) (j .if1 .rows) (j .if1 .pivots) (j .if1 .values) (j .if1 .ranks)
+  pub sizes : DrawingSized (start above .args .settings .modulus) (start above .args .n) (j .if1 .found) (j .if1 .standard) (j .if1 .leads) (j .if1 .coefficients) (j .if1 .rows) (j .if1 .pivots) (j .if1 .values) (j .if1 .ranks)
   sizes = kept-sized (given above) kept
 
   pub steps-8 : length steps ≡ 8

@@ -40,7 +40,7 @@ module _ (q m n : ℕ) (order : Order) (S : List (Point (suc q) m)) where
     pub most : n ≤ 64
     pub distinct : Distinct D S
 
-  pub record Held (std lds : List (Monomial m)) (css : List (List ℕ)) (standard leads coefficients rows pivots values ranks steps : List ℕ) : Type 0 where
+  pub record TablesHold (std lds : List (Monomial m)) (css : List (List ℕ)) (standard leads coefficients rows pivots values ranks steps : List ℕ) : Type 0 where
     pub standard-table : standard ≡ tableOf q m order std
     pub leads-table : leads ≡ fill 3592 (inPlaces 8 (map (λ a. a .0) lds))
     pub coefficients-table : coefficients ≡ fill 28736 (inPlaces 64 css)
