@@ -2,9 +2,9 @@
 use mathlib.Core.Bool.{cond}
 use mathlib.Core.List.{List, [], _∷_, _++_}
 use mathlib.Core.Path.{_≡_}
-use Prim.Native.Nat.{ℕ, zero, suc, _+_, _*_, _-_, _<_, _≤_}
+use Prim.Native.Nat.{ℕ, zero, suc, _+_, _*_, _-_, _/_, _<_, _≤_}
 use lib.ListN.{getD, take, drop}
-use lib.Dec.{eqb}
+use lib.Dec.{eqb, ltb}
 use Rattle.residue.specs.Vector.{addScaled, scaled}
 
 -- the row w with its entry at the given place cancelled, by adding a multiple of a row that is 1 there
@@ -44,6 +44,10 @@ Multiplied p found rows = (t : ℕ) → t < found → take 1152 (drop (1152 * t)
 -- a row is 0 from the given entry on
 abbrev pub ZeroFrom : ℕ → List ℕ → Type 0
 ZeroFrom width row = (i : ℕ) → width ≤ i → i < 128 → getD row i 0 ≡ 0
+
+-- how many entries are looked at of a row that is 0 from `end` on: whole vectors of 16, of which a row has 8
+unfoldable pub wholeWidth : ℕ → ℕ
+wholeWidth end = cond (ltb 112 end) 128 ((end + 15) / 16 * 16)
 
 -- row t of those found is 0 behind entry n + t
 abbrev pub ZeroBehind : ℕ → ℕ → List ℕ → Type 0

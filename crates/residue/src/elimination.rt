@@ -7,7 +7,7 @@ ghost use Prim.Native.Nat.{ℕ, _+_, _-_, _*_, _^_, _<_, _≤_};
 ghost use lib.ListN.{length, getD, take, drop, replicate};
 ghost use lib.Dec.{eqb};
 ghost use Rattle.residue.specs.Vector.{Below, addScaled};
-ghost use Rattle.residue.specs.Elimination.{cancelled, eliminated, counted, cancellations, multiplesOf, Multiplied, ZeroFrom, ZeroBehind};
+ghost use Rattle.residue.specs.Elimination.{cancelled, eliminated, counted, cancellations, multiplesOf, Multiplied, ZeroFrom, wholeWidth, ZeroBehind};
 
 // Adds a row, which is 0 from `width` on.
 pub fn gain(p: u8, width: usize, dst: &mut [u8], row: &[u8])
@@ -84,7 +84,7 @@ fn cancel<'a>(
 // How many entries of a row are looked at where row and pivot rows are 0 from `end` on: whole vectors, so that no tail is left to the packed loop.
 fn whole(end: usize) -> usize
     requires { ⌜ end < 2 ^ 63 ⌝ }
-    ensures { λ w. ⌜ (w ≤ 128) × ((i : ℕ) → w ≤ i → i < 128 → end ≤ i) ⌝ }
+    ensures { λ w. ⌜ w ≡ wholeWidth end ⌝ }
 {
     if 112 < end {
         return 128;

@@ -2,18 +2,27 @@
 use mathlib.Core.Path.{_≡_, refl, sym, ap, _∙_}
 use mathlib.Core.Bool.{Bool, true, false, cond}
 use mathlib.Core.List.{List, _∷_}
-use Prim.Native.Nat.{ℕ, zero, suc, _+_, _*_, _-_, _%_, _<_, _≤_}
+use Prim.Native.Nat.{ℕ, zero, suc, _+_, _*_, _-_, _/_, _%_, _<_, _≤_}
 use native.Mathlib.Numerals.{add-one}
 use native.Mathlib.Omega.{arith}
 use lib.ListN.{length, getD, take, drop, length-drop}
 use lib.Seq.{length-take-le}
-use lib.Dec.{eqb}
-use borrow.Author.Tests.{eq-eqb, ne-eqb, eqb-true, eqb-false}
+use lib.Dec.{eqb, ltb}
+use borrow.Author.Tests.{eq-eqb, ne-eqb, eqb-true, eqb-false, ltb-true, ltb-false}
 use Rattle.residue.specs.Congruence.{Mod}
 use Rattle.residue.specs.Vector.{Below, addScaled}
-use Rattle.residue.specs.Elimination.{cancelled, eliminated, counted, cancellations}
+use Rattle.residue.specs.Elimination.{cancelled, eliminated, counted, cancellations, wholeWidth}
 use Rattle.residue.proofs.Congruence.{rfl, of, reduce, negative, _then_, _plus_, _times_}
 use Rattle.residue.proofs.vector.Vectors.{addScaled-length, addScaled-at, addScaled-below}
+
+-- whole vectors reach as far as the row is not 0, and no further than it has entries
+pub whole-limits : (end : ℕ) → (wholeWidth end ≤ 128) × ((i : ℕ) → wholeWidth end ≤ i → i < 128 → end ≤ i)
+unfolding wholeWidth
+whole-limits end = go (ltb 112 end) refl
+  where
+    go : (b : Bool) → ltb 112 end ≡ b → (cond b 128 ((end + 15) / 16 * 16) ≤ 128) × ((i : ℕ) → cond b 128 ((end + 15) / 16 * 16) ≤ i → i < 128 → end ≤ i)
+    go true e = (omega arith, λ i h k. absurd (omega arith))
+    go false e = let l = ltb-false 112 end e in (omega (arith, l), λ i h k. omega (arith, h))
 
 -- A cancellation.
 module _ (p : ℕ) (row : List ℕ) (at : ℕ) (w : List ℕ) where

@@ -6,8 +6,8 @@ use native.Mathlib.Omega.{arith}
 use lib.ListN.{length, getD, take, drop, length-drop}
 use lib.Seq.{take-take, getD-take, getD-drop, length-take-le}
 use Rattle.residue.specs.Vector.{Below}
-use Rattle.residue.specs.Elimination.{cancelled, eliminated, counted, cancellations, multiplesOf, ZeroFrom}
-use Rattle.residue.proofs.elimination.Eliminated.{eliminated-none, eliminated-more, eliminated-length, eliminated-below, cancellations-none, cancellations-more, cancellations-most}
+use Rattle.residue.specs.Elimination.{cancelled, eliminated, counted, cancellations, multiplesOf, ZeroFrom, wholeWidth}
+use Rattle.residue.proofs.elimination.Eliminated.{whole-limits, eliminated-none, eliminated-more, eliminated-length, eliminated-below, cancellations-none, cancellations-more, cancellations-most}
 use Rattle.residue.proofs.elimination.eliminate.Statement.{statement}
 use Rattle.residue.proofs.elimination.eliminate.Tie as tie
 
@@ -43,9 +43,12 @@ module _ (l : tie.At-loop Inv-loop μ-loop) where
       (eliminated-below (start .args .p) (start .args .rows .now) (start .args .pivots .now) (start .args .work .now) (start .pre .1 .1 .0) (omega arith) (start .pre .1 .1 .1 .1 .0 .1) (l .loop .t) (omega arith))
 
   -- behind its own coefficient the pivot row is 0
-  zero : (width : ℕ) → l .loop .t < start .args .found → ((i : ℕ) → width ≤ i → i < 128 → start .args .n + l .loop .t + 1 ≤ i) → ZeroFrom width row
-  zero width h behind i w k =
-      let b = behind i w k in
+  abbrev end : ℕ
+  end = start .args .n + l .loop .t + 1
+
+  zero : l .loop .t < start .args .found → ZeroFrom (wholeWidth end) row
+  zero h i w k =
+      let b = whole-limits end .1 i w k in
       let e : start .args .n + (i - start .args .n) ≡ i = omega arith in
       getD-take 128 (drop (1152 * l .loop .t) (start .args .rows .now)) i 0 k ∙ getD-drop (1152 * l .loop .t) (start .args .rows .now) i 0
       ∙ ap (λ (j : ℕ). getD (start .args .rows .now) (1152 * l .loop .t + j) 0) (sym e)
@@ -101,13 +104,14 @@ cancel-requires c κs =
     let w = c .before .before .before .whole .ensures in
     let n : 1152 * l .loop .t + 1152 - 1152 * l .loop .t ≡ 1152 = omega arith in
     let is = ap (λ (k : ℕ). take k (drop (1152 * l .loop .t) (s .args .rows .now))) n in (
-      (s .pre .0 .0, s .pre .0 .1, w .0, s .pre .1 .1 .1 .1 .1 (l .loop .t) (omega arith)),
+      (s .pre .0 .0, s .pre .0 .1, omega (arith, w, whole-limits (end l) .0), s .pre .1 .1 .1 .1 .1 (l .loop .t) (omega arith)),
       (
         (ap length is ∙ block-long l (omega arith), long l, below l),
         (
           refl,
           is ∙ s .pre .1 .1 .1 .1 .0 .0 (l .loop .t) (omega arith) ∙ sym (ap (multiplesOf (s .args .p)) (ap (take 128) is ∙ front l)),
-          subst (ZeroFrom _) (sym (ap (take 128) is ∙ front l)) (zero l _ (omega arith) (w .1)),
+          subst (λ (k : ℕ). ZeroFrom k (take 128 (take (1152 * l .loop .t + 1152 - 1152 * l .loop .t) (drop (1152 * l .loop .t) (s .args .rows .now))))) (sym w)
+              (subst (ZeroFrom (wholeWidth (end l))) (sym (ap (take 128) is ∙ front l)) (zero l (omega arith))),
         ),
       ),
     )
