@@ -11,7 +11,7 @@ use lib.ListN.{length, drop, getD, drop-of-length-le}
 use lib.Seq.{drop-cons}
 use Rattle.residue.specs.Congruence.{Mod}
 use Rattle.residue.proofs.Congruence.{rfl, of, _then_, _times_, reduce}
-use Rattle.monomial.specs.Monomial.{degree, divides, valueAt}
+use Rattle.monomial.specs.Monomial.{degree, divides, monomialAt}
 use Rattle.monomial.specs.Order.{orderOf, andThen, byFirst, byLast, cmp}
 use Rattle.monomial.proofs.Algebra.Products.{Aligned, nil, cons, aligned}
 use Rattle.monomial.proofs.Orders.Answers.{Says, same, said, compare-self}
@@ -90,20 +90,20 @@ module _ (a b : List ℕ) where
   number-grevlex (suc (suc k)) n m d = rw (said (same d))
 
 -- the product of the powers passed, modulo p, times the value of what is left
-module _ (p : ℕ) (P a : List ℕ) (i x : ℕ) (v : Mod p (x * valueAt (drop i P) (drop i a)) (valueAt P a)) where
+module _ (p : ℕ) (P a : List ℕ) (i x : ℕ) (v : Mod p (x * monomialAt (drop i P) (drop i a)) (monomialAt P a)) where
   pub value-again : i < length P → i < length a → {f : ℕ} → f ≡ (getD P i 0 ^ getD a i 0) % p →
-      Mod p ((x * f) % p * valueAt (drop (i + 1) P) (drop (i + 1) a)) (valueAt P a)
+      Mod p ((x * f) % p * monomialAt (drop (i + 1) P) (drop (i + 1) a)) (monomialAt P a)
   value-again h k {f} e =
       reduce p (x * f) times rfl {x = rest} then of (mul-assoc x f rest) then rfl {x = x} times ((of e then reduce p power) times rfl {x = rest}) then of turn then v
     where
       rest : ℕ
-      rest = valueAt (drop (i + 1) P) (drop (i + 1) a)
+      rest = monomialAt (drop (i + 1) P) (drop (i + 1) a)
 
       power : ℕ
       power = getD P i 0 ^ getD a i 0
 
-      turn : x * (power * rest) ≡ x * valueAt (drop i P) (drop i a)
+      turn : x * (power * rest) ≡ x * monomialAt (drop i P) (drop i a)
       turn = sym (rw (add-one, drop-cons P i 0 h, drop-cons a i 0 k))
 
-  pub value-end : length P ≤ i → x < p → x ≡ valueAt P a % p
+  pub value-end : length P ≤ i → x < p → x ≡ monomialAt P a % p
   value-end h k = sym (mod-eq-of-lt k) ∙ rw (drop-of-length-le P {i = i} h, mul-one) at (v .same)

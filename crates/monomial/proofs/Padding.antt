@@ -8,7 +8,7 @@ use lib.ListN.{length, replicate, getD, List·getD-append}
 use lib.Seq.{set-append-left}
 use Rattle.residue.specs.Layout.{fill}
 use Rattle.residue.proofs.Layouts.{fill-tail}
-use Rattle.monomial.specs.Monomial.{degree, one, timesVariable, divides, valueAt}
+use Rattle.monomial.specs.Monomial.{degree, one, timesVariable, divides, monomialAt}
 use Rattle.monomial.specs.Order.{Order, lex, grlex, grevlex, byFirst, byLast, cmp}
 use Rattle.monomial.proofs.Algebra.Products.{Aligned, nil, cons, aligned, length-timesVariable}
 use Rattle.monomial.proofs.Algebra.Division.{divides-refl}
@@ -39,7 +39,7 @@ divides-append : {a b : List ℕ} (z : List ℕ) → Aligned a b → divides (a 
 divides-append z nil = divides-refl z
 divides-append z (cons {x} {y} e) = rw (divides-append z e)
 
-value-append : {p a : List ℕ} (n : ℕ) → Aligned p a → valueAt (p ++ replicate n 0) (a ++ replicate n 0) ≡ valueAt p a
+value-append : {p a : List ℕ} (n : ℕ) → Aligned p a → monomialAt (p ++ replicate n 0) (a ++ replicate n 0) ≡ monomialAt p a
 value-append n nil = value-one (replicate n 0) n
 value-append n (cons e) = rw (value-append n e)
 
@@ -80,8 +80,8 @@ module _ (a b : List ℕ) (l : length a ≡ length b) (s : length a ≤ 8) where
       padded = rw l (divides-append (replicate (8 - length b) 0) (aligned a b l))
 
   -- a point's coordinates are filled up as well
-  pub value-fill : valueAt (fill 8 a) (fill 8 b) ≡ valueAt a b
-  value-fill = ap₂ valueAt (fill-tail 8 a s) (fill-tail 8 b (omega arith)) ∙ padded
+  pub value-fill : monomialAt (fill 8 a) (fill 8 b) ≡ monomialAt a b
+  value-fill = ap₂ monomialAt (fill-tail 8 a s) (fill-tail 8 b (omega arith)) ∙ padded
     where
-      padded : valueAt (pad a) (pad b) ≡ valueAt a b
+      padded : monomialAt (pad a) (pad b) ≡ monomialAt a b
       padded = rw l (value-append (8 - length b) (aligned a b l))

@@ -11,14 +11,14 @@ placed x y ys r Ordering·gt = y ∷ r
 
 module _ {A : Type 0} (c : A → A → Ordering) where
   -- x is less than each of the list
-  abbrev pub Below : A → List A → Type 0
-  Below x [] = Unit {0}
-  Below x (y ∷ ys) = (c x y ≡ Ordering·lt) × Below x ys
+  abbrev pub Precedes : A → List A → Type 0
+  Precedes x [] = Unit {0}
+  Precedes x (y ∷ ys) = (c x y ≡ Ordering·lt) × Precedes x ys
 
   -- each is less than all behind it
   abbrev pub Increasing : List A → Type 0
   Increasing [] = Unit {0}
-  Increasing (x ∷ xs) = Below x xs × Increasing xs
+  Increasing (x ∷ xs) = Precedes x xs × Increasing xs
 
   -- x put at its place in an increasing list, where it does not stand there already
   abbrev pub inserted : A → List A → List A

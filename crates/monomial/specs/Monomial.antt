@@ -31,7 +31,7 @@ divides (x ∷ xs) [] = false
 divides (x ∷ xs) (y ∷ ys) = leb x y && divides xs ys
 
 -- the value at a point, not reduced; zero to the power 0 is 1 (docs/SCOPE.md, 'The sheet')
-abbrev pub valueAt : List ℕ → List ℕ → ℕ
-valueAt [] a = 1
-valueAt (p ∷ ps) [] = 1
-valueAt (p ∷ ps) (x ∷ xs) = p ^ x * valueAt ps xs
+abbrev pub monomialAt : List ℕ → List ℕ → ℕ
+monomialAt [] a = 1
+monomialAt (p ∷ ps) [] = 1
+monomialAt (p ∷ ps) (x ∷ xs) = p ^ x * monomialAt ps xs

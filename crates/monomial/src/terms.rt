@@ -8,7 +8,7 @@ ghost use Prim.Native.Nat.{_*_, _%_, _<_, _≤_};
 ghost use lib.ListN.{length, replicate};
 ghost use Rattle.residue.specs.Vector.{Below, addScaled, powered};
 ghost use Rattle.residue.specs.Layout.{groups, over};
-ghost use Rattle.monomial.specs.Monomial.{valueAt};
+ghost use Rattle.monomial.specs.Monomial.{monomialAt};
 ghost use Rattle.monomial.specs.Columns.{columnOf};
 ghost use Rattle.monomial.specs.Terms.{termValues};
 
@@ -32,7 +32,7 @@ fn multiply_monomial(p: u8, n: usize, a: &[u8], points: &[u8], values: &mut [u8]
     requires { ⌜ ((2 ≤ p) × (p ≤ 61)) × (n ≤ 64) ⌝ }
     requires { ⌜ (length (now a) ≡ 8) × ((length (now points) ≡ 512) × Below p (now points)) ⌝ }
     requires { ⌜ now values ≡ replicate n 1 ⌝ }
-    ensures { λ _. ⌜ now (values .exit) ≡ map (λ P. valueAt P (now (a .entry)) % p) (groups 8 n (now (points .entry))) ⌝ }
+    ensures { λ _. ⌜ now (values .exit) ≡ map (λ P. monomialAt P (now (a .entry)) % p) (groups 8 n (now (points .entry))) ⌝ }
 {
     for k in 0..8 {
         multiply_variable(p, n, k, a[k], points, values);
@@ -44,7 +44,8 @@ fn add_term(p: u8, n: usize, c: u8, a: &[u8], points: &[u8], values: &mut [u8])
     requires { ⌜ ((2 ≤ p) × (p ≤ 61)) × ((n ≤ 64) × (c < p)) ⌝ }
     requires { ⌜ (length (now a) ≡ 8) × ((length (now points) ≡ 512) × Below p (now points)) ⌝ }
     requires { ⌜ (length (now values) ≡ n) × Below p (now values) ⌝ }
-    ensures { λ _. ⌜ now (values .exit) ≡ addScaled p c (now (values .entry)) (map (λ P. valueAt P (now (a .entry)) % p) (groups 8 n (now (points .entry)))) ⌝ }
+    ensures { λ _. ⌜ now (values .exit)
+        ≡ addScaled p c (now (values .entry)) (map (λ P. monomialAt P (now (a .entry)) % p) (groups 8 n (now (points .entry)))) ⌝ }
 {
     let mut term = [1u8; 64];
     multiply_monomial(p, n, a, points, &mut term[..n]);
@@ -65,7 +66,8 @@ pub fn put_term_values(
     requires { ⌜ length (now exponents) ≡ 8 * length (now coefficients) ⌝ }
     requires { ⌜ (n ≤ 64) × ((length (now points) ≡ 512) × Below p (now points)) ⌝ }
     requires { ⌜ now work ≡ replicate 128 0 ⌝ }
-    ensures { λ _. ⌜ now (work .exit) ≡ over (termValues p (now (coefficients .entry)) (now (exponents .entry)) n (now (points .entry))) (now (work .entry)) ⌝ }
+    ensures { λ _. ⌜ now (work .exit)
+        ≡ over (termValues p (now (coefficients .entry)) (now (exponents .entry)) n (now (points .entry))) (now (work .entry)) ⌝ }
 {
     for i in 0..coefficients.len() {
         let place = 8 * i;

@@ -9,7 +9,7 @@ use Rattle.residue.specs.Inverse.{inverseOf}
 use Rattle.residue.specs.Lists.{sameList}
 use Rattle.residue.specs.Layout.{fill}
 use Rattle.residue.proofs.Layouts.{length-fill}
-use Rattle.monomial.specs.Monomial.{one, timesVariable, divides, valueAt}
+use Rattle.monomial.specs.Monomial.{one, timesVariable, divides, monomialAt}
 use Rattle.monomial.specs.Order.{Order, cmp}
 use Rattle.specification.specs.Space.{Space}
 
@@ -50,7 +50,7 @@ spaceOf q m order = record {
   Pt = Point (suc q) m;
   one = (one m, length-replicate m 0);
   x = λ k a. (timesVariable k (a .0), length-set (a .0) k _ ∙ a .1);
-  val = λ a P. valueAt (P .0) (a .0);
+  val = λ a P. monomialAt (P .0) (a .0);
   coord = λ k P. getD (P .0) k 0;
   cmp = λ a b. cmp order (a .0) (b .0);
   divides = λ a b. divides (a .0) (b .0);

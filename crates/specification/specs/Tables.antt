@@ -53,15 +53,15 @@ fourTables a b c d = record { states = a; standard = b; leads = c; coefficients 
 
 -- The row count r.
 unfoldable pub rowCount : Settings → List (List ℕ) → ℕ
-rowCount s S = length (leadsOf (spaceUnder s) (pointsUnder s S))
+rowCount s S = length (leadsUnder s S)
 
 -- 8 bytes for a point, a standard monomial and a leading monomial, 64 for a row of coefficients; each byte of the sizes that is not so described is 0.
 unfoldable pub tablesOf : Settings → List (List ℕ) → Tables
 tablesOf s S = record {
   states = fill statesSize (inPlaces 8 S);
-  standard = fill standardSize (inPlaces 8 (map (λ a. a .0) (standardOf (spaceUnder s) (pointsUnder s S))));
-  leads = fill leadsSize (inPlaces 8 (map (λ a. a .0) (leadsOf (spaceUnder s) (pointsUnder s S))));
-  coefficients = fill coefficientsSize (inPlaces 64 (rowsOf (spaceUnder s) (pointsUnder s S)));
+  standard = fill standardSize (inPlaces 8 (map (λ a. a .0) (standardUnder s S)));
+  leads = fill leadsSize (inPlaces 8 (map (λ a. a .0) (leadsUnder s S)));
+  coefficients = fill coefficientsSize (inPlaces 64 (rowsUnder s S));
 }
 
 -- the lent tables with these in their sizes

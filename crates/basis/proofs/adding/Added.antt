@@ -18,7 +18,7 @@ use Rattle.residue.proofs.vector.Vectors.{below-take, map-same}
 use Rattle.residue.proofs.Tests.{true-of}
 use Rattle.residue.proofs.Layouts.{fill-exact, below-fill, length-fill}
 use Rattle.residue.proofs.Places.{places-append, over-zeros, place-more}
-use Rattle.monomial.specs.Monomial.{valueAt}
+use Rattle.monomial.specs.Monomial.{monomialAt}
 use Rattle.monomial.specs.Order.{orderOf}
 use Rattle.monomial.proofs.Padding.{value-fill}
 use Rattle.specification.specs.declared.settings.Settings.{Settings}
@@ -231,18 +231,18 @@ module _ {s : Settings} {n r : ℕ} {points standard leads coefficients rows piv
   standard-count : length (standardUnder s K) ≡ n
   standard-count = standard-length D L S d ∙ count
 
-  values-are : over (map (λ a. valueAt point a % p) (groups 8 n standard)) (replicate 64 0) ≡ due
+  values-are : over (map (λ a. monomialAt point a % p) (groups 8 n standard)) (replicate 64 0) ≡ due
   values-are =
       let f : Monomial m → List ℕ = λ b. fill 8 (b .0) in
       let back : groups 8 n standard ≡ map f (standardUnder s K) = ap₂ (λ (k : ℕ) (t : List ℕ). groups 8 k t) (sym standard-count) standard-is ∙ read q m o (given .settings .few) L 512 (standardUnder s K) (omega (arith, standard-count)) in
-      let value : (b : Monomial m) → valueAt (fill 8 (P .0)) (fill 8 (b .0)) % suc q ≡ valueAt (P .0) (b .0) % suc q =
+      let value : (b : Monomial m) → monomialAt (fill 8 (P .0)) (fill 8 (b .0)) % suc q ≡ monomialAt (P .0) (b .0) % suc q =
       λ b. ap (λ (z : ℕ). z % suc q) (value-fill (P .0) (b .0) (P .1 .0 ∙ sym (b .1)) (rw (P .1 .0) (given .settings .few))) in
-      let n64 = length-map (standardUnder s K) (λ (b : Monomial m). valueAt (P .0) (b .0) % suc q) in
+      let n64 = length-map (standardUnder s K) (λ (b : Monomial m). monomialAt (P .0) (b .0) % suc q) in
       ap (λ (z : List ℕ). over z (replicate 64 0))
-      (ap (map (λ a. valueAt point a % p)) back ∙ map-map (λ a. valueAt point a % p) f (standardUnder s K)
-      ∙ ap₂ (λ (z : List ℕ) (k : ℕ). map (λ (b : Monomial m). valueAt z (fill 8 (b .0)) % k) (standardUnder s K)) point-is raised
-      ∙ map-same (λ (b : Monomial m). valueAt (fill 8 (P .0)) (fill 8 (b .0)) % suc q) (λ b. valueAt (P .0) (b .0) % suc q) (standardUnder s K) (λ b mem. value b))
-      ∙ over-zeros (map (λ (b : Monomial m). valueAt (P .0) (b .0) % suc q) (standardUnder s K)) 64 (omega (arith, standard-count))
+      (ap (map (λ a. monomialAt point a % p)) back ∙ map-map (λ a. monomialAt point a % p) f (standardUnder s K)
+      ∙ ap₂ (λ (z : List ℕ) (k : ℕ). map (λ (b : Monomial m). monomialAt z (fill 8 (b .0)) % k) (standardUnder s K)) point-is raised
+      ∙ map-same (λ (b : Monomial m). monomialAt (fill 8 (P .0)) (fill 8 (b .0)) % suc q) (λ b. monomialAt (P .0) (b .0) % suc q) (standardUnder s K) (λ b mem. value b))
+      ∙ over-zeros (map (λ (b : Monomial m). monomialAt (P .0) (b .0) % suc q) (standardUnder s K)) 64 (omega (arith, standard-count))
 
   solves-it : (vs : List ℕ) → length vs ≡ length S → Below (suc q) vs
       → eliminated (suc q) rows pivots (length S) (fill 128 vs) ≡ fill 128 (replicate (length S) 0 ++ map (λ c. (suc q - c) % suc q) (interpolantOf D S vs))
@@ -252,7 +252,7 @@ module _ {s : Settings} {n r : ℕ} {points standard leads coefficients rows piv
       (sym (length-map K (pointOf q m))) (drawn .pivot-rows .solves))
 
   -- what the functions find and leave
-  module _ (vs : List ℕ) (ev : vs ≡ over (map (λ a. valueAt point a % p) (groups 8 n standard)) (replicate 64 0)) (j : ℕ) (ej : j ≡ firstFrom (valueOfRow p n point vs leads coefficients) 0 r) where
+  module _ (vs : List ℕ) (ev : vs ≡ over (map (λ a. monomialAt point a % p) (groups 8 n standard)) (replicate 64 0)) (j : ℕ) (ej : j ≡ firstFrom (valueOfRow p n point vs leads coefficients) 0 r) where
     abbrev wanted : ℕ
     wanted = lost q m (orderOf o) (given .settings .few) L S d (short q m o (given .settings .few) L S d many (given .settings .some) fits P far) (most q m o (given .settings .few) L S d many (given .settings .some) fits P far) P far
 

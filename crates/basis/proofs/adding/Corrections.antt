@@ -12,7 +12,7 @@ use Rattle.residue.specs.Vector.{addScaled, dotOf}
 use Rattle.residue.specs.Layout.{fill}
 use Rattle.residue.proofs.Congruence.{rfl, of, _then_, _plus_, _times_, scale, reduce, negative}
 use Rattle.residue.proofs.Layouts.{fill-twice}
-use Rattle.monomial.specs.Monomial.{valueAt}
+use Rattle.monomial.specs.Monomial.{monomialAt}
 use Rattle.monomial.specs.Order.{Order, cmp}
 use Rattle.monomial.specs.Insert.{insertedAt, placeOf}
 use Rattle.monomial.proofs.Padding.{value-fill}
@@ -62,31 +62,31 @@ module _ (q m : ℕ) (order : Order) (few : m ≤ 8) where
 
   -- the value of a row
   values-sum : (l : List (Monomial m)) (P : Point (suc q) m) (cs : List ℕ)
-      → Mod (suc q) (dotOf cs (map (λ b. valueAt (P .0) (b .0) % suc q) l)) (sumOver (λ t. t .0 * D .val (t .1) P) (terms D cs l))
+      → Mod (suc q) (dotOf cs (map (λ b. monomialAt (P .0) (b .0) % suc q) l)) (sumOver (λ t. t .0 * D .val (t .1) P) (terms D cs l))
   unfolding dotOf
   values-sum [] P [] = rfl
   values-sum [] P (c ∷ cs) = rfl
   values-sum (b ∷ l) P [] = rfl
-  values-sum (b ∷ l) P (c ∷ cs) = scale c (reduce (suc q) (valueAt (P .0) (b .0))) plus values-sum l P cs
+  values-sum (b ∷ l) P (c ∷ cs) = scale c (reduce (suc q) (monomialAt (P .0) (b .0))) plus values-sum l P cs
 
   module _ (l : List (Monomial m)) (P : Point (suc q) m) (short : length l ≤ 64) where
     abbrev pub valuesAt : List ℕ
-    valuesAt = fill 64 (map (λ b. valueAt (P .0) (b .0) % suc q) l)
+    valuesAt = fill 64 (map (λ b. monomialAt (P .0) (b .0) % suc q) l)
 
-    pub row-value-is : (a : Monomial m) (cs : List ℕ) → rowValueAt (suc q) (fill 8 (P .0)) (map (λ b. valueAt (P .0) (b .0) % suc q) l) (fill 8 (a .0)) cs ≡ rowValue D l a cs P % suc q
+    pub row-value-is : (a : Monomial m) (cs : List ℕ) → rowValueAt (suc q) (fill 8 (P .0)) (map (λ b. monomialAt (P .0) (b .0) % suc q) l) (fill 8 (a .0)) cs ≡ rowValue D l a cs P % suc q
     unfolding rowValueAt
     row-value-is a cs =
-        let vs : List ℕ = map (λ b. valueAt (P .0) (b .0) % suc q) l in
-        let value : valueAt (fill 8 (P .0)) (fill 8 (a .0)) ≡ valueAt (P .0) (a .0) = value-fill (P .0) (a .0) (P .1 .0 ∙ sym (a .1)) (rw (P .1 .0) few) in
-        let both : Mod (suc q) (valueAt (P .0) (a .0) + dotOf cs vs) (rowValue D l a cs P) = of (omega arith) plus values-sum l P cs in
+        let vs : List ℕ = map (λ b. monomialAt (P .0) (b .0) % suc q) l in
+        let value : monomialAt (fill 8 (P .0)) (fill 8 (a .0)) ≡ monomialAt (P .0) (a .0) = value-fill (P .0) (a .0) (P .1 .0 ∙ sym (a .1)) (rw (P .1 .0) few) in
+        let both : Mod (suc q) (monomialAt (P .0) (a .0) + dotOf cs vs) (rowValue D l a cs P) = of (omega arith) plus values-sum l P cs in
         ap (λ (u : ℕ). (u + dotOf cs vs) % suc q) value ∙ both .same
 
     pub row-value-filled : (a : Monomial m) (cs : List ℕ) → length cs ≡ length l → rowValueAt (suc q) (fill 8 (P .0)) valuesAt (fill 8 (a .0)) (fill 64 cs) ≡ rowValue D l a cs P % suc q
     unfolding rowValueAt
     row-value-filled a cs e =
-        let vs : List ℕ = map (λ b. valueAt (P .0) (b .0) % suc q) l in
+        let vs : List ℕ = map (λ b. monomialAt (P .0) (b .0) % suc q) l in
         let long : length cs ≡ length vs = e ∙ sym (length-map l _) in
-        ap (λ (z : ℕ). (valueAt (fill 8 (P .0)) (fill 8 (a .0)) + z) % suc q) (dot-fill 64 cs vs long (omega arith)) ∙ row-value-is a cs
+        ap (λ (z : ℕ). (monomialAt (fill 8 (P .0)) (fill 8 (a .0)) + z) % suc q) (dot-fill 64 cs vs long (omega arith)) ∙ row-value-is a cs
 
     module _ (α : Monomial m) (rs : List ℕ) (lr : length rs ≡ length l) where
       abbrev pub inverseAt : ℕ

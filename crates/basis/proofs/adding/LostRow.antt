@@ -13,7 +13,7 @@ use Rattle.residue.specs.Layout.{fill, inPlaces, rowAt}
 use Rattle.residue.proofs.vector.Vectors.{map-at}
 use Rattle.residue.proofs.Layouts.{take-fill}
 use Rattle.residue.proofs.Places.{place-at}
-use Rattle.monomial.specs.Monomial.{valueAt}
+use Rattle.monomial.specs.Monomial.{monomialAt}
 use Rattle.monomial.specs.Order.{Order}
 use Rattle.specification.specs.Space.{Space}
 use Rattle.specification.specs.Polynomial.{Distinct}
@@ -63,7 +63,7 @@ module _ (q m : ℕ) (order : Order) (few : m ≤ 8) (L : Laws (spaceOf q m orde
   unfolding valueOfRow
   value-at-row i h =
       let a : Monomial m = getD (leadsOf D S) i (D .one) in
-      let vs : List ℕ = map (λ (b : Monomial m). valueAt (P .0) (b .0) % suc q) (standardOf D S) in
+      let vs : List ℕ = map (λ (b : Monomial m). monomialAt (P .0) (b .0) % suc q) (standardOf D S) in
       let front : take (length S) (fill 64 vs) ≡ vs = take-fill (length S) 64 vs (length-map (standardOf D S) _ ∙ standard-count) short in
       let row : take (length S) (rowAt 64 i rowsTable) ≡ rowOf D S a = ap (take (length S)) (row-at i h) ∙ take-fill (length S) 64 (rowOf D S a) (row-is D L S d a .long ∙ standard-count) short in
       ap₂ (λ (u v : List ℕ). rowValueAt (suc q) (fill 8 (P .0)) u v (take (length S) (rowAt 64 i rowsTable))) front (lead-at i h)

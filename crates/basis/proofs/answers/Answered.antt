@@ -14,7 +14,7 @@ use Rattle.residue.specs.Layout.{groups, fill, inPlaces, over}
 use Rattle.residue.proofs.vector.Vectors.{map-at}
 use Rattle.residue.proofs.Tests.{of-true, neither, and-left, and-right}
 use Rattle.residue.proofs.Places.{length-groups, groups-long}
-use Rattle.monomial.specs.Monomial.{valueAt}
+use Rattle.monomial.specs.Monomial.{monomialAt}
 use Rattle.monomial.specs.Terms.{termValues}
 use Rattle.specification.specs.declared.settings.Settings.{Settings}
 use Rattle.specification.specs.Refusal.{firstOf}
@@ -44,7 +44,7 @@ module _ (p : ℕ) (cs exponents : List ℕ) (n : ℕ) (points : List ℕ) where
 
   pub terms-below : 0 < p → Below p (termValues p cs exponents n points)
   unfolding termValues
-  terms-below z i h = rw (map-at (λ P. dotOf cs (map (valueAt P) (groups 8 (length cs) exponents)) % p) (groups 8 n points) [] 0 i (omega (arith, length-map (groups 8 n points) (λ P. dotOf cs (map (valueAt P) (groups 8 (length cs) exponents)) % p)))) (mod-lt _ z)
+  terms-below z i h = rw (map-at (λ P. dotOf cs (map (monomialAt P) (groups 8 (length cs) exponents)) % p) (groups 8 n points) [] 0 i (omega (arith, length-map (groups 8 n points) (λ P. dotOf cs (map (monomialAt P) (groups 8 (length cs) exponents)) % p)))) (mod-lt _ z)
 
 -- elimination answers the interpolant
 module _ (s : Settings) (ok : Accepted s) (n r : ℕ) (t : Tables) (few : n ≤ 64) (known : recognised s n r t ≡ true) (rows pivots : List ℕ) (e : Solves s (readIn s n r t) rows pivots) where
@@ -149,6 +149,6 @@ module _ (s : Settings) (n r : ℕ) (t : Tables) (coefficients : List ℤ) (expo
         let long = groups-long 8 (length coefficients) exponents (omega (arith, terms-count)) in
         let within = and-right (inRange (s .modulus) coefficients) _ (of-true good) in
         -- the same terms and points, by their number
-        let are : vs ≡ valuesIn s ok K at R es long within = ap₂ (λ (j k : ℕ). map (λ P. dotOf R (map (valueAt P) (groups 8 j exponents)) % s .modulus) (groups 8 k (fill 512 (inPlaces 8 K)))) (length-residues (s .modulus) coefficients) (sym as-many) in
+        let are : vs ≡ valuesIn s ok K at R es long within = ap₂ (λ (j k : ℕ). map (λ P. dotOf R (map (monomialAt P) (groups 8 j exponents)) % s .modulus) (groups 8 k (fill 512 (inPlaces 8 K)))) (length-residues (s .modulus) coefficients) (sym as-many) in
         solved s ok n r t (terms-sized .few) known rows pivots e vs many (terms-below (s .modulus) R exponents n _ above)
         ∙ remainder-is s ok K at (polynomialUnder s coefficients exponents) vs (many ∙ sym as-many) (λ i h. ap (λ (l : List ℕ). getD l i 0) are ∙ value-in s ok K at R es long within i h)

@@ -17,7 +17,7 @@ use Rattle.residue.proofs.vector.Vectors.{map-at}
 use Rattle.residue.proofs.level.Moduli.{modulus-range}
 use Rattle.residue.proofs.Layouts.{fill-tail}
 use Rattle.residue.proofs.Places.{table-groups}
-use Rattle.monomial.specs.Monomial.{valueAt as valueOf}
+use Rattle.monomial.specs.Monomial.{monomialAt}
 use Rattle.monomial.specs.Order.{orderOf}
 use Rattle.specification.specs.declared.settings.Settings.{Settings}
 use Rattle.specification.specs.BasisOf.{valueAt, interpolantOf, remainderOf}
@@ -108,7 +108,7 @@ module _ (s : Settings) (ok : Accepted s) (S : List (List ℕ)) (h : Points s S)
   -- The values of a polynomial handed in, as they are found at the places of the points.
   module _ (cs : List ℕ) (es : List (List ℕ)) (eight : (e : List ℕ) → Among e es → length e ≡ 8) (within : T (withinVariables (s .variables) es)) where
     abbrev found : List ℕ → ℕ
-    found P = dotOf cs (map (valueOf P) es) % s .modulus
+    found P = dotOf cs (map (monomialAt P) es) % s .modulus
 
     abbrev pub valuesIn : List ℕ
     valuesIn = map found (groups 8 (length S) (fill 512 (inPlaces 8 S)))

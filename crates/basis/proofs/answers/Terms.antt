@@ -11,7 +11,7 @@ use Rattle.residue.specs.Vector.{dotOf}
 use Rattle.residue.specs.Layout.{groups, fill}
 use Rattle.residue.proofs.Tests.{and-left, and-right}
 use Rattle.residue.proofs.Places.{groups-step, groups-end}
-use Rattle.monomial.specs.Monomial.{valueAt}
+use Rattle.monomial.specs.Monomial.{monomialAt}
 use Rattle.monomial.specs.Order.{Order}
 use Rattle.monomial.proofs.Algebra.Values.{value-filled}
 use Rattle.specification.specs.Polynomial.{eval}
@@ -35,7 +35,7 @@ within-end m k i t h = rw (groups-end 8 k i t h)
 
 module _ (q m : ℕ) (order : Order) (P : Point (suc q) m) where
   pub terms-value : (w : ℕ) (cs : List ℕ) (es : List (List ℕ)) → m ≤ w → ((e : List ℕ) → Among e es → length e ≡ w) → T (withinVariables m es)
-      → dotOf cs (map (valueAt (fill w (P .0))) es) ≡ eval (spaceOf q m order) (polynomialOf m cs es) P
+      → dotOf cs (map (monomialAt (fill w (P .0))) es) ≡ eval (spaceOf q m order) (polynomialOf m cs es) P
   unfolding dotOf polynomialOf monomialOf withinVariables
   terms-value w [] es h l t = refl
   terms-value w (c ∷ cs) [] h l t = refl

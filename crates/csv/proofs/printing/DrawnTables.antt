@@ -17,9 +17,9 @@ use Rattle.residue.proofs.Tests.{by-test}
 use Rattle.monomial.specs.Order.{orderOf}
 use Rattle.specification.specs.declared.settings.Settings.{Settings}
 use Rattle.specification.specs.Polynomial.{Distinct}
-use Rattle.specification.specs.BasisOf.{basisOf, standardOf, leadsOf, rowOf, rowsOf, interpolantOf}
+use Rattle.specification.specs.BasisOf.{basisOf, rowOf, interpolantOf}
 use Rattle.specification.specs.Instance.{Monomial, Point, pointOf}
-use Rattle.specification.specs.Tables.{spaceUnder, pointsUnder, rowCount, tablesOf}
+use Rattle.specification.specs.Tables.{spaceUnder, pointsUnder, standardUnder, leadsUnder, rowsUnder, rowCount, tablesOf}
 use Rattle.specification.specs.Needed.{pairIn, wiringOf, Names}
 use Rattle.specification.proofs.Instance.{standard-exponent, lead-exponent}
 use Rattle.specification.proofs.ideal.Lists.{getD-among, among-map}
@@ -56,10 +56,10 @@ names-below m S vs h = below-of 10 (wiringOf m S vs) (λ c w. let t = list .memb
 
 module _ (s : Settings) (ok : Accepted s) (S : List (List ℕ)) (h : Points s S) where
   abbrev pub standards : List (List ℕ)
-  standards = map (λ a. a .0) (standardOf (spaceUnder s) (pointsUnder s S))
+  standards = map (λ a. a .0) (standardUnder s S)
 
   abbrev pub leads : List (List ℕ)
-  leads = map (λ a. a .0) (leadsOf (spaceUnder s) (pointsUnder s S))
+  leads = map (λ a. a .0) (leadsUnder s S)
 
   d : Distinct (spaceUnder s) (pointsUnder s S)
   d = distinct-points s ok S h
@@ -69,16 +69,16 @@ module _ (s : Settings) (ok : Accepted s) (S : List (List ℕ)) (h : Points s S)
       let e : s .modulus ≡ suc (s .modulus - 1) = omega (arith, modulus-range (s .modulus) (ok .modulus)) in
       subst (λ (p : ℕ). isModulus p ≡ true) e (ok .modulus)
 
-  standard-count : length (standardOf (spaceUnder s) (pointsUnder s S)) ≡ length S
+  standard-count : length (standardUnder s S) ≡ length S
   standard-count = standard-length (spaceUnder s) (laws-under s ok) (pointsUnder s S) d ∙ length-map S _
 
   lead-count : length leads ≡ rowCount s S
   unfolding rowCount
-  lead-count = length-map (leadsOf (spaceUnder s) (pointsUnder s S)) _
+  lead-count = length-map (leadsUnder s S) _
 
-  row-count : length (rowsOf (spaceUnder s) (pointsUnder s S)) ≡ rowCount s S
+  row-count : length (rowsUnder s S) ≡ rowCount s S
   unfolding rowCount
-  row-count = length-map (leadsOf (spaceUnder s) (pointsUnder s S)) _
+  row-count = length-map (leadsUnder s S) _
 
   -- m exponents
   long : (l : List (Monomial (s .variables))) (a : List ℕ) → Among a (map (λ b. b .0) l) → length a ≡ s .variables
@@ -94,44 +94,44 @@ module _ (s : Settings) (ok : Accepted s) (S : List (List ℕ)) (h : Points s S)
     below-of 100 (basisOf (spaceUnder s) (pointsUnder s S) .interpolant φ) (λ c w. omega (arith, interpolant-fits (spaceUnder s) (laws-under s ok) (pointsUnder s S) d φ .residues c w, modulus-range (s .modulus) (ok .modulus))),
   )
 
-  rows-long : (a : List ℕ) → Among a (rowsOf (spaceUnder s) (pointsUnder s S)) → length a ≡ length S
+  rows-long : (a : List ℕ) → Among a (rowsUnder s S) → length a ≡ length S
   rows-long a w =
-      let t = among-map (rowOf (spaceUnder s) (pointsUnder s S)) (leadsOf (spaceUnder s) (pointsUnder s S)) a w in
+      let t = among-map (rowOf (spaceUnder s) (pointsUnder s S)) (leadsUnder s S) a w in
       ap (λ (z : List ℕ). length z) (t .2) ∙ solved-long _
 
   -- The tables read back.
   pub standard-back : inTable 8 (length S) (s .variables) (tablesOf s S .standard) ≡ standards
   unfolding tablesOf
-  standard-back = table-back 8 512 (length S) (s .variables) standards (length-map (standardOf (spaceUnder s) (pointsUnder s S)) _ ∙ standard-count) (omega (arith, h .few)) (ok .few) (long (standardOf (spaceUnder s) (pointsUnder s S)))
+  standard-back = table-back 8 512 (length S) (s .variables) standards (length-map (standardUnder s S) _ ∙ standard-count) (omega (arith, h .few)) (ok .few) (long (standardUnder s S))
 
   pub leads-back : inTable 8 (rowCount s S) (s .variables) (tablesOf s S .leads) ≡ leads
   unfolding tablesOf
-  leads-back = table-back 8 3592 (rowCount s S) (s .variables) leads lead-count (omega (arith, few-rows s ok S h)) (ok .few) (long (leadsOf (spaceUnder s) (pointsUnder s S)))
+  leads-back = table-back 8 3592 (rowCount s S) (s .variables) leads lead-count (omega (arith, few-rows s ok S h)) (ok .few) (long (leadsUnder s S))
 
-  pub rows-back : inTable 64 (rowCount s S) (length S) (tablesOf s S .coefficients) ≡ rowsOf (spaceUnder s) (pointsUnder s S)
+  pub rows-back : inTable 64 (rowCount s S) (length S) (tablesOf s S .coefficients) ≡ rowsUnder s S
   unfolding tablesOf
-  rows-back = table-back 64 28736 (rowCount s S) (length S) (rowsOf (spaceUnder s) (pointsUnder s S)) row-count (omega (arith, few-rows s ok S h)) (h .few) rows-long
+  rows-back = table-back 64 28736 (rowCount s S) (length S) (rowsUnder s S) row-count (omega (arith, few-rows s ok S h)) (h .few) rows-long
 
   -- What is printed fits.
   standards-short : EachShort 8 standards
   standards-short a w =
-      let t = among-map (λ (b : Monomial (s .variables)). b .0) (standardOf (spaceUnder s) (pointsUnder s S)) a w in (
-        omega (arith, long (standardOf (spaceUnder s) (pointsUnder s S)) a w, ok .few),
+      let t = among-map (λ (b : Monomial (s .variables)). b .0) (standardUnder s S) a w in (
+        omega (arith, long (standardUnder s S) a w, ok .few),
         λ i k. subst (λ (z : List ℕ). getD z i 0 < 100) (sym (t .2))
             (omega (arith, standard-exponent (s .modulus - 1) (s .variables) (orderOf (s .order)) prime (pointsUnder s S) d (t .0) (t .1) i, length-map S (pointOf (s .modulus - 1) (s .variables)), h .few)),
       )
 
   leads-short : EachShort 8 leads
   leads-short a w =
-      let t = among-map (λ (b : Monomial (s .variables)). b .0) (leadsOf (spaceUnder s) (pointsUnder s S)) a w in (
-        omega (arith, long (leadsOf (spaceUnder s) (pointsUnder s S)) a w, ok .few),
+      let t = among-map (λ (b : Monomial (s .variables)). b .0) (leadsUnder s S) a w in (
+        omega (arith, long (leadsUnder s S) a w, ok .few),
         λ i k. subst (λ (z : List ℕ). getD z i 0 < 100) (sym (t .2))
             (omega (arith, lead-exponent (s .modulus - 1) (s .variables) (orderOf (s .order)) prime (pointsUnder s S) d (t .0) (t .1) i, length-map S (pointOf (s .modulus - 1) (s .variables)), h .few)),
       )
 
-  rows-short : EachShort 64 (rowsOf (spaceUnder s) (pointsUnder s S))
+  rows-short : EachShort 64 (rowsUnder s S)
   rows-short a w =
-      let t = among-map (rowOf (spaceUnder s) (pointsUnder s S)) (leadsOf (spaceUnder s) (pointsUnder s S)) a w in
+      let t = among-map (rowOf (spaceUnder s) (pointsUnder s S)) (leadsUnder s S) a w in
       subst (Short 64) (sym (t .2)) (solved-short _)
 
   pub names-few : (values : List ℕ) → length (wiringOf (s .variables) S values) ≤ 8
@@ -140,7 +140,7 @@ module _ (s : Settings) (ok : Accepted s) (S : List (List ℕ)) (h : Points s S)
   pub lines-length : (values : List ℕ) → length (linesOf s S values) ≤ 102048
   unfolding linesOf
   lines-length values =
-      printed-length standards leads (rowsOf (spaceUnder s) (pointsUnder s S)) (interpolantOf (spaceUnder s) (pointsUnder s S) values) (wiringOf (s .variables) S values)
-      (omega (arith, length-map (standardOf (spaceUnder s) (pointsUnder s S)) (λ (b : Monomial (s .variables)). b .0), standard-count, h .few))
+      printed-length standards leads (rowsUnder s S) (interpolantOf (spaceUnder s) (pointsUnder s S) values) (wiringOf (s .variables) S values)
+      (omega (arith, length-map (standardUnder s S) (λ (b : Monomial (s .variables)). b .0), standard-count, h .few))
       (omega (arith, lead-count, few-rows s ok S h))
       standards-short leads-short rows-short (solved-short _) (names-few values, names-below (s .variables) S values (ok .few))

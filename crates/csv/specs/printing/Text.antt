@@ -6,8 +6,8 @@ use Prim.Native.Nat.{ℕ, _≤_}
 use lib.Dec.{eqb, ltb}
 use lib.ListN.{length, take, replicate}
 use Rattle.specification.specs.declared.settings.Settings.{Settings}
-use Rattle.specification.specs.BasisOf.{standardOf, leadsOf, rowsOf, interpolantOf}
-use Rattle.specification.specs.Tables.{spaceUnder, pointsUnder, pointsIn}
+use Rattle.specification.specs.BasisOf.{interpolantOf}
+use Rattle.specification.specs.Tables.{spaceUnder, pointsUnder, standardUnder, leadsUnder, rowsUnder, pointsIn}
 use Rattle.basis.specs.Drawing.{settingsOf}
 use Rattle.specification.specs.Needed.{wiringOf}
 use Rattle.residue.specs.Layout.{over}
@@ -18,9 +18,9 @@ use Rattle.csv.specs.printing.Lines.{basisLines, refusalLine}
 unfoldable pub linesOf : Settings → List (List ℕ) → List ℕ → List ℕ
 linesOf s S values =
     basisLines
-    (map (λ a. a .0) (standardOf (spaceUnder s) (pointsUnder s S)))
-    (map (λ a. a .0) (leadsOf (spaceUnder s) (pointsUnder s S)))
-    (rowsOf (spaceUnder s) (pointsUnder s S))
+    (map (λ a. a .0) (standardUnder s S))
+    (map (λ a. a .0) (leadsUnder s S))
+    (rowsUnder s S)
     (interpolantOf (spaceUnder s) (pointsUnder s S) values)
     (wiringOf (s .variables) S values)
 

@@ -5,15 +5,15 @@ use mathlib.Core.List.{List, [], _∷_}
 use Prim.Native.Nat.{suc, Ordering, Ordering·lt, Ordering·eq, Ordering·gt}
 use lib.ListN.{length}
 use Rattle.residue.specs.Lists.{Among}
-use Rattle.monomial.specs.Increasing.{Below, Increasing, placed, inserted}
+use Rattle.monomial.specs.Increasing.{Precedes, Increasing, placed, inserted}
 use Rattle.monomial.proofs.Orders.Lawful.{Lawful, turn, differ, trans, asym}
 
 module _ {A : Type 0} (c : A → A → Ordering) where
-  pub below-member : (x : A) (l : List A) → Below c x l → (z : A) → Among z l → c x z ≡ Ordering·lt
+  pub below-member : (x : A) (l : List A) → Precedes c x l → (z : A) → Among z l → c x z ≡ Ordering·lt
   below-member x (y ∷ ys) u z (inl e) = rw e (u .0)
   below-member x (y ∷ ys) u z (inr m) = below-member x ys (u .1) z m
 
-  pub member-below : (x : A) (l : List A) → ((z : A) → Among z l → c x z ≡ Ordering·lt) → Below c x l
+  pub member-below : (x : A) (l : List A) → ((z : A) → Among z l → c x z ≡ Ordering·lt) → Precedes c x l
   member-below x [] h = tt
   member-below x (y ∷ ys) h = (h y (inl refl), member-below x ys (λ z m. h z (inr m)))
 
@@ -29,7 +29,7 @@ module _ {A : Type 0} (c : A → A → Ordering) where
       go Ordering·gt ih (inr n) = elim (ih n) [ inl e ↦ inl e | inr k ↦ inr (inr k) ]
 
 module _ {A : Type 0} (c : A → A → Ordering) (L : Lawful c) where
-  below-less : (x y : A) (l : List A) → c x y ≡ Ordering·lt → Below c y l → Below c x l
+  below-less : (x y : A) (l : List A) → c x y ≡ Ordering·lt → Precedes c y l → Precedes c x l
   below-less x y [] h u = tt
   below-less x y (z ∷ zs) h u = (trans c L h (u .0), below-less x y zs h (u .1))
 
@@ -38,7 +38,7 @@ module _ {A : Type 0} (c : A → A → Ordering) (L : Lawful c) where
   heads x y xs ys s t (inr m) (inl e) = sym e
   heads x y xs ys s t (inr m) (inr n) = absurd (asym c L (below-member c y ys (t .0) x m) (below-member c x xs (s .0) y n))
 
-  tails : (x y : A) (xs ys : List A) → x ≡ y → Below c x xs → ((z : A) → Among z (x ∷ xs) → Among z (y ∷ ys)) → (z : A) → Among z xs → Among z ys
+  tails : (x y : A) (xs ys : List A) → x ≡ y → Precedes c x xs → ((z : A) → Among z (x ∷ xs) → Among z (y ∷ ys)) → (z : A) → Among z xs → Among z ys
   tails x y xs ys e s f z m = elim (f z (inr m)) [ inl h ↦ absurd (differ c L (e ∙ sym h) (below-member c x xs s z m)) | inr n ↦ n ]
 
   -- two increasing lists with the same members are equal

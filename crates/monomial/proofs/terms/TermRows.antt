@@ -13,7 +13,7 @@ use Rattle.residue.proofs.Congruence.{rfl, of, flip, reduce, _then_, _plus_, _t
 use Rattle.residue.proofs.vector.Vectors.{map-at, powered-length, powered-at, powered-below, map-same}
 use Rattle.residue.proofs.Layouts.{take-over}
 use Rattle.residue.proofs.Places.{length-groups, groups-at}
-use Rattle.monomial.specs.Monomial.{valueAt}
+use Rattle.monomial.specs.Monomial.{monomialAt}
 use Rattle.monomial.specs.Columns.{columnOf}
 use Rattle.monomial.specs.Terms.{termValues}
 use Rattle.monomial.proofs.Loops.{value-again, value-end}
@@ -46,13 +46,13 @@ front-room n made rest e = omega (arith, length-append made rest)
 -- a monomial's values at all points
 module _ (p n : ℕ) (a points : List ℕ) where
   abbrev pub monomialRow : List ℕ
-  monomialRow = map (λ P. valueAt P a % p) (groups 8 n points)
+  monomialRow = map (λ P. monomialAt P a % p) (groups 8 n points)
 
   pub monomialRow-long : length monomialRow ≡ n
   monomialRow-long = length-map (groups 8 n points) _ ∙ length-groups 8 n points
 
   pub monomialRow-below : 0 < p → Below p monomialRow
-  monomialRow-below z i h = rw (map-at (λ P. valueAt P a % p) (groups 8 n points) [] 0 i (omega (arith, monomialRow-long, length-groups 8 n points))) (mod-lt _ z)
+  monomialRow-below z i h = rw (map-at (λ P. monomialAt P a % p) (groups 8 n points) [] 0 i (omega (arith, monomialRow-long, length-groups 8 n points))) (mod-lt _ z)
 
 -- The loop over the variables.
 module _ (p n : ℕ) (a points : List ℕ) where
@@ -61,13 +61,13 @@ module _ (p n : ℕ) (a points : List ℕ) where
 
   -- n residues; at each point what is there, times the value of the variables from k on, is the monomial's value
   abbrev pub VariablesLeft : List ℕ → ℕ → Type 0
-  VariablesLeft v k = (length v ≡ n) × Below p v × ((i : ℕ) → i < n → Mod p (getD v i 0 * valueAt (drop k (point i)) (drop k a)) (valueAt (point i) a))
+  VariablesLeft v k = (length v ≡ n) × Below p v × ((i : ℕ) → i < n → Mod p (getD v i 0 * monomialAt (drop k (point i)) (drop k a)) (monomialAt (point i) a))
 
   pub ones-left : (v : List ℕ) → 1 < p → v ≡ replicate n 1 → VariablesLeft v 0
   ones-left v h e = (
     ap length e ∙ length-replicate {A = ℕ} n 1,
     λ i l. rw (one i (subst (λ (k : ℕ). i < k) (ap length e ∙ length-replicate {A = ℕ} n 1) l)) h,
-    λ i l. of (ap (λ (x : ℕ). x * valueAt (point i) a) (one i l) ∙ one-mul (valueAt (point i) a)),
+    λ i l. of (ap (λ (x : ℕ). x * monomialAt (point i) a) (one i l) ∙ one-mul (monomialAt (point i) a)),
   )
     where
       one : (i : ℕ) → i < n → getD v i 0 ≡ 1
@@ -78,7 +78,7 @@ module _ (p n : ℕ) (a points : List ℕ) where
   variable-more v v′ k z h eight room e (long, below, left) = (
     ap length e ∙ powered-length p (getD a k 0) v (columnOf k n points) same ∙ long,
     subst (Below p) (sym e) (powered-below p (getD a k 0) v (columnOf k n points) same z),
-    λ i l. of (ap (λ (x : ℕ). x * valueAt (drop (k + 1) (point i)) (drop (k + 1) a)) (entry i l))
+    λ i l. of (ap (λ (x : ℕ). x * monomialAt (drop (k + 1) (point i)) (drop (k + 1) a)) (entry i l))
         then value-again p (point i) a k (getD v i 0) (left i l) (omega (arith, point-long i l)) (omega arith) refl,
   )
     where
@@ -139,7 +139,7 @@ module _ (p n : ℕ) (cs t points : List ℕ) where
   sums-more i h =
       joined (getD cs i 0) _ _ _
       (λ P. let d : ℕ = dotOf (take i cs) (take i (values P cs t)) % p in
-      let x : ℕ = valueAt P (take 8 (drop (8 * i) t)) % p in
+      let x : ℕ = monomialAt P (take 8 (drop (8 * i) t)) % p in
       (rfl {x = d} plus flip (reduce p (getD cs i 0 * x))) .same ∙ value-more p P cs t i d x ((getD cs i 0 * x) % p) h refl refl refl)
       (groups 8 n points)
 

@@ -9,7 +9,7 @@ use native.Mathlib.Decide.{ℕ-discrete}
 use lib.ListN.{length, getD, set, length-set}
 use lib.Seq.{getD-set-other}
 use Rattle.residue.proofs.Tests.{Decides}
-use Rattle.monomial.specs.Monomial.{valueAt}
+use Rattle.monomial.specs.Monomial.{monomialAt}
 use Rattle.specification.specs.Needed.{Alike, Apart, alike, apart}
 use Rattle.specification.proofs.needed.Decided.{equal-told, lists-told, both-told, not-told, told-as}
 
@@ -54,7 +54,7 @@ alike-apart k P Q e h ne = record { others = h; here = λ u. ne (entries P Q e (
     go u j (no z) = h j z
 
 -- a monomial without the variable has the same value at both
-pub value-alike : (k : ℕ) (P Q a : List ℕ) → length P ≡ length Q → Alike k P Q → getD a k 0 ≡ 0 → valueAt P a ≡ valueAt Q a
+pub value-alike : (k : ℕ) (P Q a : List ℕ) → length P ≡ length Q → Alike k P Q → getD a k 0 ≡ 0 → monomialAt P a ≡ monomialAt Q a
 value-alike k [] [] a e h z = refl
 value-alike k [] (y ∷ Q) a e h z = absurd (omega arith)
 value-alike k (x ∷ P) [] a e h z = absurd (omega arith)

@@ -11,7 +11,7 @@ use Rattle.residue.specs.Congruence.{Mod}
 use Rattle.residue.specs.Lists.{Among}
 use Rattle.residue.proofs.Congruence.{_then_, reduce}
 use Rattle.residue.proofs.Tests.{Decides, so, not-so, neither}
-use Rattle.monomial.specs.Monomial.{valueAt}
+use Rattle.monomial.specs.Monomial.{monomialAt}
 use Rattle.monomial.specs.Order.{Order}
 use Rattle.specification.specs.Polynomial.{eval, terms}
 use Rattle.specification.specs.Instance.{Monomial, Point, spaceOf}
@@ -32,7 +32,7 @@ module _ (q m : ℕ) (order : Order) (k : ℕ) where
   value-same (c ∷ cs) (a ∷ l) P Q h e = let w = neither (not (eqb c 0) && not (eqb (getD (a .0) k 0) 0)) (occurs k cs (map (λ b. b .0) l)) e in
       ap₂ (λ (x y : ℕ). x + y) (go (equal-told c 0) (equal-told (getD (a .0) k 0) 0) (w .0)) (value-same cs l P Q h (w .1))
     where
-      go : {s t : Bool} → Decides (c ≡ 0) s → Decides (getD (a .0) k 0 ≡ 0) t → (not s && not t) ≡ false → c * valueAt (P .0) (a .0) ≡ c * valueAt (Q .0) (a .0)
+      go : {s t : Bool} → Decides (c ≡ 0) s → Decides (getD (a .0) k 0 ≡ 0) t → (not s && not t) ≡ false → c * monomialAt (P .0) (a .0) ≡ c * monomialAt (Q .0) (a .0)
       go (so z) d u = rw z (omega arith)
       go (not-so n) (so z) u = ap (λ (x : ℕ). c * x) (value-alike k (P .0) (Q .0) (a .0) (same-long q m P Q) h z)
       go (not-so n) (not-so r) u = absurd (true≢false u)

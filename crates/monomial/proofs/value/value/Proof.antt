@@ -6,13 +6,13 @@ use native.Mathlib.Omega.{arith}
 use lib.ListN.{drop}
 use Rattle.residue.specs.Congruence.{Mod}
 use Rattle.residue.proofs.Congruence.{of}
-use Rattle.monomial.specs.Monomial.{valueAt}
+use Rattle.monomial.specs.Monomial.{monomialAt}
 use Rattle.monomial.proofs.Loops.{value-again, value-end}
 use Rattle.monomial.proofs.value.value.Statement.{statement}
 use Rattle.monomial.proofs.value.value.Tie as tie
 
 abbrev Inv-loop : tie.InvT-loop
-Inv-loop p point a product₀ i₀ product i = (i ≤ 8) × (product < p) × Mod p (product * valueAt (drop i point) (drop i a)) (valueAt point a)
+Inv-loop p point a product₀ i₀ product i = (i ≤ 8) × (product < p) × Mod p (product * monomialAt (drop i point) (drop i a)) (monomialAt point a)
 
 abbrev μ-loop : tie.MeasureT-loop
 μ-loop p point a product₀ i₀ product i = 8 - i
@@ -23,7 +23,7 @@ start l = l .before .before .before
 loop-holds : tie.Need-loop-holds Inv-loop μ-loop
 loop-holds c =
     let s = c .before .before in
-    (omega arith, omega arith, of (one-mul (valueAt (s .args .point .now) (s .args .a .now))))
+    (omega arith, omega arith, of (one-mul (monomialAt (s .args .point .now) (s .args .a .now))))
 
 shared-slice-read-power : tie.Need-shared-slice-read-power Inv-loop μ-loop
 shared-slice-read-power c = omega arith

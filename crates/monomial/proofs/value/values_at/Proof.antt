@@ -9,18 +9,18 @@ use Rattle.residue.specs.Layout.{groups}
 use Rattle.residue.proofs.vector.Filled.{filled, filled-none, kept-length, filled-more}
 use Rattle.residue.proofs.Places.{length-groups, groups-at}
 use Rattle.residue.proofs.bytes.Copies.{mapped}
-use Rattle.monomial.specs.Monomial.{valueAt}
+use Rattle.monomial.specs.Monomial.{monomialAt}
 use Rattle.monomial.proofs.value.values_at.Statement.{statement}
 use Rattle.monomial.proofs.value.values_at.Tie as tie
 
 abbrev Inv-loop : tie.InvT-loop
-Inv-loop p k monomials point values₀ i₀ values i = (i ≤ k) × (values ≡ filled (λ j. valueAt point (getD (groups 8 k monomials) j []) % p) i values₀)
+Inv-loop p k monomials point values₀ i₀ values i = (i ≤ k) × (values ≡ filled (λ j. monomialAt point (getD (groups 8 k monomials) j []) % p) i values₀)
 
 abbrev μ-loop : tie.MeasureT-loop
 μ-loop p k monomials point values₀ i₀ values i = k - i
 
 abbrev value-at : tie.Start Inv-loop μ-loop → ℕ → ℕ
-value-at s j = valueAt (s .args .point .now) (getD (groups 8 (s .args .k) (s .args .monomials .now)) j []) % s .args .p
+value-at s j = monomialAt (s .args .point .now) (getD (groups 8 (s .args .k) (s .args .monomials .now)) j []) % s .args .p
 
 long : (l : tie.At-loop Inv-loop μ-loop) → length (l .loop .values) ≡ length (l .before .before .before .before .args .values .now)
 long l = let s = l .before .before .before .before in kept-length (value-at s) (l .loop .i) (s .args .values .now) (l .loop .values) (l .loop .inv .1)
@@ -68,7 +68,7 @@ loop-again c =
     let row : take (8 * i + 8 - 8 * i) (drop (8 * i) t) ≡ getD (groups 8 (s .args .k) t) i [] = ap (λ (n : ℕ). take n (drop (8 * i) t)) e ∙ sym (groups-at 8 (s .args .k) i t [] (omega arith)) in (
       omega arith,
       filled-more (value-at s) i (s .args .values .now) (l .loop .values) (l .loop .inv .1) _ (omega arith)
-          (c .value .ensures ∙ ap (λ (a : List ℕ). valueAt (s .args .point .now) (a) % s .args .p) row),
+          (c .value .ensures ∙ ap (λ (a : List ℕ). monomialAt (s .args .point .now) (a) % s .args .p) row),
     )
 
 same-length : tie.Need-same-length Inv-loop μ-loop
@@ -80,7 +80,7 @@ returns c =
     let s = l .before .before .before .before in
     let t : List ℕ = s .args .monomials .now in
     let n = length-groups 8 (s .args .k) t in
-    l .loop .inv .1 ∙ mapped (λ a. valueAt (s .args .point .now) (a) % s .args .p) [] (groups 8 (s .args .k) t) (s .args .values .now) (l .loop .i) (omega arith) (omega arith)
+    l .loop .inv .1 ∙ mapped (λ a. monomialAt (s .args .point .now) (a) % s .args .p) [] (groups 8 (s .args .k) t) (s .args .values .now) (l .loop .i) (omega arith) (omega arith)
 
 pub values-at-spec : {M : Type 1} → statement M
 values-at-spec =

@@ -11,7 +11,7 @@ use Rattle.residue.specs.Vector.{dotOf}
 use Rattle.residue.specs.Layout.{rowAt}
 use Rattle.residue.proofs.Congruence.{of, reduce, _then_, _plus_}
 use Rattle.residue.proofs.vector.Vectors.{dot-more}
-use Rattle.monomial.specs.Monomial.{valueAt}
+use Rattle.monomial.specs.Monomial.{monomialAt}
 use Rattle.basis.specs.Adding.{rowValueAt, valueOfRow, firstFrom}
 use Rattle.basis.proofs.adding.Searches.{first-end, first-skip, first-hit}
 use Rattle.basis.proofs.adding.correcting.first_row.Statement.{statement}
@@ -70,10 +70,10 @@ value c =
     let a = c .before .before .before .before .before in
     let s = start a in
     let i : ℕ = a .rows .i in
-    let v : ℕ = valueAt (s .args .point .now) (rowAt 8 i (s .args .leads .now)) in
+    let v : ℕ = monomialAt (s .args .point .now) (rowAt 8 i (s .args .leads .now)) in
     let d : ℕ = dotOf (take (s .args .n) (rowAt 64 i (s .args .coefficients .now))) (take (s .args .n) (s .args .values .now)) in
     let e : 8 * i + 8 - 8 * i ≡ 8 = omega arith in
-    let first : c .before .before .value .result ≡ v % s .args .p = c .before .before .value .ensures ∙ ap (λ (n : ℕ). valueAt (s .args .point .now) (take n (drop (8 * i) (s .args .leads .now))) % s .args .p) e in
+    let first : c .before .before .value .result ≡ v % s .args .p = c .before .before .value .ensures ∙ ap (λ (n : ℕ). monomialAt (s .args .point .now) (take n (drop (8 * i) (s .args .leads .now))) % s .args .p) e in
     let rest : dotOf (take (c .before .terms .j) (rowAt 64 i (s .args .coefficients .now))) (take (c .before .terms .j) (s .args .values .now)) ≡ d =
     ap (λ (n : ℕ). dotOf (take n (rowAt 64 i (s .args .coefficients .now))) (take n (s .args .values .now))) (c .if2 .taken) in
     sym (mod-eq-of-lt (c .before .terms .inv .1)) ∙ c .before .terms .inv .2 .same ∙ ap (λ (z : ℕ). z % s .args .p) (ap₂ _+_ first rest) ∙ mod-add-mod v (s .args .p) d

@@ -4,7 +4,7 @@ use Prim.Native.Nat.{ℕ, _+_, _%_}
 use native.Mathlib.Nat.{mod-lt, mod-add-mod, add-mod-mod}
 use native.Mathlib.Omega.{arith}
 use Rattle.residue.specs.Vector.{dotOf}
-use Rattle.monomial.specs.Monomial.{valueAt}
+use Rattle.monomial.specs.Monomial.{monomialAt}
 use Rattle.basis.specs.Adding.{rowValueAt}
 use borrow.Author.Needs.{needs}
 use Rattle.basis.proofs.adding.correcting.row_value.Statement.{statement}
@@ -26,8 +26,8 @@ unfolding rowValueAt
 returns c =
     let s = c .before .before .before .before .before .before .before in
     c .add .ensures ∙ ap₂ (λ (x y : ℕ). (x + y) % s .args .p) (c .before .before .value .ensures) (c .before .dot .ensures)
-    ∙ mod-add-mod (valueAt (s .args .point .now) (s .args .lead .now)) (s .args .p) (dotOf (s .args .coefficients .now) (s .args .values .now) % s .args .p)
-    ∙ add-mod-mod (valueAt (s .args .point .now) (s .args .lead .now)) (dotOf (s .args .coefficients .now) (s .args .values .now)) (s .args .p)
+    ∙ mod-add-mod (monomialAt (s .args .point .now) (s .args .lead .now)) (s .args .p) (dotOf (s .args .coefficients .now) (s .args .values .now) % s .args .p)
+    ∙ add-mod-mod (monomialAt (s .args .point .now) (s .args .lead .now)) (dotOf (s .args .coefficients .now) (s .args .values .now)) (s .args .p)
 
 pub row-value-spec : {M : Type 1} → statement M
 row-value-spec = tie.close (tie.spec value-requires dot-requires add-requires returns)

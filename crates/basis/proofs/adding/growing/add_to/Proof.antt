@@ -6,7 +6,7 @@ use Rattle.residue.specs.Vector.{Below}
 use Rattle.residue.specs.Layout.{groups}
 use Rattle.residue.proofs.level.Moduli.{modulus-range}
 use Rattle.residue.proofs.Layouts.{remainders-below}
-use Rattle.monomial.specs.Monomial.{valueAt}
+use Rattle.monomial.specs.Monomial.{monomialAt}
 use Rattle.basis.proofs.drawing.Grounds.{points-long, points-below}
 use Rattle.basis.proofs.adding.Added.{Sound, sound, inside, added}
 use Rattle.basis.proofs.adding.growing.add_to.Statement.{statement}
@@ -33,7 +33,7 @@ module _ (s : tie.Start) where
 small : (d : tie.After-values-at) → Below (start d .args .settings .modulus) (d .values-at .last .1 .1 .1 .1 .0)
 small d =
     let s = start d in
-    subst (Below (s .args .settings .modulus)) (sym (d .values-at .ensures)) (remainders-below (s .args .settings .modulus) (valueAt (s .args .point .now)) (groups 8 (s .args .n) (s .args .standard .now)) 64 (omega (arith, low s)))
+    subst (Below (s .args .settings .modulus)) (sym (d .values-at .ensures)) (remainders-below (s .args .settings .modulus) (monomialAt (s .args .point .now)) (groups 8 (s .args .n) (s .args .standard .now)) 64 (omega (arith, low s)))
 
 cast-p : tie.Need-cast-p
 cast-p c = omega (arith, high (c .before .before .before .before .before .before .before .before .before .before .before))

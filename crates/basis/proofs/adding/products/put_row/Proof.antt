@@ -12,7 +12,7 @@ use Rattle.residue.proofs.vector.Vectors.{below-take, below-drop}
 use Rattle.residue.proofs.elimination.Eliminated.{eliminated-below}
 use Rattle.residue.proofs.Layouts.{remainders-below}
 use Rattle.residue.proofs.Replaced.{part-long}
-use Rattle.monomial.specs.Monomial.{valueAt}
+use Rattle.monomial.specs.Monomial.{monomialAt}
 use Rattle.monomial.proofs.insert.Writes.{row-in}
 use Rattle.basis.specs.Adding.{correctedRow, reducedRow}
 use Rattle.basis.proofs.adding.NewRows.{one-term}
@@ -24,7 +24,7 @@ one : {p : ℕ} (i : ℕ) → i < 1 → 2 ≤ p → getD (1 ∷ []) i 0 < p
 one zero h k = omega arith
 one (suc i) h k = absurd (omega arith)
 
--- the part of a list from `at` on, and two such parts
+-- the width of the part of a list that is lent from `at` on, and the two parts that are lent here
 width : (at w : ℕ) → at + w - at ≡ w
 width at w = omega arith
 
@@ -35,7 +35,7 @@ place-64 : (k i : ℕ) (t moved : List ℕ) → i ≤ k → 64 * k + 64 ≤ leng
 place-64 k i t moved h l e = part-long (64 * i) _ 64 moved (width (64 * i) 64) (omega arith)
 
 -- what elimination leaves of the values of a monomial is its row
-left-is : (p n : ℕ) (points rows pivots a values left : List ℕ) → values ≡ over (map (λ point. valueAt point a % p) (groups 8 n points)) (replicate 128 0)
+left-is : (p n : ℕ) (points rows pivots a values left : List ℕ) → values ≡ over (map (λ point. monomialAt point a % p) (groups 8 n points)) (replicate 128 0)
     → left ≡ eliminated p rows pivots n values → take (n + 64 - n) (drop n left) ≡ reducedRow p n points rows pivots a
 unfolding reducedRow
 left-is p n points rows pivots a values left ev el =
@@ -73,11 +73,11 @@ module _ (d : tie.After-put-term-values) where
   abbrev work : List ℕ
   work = d .put-term-values .last .1 .1 .1 .1 .1 .0
 
-  loaded : work ≡ over (map (λ point. valueAt point (s .args .a .now) % s .args .p) (groups 8 (s .args .n) (s .args .points .now))) (replicate 128 0)
+  loaded : work ≡ over (map (λ point. monomialAt point (s .args .a .now) % s .args .p) (groups 8 (s .args .n) (s .args .points .now))) (replicate 128 0)
   loaded = d .put-term-values .ensures ∙ ap (λ (l : List ℕ). over l (replicate 128 0)) (one-term (s .args .p) (s .args .n) (s .args .a .now) (s .args .points .now) (s .pre .1 .1 .0 .3))
 
   below : Below (s .args .p) work
-  below = subst (Below (s .args .p)) (sym loaded) (remainders-below (s .args .p) (λ point. valueAt point (s .args .a .now)) (groups 8 (s .args .n) (s .args .points .now)) 128 (omega (arith, s .pre .0)))
+  below = subst (Below (s .args .p)) (sym loaded) (remainders-below (s .args .p) (λ point. monomialAt point (s .args .a .now)) (groups 8 (s .args .n) (s .args .points .now)) 128 (omega (arith, s .pre .0)))
 
 -- what elimination leaves of them
 module _ (e : tie.After-eliminate) where
