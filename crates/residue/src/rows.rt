@@ -93,7 +93,8 @@ pub fn keep(
     requires { ⌜ Below p (now work) ⌝ }
     ensures { λ _. ⌜ now (work .exit) ≡ pivotRow p (n + found) (inverseOf p (getD (now (work .entry)) at 0)) (now (work .entry)) ⌝ }
     ensures { λ _. ⌜ now (rows .exit)
-        ≡ withPlace 1152 found (multiplesOf p (pivotRow p (n + found) (inverseOf p (getD (now (work .entry)) at 0)) (now (work .entry)))) (now (rows .entry)) ⌝ }
+        ≡ withPlace 1152 found (multiplesOf p (pivotRow p (n + found) (inverseOf p (getD (now (work .entry)) at 0)) (now (work .entry))))
+        (now (rows .entry)) ⌝ }
     ensures { λ _. ⌜ now (pivots .exit) ≡ set (now (pivots .entry)) found at ⌝ }
 {
     normalise(p, n + found, at, work);

@@ -2,7 +2,6 @@
 use mathlib.Core.Path.{_≡_, refl, sym, ap, _∙_}
 use mathlib.Core.List.{List}
 use Prim.Native.Nat.{ℕ}
-use native.Mathlib.Omega.{arith}
 use Rattle.specification.specs.Tables.{Tables, fourTables}
 use Rattle.specification.specs.Adding.{Outcome, DrawOutcome}
 use Rattle.specification.specs.Withdrawing.{withdrawRefusal}
