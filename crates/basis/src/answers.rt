@@ -1,12 +1,11 @@
 // The calls that answer from the basis of lent tables: interpolant, remainder, wiring list.
-pub mod pairs;
-pub mod solving;
-
 use crate::checking::recognise;
-use crate::points;
 use crate::settings::remainder_sizes;
 use crate::settings::too_short;
 use crate::settings::values_sizes;
+use construction::points;
+use interpolation::pairs;
+use interpolation::solving;
 use residue::bytes;
 use specification::settings::Settings;
 use specification::settings::Wired;
@@ -18,7 +17,7 @@ ghost use Rattle.specification.specs.Refusal.{firstOf};
 ghost use Rattle.specification.specs.Tables.{fourTables, pointsIn, statesSize};
 ghost use Rattle.specification.specs.Solving.{answering, valuesCases, interpolateOutcome, listed, wiringOutcome};
 ghost use Rattle.specification.specs.Solving.{withinVariables, remainderCases, remainderOutcome};
-ghost use Rattle.basis.specs.Drawing.{RowsLong, Solves};
+ghost use Rattle.construction.specs.Drawing.{RowsLong, Solves};
 
 // The refusal of a call that answers n values in an output of so many bytes, or 0; then the points and their pivot rows are left in working arrays.
 fn values_refusal(

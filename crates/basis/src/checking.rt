@@ -1,8 +1,8 @@
 // Checking lent tables: whether they are the basis of their points.
-use crate::drawing::draw;
-use crate::points;
 use crate::settings::check_sizes;
 use crate::settings::too_short;
+use construction::drawing::draw;
+use construction::points;
 use residue::bytes;
 use specification::settings::Settings;
 ghost use mathlib.Core.Path.{_≡_};
@@ -15,7 +15,7 @@ ghost use Rattle.specification.specs.Settings.{settingsCases};
 ghost use Rattle.specification.specs.Tables.{fourTables, pointsIn, recognised, tooShort};
 ghost use Rattle.specification.specs.Tables.{statesSize, standardSize, leadsSize, coefficientsSize};
 ghost use Rattle.specification.specs.Solving.{checkRefusal};
-ghost use Rattle.basis.specs.Drawing.{RowsLong, Solves};
+ghost use Rattle.construction.specs.Drawing.{RowsLong, Solves};
 
 // Whether the lent tables begin with these.
 fn agree(

@@ -3,6 +3,5 @@ pub mod adding;
 pub mod answers;
 pub mod checking;
 pub mod drawing;
-mod points;
 pub mod settings;
 pub mod withdrawing;

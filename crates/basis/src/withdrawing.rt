@@ -2,10 +2,10 @@
 // rows with which the tables were recognised: two sets of them would take more stack than the header promises.
 use crate::checking::recognise;
 use crate::drawing::draw_points;
-use crate::points;
 use crate::settings::refused;
 use crate::settings::too_short;
 use crate::settings::withdraw_sizes;
+use construction::points;
 use monomial::insert::take_out;
 use specification::settings::Answer;
 use specification::settings::Settings;
@@ -20,7 +20,7 @@ ghost use Rattle.specification.specs.Levels.{residues, isAmong};
 ghost use Rattle.specification.specs.Tables.{fourTables, pointsIn, statesSize};
 ghost use Rattle.specification.specs.Adding.{ended};
 ghost use Rattle.specification.specs.Withdrawing.{remaining, withdrawRefusal, withdrawOutcome};
-ghost use Rattle.basis.specs.Drawing.{RowsLong};
+ghost use Rattle.construction.specs.Drawing.{RowsLong};
 
 // The points of a table without the named one, left in a second table, and 0; or 12, where it is not among them.
 fn put_others(settings: Settings, n: usize, points: &[u8], levels: &[i8], left: &mut [u8]) -> u8

@@ -23,13 +23,13 @@ use Rattle.specification.specs.Adding.{holding, addCases, addRefusal, addOutcom
 use Rattle.specification.proofs.Repeats.{among-filled}
 use Rattle.specification.proofs.agreement.Points.{IsPoint, Points, length-residues, levels-point}
 use Rattle.specification.proofs.agreement.Refusals.{Accepted, accepted}
-use Rattle.basis.specs.Drawing.{PointsGiven, Solves, DrawnUp}
-use Rattle.basis.specs.Adding.{allPoints, NewPoint}
-use Rattle.basis.proofs.drawing.Given.{table-points, given, drawn-of}
+use Rattle.construction.specs.Drawing.{PointsGiven, Solves, DrawnUp}
+use Rattle.growth.specs.Growing.{allPoints, NewPoint}
+use Rattle.construction.proofs.drawing.Given.{table-points, given, drawn-of}
 use Rattle.basis.proofs.settings.BySize.{sizes, by-size, by-rest}
 use Rattle.specification.proofs.Recognised.{none-of}
 use Rattle.basis.proofs.settings.ByNumber.{when-accepted}
-use Rattle.basis.proofs.points.LevelLists.{residues-below}
+use Rattle.construction.proofs.points.LevelLists.{residues-below}
 use Rattle.basis.proofs.checking.Recognised.{count, parts, points, standard-there, leads-there, coefficients-there}
 
 module _ (s : Settings) (n r : ℕ) (t : Tables) (levels : List ℤ) where

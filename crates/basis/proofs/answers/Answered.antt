@@ -1,19 +1,17 @@
 -- What a call that answers from recognised tables stands on when nothing refuses it, and its answer.
 use mathlib.Core.Path.{_≡_, sym, ap, ap₂, _∙_}
 use mathlib.Core.Bool.{Bool, true, false, not, _&&_, _||_}
-use mathlib.Core.List.{List, [], map}
+use mathlib.Core.List.{List, map}
 use Prim.Native.Nat.{ℕ, _*_, _%_, _<_, _≤_}
-use native.Mathlib.Nat.{mod-lt}
 use native.Mathlib.Omega.{arith}
 use lib.IntN.{ℤ}
-use lib.ListN.{length, take, getD, replicate, length-map}
+use lib.ListN.{length, take, getD, replicate}
 use lib.Dec.{eqb, ltb}
 use borrow.Author.Tests.{ltb-false, eqb-true, not-false}
 use Rattle.residue.specs.Vector.{Below, dotOf}
 use Rattle.residue.specs.Layout.{groups, fill, inPlaces, over}
-use Rattle.residue.proofs.vector.Vectors.{map-at}
 use Rattle.residue.proofs.Tests.{of-true, neither, and-left, and-right}
-use Rattle.residue.proofs.Places.{length-groups, groups-long}
+use Rattle.residue.proofs.Places.{groups-long}
 use Rattle.monomial.specs.Monomial.{monomialAt}
 use Rattle.monomial.specs.Terms.{termValues}
 use Rattle.specification.specs.declared.settings.Settings.{Settings}
@@ -28,23 +26,14 @@ use Rattle.specification.proofs.agreement.Points.{Points, length-residues}
 use Rattle.specification.proofs.agreement.Refusals.{Accepted}
 use Rattle.specification.proofs.Recognised.{readIn}
 use Rattle.specification.proofs.needed.Filled.{names-tabled}
-use Rattle.basis.specs.Answers.{solution}
-use Rattle.basis.specs.Drawing.{Solves}
+use Rattle.interpolation.specs.Solving.{solution}
+use Rattle.construction.specs.Drawing.{Solves}
+use Rattle.interpolation.proofs.TermValues.{length-terms, terms-below}
 use Rattle.basis.proofs.settings.BySize.{Passed, passed}
-use Rattle.basis.proofs.points.LevelLists.{residues-below}
-use Rattle.basis.proofs.answers.Interpolants.{front-of, solution-is, remainder-is, valuesIn, value-in}
+use Rattle.construction.proofs.points.LevelLists.{residues-below}
+use Rattle.interpolation.proofs.Interpolants.{front-of, solution-is, remainder-is, valuesIn, value-in}
 use Rattle.basis.proofs.answers.Refusals.{valuesSizes, remainderSizes}
 use Rattle.basis.proofs.checking.Recognised.{count, points, positive}
-
--- the values of terms are residues, one for each point
-module _ (p : ℕ) (cs exponents : List ℕ) (n : ℕ) (points : List ℕ) where
-  pub length-terms : length (termValues p cs exponents n points) ≡ n
-  unfolding termValues
-  length-terms = length-map (groups 8 n points) _ ∙ length-groups 8 n points
-
-  pub terms-below : 0 < p → Below p (termValues p cs exponents n points)
-  unfolding termValues
-  terms-below z i h = rw (map-at (λ P. dotOf cs (map (monomialAt P) (groups 8 (length cs) exponents)) % p) (groups 8 n points) [] 0 i (omega (arith, length-map (groups 8 n points) (λ P. dotOf cs (map (monomialAt P) (groups 8 (length cs) exponents)) % p)))) (mod-lt _ z)
 
 -- elimination answers the interpolant
 module _ (s : Settings) (ok : Accepted s) (n r : ℕ) (t : Tables) (few : n ≤ 64) (known : recognised s n r t ≡ true) (rows pivots : List ℕ) (e : Solves s (readIn s n r t) rows pivots) where

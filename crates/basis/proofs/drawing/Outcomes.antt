@@ -15,7 +15,7 @@ use Rattle.specification.specs.Settings.{settingsCases}
 use Rattle.specification.specs.Levels.{inRange, noRepeat}
 use Rattle.specification.specs.Tables.{Tables, rowCount, tablesOf, written, tooShort}
 use Rattle.specification.specs.Adding.{ended, refused, holding, pointsOffered, drawCases, drawRefusal, costing, cancellationsUnder, drawOutcome}
-use Rattle.basis.specs.Drawing.{Tabled}
+use Rattle.construction.specs.Drawing.{Tabled}
 use Rattle.basis.proofs.settings.BySize.{sizes, by-size, by-rest, two, two-first, two-second, two-none}
 use Rattle.basis.proofs.settings.ByNumber.{cost-refused, cost-accepted}
 

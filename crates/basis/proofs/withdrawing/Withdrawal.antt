@@ -24,12 +24,12 @@ use Rattle.specification.proofs.CallByCall.{known-points}
 use Rattle.specification.proofs.agreement.Points.{Points, length-residues}
 use Rattle.specification.proofs.agreement.Refusals.{Accepted, accepted}
 use Rattle.specification.proofs.agreement.Removal.{points-left, left-one}
-use Rattle.basis.specs.Points.{placeIn}
-use Rattle.basis.specs.Drawing.{PointsGiven}
-use Rattle.basis.proofs.drawing.Given.{given, table-points}
+use Rattle.construction.specs.Points.{placeIn}
+use Rattle.construction.specs.Drawing.{PointsGiven}
+use Rattle.construction.proofs.drawing.Given.{given, table-points}
 use Rattle.basis.proofs.settings.ByNumber.{when-refused, when-accepted}
 use Rattle.basis.proofs.settings.BySize.{sizes, by-size, by-rest}
-use Rattle.basis.proofs.points.PointPlaces.{place-le, place-filled, among-place, place-out}
+use Rattle.construction.proofs.points.PointPlaces.{place-le, place-filled, among-place, place-out}
 
 -- The named point and the points of a table.
 module _ (s : Settings) (ok : Accepted s) (n : ℕ) (few : n ≤ 64) (states : List ℕ) (levels : List ℤ) (long : length levels ≡ s .variables) where

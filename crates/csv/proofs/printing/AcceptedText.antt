@@ -28,9 +28,9 @@ use Rattle.specification.specs.Instance.{reduced}
 use Rattle.specification.proofs.ideal.Lists.{getD-among, among-map}
 use Rattle.specification.proofs.agreement.Points.{IsPoint, residues-same, length-residues}
 use Rattle.specification.proofs.agreement.Refusals.{Accepted}
-use Rattle.basis.specs.Drawing.{PointsGiven}
-use Rattle.basis.specs.Drawing as D
-use Rattle.basis.proofs.drawing.Given as G
+use Rattle.construction.specs.Drawing.{PointsGiven}
+use Rattle.construction.specs.Drawing as D
+use Rattle.construction.proofs.drawing.Given as G
 use Rattle.csv.specs.declared.reading.Refusal.{Refusal}
 use Rattle.csv.specs.reading.Forms.{Header}
 use Rattle.csv.specs.reading.Fields.{recordsOf}

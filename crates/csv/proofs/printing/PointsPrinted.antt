@@ -18,10 +18,10 @@ use Rattle.specification.proofs.agreement.Drawings.{few-rows}
 use Rattle.specification.specs.Needed.{wiringOf}
 use Rattle.specification.proofs.needed.Filled.{names-tabled}
 use Rattle.specification.proofs.Recognised.{read}
-use Rattle.basis.specs.Answers.{solution}
-use Rattle.basis.specs.Drawing.{PointsGiven, DrawnUp}
-use Rattle.basis.proofs.drawing.Given.{given-count}
-use Rattle.basis.proofs.answers.Interpolants.{length-interpolant, solution-is}
+use Rattle.interpolation.specs.Solving.{solution}
+use Rattle.construction.specs.Drawing.{PointsGiven, DrawnUp}
+use Rattle.construction.proofs.drawing.Given.{given-count}
+use Rattle.interpolation.proofs.Interpolants.{length-interpolant, solution-is}
 use Rattle.csv.specs.Appending.{Room, Put}
 use Rattle.csv.specs.printing.Lines.{inTable}
 use Rattle.csv.specs.printing.Lines.{basisLines}

@@ -16,7 +16,7 @@ use Rattle.specification.specs.Settings.{settingsCases}
 use Rattle.specification.specs.Tables.{Tables, fourTables, tooShort, recognised}
 use Rattle.specification.proofs.agreement.Points.{length-residues}
 use Rattle.specification.proofs.Cases.{sizes-are}
-use Rattle.basis.specs.Drawing.{Solves}
+use Rattle.construction.specs.Drawing.{Solves}
 use Rattle.basis.proofs.settings.BySize.{Passed, passed}
 use Rattle.basis.proofs.adding.Addition.{old, new, addSizes, add-size, add-range, add-unknown, add-repeat, add-good, asked}
 use Rattle.basis.proofs.adding.add_refusal.Statement.{statement}

@@ -11,7 +11,7 @@ use Rattle.specification.specs.Refusal.{firstOf}
 use Rattle.specification.specs.Levels.{inRange}
 use Rattle.specification.specs.Tables.{Tables, fourTables, pointsIn, recognised}
 use Rattle.specification.specs.Solving.{valuesCases, interpolateOutcome}
-use Rattle.basis.specs.Drawing.{Solves}
+use Rattle.construction.specs.Drawing.{Solves}
 use Rattle.basis.proofs.settings.ByNumber.{fill-refused, fill-accepted}
 use Rattle.basis.proofs.checking.Recognised.{rows-long, rows-multiplied, rows-inside}
 use Rattle.basis.proofs.answers.Refusals.{valuesSizes, values-none}

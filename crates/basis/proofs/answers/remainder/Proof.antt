@@ -13,8 +13,8 @@ use Rattle.specification.specs.Refusal.{firstOf}
 use Rattle.specification.specs.Levels.{residues}
 use Rattle.specification.specs.Tables.{Tables, fourTables, pointsIn}
 use Rattle.specification.specs.Solving.{remainderCases, remainderOutcome}
-use Rattle.basis.specs.Answers.{solution}
-use Rattle.basis.specs.Drawing.{Solves}
+use Rattle.interpolation.specs.Solving.{solution}
+use Rattle.construction.specs.Drawing.{Solves}
 use Rattle.basis.proofs.settings.ByNumber.{fill-refused, fill-accepted}
 use Rattle.basis.proofs.answers.Refusals.{remainder-none}
 use Rattle.basis.proofs.checking.Recognised.{table-below, rows-long, rows-multiplied, rows-inside}

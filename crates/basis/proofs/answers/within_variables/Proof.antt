@@ -9,7 +9,7 @@ use lib.Seq.{length-take-le, take-all}
 use Rattle.residue.specs.Layout.{groups}
 use Rattle.residue.specs.Lists.{allZero}
 use Rattle.specification.specs.Solving.{withinVariables}
-use Rattle.basis.proofs.answers.Terms.{within-on, within-stop, within-end}
+use Rattle.interpolation.proofs.Terms.{within-on, within-stop, within-end}
 use Rattle.basis.proofs.answers.within_variables.Statement.{statement}
 use Rattle.basis.proofs.answers.within_variables.Tie as tie
 

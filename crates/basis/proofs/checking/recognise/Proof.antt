@@ -14,10 +14,10 @@ use Rattle.specification.specs.Levels.{noRepeat}
 use Rattle.specification.specs.Tables.{Tables, fourTables, tablesOf, pointsIn}
 use Rattle.specification.proofs.agreement.Points.{Points}
 use Rattle.specification.proofs.agreement.Refusals.{Accepted, accepted, large-of}
-use Rattle.basis.specs.Drawing.{PointsGiven, DrawnUp}
-use Rattle.basis.proofs.points.PointTables.{length-points, points-in}
+use Rattle.construction.specs.Drawing.{PointsGiven, DrawnUp}
+use Rattle.construction.proofs.points.PointTables.{length-points, points-in}
 use Rattle.specification.proofs.Recognised.{read-each, read}
-use Rattle.basis.proofs.drawing.Given.{table-repeat, table-points, given, drawn-long, drawn-of}
+use Rattle.construction.proofs.drawing.Given.{table-repeat, table-points, given, drawn-long, drawn-of}
 use Rattle.basis.proofs.checking.Tests.{not-once, not-count, by-tables}
 use Rattle.basis.proofs.checking.recognise.Statement.{statement}
 use Rattle.basis.proofs.checking.recognise.Tie as tie

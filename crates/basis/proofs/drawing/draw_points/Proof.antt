@@ -9,8 +9,8 @@ use Rattle.residue.specs.Layout.{over}
 use Rattle.specification.specs.Tables.{Tables, fourTables, tablesOf, pointsIn}
 use Rattle.specification.specs.Adding.{Outcome, costing}
 use Rattle.specification.proofs.agreement.Refusals.{Large, large-of}
-use Rattle.basis.proofs.drawing.Given.{given-count, few-drawn, few-cost}
-use Rattle.basis.proofs.drawing.Grounds.{points-long}
+use Rattle.construction.proofs.drawing.Given.{given-count, few-drawn, few-cost}
+use Rattle.construction.proofs.drawing.Grounds.{points-long}
 use Rattle.basis.proofs.drawing.Outcomes.{fronts-written}
 use Rattle.basis.proofs.drawing.draw_points.Statement.{statement}
 use Rattle.basis.proofs.drawing.draw_points.Tie as tie

@@ -18,9 +18,9 @@ use Rattle.specification.specs.Tables.{Tables, fourTables, tooShort, pointsIn}
 use Rattle.specification.specs.Adding.{holding, costing, cancellationsUnder, pointsOffered}
 use Rattle.specification.proofs.agreement.Points.{Points}
 use Rattle.specification.proofs.Cases.{sizes-are}
-use Rattle.basis.specs.Drawing.{PointsGiven}
+use Rattle.construction.specs.Drawing.{PointsGiven}
 use Rattle.specification.proofs.Recognised.{whole-levels, length-offered, offered-each, offered}
-use Rattle.basis.proofs.drawing.Given.{table-repeat, table-points, given}
+use Rattle.construction.proofs.drawing.Given.{table-repeat, table-points, given}
 use Rattle.basis.proofs.settings.BySize.{Passed, passed}
 use Rattle.basis.proofs.settings.ByNumber.{drawn-alone}
 use Rattle.basis.proofs.drawing.Outcomes.{drawSizes, draw-size, draw-range, draw-repeat, draw-good}

@@ -14,7 +14,7 @@ use Rattle.specification.specs.Levels.{residues}
 use Rattle.specification.specs.Tables.{pointsIn}
 use Rattle.specification.proofs.agreement.Points.{length-residues}
 use Rattle.specification.proofs.agreement.Refusals.{Accepted, accepted}
-use Rattle.basis.specs.Points.{placeIn}
+use Rattle.construction.specs.Points.{placeIn}
 use Rattle.basis.proofs.withdrawing.Withdrawal.{place-is, absent, there, present, left-is}
 use Rattle.basis.proofs.withdrawing.put_others.Statement.{statement}
 use Rattle.basis.proofs.withdrawing.put_others.Tie as tie

@@ -13,8 +13,8 @@ use Rattle.specification.specs.declared.settings.Settings.{Settings}
 use Rattle.specification.specs.Tables.{pointsIn}
 use Rattle.specification.specs.Needed.{wiringOf}
 use Rattle.specification.proofs.Wiring.{names-length}
-use Rattle.basis.specs.Drawing.{settingsOf}
-use Rattle.basis.proofs.drawing.Given.{drawn-long}
+use Rattle.construction.specs.Drawing.{settingsOf}
+use Rattle.construction.proofs.drawing.Given.{drawn-long}
 use Rattle.csv.specs.Appending.{Room, Put}
 use Rattle.csv.specs.printing.Lines.{basisLines, inTable}
 use Rattle.csv.specs.printing.Text.{linesOf}

@@ -9,7 +9,7 @@ use Rattle.residue.specs.Vector.{Below}
 use Rattle.residue.specs.Layout.{fill, over}
 use Rattle.residue.proofs.Layouts.{length-fill, over-all, below-fill}
 use Rattle.residue.proofs.Places.{over-zeros}
-use Rattle.basis.specs.Answers.{solution}
+use Rattle.interpolation.specs.Solving.{solution}
 use Rattle.csv.proofs.printing.solve_bytes.Statement.{statement}
 use Rattle.csv.proofs.printing.solve_bytes.Tie as tie
 

@@ -1,5 +1,0 @@
--- The definitions of the crate basis.
-pub mod Points
-pub mod Drawing
-pub mod Adding
-pub mod Answers

@@ -1,0 +1,2 @@
+-- The definitions of the crate growth.
+pub mod Growing

@@ -1,0 +1,176 @@
+// The new leads when a point is added, the products of the lost lead with the variables, and their rows.
+use crate::correcting;
+use monomial::insert;
+use monomial::terms::put_term_values;
+use residue::bytes;
+use residue::elimination::eliminate;
+use specification::settings::Settings;
+ghost use mathlib.Core.Path.{_≡_};
+ghost use Prim.Native.Nat.{ℕ, _+_, _*_, _<_, _≤_};
+ghost use lib.ListN.{length, getD};
+ghost use Rattle.residue.specs.Vector.{Below};
+ghost use Rattle.residue.specs.Elimination.{Multiplied};
+ghost use Rattle.monomial.specs.Insert.{withRowAt};
+ghost use Rattle.specification.proofs.agreement.Refusals.{Accepted};
+ghost use Rattle.growth.specs.Growing.{correctedRow, reducedRow, grown, productPut, productsPut};
+
+// The row of a monomial put into the table of coefficients before row i of k: its values at the n points are eliminated, and what they leave is corrected.
+fn put_row(
+    p: u8,
+    n: usize,
+    points: &[u8],
+    rows: &[u8],
+    pivots: &[u8],
+    place: usize,
+    inverse: u8,
+    gone: &[u8],
+    point: &[u8],
+    values: &[u8],
+    a: &[u8],
+    k: usize,
+    i: usize,
+    table: &mut [u8],
+)
+    requires { ⌜ (2 ≤ p) × (p ≤ 61) × (n < 64) × (place < 64) × (inverse < p) ⌝ }
+    requires { ⌜ (length (now points) ≡ 512) × (length (now rows) ≡ 73728) × (length (now pivots) ≡ 64) ⌝ }
+    requires { ⌜ (length (now gone) ≡ 64) × (length (now point) ≡ 8) × (length (now values) ≡ 64) × (length (now a) ≡ 8) ⌝ }
+    requires { ⌜ (i ≤ k) × (k ≤ 448) × (64 * k + 64 ≤ length (now table)) ⌝ }
+    requires { ⌜ Below p (now points) × Multiplied p n (now rows) × Below p (now gone) × Below p (now point) × Below p (now values) ⌝ }
+    requires { ⌜ ((t : ℕ) → t < n → getD (now pivots) t 0 < n) ⌝ }
+    ensures { λ _. ⌜ now (table .exit) ≡ withRowAt 64 k i
+        (correctedRow p place inverse (now (gone .entry)) (now (point .entry)) (now (values .entry)) (now (a .entry))
+        (reducedRow p n (now (points .entry)) (now (rows .entry)) (now (pivots .entry)) (now (a .entry)))) (now (table .entry)) ⌝ }
+{
+    let mut work = [0u8; 128];
+    put_term_values(p, &[1u8], a, n, points, &mut work);
+    eliminate(p, 128, n, rows, pivots, &mut work);
+    let from = 64 * i;
+    insert::move_on(64, from, 64 * k, table);
+    correcting::correct(
+        p,
+        place,
+        inverse,
+        gone,
+        point,
+        values,
+        a,
+        &mut work[n..n + 64],
+        &mut table[from..from + 64],
+    );
+}
+
+// A product of the lost lead put in with its row, unless one of k other leads divides it. Answers how many leads there are then.
+fn add_product(
+    p: u8,
+    order: u8,
+    n: usize,
+    points: &[u8],
+    rows: &[u8],
+    pivots: &[u8],
+    place: usize,
+    inverse: u8,
+    gone: &[u8],
+    point: &[u8],
+    values: &[u8],
+    k: usize,
+    others: &[u8],
+    a: &[u8],
+    count: usize,
+    leads: &mut [u8],
+    coefficients: &mut [u8],
+) -> usize
+    requires { ⌜ (2 ≤ p) × (p ≤ 61) × (n < 64) × (place < 64) × (inverse < p) ⌝ }
+    requires { ⌜ (length (now points) ≡ 512) × (length (now rows) ≡ 73728) × (length (now pivots) ≡ 64) ⌝ }
+    requires { ⌜ (length (now gone) ≡ 64) × (length (now point) ≡ 8) × (length (now values) ≡ 64) × (length (now a) ≡ 8) ⌝ }
+    requires { ⌜ (8 * k ≤ length (now others)) × (count ≤ 448) × (length (now leads) ≡ 3592) × (length (now coefficients) ≡ 28736) ⌝ }
+    requires { ⌜ Below p (now points) × Multiplied p n (now rows) × Below p (now gone) × Below p (now point) × Below p (now values) ⌝ }
+    requires { ⌜ ((t : ℕ) → t < n → getD (now pivots) t 0 < n) ⌝ }
+    ensures { λ r. ⌜ grown r (now (leads .exit)) (now (coefficients .exit))
+        ≡ productPut p order n (now (points .entry)) (now (rows .entry)) (now (pivots .entry)) place inverse (now (gone .entry)) (now (point .entry))
+        (now (values .entry)) k (now (others .entry)) (now (a .entry)) (grown count (now (leads .entry)) (now (coefficients .entry))) ⌝ }
+{
+    if insert::divided(k, others, a) {
+        return count;
+    }
+    let i = insert::put_in(order, count, leads, a);
+    put_row(
+        p,
+        n,
+        points,
+        rows,
+        pivots,
+        place,
+        inverse,
+        gone,
+        point,
+        values,
+        a,
+        count,
+        i,
+        coefficients,
+    );
+    count + 1
+}
+
+// The products of the lost lead with the m variables. Answers how many leads there are then; before, the k others alone.
+pub fn add_products(
+    settings: Settings,
+    n: usize,
+    points: &[u8],
+    rows: &[u8],
+    pivots: &[u8],
+    place: usize,
+    inverse: u8,
+    gone: &[u8],
+    point: &[u8],
+    values: &[u8],
+    k: usize,
+    lead: &[u8],
+    leads: &mut [u8],
+    coefficients: &mut [u8],
+) -> usize
+    requires { ⌜ Accepted settings × ((n < 64) × (place < 64) × (inverse < settings .modulus)) ⌝ }
+    requires { ⌜ (length (now points) ≡ 512) × (length (now rows) ≡ 73728) × (length (now pivots) ≡ 64) ⌝ }
+    requires { ⌜ (length (now gone) ≡ 64) × (length (now point) ≡ 8) × (length (now values) ≡ 64) × (length (now lead) ≡ 8) ⌝ }
+    requires { ⌜ (k + settings .variables ≤ 449) × (length (now leads) ≡ 3592) × (length (now coefficients) ≡ 28736) ⌝ }
+    requires { ⌜ Below (settings .modulus) (now points) × Multiplied (settings .modulus) n (now rows) × Below (settings .modulus) (now gone)
+        × Below (settings .modulus) (now point) × Below (settings .modulus) (now values) ⌝ }
+    requires { ⌜ ((t : ℕ) → t < n → getD (now pivots) t 0 < n) ⌝ }
+    requires { ⌜ ((v : ℕ) → getD (now lead) v 0 < 255) ⌝ }
+    ensures { λ r. ⌜ grown r (now (leads .exit)) (now (coefficients .exit))
+        ≡ productsPut (settings .modulus) (settings .order) n (now (points .entry)) (now (rows .entry)) (now (pivots .entry)) place inverse
+        (now (gone .entry)) (now (point .entry)) (now (values .entry)) k (now (leads .entry)) (now (lead .entry))
+        (settings .variables) (grown k (now (leads .entry)) (now (coefficients .entry))) ⌝ }
+{
+    let p = settings.modulus as u8;
+    let order = settings.order as u8;
+    let m = settings.variables as usize;
+    let mut others = [0u8; 3592];
+    bytes::copy(leads, &mut others);
+    let mut count = k;
+    for v in 0..m {
+        let mut a = [0u8; 8];
+        bytes::copy(lead, &mut a);
+        a[v] += 1;
+        count = add_product(
+            p,
+            order,
+            n,
+            points,
+            rows,
+            pivots,
+            place,
+            inverse,
+            gone,
+            point,
+            values,
+            k,
+            &others,
+            &a,
+            count,
+            leads,
+            coefficients,
+        );
+    }
+    count
+}

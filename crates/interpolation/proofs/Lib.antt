@@ -1,0 +1,6 @@
+-- The lemmas of the crate interpolation.
+pub mod Terms
+pub mod TermValues
+pub mod Interpolants
+pub mod PairSearch
+pub mod Differences

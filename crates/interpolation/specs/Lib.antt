@@ -1,0 +1,3 @@
+-- The definitions of the crate interpolation.
+pub mod Solving
+pub mod Pairs
