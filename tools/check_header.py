@@ -1,7 +1,8 @@
 #!/usr/bin/env python3
 """Holds the prototypes in include/misqafur.h to the exports of crates/misqafur/src: the same names, and for each the
 same arguments in the same order, with the same types and const, and the same answer. A slice is a pointer and its
-length, and the block in which compilers are told of the calls has to name each of them, as read or written.
+length, signed bytes come from C as plain ones of the same bits, and the block in which compilers are told of the calls
+has to name each of them, as read or written.
 Says `header: N prototypes match the exports`, or each difference, and then ends with status 1.
 
 Each run first tries the comparison itself: every edit in TRIES of a small pair that matches has to be noticed.
@@ -36,7 +37,7 @@ def as_c(argument):
     name, _, kind = (part.strip() for part in argument.partition(":"))
     if kind in NUMBERS:
         return [f"{NUMBERS[kind]} {name}"]
-    if kind in ("&[u8]", "&mut [u8]"):
+    if kind in ("&[u8]", "&mut [u8]", "&[i8]"):
         const = "" if "mut" in kind else "const "
         return [f"{const}uint8_t *{name}", f"size_t {name}_length"]
     raise Unclear(f"no C type is known for the argument `{argument}`")
@@ -135,7 +136,7 @@ pub extern "C" fn one(order: u64, text: &[u8], out: &mut [u8]) -> u32
 #[no_mangle]
 pub extern "C" fn two(n: u64, r: u64,) -> u64 { 0 }
 #[no_mangle]
-pub extern "C" fn six(a: &mut [u8], b: &mut [u8]) -> u32 { 0 }
+pub extern "C" fn six(a: &mut [u8], b: &mut [u8], levels: &[i8]) -> u32 { 0 }
 """
 HEADER = """
 uint32_t one(uint64_t order, const uint8_t *text, size_t text_length,
@@ -146,10 +147,10 @@ enum kinds {
 };
 #define MISQAFUR_LENT_TABLES(mode, at) \\
     MISQAFUR_LENT(mode, at) MISQAFUR_LENT(mode, at + 2)
-uint32_t six(uint8_t *a, size_t a_length, uint8_t *b, size_t b_length);
+uint32_t six(uint8_t *a, size_t a_length, uint8_t *b, size_t b_length, const uint8_t *levels, size_t levels_length);
 MISQAFUR_TOLD(one, MISQAFUR_LENT(read_only, 2) MISQAFUR_LENT(write_only, 4));
 MISQAFUR_TOLD(two, );
-MISQAFUR_TOLD(six, MISQAFUR_LENT_TABLES(read_write, 1));
+MISQAFUR_TOLD(six, MISQAFUR_LENT_TABLES(read_write, 1) MISQAFUR_LENT(read_only, 5));
 static inline int three(int a)
 {
     return a;
@@ -163,7 +164,8 @@ TRIES = [
     (HEADER, "uint8_t *out", "const uint8_t *out"), (SOURCE, "&mut [u8]", "&[u8]"), (SOURCE, "&[u8]", "&mut [u8]"),
     (HEADER, "text_length", "length"), (HEADER, "size_t out_length", "uint64_t out_length"),
     (HEADER, "uint32_t one", "uint64_t one"), (SOURCE, "-> u64", "-> u32"), (SOURCE, " -> u64", ""),
-    (HEADER, "*text", "**text"), (HEADER, "uint64_t two(uint64_t n, uint64_t r);", ""),
+    (HEADER, "*text", "**text"), (HEADER, "const uint8_t *levels", "uint8_t *levels"), (SOURCE, "&[i8]", "&mut [i8]"),
+    (HEADER, "uint64_t two(uint64_t n, uint64_t r);", ""),
     (HEADER, "static", "int four(void);\nstatic"), (HEADER, "static", "extern int five;\nstatic"),
     (HEADER, "static", "uint64_t two(uint64_t n, uint64_t r);\nstatic"),
     (SOURCE, "n: u64", "n: u16"), (SOURCE, '#[no_mangle]\npub extern "C" fn two', 'pub extern "C" fn two'),

@@ -1,3 +1,2 @@
 -- The definitions of the crate misqafur.
-pub mod Bytes
 pub mod Packing

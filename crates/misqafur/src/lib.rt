@@ -1,6 +1,5 @@
 // The calls that C links. Each takes numbers and byte slices, hands them on, and answers one number.
 pub mod answers;
 mod packing;
-mod signed;
 pub mod tables;
 pub mod text;

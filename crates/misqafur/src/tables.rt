@@ -1,14 +1,9 @@
-// Adding to, drawing up and checking the four lent tables.
+// Adding to, withdrawing from, drawing up and checking the four lent tables. Levels are bytes that are read as signed ones, 255 as -1.
 use crate::packing::pack_answer;
 use crate::packing::pack_drawn;
-use crate::signed::put_signed;
 use basis::adding;
 use basis::checking;
 use basis::drawing;
-use basis::settings::add_sizes;
-use basis::settings::draw_sizes;
-use basis::settings::too_short;
-use basis::settings::withdraw_sizes;
 use basis::withdrawing;
 use specification::settings::Settings;
 ghost use mathlib.Core.Path.{_≡_};
@@ -16,7 +11,6 @@ ghost use Rattle.specification.specs.Tables.{fourTables};
 ghost use Rattle.specification.specs.Adding.{addOutcome, drawOutcome};
 ghost use Rattle.specification.specs.Withdrawing.{withdrawOutcome};
 ghost use Rattle.specification.specs.Solving.{checkRefusal};
-ghost use Rattle.misqafur.specs.Bytes.{signedBytes};
 ghost use Rattle.misqafur.specs.Packing.{givenSettings, left, packedOutcome, packedDrawing};
 
 // Adding one point to the n points of the tables.
@@ -31,30 +25,17 @@ pub extern "C" fn misqafur_add_point(
     standard: &mut [u8],
     leads: &mut [u8],
     coefficients: &mut [u8],
-    levels: &[u8],
+    levels: &[i8],
 ) -> u32
     ensures { λ a. ⌜ left a (now (states .exit)) (now (standard .exit)) (now (leads .exit)) (now (coefficients .exit))
         ≡ packedOutcome (addOutcome (givenSettings modulus variables order) n r
-        (fourTables (now (states .entry)) (now (standard .entry)) (now (leads .entry)) (now (coefficients .entry))) (signedBytes (now (levels .entry)))) ⌝ }
+        (fourTables (now (states .entry)) (now (standard .entry)) (now (leads .entry)) (now (coefficients .entry))) (now (levels .entry))) ⌝ }
 {
     let settings = Settings {
         modulus,
         variables,
         order,
     };
-    let count = levels.len();
-    let short = too_short(
-        states.len(),
-        standard.len(),
-        leads.len(),
-        coefficients.len(),
-    );
-    let refusal = add_sizes(settings, short, count, n);
-    if refusal != 0 {
-        return refusal as u32;
-    }
-    let mut signed = [0i8; 8];
-    put_signed(levels, &mut signed);
     let a = adding::add_point(
         settings,
         n,
@@ -63,7 +44,7 @@ pub extern "C" fn misqafur_add_point(
         standard,
         leads,
         coefficients,
-        &signed[..count],
+        levels,
     );
     pack_answer(a)
 }
@@ -80,30 +61,17 @@ pub extern "C" fn misqafur_withdraw_point(
     standard: &mut [u8],
     leads: &mut [u8],
     coefficients: &mut [u8],
-    levels: &[u8],
+    levels: &[i8],
 ) -> u32
     ensures { λ a. ⌜ left a (now (states .exit)) (now (standard .exit)) (now (leads .exit)) (now (coefficients .exit))
         ≡ packedOutcome (withdrawOutcome (givenSettings modulus variables order) n r
-        (fourTables (now (states .entry)) (now (standard .entry)) (now (leads .entry)) (now (coefficients .entry))) (signedBytes (now (levels .entry)))) ⌝ }
+        (fourTables (now (states .entry)) (now (standard .entry)) (now (leads .entry)) (now (coefficients .entry))) (now (levels .entry))) ⌝ }
 {
     let settings = Settings {
         modulus,
         variables,
         order,
     };
-    let count = levels.len();
-    let short = too_short(
-        states.len(),
-        standard.len(),
-        leads.len(),
-        coefficients.len(),
-    );
-    let refusal = withdraw_sizes(settings, short, count, n);
-    if refusal != 0 {
-        return refusal as u32;
-    }
-    let mut signed = [0i8; 8];
-    put_signed(levels, &mut signed);
     let a = withdrawing::withdraw_point(
         settings,
         n,
@@ -112,7 +80,7 @@ pub extern "C" fn misqafur_withdraw_point(
         standard,
         leads,
         coefficients,
-        &signed[..count],
+        levels,
     );
     pack_answer(a)
 }
@@ -127,38 +95,18 @@ pub extern "C" fn misqafur_draw_up(
     standard: &mut [u8],
     leads: &mut [u8],
     coefficients: &mut [u8],
-    levels: &[u8],
+    levels: &[i8],
 ) -> u64
     ensures { λ a. ⌜ left a (now (states .exit)) (now (standard .exit)) (now (leads .exit)) (now (coefficients .exit))
         ≡ packedDrawing (drawOutcome (givenSettings modulus variables order)
-        (fourTables (now (states .entry)) (now (standard .entry)) (now (leads .entry)) (now (coefficients .entry))) (signedBytes (now (levels .entry)))) ⌝ }
+        (fourTables (now (states .entry)) (now (standard .entry)) (now (leads .entry)) (now (coefficients .entry))) (now (levels .entry))) ⌝ }
 {
     let settings = Settings {
         modulus,
         variables,
         order,
     };
-    let count = levels.len();
-    let short = too_short(
-        states.len(),
-        standard.len(),
-        leads.len(),
-        coefficients.len(),
-    );
-    let refusal = draw_sizes(settings, short, count);
-    if refusal != 0 {
-        return refusal as u64;
-    }
-    let mut signed = [0i8; 512];
-    put_signed(levels, &mut signed);
-    let a = drawing::draw_up(
-        settings,
-        states,
-        standard,
-        leads,
-        coefficients,
-        &signed[..count],
-    );
+    let a = drawing::draw_up(settings, states, standard, leads, coefficients, levels);
     pack_drawn(a)
 }
 
