@@ -59,7 +59,7 @@ fn chosen(x: u8, y: u8, k: u8) -> u8
 }
 
 // The product with a number of so many bits, by doubling and adding from its highest bit on: no number in its way is greater than a sum of two residues.
-fn product(p: u8, bits: u8, x: u8, y: u8) -> u8
+pub fn product(p: u8, bits: u8, x: u8, y: u8) -> u8
     requires { ⌜ (p ≤ 61) × (bits ≤ 8) ⌝ }
     requires { ⌜ (x < p) × (y < 2 ^ bits) ⌝ }
     ensures { λ r. ⌜ r ≡ (x * y) % p ⌝ }

@@ -5,25 +5,23 @@ ghost use lib.ListN.{length, replicate};
 ghost use Rattle.residue.specs.Lists.{sameList, allZero};
 ghost use Rattle.residue.specs.Layout.{over, begins};
 
-// Whether two slices are equal. The differences are counted to the end, so that the loop is compiled to packed instructions.
+// Whether two slices are equal. The loop runs to the end, so that it is compiled to packed instructions, 16 bytes at a time.
 fn same(a: &[u8], b: &[u8]) -> bool
     requires { ⌜ length (now a) ≡ length (now b) ⌝ }
-    requires { ⌜ length (now a) < 65536 ⌝ }
     ensures { λ r. ⌜ r ≡ sameList (now (a .entry)) (now (b .entry)) ⌝ }
 {
-    let mut differences: u16 = 0;
+    let mut different: u8 = 0;
     for i in 0..a.len() {
         if a[i] != b[i] {
-            differences += 1;
+            different = 1;
         }
     }
-    differences == 0
+    different == 0
 }
 
 // Whether the lent table begins with these bytes.
 pub fn begins(new: &[u8], table: &[u8]) -> bool
     requires { ⌜ length (now new) ≤ length (now table) ⌝ }
-    requires { ⌜ length (now new) < 65536 ⌝ }
     ensures { λ r. ⌜ r ≡ begins (now (new .entry)) (now (table .entry)) ⌝ }
 {
     same(new, &table[..new.len()])

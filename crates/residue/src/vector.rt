@@ -1,9 +1,10 @@
 // Vectors of residues, the inner loops of the whole: flat, so that they are compiled to packed instructions.
 use crate::arithmetic::add;
 use crate::arithmetic::mul;
+use crate::arithmetic::product;
 use crate::bytes::copy;
 ghost use mathlib.Core.Path.{_≡_};
-ghost use Prim.Native.Nat.{_%_, _<_, _≤_};
+ghost use Prim.Native.Nat.{_%_, _^_, _<_, _≤_};
 ghost use lib.ListN.{length};
 ghost use Rattle.residue.specs.Vector.{Below, addScaled, scaled, pointwise, powered, squaresLeft, dotOf};
 
@@ -33,7 +34,20 @@ pub fn scale(p: u8, dst: &mut [u8], c: u8)
     }
 }
 
-// Multiplies each entry of dst by that of src.
+// Multiplies each entry of dst by that of src, a number of so many bits.
+fn multiply_bits(p: u8, bits: u8, dst: &mut [u8], src: &[u8])
+    requires { ⌜ (p ≤ 61) × ((bits ≤ 8) × (p ≤ 2 ^ bits)) ⌝ }
+    requires { ⌜ length (now dst) ≡ length (now src) ⌝ }
+    requires { ⌜ Below p (now dst) ⌝ }
+    requires { ⌜ Below p (now src) ⌝ }
+    ensures { λ _. ⌜ now (dst .exit) ≡ pointwise p (now (dst .entry)) (now (src .entry)) ⌝ }
+{
+    for i in 0..dst.len() {
+        dst[i] = product(p, bits, dst[i], src[i]);
+    }
+}
+
+// Multiplies each entry of dst by that of src. Residues modulo 7 and less have three bits, which are doubled in half the time.
 pub fn multiply(p: u8, dst: &mut [u8], src: &[u8])
     requires { ⌜ (2 ≤ p) × (p ≤ 61) ⌝ }
     requires { ⌜ length (now dst) ≡ length (now src) ⌝ }
@@ -41,8 +55,10 @@ pub fn multiply(p: u8, dst: &mut [u8], src: &[u8])
     requires { ⌜ Below p (now src) ⌝ }
     ensures { λ _. ⌜ now (dst .exit) ≡ pointwise p (now (dst .entry)) (now (src .entry)) ⌝ }
 {
-    for i in 0..dst.len() {
-        dst[i] = mul(p, dst[i], src[i]);
+    if p <= 7 {
+        multiply_bits(p, 3, dst, src);
+    } else {
+        multiply_bits(p, 6, dst, src);
     }
 }
 

@@ -6,12 +6,10 @@ use Rattle.residue.proofs.bytes.begins.Statement.{statement}
 use Rattle.residue.proofs.bytes.begins.Tie as tie
 
 slice-aggregate-same : tie.Need-slice-aggregate-same
-slice-aggregate-same c = let s = c .before .before .before in sym (length-take-le _ (s .args .table .now) (s .pre .0))
+slice-aggregate-same c = let s = c .before .before .before in sym (length-take-le _ (s .args .table .now) (s .pre))
 
 same-requires : tie.Need-same-requires
-same-requires c κs =
-    let s = c .before .before .before in
-    (sym (length-take-le _ (s .args .table .now) (s .pre .0)), s .pre .1)
+same-requires c κs = let s = c .before .before .before in sym (length-take-le _ (s .args .table .now) (s .pre))
 
 returns : tie.Need-returns
 unfolding begins

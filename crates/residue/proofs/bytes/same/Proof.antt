@@ -1,35 +1,31 @@
 -- `bytes::same` meets its contract. There is no difference so far exactly where the bytes before i are the same.
 use mathlib.Core.Path.{_≡_, sym, ap, ap₂, _∙_}
 use mathlib.Core.Logic.{⊎-elim}
-use Prim.Native.Nat.{ℕ, _+_, _-_, _≤_}
+use Prim.Native.Nat.{ℕ, _-_, _≤_}
 use native.Mathlib.Omega.{arith}
 use lib.ListN.{length, take}
 use lib.Seq.{take-all}
 use lib.Dec.{eqb}
-use borrow.Author.Tests.{ne-eqb}
 use Rattle.residue.specs.Lists.{sameList}
 use Rattle.residue.proofs.bytes.Equality.{same-none, same-on, same-off}
 use Rattle.residue.proofs.bytes.same.Statement.{statement}
 use Rattle.residue.proofs.bytes.same.Tie as tie
 
 abbrev Inv-loop : tie.InvT-loop
-Inv-loop a b differences₀ i₀ i-end differences i =
-    (i ≤ length a) × ((differences ≤ i) × (eqb differences 0 ≡ sameList (take i a) (take i b)))
+Inv-loop a b different₀ i₀ i-end different i =
+    (i ≤ length a) × (eqb different 0 ≡ sameList (take i a) (take i b))
 
 abbrev μ-loop : tie.MeasureT-loop
-μ-loop a b differences₀ i₀ i-end differences i = length a - i
+μ-loop a b different₀ i₀ i-end different i = length a - i
 
 loop-holds : tie.Need-loop-holds Inv-loop μ-loop
-loop-holds c = (omega arith, (omega arith, same-none))
+loop-holds c = (omega arith, same-none)
 
 shared-slice-read-if1 : tie.Need-shared-slice-read-if1 Inv-loop μ-loop
 shared-slice-read-if1 c = omega arith
 
 shared-slice-read-if1-2 : tie.Need-shared-slice-read-if1-2 Inv-loop μ-loop
 shared-slice-read-if1-2 c = omega arith
-
-add-differences : tie.Need-add-differences Inv-loop μ-loop
-add-differences c = omega arith
 
 add-i : tie.Need-add-i Inv-loop μ-loop
 add-i c = omega arith
@@ -43,15 +39,15 @@ loop-again c =
     let a = l .before .args .a .now in
     let b = l .before .args .b .now in
     ⊎-elim
-    (λ w. (omega arith, (omega arith, ap (λ (d : ℕ). eqb d 0) (w .1) ∙ ne-eqb (l .loop .differences + 1) 0 (λ z. omega arith) ∙ sym (same-off a b (l .loop .i) (omega arith) (omega arith) (w .0 .taken)))))
-    (λ w. (omega arith, (omega arith, ap (λ (d : ℕ). eqb d 0) (w .1) ∙ l .loop .inv .1 .1 ∙ sym (same-on a b (l .loop .i) (omega arith) (omega arith) (w .0 .left)))))
+    (λ w. (omega arith, ap (λ (d : ℕ). eqb d 0) (w .1) ∙ sym (same-off a b (l .loop .i) (omega arith) (omega arith) (w .0 .taken))))
+    (λ w. (omega arith, ap (λ (d : ℕ). eqb d 0) (w .1) ∙ l .loop .inv .1 ∙ sym (same-on a b (l .loop .i) (omega arith) (omega arith) (w .0 .left))))
     (c .if1 .came)
 
 returns : tie.Need-returns Inv-loop μ-loop
 returns c =
     let l = c .before in
     let s = l .before in
-    l .loop .inv .1 .1 ∙ ap₂ sameList (take-all (l .loop .i) (s .args .a .now) (omega arith)) (take-all (l .loop .i) (s .args .b .now) (omega arith))
+    l .loop .inv .1 ∙ ap₂ sameList (take-all (l .loop .i) (s .args .a .now) (omega arith)) (take-all (l .loop .i) (s .args .b .now) (omega arith))
 
 pub same-spec : {M : Type 1} → statement M
 same-spec =
@@ -62,7 +58,6 @@ same-spec =
     loop-holds
     shared-slice-read-if1
     shared-slice-read-if1-2
-    add-differences
     add-i
     loop-less
     loop-again

@@ -1,4 +1,4 @@
--- `vector::multiply` meets its contract. The loop has written the entries before i, each as the definition has it.
+-- `vector::multiply_bits` meets its contract. The loop has written the entries before i, each as the definition has it.
 use mathlib.Core.Path.{_≡_, ap, _∙_}
 use mathlib.Core.List.{List}
 use Prim.Native.Nat.{ℕ, _*_, _-_, _%_, _<_, _≤_}
@@ -6,17 +6,17 @@ use native.Mathlib.Omega.{arith}
 use lib.ListN.{length, getD}
 use Rattle.residue.proofs.vector.Filled.{filled, filled-none, kept-length, own, filled-more, filled-all}
 use Rattle.residue.proofs.vector.Vectors.{pointwise-length, pointwise-at}
-use Rattle.residue.proofs.vector.multiply.Statement.{statement}
-use Rattle.residue.proofs.vector.multiply.Tie as tie
+use Rattle.residue.proofs.vector.multiply_bits.Statement.{statement}
+use Rattle.residue.proofs.vector.multiply_bits.Tie as tie
 
 abbrev entry : ℕ → List ℕ → List ℕ → ℕ → ℕ
 entry p dst src i = (getD dst i 0 * getD src i 0) % p
 
 abbrev Inv-loop : tie.InvT-loop
-Inv-loop p dst₀ src i₀ i-end dst i = (i ≤ length dst₀) × (dst ≡ filled (entry p dst₀ src) i dst₀)
+Inv-loop p bits dst₀ src i₀ i-end dst i = (i ≤ length dst₀) × (dst ≡ filled (entry p dst₀ src) i dst₀)
 
 abbrev μ-loop : tie.MeasureT-loop
-μ-loop p dst₀ src i₀ i-end dst i = length dst₀ - i
+μ-loop p bits dst₀ src i₀ i-end dst i = length dst₀ - i
 
 -- at the loop's head
 module _ (l : tie.At-loop Inv-loop μ-loop) where
@@ -46,14 +46,14 @@ module _ (c : tie.In-loop Inv-loop μ-loop) where
 loop-holds : tie.Need-loop-holds Inv-loop μ-loop
 loop-holds c = (omega arith, filled-none _ _)
 
-slice-read-mul : tie.Need-slice-read-mul Inv-loop μ-loop
-slice-read-mul c = omega (arith, long (c .before .before))
+slice-read-product : tie.Need-slice-read-product Inv-loop μ-loop
+slice-read-product c = omega (arith, long (c .before .before))
 
-shared-slice-read-mul : tie.Need-shared-slice-read-mul Inv-loop μ-loop
-shared-slice-read-mul c = omega arith
+shared-slice-read-product : tie.Need-shared-slice-read-product Inv-loop μ-loop
+shared-slice-read-product c = omega arith
 
-mul-requires : tie.Need-mul-requires Inv-loop μ-loop
-mul-requires c κs = let t = c .before .before in (s t .pre .0 .1, (own-residue t, other-residue t))
+product-requires : tie.Need-product-requires Inv-loop μ-loop
+product-requires c κs = let t = c .before .before in ((s t .pre .0 .0, s t .pre .0 .1 .0), (own-residue t, omega (arith, other-residue t, s t .pre .0 .1 .1)))
 
 slice-write-dst : tie.Need-slice-write-dst Inv-loop μ-loop
 slice-write-dst c = omega (arith, long (c .before .before .before .before))
@@ -68,7 +68,7 @@ loop-again : tie.Need-loop-again Inv-loop μ-loop
 loop-again c =
     let l = c .before .before .before .before in
     let e = ap (λ (d : ℕ). (d * getD (start l .args .src .now) (l .loop .i) 0) % start l .args .p) (here l) in
-    (omega arith, filled-more (g l) (l .loop .i) (start l .args .dst .now) (l .loop .dst) (l .loop .inv .1) (c .mul .result) (omega arith) (c .mul .ensures ∙ e))
+    (omega arith, filled-more (g l) (l .loop .i) (start l .args .dst .now) (l .loop .dst) (l .loop .inv .1) (c .product .result) (omega arith) (c .product .ensures ∙ e))
 
 same-length : tie.Need-same-length Inv-loop μ-loop
 same-length c = long (c .before)
@@ -81,16 +81,16 @@ returns c =
     ∙ filled-all (g l) (l .loop .i) _ (s .args .dst .now) 0 (omega arith) (pointwise-length (s .args .p) (s .args .dst .now) (s .args .src .now) (s .pre .1 .0))
     (pointwise-at (s .args .p) (s .args .dst .now) (s .args .src .now) (s .pre .1 .0))
 
-pub multiply-spec : {M : Type 1} → statement M
-multiply-spec =
+pub multiply-bits-spec : {M : Type 1} → statement M
+multiply-bits-spec =
     tie.close
     (tie.spec
     Inv-loop
     μ-loop
     loop-holds
-    slice-read-mul
-    shared-slice-read-mul
-    mul-requires
+    slice-read-product
+    shared-slice-read-product
+    product-requires
     slice-write-dst
     add-i
     loop-less
