@@ -87,7 +87,7 @@ pub fn read_points(settings: Settings, n: usize, states: &[u8], points: &mut [u8
 }
 
 // The number whose digits to the base 256 the 8 bytes of a point are. Its halves are made side by side: so it is compiled to one load.
-fn key(point: &[u8]) -> u64
+pub fn key(point: &[u8]) -> u64
     requires { ⌜ length (now point) ≡ 8 ⌝ }
     ensures { λ k. ⌜ k ≡ keyOf 8 (now (point .entry)) ⌝ }
 {

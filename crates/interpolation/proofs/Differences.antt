@@ -1,20 +1,17 @@
--- In how many places two points of 8 bytes differ, and the marks of variables.
+-- In how many places two points of 8 bytes differ.
 use mathlib.Core.Path.{_≡_, refl, sym, _∙_}
-use mathlib.Core.Bool.{false, _||_, or-true, or-false}
 use mathlib.Core.Logic.{_≢_, _⊎_, inl, inr}
 use mathlib.Core.List.{List, [], _∷_}
 use Prim.Native.Nat.{ℕ, zero, suc, _+_, _<_, _≤_}
 use native.Mathlib.Nat.{le-of-suc-le-suc}
 use native.Mathlib.Decide.{ℕ-discrete}
 use native.Mathlib.Omega.{arith}
-use lib.ListN.{length, getD, set, replicate}
-use lib.Seq.{getD-set-same, getD-set-other}
+use lib.ListN.{length, getD}
 use lib.Dec.{eqb}
 use borrow.Author.Tests.{eq-eqb, ne-eqb}
 use Rattle.residue.proofs.Tests.{told-true, told-false}
 use Rattle.specification.specs.Needed.{Apart, apart}
 use Rattle.specification.proofs.needed.Coordinates.{apart-told}
-use Rattle.interpolation.specs.Pairs.{isSet}
 
 -- Among the first i places so many differ, the last of them at `place`; two of them are not at the same place.
 pub record Differing (a b : List ℕ) (i count place : ℕ) : Type 0 where
@@ -78,23 +75,3 @@ module _ (a b : List ℕ) (la : length a ≡ 8) (lb : length b ≡ 8) (count pla
       go : Apart k a b → Dec (count ≡ 0) → ⊥
       go z (yes e) = z .here (d .none e k h)
       go z (no e) = let w = d .more (omega arith) k in w .3 (z .others (w .0) (w .2))
-
--- a mark more
-pub mark-one : (marks : List ℕ) (place k : ℕ) → place < length marks → isSet (set marks place 1) k ≡ (isSet marks k || eqb place k)
-mark-one marks place k h = go (ℕ-discrete k place)
-  where
-    go : Dec (k ≡ place) → isSet (set marks place 1) k ≡ (isSet marks k || eqb place k)
-    go (yes u) = rw (u, getD-set-same marks place 1 0 h, eq-eqb place place refl) (sym (or-true (isSet marks place)))
-    go (no u) = rw (getD-set-other marks place k 1 0 u, ne-eqb place k (λ z. u (sym z))) (sym (or-false (isSet marks k)))
-
-pub mark-none : (marks : List ℕ) (place k : ℕ) → 8 ≤ place → k < 8 → isSet marks k ≡ (isSet marks k || eqb place k)
-mark-none marks place k h l = rw (ne-eqb place k (λ z. omega arith)) (sym (or-false (isSet marks k)))
-
--- no marks
-zeros : (m k : ℕ) → _≡_ {A = ℕ} (getD (replicate m 0) k 0) 0
-zeros zero k = refl
-zeros (suc m) zero = refl
-zeros (suc m) (suc k) = zeros m k
-
-pub unmarked : (k : ℕ) → isSet (replicate 8 0) k ≡ false
-unmarked k = rw (zeros 8 k)

@@ -3,4 +3,5 @@ pub mod Terms
 pub mod TermValues
 pub mod Interpolants
 pub mod PairSearch
+pub mod Chains
 pub mod Differences

@@ -1,19 +1,14 @@
 -- `pairs::put_names` meets its contract: the names of the first k variables have been put.
 use mathlib.Core.Path.{_≡_, refl, sym, ap, ap₂, _∙_}
-use mathlib.Core.Bool.{Bool, not, _||_}
 use mathlib.Core.List.{List, [], _∷_}
-use Prim.Native.Nat.{ℕ, _+_, _-_, _<_, _≤_}
+use Prim.Native.Nat.{ℕ, _+_, _-_, _≤_}
 use native.Mathlib.Omega.{arith}
 use lib.ListN.{length, take, set, length-append}
 use mathlib.Core.Logic.{⊎-elim}
-use borrow.Author.Tests.{eq-eqb, ne-eqb}
 use Rattle.residue.specs.Layout.{groups, fill}
 use Rattle.residue.proofs.Layouts.{fill-zeros, fill-put, length-fill}
 use Rattle.specification.proofs.Wiring.{names-on, names-off, names-length}
-use Rattle.specification.specs.Needed.{pairIn, wiringOf}
-use Rattle.interpolation.specs.Pairs.{valuedIn, pairAt, isSet}
-use Rattle.interpolation.proofs.PairSearch.{pairs-joined}
-use Rattle.interpolation.proofs.Differences.{unmarked}
+use Rattle.specification.specs.Needed.{wiringOf}
 use Rattle.interpolation.proofs.pairs.put_names.Statement.{statement}
 use Rattle.interpolation.proofs.pairs.put_names.Tie as tie
 
@@ -22,69 +17,48 @@ abbrev put : ℕ → List ℕ → List ℕ → ℕ → List ℕ
 put n points values k = wiringOf k (groups 8 n points) (take n values)
 
 abbrev Inv-loop : tie.InvT-loop
-Inv-loop m n points values out₀ marks count₀ k₀ out count k = (k ≤ m) × ((count ≡ length (put n points values k)) × (out ≡ fill 8 (put n points values k)))
+Inv-loop m n points values out₀ count₀ k₀ out count k = (k ≤ m) × ((count ≡ length (put n points values k)) × (out ≡ fill 8 (put n points values k)))
 
 abbrev μ-loop : tie.MeasureT-loop
-μ-loop m n points values out₀ marks count₀ k₀ out count k = m - k
+μ-loop m n points values out₀ count₀ k₀ out count k = m - k
 
 -- at the loop's head
 module _ (l : tie.At-loop Inv-loop μ-loop) where
   abbrev start : tie.Start Inv-loop μ-loop
-  start = l .before .before .before .before .before .before .before .before .before .before
+  start = l .before .before .before .before
 
   abbrev so-far : List ℕ
   so-far = put (start .args .n) (start .args .points .now) (start .args .values .now) (l .loop .k)
 
   few : l .loop .count ≤ l .loop .k
-  few = rw (l .loop .inv .1 .0) (names-length (groups 8 (start .args .n) (start .args .points .now)) (take (start .args .n) (start .args .values .now)) (l .loop .k))
+  few =
+      let vs = take (start .args .n) (start .args .values .now) in
+      rw (l .loop .inv .1 .0) (names-length (groups 8 (start .args .n) (start .args .points .now)) vs (l .loop .k))
 
   long : length (l .loop .out) ≡ 8
   long = ap length (l .loop .inv .1 .1) ∙ length-fill 8 so-far
 
-  -- what is marked in the two searches
-  abbrev marks : List ℕ
-  marks = l .before .before .mark-pairs2 .last .1 .1 .1 .1 .0
-
-  marked : (k : ℕ) → k < 8 → isSet marks k ≡ pairIn k (valuedIn (start .args .n) (start .args .points .now) (start .args .values .now))
-  marked k h =
-      let pairs : List (List ℕ × ℕ) = valuedIn (start .args .n) (start .args .points .now) (start .args .values .now) in
-      l .before .before .mark-pairs2 .ensures k h
-      ∙ ap (λ (x : Bool). x || pairAt 1 k pairs) (l .before .before .before .before .before .mark-pairs .ensures k h ∙ ap (λ (x : Bool). x || pairAt 0 k pairs) (unmarked k))
-      ∙ pairs-joined k pairs
-
-slice-aggregate-mark-pairs : tie.Need-slice-aggregate-mark-pairs Inv-loop μ-loop
-slice-aggregate-mark-pairs c = refl
-
-mark-pairs-requires : tie.Need-mark-pairs-requires Inv-loop μ-loop
-mark-pairs-requires c κs = ((omega arith, omega arith), ((omega arith, omega arith), refl))
-
-slice-aggregate-mark-pairs-2 : tie.Need-slice-aggregate-mark-pairs-2 Inv-loop μ-loop
-slice-aggregate-mark-pairs-2 c = sym (c .before .before .mark-pairs .kept .1 .1 .1 .1 .0)
-
-mark-pairs-requires-2 : tie.Need-mark-pairs-requires-2 Inv-loop μ-loop
-mark-pairs-requires-2 c κs = ((omega arith, omega arith), ((omega arith, omega arith), c .before .before .mark-pairs .kept .1 .1 .1 .1 .0))
-
 loop-holds : tie.Need-loop-holds Inv-loop μ-loop
 unfolding wiringOf
-loop-holds c = (omega arith, (refl, c .before .before .before .before .before .before .before .before .before .pre .1 .1 ∙ sym (fill-zeros 8)))
+loop-holds c = (omega arith, (refl, c .before .before .before .pre .1 .1 ∙ sym (fill-zeros 8)))
 
-array-read-if1 : tie.Need-array-read-if1 Inv-loop μ-loop
-array-read-if1 c = omega arith
+is-needed-requires : tie.Need-is-needed-requires Inv-loop μ-loop
+is-needed-requires c κs = ((omega arith, omega arith), (omega arith, omega arith))
 
 add-out : tie.Need-add-out Inv-loop μ-loop
 add-out c = omega arith
 
 cast-out : tie.Need-cast-out Inv-loop μ-loop
-cast-out c = omega (arith, few (c .before .before))
+cast-out c = omega (arith, few (c .before .before .before))
 
 cast-out-2 : tie.Need-cast-out-2 Inv-loop μ-loop
-cast-out-2 c = omega (arith, few (c .before .before))
+cast-out-2 c = omega (arith, few (c .before .before .before))
 
 slice-write-out : tie.Need-slice-write-out Inv-loop μ-loop
-slice-write-out c = omega (arith, few (c .before .before), long (c .before .before))
+slice-write-out c = omega (arith, few (c .before .before .before), long (c .before .before .before))
 
 add-count : tie.Need-add-count Inv-loop μ-loop
-add-count c = omega (arith, few (c .before .before))
+add-count c = omega (arith, few (c .before .before .before))
 
 add-k : tie.Need-add-k Inv-loop μ-loop
 add-k c = omega arith
@@ -94,14 +68,14 @@ loop-less c = omega arith
 
 loop-again : tie.Need-loop-again Inv-loop μ-loop
 loop-again c =
-    let l = c .before .before in
+    let l = c .before .before .before in
     let S : List (List ℕ) = groups 8 (start l .args .n) (start l .args .points .now) in
     let vs : List ℕ = take (start l .args .n) (start l .args .values .now) in
     let k : ℕ = l .loop .k in
-    let r = sym (marked l k (omega arith)) in
+    let r = sym (c .before .is-needed .ensures) in
     ⊎-elim
     (λ w.
-    let e = names-on S vs k (r ∙ ap not (ne-eqb _ 0 (w .0 .taken))) in
+    let e = names-on S vs k (r ∙ w .0 .taken) in
     let n = length-append (so-far l) ((k + 1) ∷ []) in
     let f = few l in (
       omega arith,
@@ -114,7 +88,7 @@ loop-again c =
       ),
     ))
     (λ w.
-    let e = sym (names-off S vs k (r ∙ ap not (eq-eqb _ 0 (w .0 .left)))) in
+    let e = sym (names-off S vs k (r ∙ w .0 .left)) in
     (omega arith, (w .2 ∙ l .loop .inv .1 .0 ∙ ap length e, w .1 ∙ l .loop .inv .1 .1 ∙ ap (fill 8) e)))
     (c .if1 .came)
 
@@ -134,12 +108,8 @@ put-names-spec =
     (tie.spec
     Inv-loop
     μ-loop
-    slice-aggregate-mark-pairs
-    mark-pairs-requires
-    slice-aggregate-mark-pairs-2
-    mark-pairs-requires-2
     loop-holds
-    array-read-if1
+    is-needed-requires
     add-out
     cast-out
     cast-out-2
