@@ -12,7 +12,7 @@
 
 #define LENT(L)                                                                                               \
     (L)->states, sizeof (L)->states, (L)->standard, sizeof (L)->standard, (L)->leads, sizeof (L)->leads,      \
-        (L)->coefficients, sizeof (L)->coefficients
+        (L)->coefficients, sizeof (L)->coefficients, (L)->counts, sizeof (L)->counts
 
 /* The calls that are measured, of one implementation. */
 struct measured {
@@ -70,6 +70,16 @@ static void run_withdraw(const struct measured *by, const struct input *in, stru
                                            in->m * (in->n - 1));
 }
 
+/* Every point 255 times. Who cannot withdraw draws up the points once; the counts are then put in, so that all that is left
+ * can be compared. */
+static void run_replicates(const struct measured *by, const struct input *in, struct result *to)
+{
+    uint64_t rounds = by->withdraw_point != NULL ? MISQAFUR_MAX_COUNT : 1;
+    to->answer = (uint32_t)by->draw_up(in->p, in->m, in->order, LENT(&to->lent), in->rounds, in->m * in->n * rounds);
+    if (rounds == 1)
+        memset(to->lent.counts, MISQAFUR_MAX_COUNT, in->n);
+}
+
 static void run_check(const struct measured *by, const struct input *in, struct result *to)
 {
     to->answer = by->check(in->p, in->m, in->order, in->whole.n, in->whole.r, LENT(&in->whole));
@@ -92,6 +102,7 @@ struct operation {
 static const struct operation operations[] = {{"draw up", run_draw, 0, &same_method, "the same method in C"},
                                               {"add", run_add, 64, NULL, NULL},
                                               {"withdraw", run_withdraw, 64, &archive_drawing, "drawing up the rest"},
+                                              {"replicates", run_replicates, 64, &archive_drawing, "the points once"},
                                               {"check", run_check, 64, NULL, NULL},
                                               {"remainder", run_remainder, 64, NULL, NULL}};
 

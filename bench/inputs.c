@@ -40,6 +40,8 @@ void input_make(struct input *input, uint64_t p, uint64_t m, uint64_t order, uin
             point[k] = (uint8_t)(next_number(&state) % p);
         found += !is_among(input, found, point);
     }
+    for (uint64_t round = 0; round < MISQAFUR_MAX_COUNT; round++)
+        memcpy(input->rounds + m * n * round, input->levels, m * n);
     for (unsigned i = 0; i < MOST_TERMS; i++) {
         input->terms[i] = (uint8_t)(next_number(&state) % p);
         for (uint64_t k = 0; k < m; k++)

@@ -8,7 +8,7 @@
 struct lent {
     uint64_t n, r;
     uint8_t states[MISQAFUR_STATES_SIZE], standard[MISQAFUR_STANDARD_SIZE];
-    uint8_t leads[MISQAFUR_LEADS_SIZE], coefficients[MISQAFUR_COEFFICIENTS_SIZE];
+    uint8_t leads[MISQAFUR_LEADS_SIZE], coefficients[MISQAFUR_COEFFICIENTS_SIZE], counts[MISQAFUR_COUNTS_SIZE];
 };
 
 #define MOST_TERMS 32
@@ -16,6 +16,7 @@ struct lent {
 struct input {
     uint64_t p, m, order, n;
     uint8_t levels[512];           /* n points */
+    uint8_t rounds[MISQAFUR_MAX_COUNT * 512]; /* the n points over and over, each as often as it can be counted */
     struct lent before;            /* the basis of all points but the last */
     struct lent whole;             /* the basis of all points */
     uint8_t terms[MOST_TERMS], exponents[8 * MOST_TERMS];

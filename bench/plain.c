@@ -8,14 +8,15 @@
 uint64_t plain_draw_up(uint64_t modulus, uint64_t variables, uint64_t order,
                        uint8_t *states, size_t states_length, uint8_t *standard, size_t standard_length,
                        uint8_t *leads, size_t leads_length, uint8_t *coefficients, size_t coefficients_length,
-                       const uint8_t *levels, size_t levels_length)
+                       uint8_t *counts, size_t counts_length, const uint8_t *levels, size_t levels_length)
 {
     struct tableau t;
     struct drawn to = {.standard = standard, .leads = leads, .coefficients = coefficients};
-    unsigned p = (unsigned)modulus, m = (unsigned)variables, n = (unsigned)(levels_length / variables);
-    (void)states_length, (void)standard_length, (void)leads_length, (void)coefficients_length;
-    if (!read_points(p, m, n, levels, states))
-        return 11;
+    unsigned p = (unsigned)modulus, m = (unsigned)variables, n = 0;
+    (void)states_length, (void)standard_length, (void)leads_length, (void)coefficients_length, (void)counts_length;
+    unsigned refusal = gather_points(p, m, levels_length / variables, levels, states, counts, &n);
+    if (refusal != 0)
+        return refusal;
     tableau_begin(&t, p, m, (unsigned)order, n, states);
     tableau_draw(&t, &to);
     return 256 * n + 65536 * to.r;
@@ -25,22 +26,27 @@ uint64_t plain_draw_up(uint64_t modulus, uint64_t variables, uint64_t order,
 uint32_t plain_withdraw_point(uint64_t modulus, uint64_t variables, uint64_t order, uint64_t n, uint64_t r,
                               uint8_t *states, size_t states_length, uint8_t *standard, size_t standard_length,
                               uint8_t *leads, size_t leads_length, uint8_t *coefficients, size_t coefficients_length,
-                              const uint8_t *levels, size_t levels_length)
+                              uint8_t *counts, size_t counts_length, const uint8_t *levels, size_t levels_length)
 {
     struct tableau t;
     struct redrawn old;
     struct drawn to = {.standard = standard, .leads = leads, .coefficients = coefficients};
     uint8_t point[8] = {0};
-    unsigned p = (unsigned)modulus, left = (unsigned)n - 1, place = 0;
-    (void)states_length, (void)standard_length, (void)leads_length, (void)coefficients_length;
-    if (!good_tables(&t, &old, modulus, variables, order, n, r, states, standard, leads, coefficients))
+    unsigned p = (unsigned)modulus, left = (unsigned)n - 1;
+    (void)states_length, (void)standard_length, (void)leads_length, (void)coefficients_length, (void)counts_length;
+    if (!good_tables(&t, &old, modulus, variables, order, n, r, states, standard, leads, coefficients, counts))
         return 10;
     for (size_t k = 0; k < levels_length; k++)
         point[k] = residue(p, levels[k]);
-    while (place < n && memcmp(states + 8 * place, point, 8) != 0)
-        place++;
+    unsigned place = place_of(states, (unsigned)n, point);
     if (place == n)
         return 12;
+    if (counts[place] > 1) {
+        counts[place]--;
+        return 256 * (uint32_t)n + 65536 * (uint32_t)r;
+    }
+    memmove(counts + place, counts + place + 1, left - place);
+    counts[left] = 0;
     memmove(states + 8 * place, states + 8 * place + 8, 8 * (left - place));
     memset(states + 8 * left, 0, 8);
     tableau_begin(&t, p, (unsigned)variables, (unsigned)order, left, states);
@@ -52,12 +58,13 @@ uint32_t plain_check(uint64_t modulus, uint64_t variables, uint64_t order, uint6
                      const uint8_t *states, size_t states_length,
                      const uint8_t *standard, size_t standard_length,
                      const uint8_t *leads, size_t leads_length,
-                     const uint8_t *coefficients, size_t coefficients_length)
+                     const uint8_t *coefficients, size_t coefficients_length,
+                     const uint8_t *counts, size_t counts_length)
 {
     struct tableau t;
     struct redrawn to;
-    (void)states_length, (void)standard_length, (void)leads_length, (void)coefficients_length;
-    return good_tables(&t, &to, modulus, variables, order, n, r, states, standard, leads, coefficients) ? 0 : 10;
+    (void)states_length, (void)standard_length, (void)leads_length, (void)coefficients_length, (void)counts_length;
+    return good_tables(&t, &to, modulus, variables, order, n, r, states, standard, leads, coefficients, counts) ? 0 : 10;
 }
 
 /* Powers of the residues: a^e for e from 1 to p - 1, after which they repeat. */
@@ -100,6 +107,7 @@ uint32_t plain_remainder(uint64_t modulus, uint64_t variables, uint64_t order, u
                          const uint8_t *standard, size_t standard_length,
                          const uint8_t *leads, size_t leads_length,
                          const uint8_t *coefficients, size_t coefficients_length,
+                         const uint8_t *counts, size_t counts_length,
                          const uint8_t *term_coefficients, size_t term_coefficients_length,
                          const uint8_t *exponents, size_t exponents_length, uint8_t *out, size_t out_length)
 {
@@ -108,9 +116,9 @@ uint32_t plain_remainder(uint64_t modulus, uint64_t variables, uint64_t order, u
     struct powers powers;
     uint16_t values[MOST] = {0}, rest[MOST];
     unsigned p = (unsigned)modulus;
-    (void)states_length, (void)standard_length, (void)leads_length, (void)coefficients_length;
+    (void)states_length, (void)standard_length, (void)leads_length, (void)coefficients_length, (void)counts_length;
     (void)exponents_length, (void)out_length;
-    if (!good_tables(&t, &to, modulus, variables, order, n, r, states, standard, leads, coefficients))
+    if (!good_tables(&t, &to, modulus, variables, order, n, r, states, standard, leads, coefficients, counts))
         return 10;
     make_powers(&t, &powers);
     for (size_t i = 0; i < term_coefficients_length; i++)

@@ -1,6 +1,6 @@
 /* Five of the calls in plain C, tuned for speed and with no proof: the measure that the archive is
  * held against. Each has the type of the exported call; settings and lengths must be good ones, and
- * of the refusals only 10, 11 and 12 are looked for. By exchange steps there are no cancellations to
+ * of the refusals only 8 (distinct points), 10, 12 and 13 are looked for. By exchange steps there are no cancellations to
  * count: drawing up answers none. */
 #ifndef PLAIN_H
 #define PLAIN_H

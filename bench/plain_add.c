@@ -141,17 +141,23 @@ static unsigned put_rows(const struct addition *a, uint8_t *leads, uint8_t *coef
 uint32_t plain_add_point(uint64_t modulus, uint64_t variables, uint64_t order, uint64_t n, uint64_t r,
                          uint8_t *states, size_t states_length, uint8_t *standard, size_t standard_length,
                          uint8_t *leads, size_t leads_length, uint8_t *coefficients, size_t coefficients_length,
-                         const uint8_t *levels, size_t levels_length)
+                         uint8_t *counts, size_t counts_length, const uint8_t *levels, size_t levels_length)
 {
     struct addition a;
-    (void)states_length, (void)standard_length, (void)leads_length, (void)coefficients_length;
-    if (!good_tables(&a.t, &a.old, modulus, variables, order, n, r, states, standard, leads, coefficients))
+    (void)states_length, (void)standard_length, (void)leads_length, (void)coefficients_length, (void)counts_length;
+    if (!good_tables(&a.t, &a.old, modulus, variables, order, n, r, states, standard, leads, coefficients, counts))
         return 10;
     memset(a.point, 0, 8);
     for (size_t k = 0; k < levels_length; k++)
         a.point[k] = residue(a.t.p, levels[k]);
-    if (repeats(states, a.t.n, a.point))
-        return 11;
+    unsigned place = place_of(states, a.t.n, a.point);
+    if (place == 64)
+        return 8;
+    if (place < a.t.n && counts[place] == 255)
+        return 13;
+    counts[place]++;
+    if (place < a.t.n)
+        return 256 * (uint32_t)n + 65536 * (uint32_t)r;
     look_at_point(&a);
     memcpy(states + 8 * n, a.point, 8);
     memmove(standard + 8 * a.place + 8, standard + 8 * a.place, 8 * (n - a.place));

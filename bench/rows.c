@@ -145,15 +145,17 @@ static void begin(struct rows *w, uint8_t p, unsigned m, unsigned order, unsigne
 uint64_t rows_draw_up(uint64_t modulus, uint64_t variables, uint64_t order,
                       uint8_t *states, size_t states_length, uint8_t *standard, size_t standard_length,
                       uint8_t *leads, size_t leads_length, uint8_t *coefficients, size_t coefficients_length,
-                      const uint8_t *levels, size_t levels_length)
+                      uint8_t *counts, size_t counts_length, const uint8_t *levels, size_t levels_length)
 {
     struct rows w;
     struct candidate c = {.rank = 0};
     uint8_t values[MOST] = {0};
-    unsigned n = (unsigned)(levels_length / variables), r = 0;
-    (void)states_length, (void)standard_length, (void)leads_length, (void)coefficients_length;
-    if (!read_points((unsigned)modulus, (unsigned)variables, n, levels, states))
-        return 11;
+    unsigned n = 0, r = 0;
+    (void)states_length, (void)standard_length, (void)leads_length, (void)coefficients_length, (void)counts_length;
+    unsigned refusal = gather_points((unsigned)modulus, (unsigned)variables, levels_length / variables, levels, states,
+                                     counts, &n);
+    if (refusal != 0)
+        return refusal;
     begin(&w, (uint8_t)modulus, (unsigned)variables, (unsigned)order, n, states);
     memset(standard, 0, MISQAFUR_STANDARD_SIZE);
     memset(leads, 0, MISQAFUR_LEADS_SIZE);

@@ -1,5 +1,5 @@
-/* An example host: points one after another into a sheet, of which one was mislabelled and is withdrawn;
- * then an interpolant, a wiring list and a remainder.
+/* An example host: pots one after another into a sheet, two of them in the same state; one was mislabelled and is
+ * withdrawn. Then an interpolant, a wiring list and a remainder.
  * Build: cc host.c $(pkg-config --cflags --libs misqafur) -o host */
 #include <misqafur.h>
 
@@ -9,13 +9,17 @@
 
 static struct misqafur_sheet sheet;
 
-/* Says what became of a point. */
+/* Says what became of a point. The counts of the points are as many as the pots. */
 static void say(uint32_t refusal, const char *done, int x1, int x2)
 {
+    unsigned pots = 0;
+    for (uint32_t i = 0; i < sheet.n; i++)
+        pots += sheet.counts[i];
     if (refusal != 0)
         printf("point (%d, %d) refused with %u: %s\n", x1, x2, refusal, misqafur_refusal_text(refusal));
     else
-        printf("point (%d, %d) %s: %u points, %u elements\n", x1, x2, done, (unsigned)sheet.n, (unsigned)sheet.r);
+        printf("point (%d, %d) %s: %u points of %u pots, %u elements\n", x1, x2, done, (unsigned)sheet.n, pots,
+               (unsigned)sheet.r);
 }
 
 static void add(int x1, int x2)

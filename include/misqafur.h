@@ -13,24 +13,34 @@
  * Levels, values and the coefficients of a polynomial are signed bytes from -(p-1) to p-1, handed
  * in as plain bytes of the same bits: 255 is -1. A negative one has p added, any other is kept.
  *
- * A basis is two counts, n points and r elements, and four tables that the host lends:
+ * A basis is two numbers, n distinct points and r elements, and five tables that the host lends:
  *   states        512 bytes: point i has bytes 8i to 8i+7, its residues, in order of arrival
  *   standard      512 bytes: n standard monomials, 8 exponents each, increasing in the order
  *   leads         3,592 bytes: r leading monomials, 8 exponents each, increasing
  *   coefficients  28,736 bytes: those of element i begin at byte 64i, one residue for each standard
  *                 monomial in table order; element i is its leading monomial plus their combination
+ *   counts        64 bytes: byte i is how many times point i was taken, 1 to 255
  * Of the 8 bytes of a point or a monomial the first belongs to x1, the second to x2 and so on to xm;
  * bytes m to 7 are 0. Every other byte of these sizes is 0 too. The basis of no points has n = 0,
- * r = 1 and four tables of zeros: its one element is the monomial 1.
+ * r = 1 and five tables of zeros: its one element is the monomial 1.
+ *
+ * Replicates. Three pots in the same state are ordinary: the state is one point, and its count is 3.
+ * Points are compared by residues, so modulo 5 the levels 4 and -1 are the same point. Adding a point
+ * that is there raises its count and changes nothing else; withdrawing it lowers the count, and at 0 the
+ * point goes. Drawing up takes the pots as they come, in any order, and counts. With p = 5 and one
+ * gene, pots of the levels 4, 0 and -1 give n = 2, the states 4 0 and the counts 2 1: two states, of
+ * which the first was seen in two pots. n, r and the other tables are those of the distinct points,
+ * however often each was seen; an interpolant or a wiring list takes one value for each of them.
  *
  * Lent memory. Each buffer is a pointer and its length in bytes; with length 0 the pointer may be
  * NULL. A table or answer buffer may be longer than its size: no byte past the size is read or
  * written. Levels, values, terms and text are read where their length is not refused, and else not at
  * all. No byte that a call may write may be lent to it twice; buffers that are only read may overlap.
  *
- * Refusals. A call that succeeds answers refusal 0 with its counts. Otherwise it answers the first
- * of these that holds, in this order, and no lent byte has changed. The number comes alone, all else
- * in the answer being 0; only the reader adds the record at fault:
+ * Refusals. A call that succeeds answers refusal 0 with its numbers. Otherwise it answers the first
+ * of these that holds, in this order, but that 8 for points is looked for directly before 13; and no
+ * lent byte has changed. The number comes alone, all else in the answer being 0; only the reader adds
+ * the record at fault:
  *    1  the text is longer than 16,384 bytes
  *    2  the text breaks the rules, or a record's field count differs from the header's
  *    3  the modulus is not one of the 18
@@ -38,20 +48,23 @@
  *    5  the order is not 0, 1 or 2
  *    6  a lent table or answer buffer is shorter than its size
  *    7  a length is wrong
- *    8  more than 64 points, an n above 64, or more than 256 terms
+ *    8  an n above 64, or more than 256 terms; directly before 13: more than 64 distinct points
  *    9  a level, value or coefficient is outside -(p-1) to p-1, or a variable above m has an
  *       exponent that is not 0
- *   10  n, r and the tables are not the basis of their points under these settings
- *   11  a point equals an earlier one (compared by residues)
+ *   10  n, r and the tables are not the basis of their points under these settings; counts that are
+ *       not 1 to 255 for each point, or not 0 behind them, are none either
+ *   11  given by no call: a point that equals an earlier one is a replicate
  *   12  a point that is to be withdrawn is not there (compared by residues)
- * Beside each call stand the refusals that it can answer.
+ *   13  a point would be counted more than 255 times
+ *   14  in a text, a replicate has another value than its point has (compared by residues)
+ * Beside each call stand the refusals that it can answer, in the order in which they are looked for.
  *
  * Calls use no heap, open no files, keep nothing between them and share nothing: any number of
  * threads may call at once, as long as no thread writes what another has lent. Every call returns.
  * MISQAFUR_STACK bytes of stack are enough for any call.
  *
  * A host that keeps whole sheets uses struct misqafur_sheet and the misqafur_sheet_ helpers at the end:
- * they hand settings, counts, tables and their lengths to the calls, and keep the counts that come back.
+ * they hand settings, n, r, tables and their lengths to the calls, and keep the n and r that come back.
  *
  * Example: three points modulo 5, an interpolant, and the element x1*x2 + x2 + x1.
  *
@@ -92,17 +105,19 @@
 #define MISQAFUR_VERSION_MINOR 0
 #define MISQAFUR_VERSION_PATCH 0
 #define MISQAFUR_VERSION "1.0.0"
-#define MISQAFUR_ABI 1
+#define MISQAFUR_ABI 2
 
 #define MISQAFUR_STATES_SIZE 512
 #define MISQAFUR_STANDARD_SIZE 512
 #define MISQAFUR_LEADS_SIZE 3592
 #define MISQAFUR_COEFFICIENTS_SIZE 28736
+#define MISQAFUR_COUNTS_SIZE 64
 #define MISQAFUR_RESIDUES_SIZE 64 /* an interpolant, a remainder, the values read from a text */
 #define MISQAFUR_WIRING_SIZE 8
-#define MISQAFUR_LEVELS_SIZE 520 /* what misqafur_pack_levels asks for: 8 levels for each of 65 points */
+#define MISQAFUR_LEVELS_SIZE 512 /* what misqafur_pack_levels asks for: 8 levels for each of 64 points */
 
 #define MISQAFUR_MAX_POINTS 64
+#define MISQAFUR_MAX_COUNT 255
 #define MISQAFUR_MAX_VARIABLES 8
 #define MISQAFUR_MAX_TERMS 256
 #define MISQAFUR_MAX_TEXT 16384
@@ -127,8 +142,10 @@ enum misqafur_refusals {
     MISQAFUR_REFUSED_COUNT = 8,
     MISQAFUR_REFUSED_RANGE = 9,
     MISQAFUR_REFUSED_BASIS = 10,
-    MISQAFUR_REFUSED_REPEATED = 11,
-    MISQAFUR_REFUSED_ABSENT = 12
+    MISQAFUR_REFUSED_REPEATED = 11, /* by no call */
+    MISQAFUR_REFUSED_ABSENT = 12,
+    MISQAFUR_REFUSED_REPLICATES = 13,
+    MISQAFUR_REFUSED_OTHER_VALUE = 14
 };
 
 /* An answer is to be looked at: compilers that know how warn where it is not. */
@@ -142,55 +159,62 @@ enum misqafur_refusals {
 extern "C" {
 #endif
 
-/* Adds one point to a basis.
- * Reads: the settings, n, r, the four tables, m levels.
- * Writes: the four tables, to their sizes.
- * Answers n + 1 and the new r (misqafur_points, misqafur_elements).
- * Refusals: 3, 4, 5, 6, 7 (levels_length is not m), 8 (n is 64 or more), 9, 10, 11. */
+/* Adds one point to a basis. One that is there already is a replicate: its count is raised by 1, no other
+ * byte changes, and n and r are answered as they were. A new one arrives last, with the count 1.
+ * Reads: the settings, n, r, the five tables, m levels (a copy: states itself is written).
+ * Writes: the five tables, to their sizes.
+ * Answers the new n and r (misqafur_points, misqafur_elements).
+ * Refusals: 3, 4, 5, 6, 7 (levels_length is not m), 8 (n is above 64), 9, 10, 8 (64 points are there, and this
+ * one is new), 13 (its count is 255). */
 uint32_t misqafur_add_point(uint64_t modulus, uint64_t variables, uint64_t order, uint64_t n, uint64_t r,
                             uint8_t *states, size_t states_length, uint8_t *standard, size_t standard_length,
                             uint8_t *leads, size_t leads_length, uint8_t *coefficients, size_t coefficients_length,
-                            const uint8_t *levels, size_t levels_length);
+                            uint8_t *counts, size_t counts_length, const uint8_t *levels, size_t levels_length);
 
-/* Withdraws one point, named by its levels, from a basis: later points move up one place, the tables
- * become those of the remaining points, and every byte given up is 0. A point that is added again
- * arrives last.
- * Reads: the settings, n, r, the four tables, m levels (a copy: states itself is written).
- * Writes: the four tables, to their sizes.
- * Answers n - 1 and the new r (misqafur_points, misqafur_elements); without points n = 0 and r = 1.
+/* Withdraws one point, named by its levels, from a basis. Of one with a count of 2 or more a replicate goes: the count
+ * is lowered by 1, no other byte changes, and n and r are answered as they were. Else the point goes:
+ * later points and their counts move up one place, the tables become those of the remaining points, and
+ * every byte given up is 0. A point that is added again arrives last.
+ * Reads: the settings, n, r, the five tables, m levels (a copy: states itself is written).
+ * Writes: the five tables, to their sizes.
+ * Answers the new n and r (misqafur_points, misqafur_elements); without points n = 0 and r = 1.
  * Refusals: 3, 4, 5, 6, 7 (levels_length is not m), 8 (n is above 64), 9, 10, 12. */
 uint32_t misqafur_withdraw_point(uint64_t modulus, uint64_t variables, uint64_t order, uint64_t n, uint64_t r,
                                  uint8_t *states, size_t states_length, uint8_t *standard, size_t standard_length,
                                  uint8_t *leads, size_t leads_length,
                                  uint8_t *coefficients, size_t coefficients_length,
-                                 const uint8_t *levels, size_t levels_length);
+                                 uint8_t *counts, size_t counts_length, const uint8_t *levels, size_t levels_length);
 
-/* Draws up the basis of all points at once: m levels for each point, point after point, or none.
+/* Draws up the basis of all points at once: m levels for each point, point after point, or none, of any
+ * number. Points may repeat, in any place: the distinct ones stand in the order in which each came first,
+ * and a point's count is how often it came.
  * Reads: the settings, the levels; of the tables their lengths alone.
- * Writes: the four tables, to their sizes.
+ * Writes: the five tables, to their sizes.
  * Answers n and r (misqafur_points, misqafur_elements), and how many cancellations that took
- * (misqafur_cancellations), at most n * (n * m + 1) and so 32,832. Those depend on the order of the
- * points: monomials are examined in increasing order, multiples of leading ones passed over; each one's
- * column of values meets the pivots found before, in their order, and an entry at a pivot's point that is
- * not 0 then is one cancellation.
- * Refusals: 3, 4, 5, 6, 7 (levels_length is no multiple of m), 8 (more than 64 points), 9, 11. */
+ * (misqafur_cancellations), at most n * (n * m + 1) and so 32,832. Replicates take none. The number depends
+ * on the order of the points: monomials are examined in increasing order, multiples of leading ones passed
+ * over; each one's column of values meets the pivots found before, in their order, and an entry at a
+ * pivot's point that is not 0 then is one cancellation.
+ * Refusals: 3, 4, 5, 6, 7 (levels_length is no multiple of m), 9, 8 (more than 64 distinct points), 13 (a point
+ * comes more than 255 times). */
 uint64_t misqafur_draw_up(uint64_t modulus, uint64_t variables, uint64_t order,
                           uint8_t *states, size_t states_length, uint8_t *standard, size_t standard_length,
                           uint8_t *leads, size_t leads_length, uint8_t *coefficients, size_t coefficients_length,
-                          const uint8_t *levels, size_t levels_length);
+                          uint8_t *counts, size_t counts_length, const uint8_t *levels, size_t levels_length);
 
 /* Says whether n, r and the tables are the basis of their points under the settings.
- * Reads: the settings, n, r, the four tables. Writes nothing.
+ * Reads: the settings, n, r, the five tables. Writes nothing.
  * Answers 0 if they are.
  * Refusals: 3, 4, 5, 6, 8 (n is above 64), 10. */
 uint32_t misqafur_check(uint64_t modulus, uint64_t variables, uint64_t order, uint64_t n, uint64_t r,
                         const uint8_t *states, size_t states_length,
                         const uint8_t *standard, size_t standard_length,
                         const uint8_t *leads, size_t leads_length,
-                        const uint8_t *coefficients, size_t coefficients_length);
+                        const uint8_t *coefficients, size_t coefficients_length,
+                        const uint8_t *counts, size_t counts_length);
 
 /* The combination of standard monomials that takes the given values at the points.
- * Reads: the settings, n, r, the four tables, n values in the points' order.
+ * Reads: the settings, n, r, the five tables, n values in the points' order.
  * Writes: 64 bytes of out, a residue for each standard monomial in table order, then zeros.
  * Answers 0.
  * Refusals: 3, 4, 5, 6 (also: out_length is below 64), 7 (values_length is not n), 8 (n is above 64), 9, 10. */
@@ -199,12 +223,13 @@ uint32_t misqafur_interpolate(uint64_t modulus, uint64_t variables, uint64_t ord
                               const uint8_t *standard, size_t standard_length,
                               const uint8_t *leads, size_t leads_length,
                               const uint8_t *coefficients, size_t coefficients_length,
+                              const uint8_t *counts, size_t counts_length,
                               const uint8_t *values, size_t values_length, uint8_t *out, size_t out_length);
 
 /* The remainder of a polynomial: the combination of standard monomials that equals it at the points.
  * The polynomial has one coefficient and 8 exponents (0 to 255, those above m being 0) for each term;
  * repeated terms add up, and no terms are the polynomial 0.
- * Reads: the settings, n, r, the four tables, the terms.
+ * Reads: the settings, n, r, the five tables, the terms.
  * Writes: 64 bytes of out, a residue for each standard monomial in table order, then zeros.
  * Answers 0.
  * Refusals: 3, 4, 5, 6 (also: out_length is below 64), 7 (exponents_length is not 8 times
@@ -214,12 +239,13 @@ uint32_t misqafur_remainder(uint64_t modulus, uint64_t variables, uint64_t order
                             const uint8_t *standard, size_t standard_length,
                             const uint8_t *leads, size_t leads_length,
                             const uint8_t *coefficients, size_t coefficients_length,
+                            const uint8_t *counts, size_t counts_length,
                             const uint8_t *term_coefficients, size_t term_coefficients_length,
                             const uint8_t *exponents, size_t exponents_length, uint8_t *out, size_t out_length);
 
 /* The variables on which every function depends that has the values at the points: those for which two points
  * agree in all other variables, differ in this one and have different values. The order does not matter.
- * Reads: the settings, n, r, the four tables, n values in the points' order.
+ * Reads: the settings, n, r, the five tables, n values in the points' order.
  * Writes: 8 bytes of out, the variables' numbers from 1, increasing, then zeros.
  * Answers how many they are (misqafur_wiring_count).
  * Refusals: 3, 4, 5, 6 (also: out_length is below 8), 7 (values_length is not n), 8 (n is above 64), 9, 10. */
@@ -228,6 +254,7 @@ uint32_t misqafur_wiring(uint64_t modulus, uint64_t variables, uint64_t order, u
                          const uint8_t *standard, size_t standard_length,
                          const uint8_t *leads, size_t leads_length,
                          const uint8_t *coefficients, size_t coefficients_length,
+                         const uint8_t *counts, size_t counts_length,
                          const uint8_t *values, size_t values_length, uint8_t *out, size_t out_length);
 
 /* Reads settings, points and values from a text of comma-separated records (RFC 4180; LF or CRLF).
@@ -235,17 +262,21 @@ uint32_t misqafur_wiring(uint64_t modulus, uint64_t variables, uint64_t order, u
  * space and lex, grlex or grevlex (without the word: grevlex). Each further record has m levels and a
  * value, each an optional minus sign and one to three digits.
  * Reads: the text; of the other buffers their lengths alone.
- * Writes: 512 bytes of states, the points' residues in the layout of that table, then zeros;
- * 64 bytes of values, their residues in the points' order, then zeros. Residues are levels, so the
+ * Records may repeat a point, where they repeat its value: they are replicates.
+ * Writes: 512 bytes of states, the distinct points' residues in the layout of that table, in the order in
+ * which each came first, then zeros; 64 bytes of values, their residues in the points' order, then zeros;
+ * 64 bytes of counts, how many records have each point, then zeros. Residues are levels, so the
  * values can be handed on as they are; a point has 8 bytes here and m levels in misqafur_draw_up,
- * for which misqafur_pack_levels packs them.
+ * for which misqafur_pack_levels packs them. Drawn up so, each point counts once; the counts of the text,
+ * copied over those of the basis, make it the basis of all records.
  * Answers n and the settings (misqafur_read_points, _modulus, _variables, _order).
  * A refusal comes with the record at fault, the header being 1 (misqafur_read_record).
  * Refusals: 1 (record 0), 2 (the earliest such record), 3 and 4 (record 1), 6 (record 0; a buffer
- * below 512 or 64 bytes), 8 (record 66), 9 (the earliest such record), 11 (the earliest record
- * that repeats a point). */
+ * below 512, 64 or 64 bytes), 9 (the earliest such record), 8 (the record that brings the 65th distinct
+ * point), 13 (the earliest that brings the 256th of a point), 14 (the earliest with another value than the
+ * first record of its point). Each is looked for over the whole text before the next. */
 uint64_t misqafur_read_text(const uint8_t *text, size_t text_length, uint8_t *states, size_t states_length,
-                            uint8_t *values, size_t values_length);
+                            uint8_t *values, size_t values_length, uint8_t *counts, size_t counts_length);
 
 /* What compilers that know how are told of the calls above: the answer is to be looked at, and a call reads or
  * writes as many bytes of a buffer as its length says, at most. The numbers are the arguments' places. */
@@ -259,22 +290,24 @@ uint64_t misqafur_read_text(const uint8_t *text, size_t text_length, uint8_t *st
 #define MISQAFUR_LENT(mode, at)
 #endif
 #define MISQAFUR_LENT_TABLES(mode, at) \
-    MISQAFUR_LENT(mode, at) MISQAFUR_LENT(mode, at + 2) MISQAFUR_LENT(mode, at + 4) MISQAFUR_LENT(mode, at + 6)
+    MISQAFUR_LENT(mode, at) MISQAFUR_LENT(mode, at + 2) MISQAFUR_LENT(mode, at + 4) MISQAFUR_LENT(mode, at + 6) \
+        MISQAFUR_LENT(mode, at + 8)
 #define MISQAFUR_TOLD(call, lent) __typeof__(call) call __attribute__((warn_unused_result lent))
 #pragma GCC diagnostic push
 #pragma GCC diagnostic ignored "-Wredundant-decls"
-MISQAFUR_TOLD(misqafur_add_point, MISQAFUR_LENT_TABLES(read_write, 6) MISQAFUR_LENT(read_only, 14));
-MISQAFUR_TOLD(misqafur_withdraw_point, MISQAFUR_LENT_TABLES(read_write, 6) MISQAFUR_LENT(read_only, 14));
-MISQAFUR_TOLD(misqafur_draw_up, MISQAFUR_LENT_TABLES(write_only, 4) MISQAFUR_LENT(read_only, 12));
+MISQAFUR_TOLD(misqafur_add_point, MISQAFUR_LENT_TABLES(read_write, 6) MISQAFUR_LENT(read_only, 16));
+MISQAFUR_TOLD(misqafur_withdraw_point, MISQAFUR_LENT_TABLES(read_write, 6) MISQAFUR_LENT(read_only, 16));
+MISQAFUR_TOLD(misqafur_draw_up, MISQAFUR_LENT_TABLES(write_only, 4) MISQAFUR_LENT(read_only, 14));
 MISQAFUR_TOLD(misqafur_check, MISQAFUR_LENT_TABLES(read_only, 6));
 MISQAFUR_TOLD(misqafur_interpolate,
-              MISQAFUR_LENT_TABLES(read_only, 6) MISQAFUR_LENT(read_only, 14) MISQAFUR_LENT(write_only, 16));
-MISQAFUR_TOLD(misqafur_remainder, MISQAFUR_LENT_TABLES(read_only, 6) MISQAFUR_LENT(read_only, 14)
-                                      MISQAFUR_LENT(read_only, 16) MISQAFUR_LENT(write_only, 18));
+              MISQAFUR_LENT_TABLES(read_only, 6) MISQAFUR_LENT(read_only, 16) MISQAFUR_LENT(write_only, 18));
+MISQAFUR_TOLD(misqafur_remainder, MISQAFUR_LENT_TABLES(read_only, 6) MISQAFUR_LENT(read_only, 16)
+                                      MISQAFUR_LENT(read_only, 18) MISQAFUR_LENT(write_only, 20));
 MISQAFUR_TOLD(misqafur_wiring,
-              MISQAFUR_LENT_TABLES(read_only, 6) MISQAFUR_LENT(read_only, 14) MISQAFUR_LENT(write_only, 16));
+              MISQAFUR_LENT_TABLES(read_only, 6) MISQAFUR_LENT(read_only, 16) MISQAFUR_LENT(write_only, 18));
 MISQAFUR_TOLD(misqafur_read_text,
-              MISQAFUR_LENT(read_only, 1) MISQAFUR_LENT(write_only, 3) MISQAFUR_LENT(write_only, 5));
+              MISQAFUR_LENT(read_only, 1) MISQAFUR_LENT(write_only, 3) MISQAFUR_LENT(write_only, 5)
+                  MISQAFUR_LENT(write_only, 7));
 #pragma GCC diagnostic pop
 #undef MISQAFUR_TOLD
 #undef MISQAFUR_LENT_TABLES
@@ -294,16 +327,18 @@ static inline uint8_t misqafur_level(int level)
  * and answers their number, n * m. Adding needs no packing: point i has its m levels at states + 8 * i.
  * Reads: the first 8 * n bytes of states, which has MISQAFUR_STATES_SIZE. Writes: the first n * m bytes
  * of levels, which has MISQAFUR_LEVELS_SIZE; the two do not overlap.
- * With n above 64 or m not 1 to 8 it touches neither, and answers a number with which misqafur_draw_up
- * refuses these points, reading no level: 65 * m, which is refused with 8, or for such an m 0, m itself
- * being refused with 4. */
+ * What has n above 64 or m not 1 to 8 is not read, and what is answered misqafur_draw_up refuses: for such an n one
+ * point of levels that no modulus takes, which is refused with 9; for such an m 0, and nothing is written, m
+ * itself being refused with 4. */
 static inline size_t misqafur_pack_levels(const uint8_t *states, uint64_t n, uint64_t variables, uint8_t *levels)
 {
     size_t count = 0;
     if (variables < 1 || variables > MISQAFUR_MAX_VARIABLES)
         return 0;
-    if (n > MISQAFUR_MAX_POINTS)
-        return (size_t)((MISQAFUR_MAX_POINTS + 1) * variables);
+    if (n > MISQAFUR_MAX_POINTS) {
+        memset(levels, 128, (size_t)variables);
+        return (size_t)variables;
+    }
     for (size_t i = 0; i < n; i++)
         for (size_t k = 0; k < variables; k++)
             levels[count++] = states[8 * i + k];
@@ -394,36 +429,41 @@ static inline const char *misqafur_refusal_text(uint32_t refusal)
     case MISQAFUR_REFUSED_LENGTH:
         return "a length is wrong: a state needs one level for each gene, and each state one value";
     case MISQAFUR_REFUSED_COUNT:
-        return "there are more than 64 states, or a polynomial has more than 256 terms";
+        return "there are more than 64 different states, or a polynomial has more than 256 terms";
     case MISQAFUR_REFUSED_RANGE:
         return "a level, value or coefficient is outside -(p-1) to p-1, or an exponent belongs to no gene";
     case MISQAFUR_REFUSED_BASIS:
-        return "the counts and tables are not the sheet of their states under these settings";
+        return "the numbers and tables are not the sheet of their states under these settings";
     case MISQAFUR_REFUSED_REPEATED:
-        return "a state equals an earlier one";
+        return "a state equals an earlier one (no call refuses that: it is a replicate)";
     case MISQAFUR_REFUSED_ABSENT:
         return "the state to be withdrawn is not on the sheet";
+    case MISQAFUR_REFUSED_REPLICATES:
+        return "a state would be counted more than 255 times";
+    case MISQAFUR_REFUSED_OTHER_VALUE:
+        return "a replicate has another value than its state";
     default:
         return "no refusal has this number";
     }
 }
 
-/* ---- A whole sheet: its settings, its counts and its tables in one place of the host's ---- */
+/* ---- A whole sheet: its settings, its n and r and its tables in one place of the host's ---- */
 
 struct misqafur_sheet {
     uint64_t modulus, variables, order;
     uint64_t n, r;
     uint8_t states[MISQAFUR_STATES_SIZE], standard[MISQAFUR_STANDARD_SIZE];
-    uint8_t leads[MISQAFUR_LEADS_SIZE], coefficients[MISQAFUR_COEFFICIENTS_SIZE];
+    uint8_t leads[MISQAFUR_LEADS_SIZE], coefficients[MISQAFUR_COEFFICIENTS_SIZE], counts[MISQAFUR_COUNTS_SIZE];
 };
 
 /* What the calls are handed of a sheet: its settings, and its tables with their lengths. */
 #define MISQAFUR_SHEET_SETTINGS(sheet) (sheet)->modulus, (sheet)->variables, (sheet)->order
 #define MISQAFUR_SHEET_TABLES(sheet)                                                                       \
     (sheet)->states, sizeof (sheet)->states, (sheet)->standard, sizeof (sheet)->standard, (sheet)->leads, \
-        sizeof (sheet)->leads, (sheet)->coefficients, sizeof (sheet)->coefficients
+        sizeof (sheet)->leads, (sheet)->coefficients, sizeof (sheet)->coefficients, (sheet)->counts,          \
+        sizeof (sheet)->counts
 
-/* Keeps the counts of an answer in the sheet, where the call took what it was handed. Answers the refusal. */
+/* Keeps the n and r of an answer in the sheet, where the call took what it was handed. Answers the refusal. */
 static inline MISQAFUR_ANSWER uint32_t misqafur_sheet_keep(struct misqafur_sheet *sheet, uint32_t answer)
 {
     if (misqafur_refusal(answer) == 0) {
@@ -467,8 +507,8 @@ static inline MISQAFUR_ANSWER uint32_t misqafur_sheet_withdraw(struct misqafur_s
                                                               MISQAFUR_SHEET_TABLES(sheet), levels, levels_length));
 }
 
-/* Draws up all points at once, in place of those that the sheet has. A host that wants to know the cancellations calls
- * misqafur_draw_up itself. */
+/* Draws up all points at once, replicates as they come, in place of those that the sheet has. A host that wants to
+ * know the cancellations calls misqafur_draw_up itself. */
 static inline MISQAFUR_ANSWER uint32_t misqafur_sheet_draw_up(struct misqafur_sheet *sheet,
                                                               const uint8_t *levels, size_t levels_length)
 {

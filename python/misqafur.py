@@ -6,6 +6,7 @@
     print(sheet.basis[0])                                  # g2^2 + g2 + 4*g1
     print(sheet.interpolate([1, 0, 3]))                    # 1 + 2*g2
     sheet.add((4, 0)); sheet.withdraw((-1, 0))             # one state more, and gone again
+    sheet.add((1, 2)); print(sheet.counts)                 # [1, 2, 1]: a replicate, seen in two pots
     print(sheet.remainder("g1^2*g2"))                      # 2*g1
 
     sheet, values = misqafur.read(open("states.csv", "rb").read())
@@ -27,9 +28,9 @@ import sys
 import textwrap
 from xml.sax.saxutils import escape
 
-ABI = 1
+ABI = 2
 ORDERS = ("lex", "grlex", "grevlex")
-TABLES = {"states": 512, "standard": 512, "leads": 3592, "coefficients": 28736}
+TABLES = {"states": 512, "standard": 512, "leads": 3592, "coefficients": 28736, "counts": 64}
 RESIDUES, WIRING, MOST_GENES = 64, 8, 8
 
 # The header's sentences, and for a person what to do.
@@ -44,13 +45,18 @@ REFUSALS = {
     6: ("a lent table or buffer is shorter than its size", "This is a fault of the program that lends it."),
     7: ("a length is wrong: a state needs one level for each gene, and each state one value",
         "Give each state as many levels as there are genes, and as many values as states."),
-    8: ("there are more than 64 states, or a polynomial has more than 256 terms", "Keep the 64 states that matter most."),
+    8: ("there are more than 64 different states, or a polynomial has more than 256 terms",
+        "Keep the 64 states that matter most; replicates of a state count as one."),
     9: ("a level, value or coefficient is outside -(p-1) to p-1, or an exponent belongs to no gene",
         "Levels and values modulo p run from 0 to p-1; -1 stands for p-1, and so on. Take a larger prime, or correct the number."),
-    10: ("the counts and tables are not the sheet of their states under these settings",
+    10: ("the numbers and tables are not the sheet of their states under these settings",
          "Draw the sheet up anew from its states."),
-    11: ("a state equals an earlier one", "Keep one of the two. States are compared modulo p: modulo 5, -1 and 4 are the same."),
+    11: ("a state equals an earlier one (no call refuses that: it is a replicate)", "Nothing is to be done."),
     12: ("the state to be withdrawn is not on the sheet", "Look for its levels among the states of the sheet."),
+    13: ("a state would be counted more than 255 times", "Keep at most 255 replicates of a state."),
+    14: ("a replicate has another value than its state",
+         "Replicates have to agree: correct a level or the value, or leave the record out. "
+         "States and values are compared modulo p: modulo 5, -1 and 4 are the same."),
 }
 
 # What a wiring list says of the target.
@@ -79,7 +85,7 @@ _CALLS = {
     "interpolate": (ctypes.c_uint32, _SHEET + _BUFFER * 2),
     "remainder": (ctypes.c_uint32, _SHEET + _BUFFER * 3),
     "wiring": (ctypes.c_uint32, _SHEET + _BUFFER * 2),
-    "read_text": (ctypes.c_uint64, _BUFFER * 3),
+    "read_text": (ctypes.c_uint64, _BUFFER * 4),
 }
 
 
@@ -256,6 +262,7 @@ def _term(coefficient, exponents, names, power):
 class Sheet:
     """The standard monomials and the reduced Groebner basis of states of genes, modulo a prime. It begins without states.
 
+    A state that comes again is a replicate: it raises the state's count, and the rest of the sheet stays as it is.
     After a drawing up `cancellations` says how many that took, which its time goes with; else it is None.
     """
 
@@ -282,15 +289,15 @@ class Sheet:
         return self
 
     def add(self, state):
-        """Adds a state: a level for each gene."""
+        """Adds a state: a level for each gene. One that is there already is counted once more."""
         return self._keep(_call("add_point", *self._handed(), _levels(state)))
 
     def withdraw(self, state):
-        """Takes a state out again, named by its levels."""
+        """Takes a state out again, named by its levels: of one that was counted more than once, one replicate."""
         return self._keep(_call("withdraw_point", *self._handed(), _levels(state)))
 
     def draw_up(self, states):
-        """Draws up all states at once, in place of those that the sheet has."""
+        """Draws up all states at once, in place of those that the sheet has. States may repeat: they are counted."""
         rows = [_plain(row) for row in _plain(states)]
         if any(len(row) != len(self.names) for row in rows):
             raise Refusal(7)
@@ -334,6 +341,11 @@ class Sheet:
     @property
     def states(self):
         return self._rows("states", self._n)
+
+    @property
+    def counts(self):
+        """How often each state was taken, in their order."""
+        return list(self._tables["counts"][:self._n])
 
     @property
     def standard(self):
@@ -418,13 +430,16 @@ def _said(field):
 
 
 def read(text):
-    """The sheet and the values of a text, as bytes: gene names, `mod P` and an order in its header, states below."""
-    states, values = (ctypes.c_uint8 * TABLES["states"])(), (ctypes.c_uint8 * RESIDUES)()
-    answer = _call("read_text", bytes(text), states, values)
+    """The sheet and the values of a text, as bytes: gene names, `mod P` and an order in its header, states below.
+
+    A value belongs to a state of the sheet; records that repeat a state, with the same value, are its replicates.
+    """
+    states, values, counts = ((ctypes.c_uint8 * size)() for size in (TABLES["states"], RESIDUES, TABLES["counts"]))
+    answer = _call("read_text", bytes(text), states, values, counts)
     n, modulus, genes, order = (answer >> shift & 255 for shift in (0, 8, 16, 24))
     names = [_said(field).removeprefix("\ufeff") for field in _records(text)[0][:-1]]
     sheet = Sheet(modulus, names, ORDERS[order])
-    sheet.draw_up([states[8 * i:8 * i + genes] for i in range(n)])
+    sheet.draw_up([states[8 * i:8 * i + genes] for i in range(n) for _ in range(counts[i])])
     return sheet, list(values[:n])
 
 
@@ -473,9 +488,11 @@ def _record_hints(text, refusal):
             if abs(int(field)) >= p:
                 whose = "the value" if place == len(fields) - 1 else _said(header[place]) or "without a name"
                 yield f"Record {number}, field {place + 1} ({whose}): {_said(field)} is not from {1 - p} to {p - 1}."
-    if refusal.number == 11:
+    if refusal.number in (13, 14):
         residues = [[int(field) % p for field in record[:-1]] for record in records[1:number]]
-        yield f"Record {number} repeats the state of record {residues.index(residues[-1]) + 2}."
+        first = residues.index(residues[-1]) + 2
+        values = f", with the value {_said(fields[-1])} in place of {_said(records[first - 1][-1])}" if refusal.number == 14 else ""
+        yield f"Record {number} repeats the state of record {first}{values}."
 
 
 def _wrapped(text, first="  "):
@@ -508,6 +525,8 @@ def report(sheet, values, habits=()):
     size = f"{_counted(len(sheet), 'state')} of {_counted(len(names), 'gene')} ({', '.join(names)})"
     lines = [_wrapped(f"{size}, levels modulo {sheet.modulus}, order {sheet.order}")]
     lines += [_wrapped(f"{name} is {own!r}") for name, own in zip(names, sheet.names) if name != own]
+    replicates = [f"{state} {count} times" for state, count in zip(sheet.states, sheet.counts) if count > 1]
+    lines += [_wrapped(f"replicates: {', '.join(replicates)}")] if replicates else []
     lines += [_wrapped(habit, "  ! ") for habit in habits]
     lines += ["", "The target gene as a polynomial (at each state it has the value that the text gives):"]
     lines += [_wrapped(str(sheet.interpolate(values)), "    ")]

@@ -10,13 +10,14 @@ drawing up these points takes). The bases, interpolants and remainders were comp
 Macaulay2 1.21.
 
 A case is a head of 20 bytes and, in this order: levels and values, as signed bytes; the bytes that the tables of
-points, standard monomials, leading monomials and coefficients begin with; the interpolant; 8 bytes, 1 for each
+points, standard monomials, leading monomials, coefficients and counts begin with; the interpolant; 8 bytes, 1 for each
 variable of the wiring list; and two polynomials, each its number of terms, their coefficients as signed bytes, 8
 exponents a term, and the remainder. The head: modulus (2 bytes, the lowest first, as in all numbers of two), variables,
 order, refusal and number of points (1 byte each); then two bytes each: the number of rows, of levels, of levels before
-the last point, and of the bytes of points, leading monomials and coefficients; and the cancellations. Of the coefficients of a polynomial every
-second is written as the negative level of the same residue. A case that is refused has its levels behind the head, and
-nothing else.
+the last point, and of the bytes of points, leading monomials and coefficients; and the cancellations. Of the
+coefficients of a polynomial every second is written as the negative level of the same residue. Where
+there are two points or more and room for it (512 levels), the first one is offered twice. A case that is refused has
+its levels, at most 512, behind the head, and nothing else.
 """
 import fnmatch, os, sys
 
@@ -99,11 +100,14 @@ def accepted(name, cancellations):
     levels = [level for record in records for level in record[:m]]
     states = b"".join(padded([level % p for level in record[:m]]) for record in records)
     r, standard, leads, coefficients, answers = printed(result, m)
-    before = m * max(len(records) - 1, 0)
+    counts = [1] * len(records)
+    if 2 <= len(records) and len(levels) + m <= 512:
+        levels, counts[0] = levels[:m] + levels, 2
+    before = max(len(levels) - m, 0)
     sizes = (len(states), len(leads), len(coefficients))
     front = head(settings, 0, len(records), r, len(levels), before, *sizes, cancellations)
     given = signed(levels) + signed(record[m] for record in records)
-    tables = states + standard + leads + coefficients
+    tables = states + standard + leads + coefficients + bytes(counts)
     return front + given + tables + answers + polynomials(os.path.join(REMAINDERS, name + ".rem"), p, states)
 
 
@@ -112,7 +116,8 @@ def refused(settings, levels, refusal):
 
 
 def refusals():
-    """The examples of docs/SCOPE.md that are refused, by name: moduli, numbers of variables, orders, and a 65th point."""
+    """The examples of docs/SCOPE.md that are refused, by name: moduli, numbers of variables, orders, a 65th point, a
+    256th replicate."""
     primes = [p for p in range(2, 62) if all(p % d for d in range(2, p))]
     for p in [p for p in range(68) if p not in primes] + [256 + p for p in primes]:
         yield "modulus-%d" % p, refused((p, 1, 0), [1], 3)
@@ -121,10 +126,13 @@ def refusals():
     for order in (3, 255):
         yield "order-%d" % order, refused((61, 1, order), [1], 5)
     points = [level for k in range(64) for level in (k % 11 - 11 * (k % 3 == 0 < k % 11), k // 11)]
-    for name, last, refusal in (("again", [0, 0], 11), ("outside", [11, 0], 9), ("far", [127, -128], 9)):
-        yield "points-64-%s" % name, refused((11, 2, 1), points[:-2] + last, refusal)
-        yield "points-65-%s" % name, refused((11, 2, 1), points + last, 8)
+    for name, last in (("outside", [11, 0]), ("far", [127, -128])):
+        yield "points-64-%s" % name, refused((11, 2, 1), points[:-2] + last, 9)
+        yield "points-65-%s" % name, refused((11, 2, 1), points + last, 9)
     yield "points-65-new", refused((11, 2, 1), points + [9, 5], 8)
+    yield "points-65-new-and-again", refused((11, 2, 1), points + [9, 5] + points, 8)
+    yield "replicates-256", refused((11, 2, 1), [-1, 3, 10, 3] * 128, 13)
+    yield "replicates-256-outside", refused((11, 2, 1), [-1, 3, 10, 3] * 127 + [10, 3, 10, 11], 9)
 
 
 def main():

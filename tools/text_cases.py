@@ -5,11 +5,11 @@ usage: tools/text_cases.py CASES STDOUT [STEP]
 Writes the cases to the file CASES (crates/csv_test/data/texts) and what the program prints for them to STDOUT
 (crates/csv_test/stdout); of the cases only every STEP-th, if it is given. They are made of the folders of tests/texts
 (NAME.csv with the expected print in NAME.txt) and of tests/c/data/fuzz.txt (lines `HEX -> refused N R` and
-`HEX -> read P M ORDER N`). Points and values are read by Python's own csv module.
+`HEX -> read P M ORDER N`). Points and values are read by Python's own csv module, and replicates counted here.
 
-A case is 14 bytes, the text, and for an accepted text 8n bytes of points and n of values. The 14 bytes: the text's
-length (3 bytes, the lowest first), the lengths to lend for states (2) and values (1), refusal (1), record (2),
-modulus (2), variables, order and count (1 each).
+A case is 15 bytes, the text, and for an accepted text 8n bytes of points, n of values and n of counts. The 15 bytes: the
+text's length (3 bytes, the lowest first), the lengths to lend for states (2), values (1) and counts (1), refusal (1),
+record (2), modulus (2), variables, order and n (1 each).
 """
 import csv, io, os, re, sys
 
@@ -17,31 +17,64 @@ ORDERS = {"": 2, "lex": 0, "grlex": 1, "grevlex": 2}
 TESTS = os.path.join(os.path.dirname(os.path.abspath(__file__)), "..", "tests")
 
 
-def levels_in(text):
-    """The settings and the levels of an accepted text, the value of each record last, by Python's csv module."""
+def records_in(text):
+    """The settings and the levels of a text without faults of form, the value of each record last, by Python's csv module."""
     rows = list(csv.reader(io.StringIO(text.decode("latin-1"), newline=""), strict=True))
     modulus, word = re.fullmatch(r"mod ([0-9]{1,3})(?: (.*))?", rows[0][-1]).groups("")
     p, m = int(modulus), len(rows[0]) - 1
     levels = [[int(field) for field in row] for row in rows[1:]]
-    assert all(len(row) == m + 1 and all(-p < level < p for level in row) for row in levels)
+    assert all(len(row) == m + 1 for row in levels)
     return (p, m, ORDERS[word]), levels
+
+
+def gathered(points):
+    """The distinct points in the order in which each came first, with how often it came."""
+    return [(point, points.count(point)) for point in dict.fromkeys(points)]
+
+
+def refusal_of(settings, records):
+    """The refusal among 9, 8, 13 and 14 of a text's records, with the record; None if there is none. Each is looked for over
+    all records before the next."""
+    (p, m, _), times, values, late = settings, {}, {}, {}
+    for at, record in enumerate(records, 2):
+        if any(abs(level) >= p for level in record):
+            return 9, at
+    for at, record in enumerate(records, 2):
+        point, value = tuple(level % p for level in record[:m]), record[m] % p
+        times[point] = times.get(point, 0) + 1
+        if len(times) > 64:
+            return 8, at
+        if times[point] > 255:
+            late.setdefault(13, at)
+        if values.setdefault(point, value) != value:
+            late.setdefault(14, at)
+    return min(late.items(), default=None)
+
+
+def levels_in(text):
+    """The settings and the levels of an accepted text."""
+    settings, levels = records_in(text)
+    assert refusal_of(settings, levels) is None
+    return settings, levels
 
 
 def read(text):
     """What an accepted text says."""
     (p, m, order), levels = levels_in(text)
-    points = b"".join(bytes(level % p for level in row[:m]) + bytes(8 - m) for row in levels)
-    return (p, m, order, len(levels)), points + bytes(row[m] % p for row in levels)
+    held = gathered([tuple(level % p for level in row[:m]) for row in levels])
+    values = {tuple(level % p for level in row[:m]): row[m] % p for row in levels}
+    points = b"".join(bytes(point) + bytes(8 - m) for point, _ in held)
+    return (p, m, order, len(held)), points + bytes(values[point] for point, _ in held) + bytes(count for _, count in held)
 
 
-def case(text, settings=None, refusal=0, record=0, states=520, values=70):
+def case(text, settings=None, refusal=0, record=0, states=520, values=70, counts=68):
     """One case; settings are what an accepted text must have, where they are stored too."""
     said, behind = (0, 0, 0, 0), b""
     if refusal == 0:
         said, behind = read(text)
         assert settings is None or settings == said, (settings, said)
     p, m, order, n = said
-    head = len(text).to_bytes(3, "little") + states.to_bytes(2, "little") + bytes([values, refusal])
+    head = len(text).to_bytes(3, "little") + states.to_bytes(2, "little") + bytes([values, counts, refusal])
     return head + record.to_bytes(2, "little") + p.to_bytes(2, "little") + bytes([m, order, n]) + text + behind
 
 
@@ -77,16 +110,19 @@ def fuzz(path):
 def lengths():
     """Short and long buffers: refusal 6, with what comes before and behind it."""
     good = b"g1,g2,mod 5 grlex\n0,0,1\n1,2,0\n"
-    for states, values in ((512, 64), (520, 64), (512, 70)):
-        yield case(good, states=states, values=values)
-    many = b"a,mod 61\n" + b"".join(b"%d,1\n" % (k % 61) for k in range(65))
-    for states, values in ((511, 64), (512, 63), (0, 0), (520, 0), (0, 70)):
-        for text in (good, b"a,mod 5\n5,1\n", b"a,mod 5\n4,1\n-1,1\n", many):
-            yield case(text, refusal=6, states=states, values=values)
-        yield case(b"a,mod 6\n", refusal=3, record=1, states=states, values=values)
-        yield case(b"mod 5\n", refusal=4, record=1, states=states, values=values)
-        yield case(b"a,mod 5\n1\n", refusal=2, record=2, states=states, values=values)
+    for states, values, counts in ((512, 64, 64), (520, 64, 64), (512, 70, 64), (512, 64, 68)):
+        yield case(good, states=states, values=values, counts=counts)
+    many = b"a,b,mod 61\n" + b"".join(b"%d,%d,1\n" % (k % 61, k // 61) for k in range(65))
+    often = b"a,mod 5\n" + b"4,1\n" * 255 + b"-1,1\n"
+    for states, values, counts in ((511, 64, 64), (512, 63, 64), (512, 64, 63), (0, 0, 0), (520, 0, 68), (0, 70, 68), (520, 70, 0)):
+        lent = {"states": states, "values": values, "counts": counts}
+        for text in (good, b"a,mod 5\n5,1\n", b"a,mod 5\n4,1\n-1,2\n", many, often):
+            yield case(text, refusal=6, **lent)
+        yield case(b"a,mod 6\n", refusal=3, record=1, **lent)
+        yield case(b"mod 5\n", refusal=4, record=1, **lent)
+        yield case(b"a,mod 5\n1\n", refusal=2, record=2, **lent)
     yield case(many, refusal=8, record=66)
+    yield case(often, refusal=13, record=257)
 
 
 def write(cases, stdout):
@@ -99,7 +135,7 @@ def write(cases, stdout):
 
 
 def main():
-    cases = [c for name in ("vectors", "refusals", "edges", "lex-word", "M-104") for c in stored(os.path.join(TESTS, "texts", name))]
+    cases = [c for name in ("vectors", "refusals", "edges", "lex-word", "M-104", "replicates", "M-106") for c in stored(os.path.join(TESTS, "texts", name))]
     cases += fuzz(os.path.join(TESTS, "c", "data", "fuzz.txt"))
     cases += lengths()
     cases = cases[:: int(sys.argv[3]) if len(sys.argv) > 3 else 1]

@@ -12,8 +12,7 @@ With `change` the lists are written into these files. Each new list has to be pa
 proves of any; how many changed is printed.
 
 With `carry` the calls and texts that a folder of vectors has for M-107 go to tests/c/data/changes/M-107.txt and
-tests/texts/M-107. They are written for the interface that has replicates (M-106): the fifth table, of counts, is taken
-from each call; a call that damages it, and a text that has a state twice, is left out.
+tests/texts/M-107, as they are.
 """
 import glob, os, sys
 
@@ -141,27 +140,11 @@ def change():
 
 
 def carry(calls, texts):
-    lines, kept, left = ["landed 107"], 0, 0
-    for block in blocks(calls):
-        if block[0].startswith("landed"):
-            continue
-        if any(line.startswith("poke 4") for line in block):
-            left += 1
-            continue
-        kept += 1
-        block = [line for line in block if not line.startswith("counts")]
-        lines += [" ".join(line.split()[:5]) if line.startswith(("lengths", "tables")) else line for line in block]
-    store(os.path.join(DATA, "changes", "M-107.txt"), "".join(line + "\n" for line in lines).encode())
-    for text in sorted(glob.glob(os.path.join(texts, "*.csv"))):
-        (p, m, _), records = levels_in(load(text))
-        points = [tuple(level % p for level in record[:m]) for record in records]
-        if len(set(points)) < len(points):
-            left += 1
-            continue
-        kept += 1
-        for path in (text, text[:-4] + ".txt"):
-            store(os.path.join(TEXTS, "M-107", os.path.basename(path)), load(path))
-    print("wiring lists: %d calls and texts carried over, %d left out" % (kept, left))
+    store(os.path.join(DATA, "changes", "M-107.txt"), load(calls))
+    found = sorted(glob.glob(os.path.join(texts, "*.csv")) + glob.glob(os.path.join(texts, "*.txt")))
+    for path in found:
+        store(os.path.join(TEXTS, "M-107", os.path.basename(path)), load(path))
+    print("wiring lists: %d calls and %d texts carried over" % (load(calls).count(b"\nend\n"), len(found) // 2))
     return 0
 
 

@@ -10,18 +10,18 @@ const char *const kind_names[KINDS] = {"add_point",   "withdraw_point", "draw_up
 #define EARLY (1 << 3 | 1 << 4 | 1 << 5 | 1 << 6)
 #define ANSWERING (EARLY | 1 << 7 | 1 << 8 | 1 << 9 | 1 << 10)
 
-const uint32_t possible_refusals[KINDS] = {[ADD_POINT] = ANSWERING | 1 << 11,
+const uint32_t possible_refusals[KINDS] = {[ADD_POINT] = ANSWERING | 1 << 13,
                                            [WITHDRAW_POINT] = ANSWERING | 1 << 12,
-                                           [DRAW_UP] = EARLY | 1 << 7 | 1 << 8 | 1 << 9 | 1 << 11,
+                                           [DRAW_UP] = EARLY | 1 << 7 | 1 << 8 | 1 << 9 | 1 << 13,
                                            [CHECK] = EARLY | 1 << 8 | 1 << 10,
                                            [INTERPOLATE] = ANSWERING,
                                            [REMAINDER] = ANSWERING,
                                            [WIRING] = ANSWERING,
                                            [READ_TEXT] = 1 << 1 | 1 << 2 | 1 << 3 | 1 << 4 | 1 << 6 | 1 << 8 |
-                                                         1 << 9 | 1 << 11};
+                                                         1 << 9 | 1 << 13 | 1 << 14};
 
-const size_t table_sizes[4] = {MISQAFUR_STATES_SIZE, MISQAFUR_STANDARD_SIZE, MISQAFUR_LEADS_SIZE,
-                               MISQAFUR_COEFFICIENTS_SIZE};
+const size_t table_sizes[TABLES] = {MISQAFUR_STATES_SIZE, MISQAFUR_STANDARD_SIZE, MISQAFUR_LEADS_SIZE,
+                                    MISQAFUR_COEFFICIENTS_SIZE, MISQAFUR_COUNTS_SIZE};
 
 const struct calls archive = {misqafur_add_point, misqafur_withdraw_point, misqafur_draw_up,
                               misqafur_check,     misqafur_interpolate,    misqafur_remainder,
@@ -33,7 +33,7 @@ const struct calls reference = {reference_add_point, reference_withdraw_point, r
 
 size_t buffer_size(enum kind kind, enum buffer which)
 {
-    if (which == STATES || (which <= COEFFICIENTS && kind != READ_TEXT))
+    if (which == STATES || which == COUNTS || (which < TABLES && kind != READ_TEXT))
         return table_sizes[which];
     if (which != OUT)
         return 0;
@@ -43,7 +43,7 @@ size_t buffer_size(enum kind kind, enum buffer which)
 }
 
 #define LENT(I) b[I].at, b[I].length
-#define TABLES LENT(STATES), LENT(STANDARD), LENT(LEADS), LENT(COEFFICIENTS)
+#define ALL_TABLES LENT(STATES), LENT(STANDARD), LENT(LEADS), LENT(COEFFICIENTS), LENT(COUNTS)
 #define SETTINGS c->modulus, c->variables, c->order
 
 uint64_t perform(const struct calls *by, const struct call *c)
@@ -51,20 +51,20 @@ uint64_t perform(const struct calls *by, const struct call *c)
     const struct bytes *b = c->buffer;
     switch (c->kind) {
     case ADD_POINT:
-        return by->add_point(SETTINGS, c->n, c->r, TABLES, LENT(GIVEN));
+        return by->add_point(SETTINGS, c->n, c->r, ALL_TABLES, LENT(GIVEN));
     case WITHDRAW_POINT:
-        return by->withdraw_point(SETTINGS, c->n, c->r, TABLES, LENT(GIVEN));
+        return by->withdraw_point(SETTINGS, c->n, c->r, ALL_TABLES, LENT(GIVEN));
     case DRAW_UP:
-        return by->draw_up(SETTINGS, TABLES, LENT(GIVEN));
+        return by->draw_up(SETTINGS, ALL_TABLES, LENT(GIVEN));
     case CHECK:
-        return by->check(SETTINGS, c->n, c->r, TABLES);
+        return by->check(SETTINGS, c->n, c->r, ALL_TABLES);
     case INTERPOLATE:
-        return by->interpolate(SETTINGS, c->n, c->r, TABLES, LENT(GIVEN), LENT(OUT));
+        return by->interpolate(SETTINGS, c->n, c->r, ALL_TABLES, LENT(GIVEN), LENT(OUT));
     case REMAINDER:
-        return by->remainder(SETTINGS, c->n, c->r, TABLES, LENT(GIVEN), LENT(EXPONENTS), LENT(OUT));
+        return by->remainder(SETTINGS, c->n, c->r, ALL_TABLES, LENT(GIVEN), LENT(EXPONENTS), LENT(OUT));
     case WIRING:
-        return by->wiring(SETTINGS, c->n, c->r, TABLES, LENT(GIVEN), LENT(OUT));
+        return by->wiring(SETTINGS, c->n, c->r, ALL_TABLES, LENT(GIVEN), LENT(OUT));
     default:
-        return by->read_text(LENT(GIVEN), LENT(STATES), LENT(OUT));
+        return by->read_text(LENT(GIVEN), LENT(STATES), LENT(OUT), LENT(COUNTS));
     }
 }

@@ -28,20 +28,24 @@ enum buffer {
     STANDARD,
     LEADS,
     COEFFICIENTS,
+    COUNTS,    /* also those that are read from a text */
     GIVEN,     /* levels, values, coefficients of terms, or text */
     EXPONENTS, /* of terms */
     OUT,       /* interpolant, remainder, wiring list, or the values read */
     BUFFERS
 };
 
+/* The tables of a basis are the first of the buffers. */
+#define TABLES 5
+
 /* The refusals are numbered from 1 on and below this. */
-#define REFUSALS 13
+#define REFUSALS 15
 
 /* Bit k of a kind's entry: the call can answer refusal k. */
 extern const uint32_t possible_refusals[KINDS];
 
 /* The size that a table must have. */
-extern const size_t table_sizes[4];
+extern const size_t table_sizes[TABLES];
 
 struct bytes {
     uint8_t *at;

@@ -1,5 +1,5 @@
-/* Parts "bytes" and "counts": tables with one byte changed, and counts that are not theirs. Every call that reads
- * tables refuses them with 10, and a byte past a size changes nothing. */
+/* Parts "bytes" and "numbers": tables with one byte changed, and an n or r that is not theirs. Every call that reads
+ * tables refuses them with 10, but for a point's count that becomes another; and a byte past a size changes nothing. */
 #include "guard.h"
 #include "made.h"
 #include "parts.h"
@@ -20,7 +20,7 @@ static void make_basis(struct made *made, uint64_t p, uint64_t m, uint64_t order
 {
     memset(made, 0, sizeof *made);
     made->call = (struct call){.kind = DRAW_UP, .modulus = p, .variables = m, .order = order};
-    for (int t = 0; t < 4; t++) {
+    for (int t = 0; t < TABLES; t++) {
         memset(made->bytes[t], 170, table_sizes[t] + SURPLUS);
         made->call.buffer[t] = (struct bytes){made->bytes[t], table_sizes[t] + SURPLUS};
     }
@@ -48,13 +48,13 @@ static void set_kind(struct made *made, enum kind kind)
     call->buffer[OUT] = (struct bytes){made->bytes[OUT], MISQAFUR_RESIDUES_SIZE + SURPLUS};
 }
 
-/* Changes one byte after another of the tables' sizes by each of the 255 changes in turn; byte i is tried where i
- * and the turn are the same modulo the step. */
+/* Changes one byte after another of the sizes of the first four tables by each of the 255 changes in turn; byte i is
+ * tried where i and the turn are the same modulo the step. */
 static void change_inside(struct score *score, struct guard *guard, const struct made *made, size_t turn, size_t step)
 {
     struct call lent = guard_lend(guard, &made->call, 0);
     performing = "a call on tables with one byte changed";
-    for (int t = 0; t < 4; t++)
+    for (int t = 0; t < COUNTS; t++)
         for (size_t i = turn; i < table_sizes[t]; i += step) {
             uint8_t change = (uint8_t)(i % 255 + 1);
             lent.buffer[t].at[i] ^= change;
@@ -67,12 +67,30 @@ static void change_inside(struct score *score, struct guard *guard, const struct
         }
 }
 
+/* Each byte of the counts: a point without a count, and a count without a point, are refused with 10; with any other count
+ * of a point the call answers as the reference does, and is not refused with 10. */
+static void change_counts(struct score *score, struct guard *guard, struct made *made)
+{
+    static const uint8_t others[] = {0, 1, 2, 127, 128, 254, 255};
+    for (size_t i = 0; i < MISQAFUR_COUNTS_SIZE; i++)
+        for (size_t k = 0; k < sizeof others; k++) {
+            uint8_t *byte = &made->bytes[COUNTS][i], kept = *byte;
+            uint64_t number;
+            *byte = others[k];
+            if ((*byte > 0) != (i < made->call.n))
+                count(score, refuses(guard, &made->call, i, 10, "tables with another count"));
+            else
+                count(score, agrees(guard, &made->call, i, "tables with another count", &number) && number != 10);
+            *byte = kept;
+        }
+}
+
 /* Changes each byte past the sizes: the call answers as before. */
 static void change_past(struct score *score, struct guard *guard, struct made *made)
 {
     uint64_t before, after;
     count(score, agrees(guard, &made->call, 0, "tables as they are", &before) && (before & 255) == 0);
-    for (int t = 0; t < 4; t++)
+    for (int t = 0; t < TABLES; t++)
         for (size_t i = 0; i < SURPLUS; i++) {
             made->bytes[t][table_sizes[t] + i] ^= 255;
             count(score, agrees(guard, &made->call, 0, "a byte past a size changed", &after) && after == before);
@@ -96,6 +114,7 @@ struct score changed_bytes(const struct options *options)
         make_basis(made, 5, 2, MISQAFUR_GRLEX, three, 3);
         set_kind(made, readers[k]);
         change_inside(&score, guard, made, 0, 1);
+        change_counts(&score, guard, made);
         change_past(&score, guard, made);
         make_basis(made, 61, 8, MISQAFUR_GREVLEX, many, MISQAFUR_MAX_POINTS - 1);
         set_kind(made, readers[k]);
@@ -107,16 +126,16 @@ struct score changed_bytes(const struct options *options)
     return score;
 }
 
-/* The refusal of a wrong count: what is claimed is refused where it is too great, and else does not fit the tables. */
+/* The refusal of a wrong n or r: what is claimed is refused where it is too great, and else does not fit the tables. */
 static uint64_t due(const struct call *call)
 {
     if ((call->kind == INTERPOLATE || call->kind == WIRING) && call->buffer[GIVEN].length != call->n)
         return 7;
-    return call->n > (call->kind == ADD_POINT ? MISQAFUR_MAX_POINTS - 1 : MISQAFUR_MAX_POINTS) ? 8 : 10;
+    return call->n > MISQAFUR_MAX_POINTS ? 8 : 10;
 }
 
-/* A count that is wrong by this much, in a call of each kind; as many values as are claimed, where they can be lent. */
-static void try_count(struct score *score, struct guard *guard, struct made *made, uint64_t *number, uint64_t step)
+/* A number that is wrong by this much, in a call of each kind; as many values as are claimed, where they can be lent. */
+static void try_number(struct score *score, struct guard *guard, struct made *made, uint64_t *number, uint64_t step)
 {
     uint64_t right = *number;
     for (size_t k = 0; k < READERS; k++) {
@@ -125,12 +144,12 @@ static void try_count(struct score *score, struct guard *guard, struct made *mad
         *number = right + step;
         if ((kind == INTERPOLATE || kind == WIRING) && made->call.n <= ROOM)
             made->call.buffer[GIVEN].length = made->call.n;
-        count(score, refuses(guard, &made->call, k, due(&made->call), "a wrong count"));
+        count(score, refuses(guard, &made->call, k, due(&made->call), "a wrong n or r"));
         *number = right;
     }
 }
 
-struct score wrong_counts(const struct options *options)
+struct score wrong_numbers(const struct options *options)
 {
     static const uint64_t steps[] = {1, UINT64_MAX, 2, 256, 65536, 0x100000000, (uint64_t)1 << 63};
     struct score score = {0, 0};
@@ -143,8 +162,8 @@ struct score wrong_counts(const struct options *options)
         made->chance.state = options->seed + i;
         make_call(made, CHECK);
         for (size_t k = 0; k < sizeof steps / sizeof *steps; k++) {
-            try_count(&score, guard, made, &made->call.n, steps[k]);
-            try_count(&score, guard, made, &made->call.r, steps[k]);
+            try_number(&score, guard, made, &made->call.n, steps[k]);
+            try_number(&score, guard, made, &made->call.r, steps[k]);
         }
     }
     free(made);

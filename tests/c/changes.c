@@ -1,4 +1,5 @@
-/* Part "changes": the stored calls in data/changes, a file for each change request. A file begins with
+/* Part "changes": the stored calls in data/changes, a file for each change request, those of before M-106 with counts
+ * of 1 (tools/replicates.py). A file begins with
  * `landed K`; each block ends with `end` and is a call or a run of calls, what it is handed, and after it the
  * number returned and the FNV-1a hash of every lent table and answer buffer. */
 #define _DEFAULT_SOURCE
@@ -24,7 +25,7 @@ static int number_holds(const struct block *b, uint64_t number)
 
 static int tables_hold(const struct call *call, const struct block *b)
 {
-    for (int t = 0; t < 4; t++)
+    for (int t = 0; t < TABLES; t++)
         if (hash(&call->buffer[t]) != b->tables[t])
             return 0;
     return 1;
@@ -39,7 +40,7 @@ static int call_holds(struct guard *guard, const struct block *b, uint64_t choic
     int reads = b->call.kind == READ_TEXT;
     if (!reads && !tables_hold(&lent, b))
         return 0;
-    if (reads && hash(&lent.buffer[STATES]) != b->answers[0])
+    if (reads && (hash(&lent.buffer[STATES]) != b->answers[0] || hash(&lent.buffer[COUNTS]) != b->answers[2]))
         return 0;
     if (buffer_size(b->call.kind, OUT) > 0 && hash(&lent.buffer[OUT]) != b->answers[reads])
         return 0;
@@ -58,7 +59,7 @@ static int step_holds(struct guard *guard, struct call *call, const struct step 
     uint32_t answer = (uint32_t)perform(&archive, &lent);
     if (answer != step->returned || !guard_intact(guard) || hash(&lent.buffer[GIVEN]) != hash(&call->buffer[GIVEN]))
         return 0;
-    for (int t = 0; t < 4; t++)
+    for (int t = 0; t < TABLES; t++)
         memcpy(call->buffer[t].at, lent.buffer[t].at, call->buffer[t].length);
     if (misqafur_refusal(answer) == 0) {
         call->n = misqafur_points(answer);
@@ -69,11 +70,11 @@ static int step_holds(struct guard *guard, struct call *call, const struct step 
 
 static int run_holds(struct guard *guard, const struct block *b, uint64_t choice)
 {
-    static uint8_t tables[4][ROOM];
+    static uint8_t tables[TABLES][ROOM];
     struct call call = b->call;
     performing = "a run of a change request";
     memcpy(tables, b->bytes, sizeof tables);
-    for (int t = 0; t < 4; t++)
+    for (int t = 0; t < TABLES; t++)
         call.buffer[t].at = tables[t];
     for (size_t i = 0; i < b->steps_read; i++)
         if (!step_holds(guard, &call, &b->steps[i], choice))

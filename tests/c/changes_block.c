@@ -59,25 +59,34 @@ static void read_state(struct block *b, const char *rest)
         b->points[b->points_read++ % sizeof b->points] = (uint8_t)list[k];
 }
 
+static void read_counts(struct block *b, const char *rest)
+{
+    long list[MISQAFUR_COUNTS_SIZE];
+    b->counts_read = numbers(rest, list, MISQAFUR_COUNTS_SIZE);
+    for (size_t i = 0; i < b->counts_read; i++)
+        b->counts[i] = (uint8_t)list[i];
+}
+
 static void read_lengths(struct block *b, const char *rest)
 {
-    long lengths[4];
-    b->known &= numbers(rest, lengths, 4) == 4;
-    memset(b->bytes, 170, 4 * sizeof b->bytes[0]);
+    long lengths[TABLES];
+    b->known &= numbers(rest, lengths, TABLES) == TABLES;
+    memset(b->bytes, 170, TABLES * sizeof b->bytes[0]);
     if (b->based)
         b->known &= (reference_draw_up(b->base[0], b->base[1], b->base[2], b->bytes[STATES], ROOM,
-                                       b->bytes[STANDARD], ROOM, b->bytes[LEADS], ROOM,
-                                       b->bytes[COEFFICIENTS], ROOM, b->points, b->points_read) & 255u) == 0;
-    for (int t = 0; b->run && t < 4; t++)
+                                       b->bytes[STANDARD], ROOM, b->bytes[LEADS], ROOM, b->bytes[COEFFICIENTS], ROOM,
+                                       b->bytes[COUNTS], ROOM, b->points, b->points_read) & 255u) == 0;
+    memcpy(b->bytes[COUNTS], b->counts, b->counts_read);
+    for (int t = 0; b->run && t < TABLES; t++)
         memset(b->bytes[t], 0, table_sizes[t]);
-    for (int t = 0; b->known && t < 4; t++)
+    for (int t = 0; b->known && t < TABLES; t++)
         lend(b, (enum buffer)t, lengths[t]);
 }
 
 static void read_poke(struct block *b, const char *rest)
 {
     long poke[3];
-    if (numbers(rest, poke, 3) != 3 || poke[0] < 0 || poke[0] > 3 || poke[1] < 0 || poke[1] >= ROOM)
+    if (numbers(rest, poke, 3) != 3 || poke[0] < 0 || poke[0] >= TABLES || poke[1] < 0 || poke[1] >= ROOM)
         b->known = 0;
     else
         b->bytes[poke[0]][poke[1]] = (uint8_t)poke[2];
@@ -101,20 +110,21 @@ static void read_segments(struct block *b, const char *rest)
     lend(b, GIVEN, (long)length);
 }
 
-/* The answer buffers; the reader's first one is a table of states. */
+/* The answer buffers; the reader's are states, values and counts. */
 static void read_buffers(struct block *b, const char *rest)
 {
-    long lengths[2];
-    size_t count = numbers(rest, lengths, 2);
-    if (b->call.kind == READ_TEXT && count == 2) {
-        memset(b->bytes[STATES], 170, ROOM);
-        lend(b, STATES, lengths[0]);
-    } else if (count != 1) {
+    static const enum buffer read[3] = {STATES, OUT, COUNTS}, answer[1] = {OUT};
+    const size_t due = b->call.kind == READ_TEXT ? 3 : 1;
+    const enum buffer *which = due == 3 ? read : answer;
+    long lengths[3];
+    if (numbers(rest, lengths, 3) != due) {
         b->known = 0;
         return;
     }
-    memset(b->bytes[OUT], 170, ROOM);
-    lend(b, OUT, lengths[count - 1]);
+    for (size_t i = 0; i < due; i++) {
+        memset(b->bytes[which[i]], 170, ROOM);
+        lend(b, which[i], lengths[i]);
+    }
 }
 
 static void read_hashes(uint64_t *to, size_t most, const char *rest)
@@ -149,9 +159,9 @@ static void take_expected(struct block *b, const char *word, const char *rest)
     if (strcmp(word, "returned") == 0)
         b->returned = strtoull(rest, NULL, 10);
     else if (strcmp(word, "tables") == 0)
-        read_hashes(b->tables, 4, rest);
+        read_hashes(b->tables, TABLES, rest);
     else if (strcmp(word, "answers") == 0)
-        read_hashes(b->answers, 2, rest);
+        read_hashes(b->answers, 3, rest);
     else if (strcmp(word, "do") == 0)
         read_step(b, rest);
     else if (strcmp(word, "finally") == 0)
@@ -173,6 +183,8 @@ void block_take(struct block *b, const char *word, const char *rest)
                           &weights) == 4;
     else if (strcmp(word, "state") == 0)
         read_state(b, rest);
+    else if (strcmp(word, "counts") == 0)
+        read_counts(b, rest);
     else if (strcmp(word, "claim") == 0)
         sscanf(rest, "%" SCNu64 " %" SCNu64, &c->n, &c->r);
     else if (strcmp(word, "lengths") == 0)

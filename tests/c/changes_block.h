@@ -1,7 +1,8 @@
 /* One block of the stored calls in data/changes, as it is read:
  *   call KIND                        settings P M ORDER W          claim N R
  *   base P M ORDER W N, then N lines state V..: the tables are the basis of these residues
- *   lengths A B C D: of the tables, bytes past their sizes 170; without a base all bytes are 170
+ *   counts C..: of these states; without it 1 each
+ *   lengths A B C D E: of the tables, bytes past their sizes 170; without a base all bytes are 170
  *   poke T AT BYTE                   levels, values, coefficients or exponents K v..
  *   text SEG..: hexadecimal, HH*COUNT for a run of one byte, - for none
  *   buffers L..: the answer buffers in the order of the arguments, filled with 170
@@ -33,11 +34,13 @@ struct block {
     uint64_t base[3]; /* modulus, variables, order */
     uint8_t points[512];
     size_t points_read;
+    uint8_t counts[MISQAFUR_COUNTS_SIZE];
+    size_t counts_read;
     int run;          /* it is no single call: the steps are performed one after the other */
     struct step steps[STEPS];
     size_t steps_read;
     uint64_t finally[2]; /* n and r after the last step that was taken */
-    uint64_t returned, tables[4], answers[2];
+    uint64_t returned, tables[TABLES], answers[3];
     uint8_t bytes[BUFFERS][ROOM];
 };
 

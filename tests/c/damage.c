@@ -38,7 +38,8 @@ static void other_settings(struct made *made)
     }
 }
 
-static void counts(struct made *made)
+/* Another n or r. */
+static void numbers(struct made *made)
 {
     uint64_t *number = once_in(&made->chance, 2) ? &made->call.n : &made->call.r;
     *number = odd_number(&made->chance, *number);
@@ -55,17 +56,27 @@ static void count_and_values(struct made *made)
 /* Any wrong length of a table or of the answer buffer. */
 static void short_buffer(struct made *made)
 {
-    struct bytes *b = &made->call.buffer[once_in(&made->chance, 5) ? OUT : below(&made->chance, 4)];
+    struct bytes *b = &made->call.buffer[once_in(&made->chance, 5) ? OUT : below(&made->chance, TABLES)];
     if (b->length > 0)
         b->length = once_in(&made->chance, 4) ? b->length - 1 : below(&made->chance, b->length);
+}
+
+/* How many bytes a table has for each of its points, monomials or rows, and how many of these are claimed. */
+static size_t width_of(enum buffer table)
+{
+    return table == COEFFICIENTS ? 64 : table == COUNTS ? 1 : 8;
+}
+
+static size_t rows_of(const struct made *made, enum buffer table)
+{
+    return table == LEADS || table == COEFFICIENTS ? made->call.r : made->call.n;
 }
 
 /* A byte of a table: mostly one that means something, now and then a zero, the last, or one past the size. */
 static uint8_t *table_byte(struct made *made, enum buffer table)
 {
     struct chance *c = &made->chance;
-    size_t rows = table == STATES || table == STANDARD ? made->call.n : made->call.r;
-    size_t wide = table == COEFFICIENTS ? 64 : 8;
+    size_t rows = rows_of(made, table), wide = width_of(table);
     size_t used = rows <= table_sizes[table] / wide ? rows * wide : 0;
     if (once_in(c, 8))
         return made->bytes[table] + table_sizes[table] - 1 + below(c, 2);
@@ -75,10 +86,20 @@ static uint8_t *table_byte(struct made *made, enum buffer table)
     return made->bytes[table] + wide * below(c, rows) + below(c, columns) % wide;
 }
 
+/* A count that no point has, or a count without a point; now and then another count. */
+static void count_change(struct made *made)
+{
+    struct chance *c = &made->chance;
+    size_t i = below(c, MISQAFUR_COUNTS_SIZE);
+    if (made->call.n <= MISQAFUR_COUNTS_SIZE && made->call.n > 0 && !once_in(c, 3))
+        i = below(c, made->call.n);
+    made->bytes[COUNTS][i] = once_in(c, 2) ? 0 : (uint8_t)any_number(c);
+}
+
 static void table_change(struct made *made)
 {
     struct chance *c = &made->chance;
-    uint8_t *byte = table_byte(made, (enum buffer)below(c, 4)), p = (uint8_t)made->call.modulus;
+    uint8_t *byte = table_byte(made, (enum buffer)below(c, TABLES)), p = (uint8_t)made->call.modulus;
     switch (below(c, 4)) {
     case 0:
         *byte = (uint8_t)any_number(c);
@@ -94,13 +115,13 @@ static void table_change(struct made *made)
     }
 }
 
-/* Two rows of a table change places, or one is written over the other. The points may stand in any order. */
+/* Two rows of a table change places, or one is written over the other. The points may stand in any order, and have any
+ * counts. */
 static void table_rows(struct made *made)
 {
     struct chance *c = &made->chance;
-    enum buffer table = (enum buffer)below(c, 4);
-    size_t wide = table == COEFFICIENTS ? 64 : 8;
-    size_t rows = table == STATES || table == STANDARD ? made->call.n : made->call.r;
+    enum buffer table = (enum buffer)below(c, TABLES);
+    size_t wide = width_of(table), rows = rows_of(made, table);
     if (rows == 0 || rows > table_sizes[table] / wide)
         return;
     uint8_t *a = made->bytes[table] + wide * below(c, rows), *b = made->bytes[table] + wide * below(c, rows), kept[64];
@@ -185,9 +206,9 @@ static void terms(struct made *made)
 
 void damage(struct made *made)
 {
-    static void (*const any[])(struct made *) = {settings,     other_settings, counts,     short_buffer,
-                                                 table_change, table_change,   table_rows, given_length,
-                                                 given_byte,   repeat_point};
+    static void (*const any[])(struct made *) = {settings,     other_settings, numbers,      short_buffer,
+                                                 table_change, table_change,   count_change, table_rows,
+                                                 given_length, given_byte,     repeat_point};
     enum kind kind = made->call.kind;
     if (kind == REMAINDER && once_in(&made->chance, 4))
         terms(made);

@@ -56,12 +56,23 @@ static void claim_sizes(struct score *score, struct guard *guard, const struct c
     }
 }
 
+/* So many levels more, at least, that drawing up refuses their number, whatever it is; 0 where it takes any. */
+static size_t odd_levels(const struct call *call, size_t more)
+{
+    if (call->variables == 1)
+        return 0;
+    return more + (call->variables <= 8 && call->variables > 1 &&
+                   (call->buffer[GIVEN].length + more) % call->variables == 0);
+}
+
 /* More levels, values, terms or text than a call takes: a number that is refused, whatever the settings. */
 static void claim_given(struct score *score, struct guard *guard, const struct call *call)
 {
     static const size_t claims[] = {MISQAFUR_MAX_TEXT + 1, FOUR_GIB};
     for (size_t c = 0; c < sizeof claims / sizeof *claims; c++) {
-        size_t more[BUFFERS] = {[GIVEN] = claims[c]};
+        size_t more[BUFFERS] = {[GIVEN] = call->kind == DRAW_UP ? odd_levels(call, claims[c]) : claims[c]};
+        if (more[GIVEN] == 0)
+            continue;
         claim(score, guard, call, more);
         if (call->kind != REMAINDER)
             continue;

@@ -1,5 +1,5 @@
-/* Part "emptied": a full basis, 64 points, of which one makes room for another; then all are withdrawn in random order,
- * and as many are added again. On the way the points that are left are drawn up. */
+/* Part "emptied": a full basis, 64 points, of which each takes a replicate and one makes room for another; then all are
+ * withdrawn in random order, and as many are added again. On the way the points that are left are drawn up. */
 #include "parts.h"
 #include "plain_list.h"
 
@@ -7,20 +7,20 @@
 #include <stdlib.h>
 #include <string.h>
 
-#define FULL MISQAFUR_MAX_POINTS
+#define MOST MISQAFUR_MAX_POINTS
 
 /* A full basis, and points to choose from: one more than it takes. */
 struct sheet {
     struct made made, drawn;
     struct list list;
-    uint8_t points[8 * (FULL + 1)];
+    uint8_t points[8 * (MOST + 1)];
 };
 
 /* Any number of variables with which there are enough points. */
 static int random_variables(struct chance *c, int p)
 {
     int least = 1;
-    for (int states = p; states <= FULL; states *= p)
+    for (int states = p; states <= MOST; states *= p)
         least++;
     return least + (int)below(c, (uint64_t)(9 - least));
 }
@@ -29,7 +29,7 @@ static int random_variables(struct chance *c, int p)
 static void choose_points(struct sheet *s)
 {
     memset(s->points, 0, sizeof s->points);
-    for (size_t n = 0; n <= FULL;) {
+    for (size_t n = 0; n <= MOST;) {
         uint8_t *point = s->points + 8 * n;
         size_t i = 0;
         for (int k = 0; k < s->list.m; k++)
@@ -53,26 +53,35 @@ static int does(struct sheet *s, enum kind kind, const uint8_t *point, uint32_t 
 /* Adds points from this one on, until the basis is full. */
 static int fill_up(struct sheet *s, size_t first)
 {
-    for (size_t i = first; s->list.n < FULL; i++)
+    for (size_t i = first; s->list.n < MOST; i++)
         if (!does(s, ADD_POINT, s->points + 8 * i, 0))
             return 0;
     return 1;
 }
 
-/* One point, which is any, goes, and the one left over comes in its stead. */
+/* One replicate of each point, which a full basis takes as any other. */
+static int replicate(struct sheet *s)
+{
+    for (size_t i = 0; i < MOST; i++)
+        if (!does(s, ADD_POINT, s->points + 8 * i, 0) || s->made.call.n != MOST)
+            return 0;
+    return 1;
+}
+
+/* One point, which is any, goes with its replicate, and the one left over comes in its stead. */
 static int exchange(struct sheet *s)
 {
-    uint8_t point[8], *left_over = s->points + 8 * FULL;
-    memcpy(point, s->list.points + 8 * below(&s->made.chance, FULL), 8);
-    return does(s, WITHDRAW_POINT, left_over, 12) && does(s, ADD_POINT, left_over, 8) &&
-           does(s, WITHDRAW_POINT, point, 0) && s->made.call.n == FULL - 1 && does(s, ADD_POINT, left_over, 0) &&
+    uint8_t point[8], *left_over = s->points + 8 * MOST;
+    memcpy(point, s->list.points + 8 * below(&s->made.chance, MOST), 8);
+    return does(s, WITHDRAW_POINT, point, 0) && s->made.call.n == MOST && does(s, WITHDRAW_POINT, left_over, 12) && does(s, ADD_POINT, left_over, 8) &&
+           does(s, WITHDRAW_POINT, point, 0) && s->made.call.n == MOST - 1 && does(s, ADD_POINT, left_over, 0) &&
            does(s, ADD_POINT, point, 8);
 }
 
 /* Without points the basis is the fresh one, and there is nothing to withdraw. */
 static int is_fresh(struct sheet *s)
 {
-    for (int t = 0; t < 4; t++)
+    for (int t = 0; t < TABLES; t++)
         for (size_t i = 0; i < table_sizes[t]; i++)
             if (s->made.bytes[t][i] != 0)
                 return 0;
@@ -94,7 +103,7 @@ static int sheet_holds(struct sheet *s, int p, uint64_t order)
 {
     list_begin(&s->list, &s->made, p, random_variables(&s->made.chance, p), order);
     choose_points(s);
-    return fill_up(s, 0) && exchange(s) && empty(s) && fill_up(s, 1);
+    return fill_up(s, 0) && replicate(s) && exchange(s) && empty(s) && fill_up(s, 1);
 }
 
 struct score emptied(const struct options *options)

@@ -9,11 +9,11 @@
 struct tables {
     uint64_t n, r;
     uint8_t states[MISQAFUR_STATES_SIZE], standard[MISQAFUR_STANDARD_SIZE];
-    uint8_t leads[MISQAFUR_LEADS_SIZE], coefficients[MISQAFUR_COEFFICIENTS_SIZE];
+    uint8_t leads[MISQAFUR_LEADS_SIZE], coefficients[MISQAFUR_COEFFICIENTS_SIZE], counts[MISQAFUR_COUNTS_SIZE];
 };
 
 #define LENT(T) T->states, sizeof T->states, T->standard, sizeof T->standard, T->leads, sizeof T->leads, \
-                T->coefficients, sizeof T->coefficients
+                T->coefficients, sizeof T->coefficients, T->counts, sizeof T->counts
 
 static void say(struct score *score, const char *what, int holds)
 {
@@ -89,7 +89,7 @@ static void numbers_of_points(struct score *score, struct tables *t)
         if (n > 0)
             levels[2 * n - 1] = 61;
         say(score, "a number of points, the last out of range",
-            draw(t, 61, 2, levels, 2 * n) == (n > 64 ? 8 : n > 0 ? 9 : 0));
+            draw(t, 61, 2, levels, 2 * n) == (n > 0 ? 9 : 0));
     }
 }
 
@@ -106,13 +106,13 @@ static void points(struct score *score, struct tables *t)
     say(score, "64 points added", taken && t->n == 64);
     before = *t;
     say(score, "the 65th point", add(t, 61, 2, levels + 128) == 8);
-    say(score, "the 65th point outside the range", add(t, 61, 2, outside) == 8);
+    say(score, "the 65th point outside the range", add(t, 61, 2, outside) == 9);
     say(score, "refused without a trace", memcmp(t, &before, sizeof before) == 0);
     say(score, "64 points drawn up", draw(t, 61, 2, levels, 128) == 0);
     say(score, "the same tables both ways", memcmp(t, &before, sizeof before) == 0);
     say(score, "65 points drawn up", draw(t, 61, 2, levels, 130) == 8);
     memcpy(levels + 128, outside, 2);
-    say(score, "65 points drawn up, one outside the range", draw(t, 61, 2, levels, 130) == 8);
+    say(score, "65 points drawn up, one outside the range", draw(t, 61, 2, levels, 130) == 9);
     say(score, "refused without a trace", memcmp(t, &before, sizeof before) == 0);
 }
 
@@ -153,12 +153,13 @@ static void last_point(struct score *score, struct tables *t)
 static uint64_t read_records(int records, int last)
 {
     static char text[8192];
-    uint8_t states[MISQAFUR_STATES_SIZE], values[MISQAFUR_RESIDUES_SIZE];
+    uint8_t states[MISQAFUR_STATES_SIZE], values[MISQAFUR_RESIDUES_SIZE], counts[MISQAFUR_COUNTS_SIZE];
     int length = snprintf(text, sizeof text, "g1,g2,mod 61\n");
     for (int i = 0; i < records; i++)
         length += snprintf(text + length, sizeof text - (size_t)length, "%d,%d,0\n", i % 61,
                            i + 1 == records ? last : i / 61);
-    return misqafur_read_text((const uint8_t *)text, (size_t)length, states, sizeof states, values, sizeof values);
+    return misqafur_read_text((const uint8_t *)text, (size_t)length, states, sizeof states, values, sizeof values, counts,
+                              sizeof counts);
 }
 
 static void texts(struct score *score)
@@ -167,12 +168,14 @@ static void texts(struct score *score)
     say(score, "64 records", misqafur_read_refusal(answer) == 0 && misqafur_read_points(answer) == 64 &&
                                  misqafur_read_modulus(answer) == 61 && misqafur_read_variables(answer) == 2 &&
                                  misqafur_read_order(answer) == MISQAFUR_GREVLEX);
+    answer = read_records(65, 60);
+    say(score, "65 records", misqafur_read_refusal(answer) == 8 && misqafur_read_record(answer) == 66);
     answer = read_records(65, 999);
     say(score, "65 records, one outside the range",
-        misqafur_read_refusal(answer) == 8 && misqafur_read_record(answer) == 66);
+        misqafur_read_refusal(answer) == 9 && misqafur_read_record(answer) == 66);
 }
 
-/* The basis of no points under every settings: one buffer of zeros, which is only read, lent four times. */
+/* The basis of no points under every settings: one buffer of zeros, which is only read, lent five times. */
 static void no_points(struct score *score)
 {
     static const uint8_t zeros[MISQAFUR_COEFFICIENTS_SIZE];
@@ -180,7 +183,8 @@ static void no_points(struct score *score)
         for (uint64_t m = 1; m <= 8; m++)
             say(score, "the basis of no points",
                 misqafur_check(5, m, order, 0, 1, zeros, MISQAFUR_STATES_SIZE, zeros, MISQAFUR_STANDARD_SIZE, zeros,
-                               MISQAFUR_LEADS_SIZE, zeros, MISQAFUR_COEFFICIENTS_SIZE) == 0);
+                               MISQAFUR_LEADS_SIZE, zeros, MISQAFUR_COEFFICIENTS_SIZE, zeros,
+                               MISQAFUR_COUNTS_SIZE) == 0);
 }
 
 struct score examples(const struct options *options)

@@ -1,12 +1,8 @@
-/* Calls over tables with a set of faults: three points modulo 11 in two variables, and whatever is wrong beside. */
+/* Calls over tables with a set of faults: three points modulo 11 in two variables, or 64 where there is to be no room, and
+ * whatever is wrong beside. */
 #include "made.h"
 
 #include <string.h>
-
-int has_fault(uint32_t faults, int refusal)
-{
-    return (int)(faults >> refusal & 1);
-}
 
 /* Numbers that are not in range, some of which would be if they were cut to fewer bits. */
 static void set_settings(struct call *call, uint32_t faults, uint32_t variant)
@@ -19,22 +15,57 @@ static void set_settings(struct call *call, uint32_t faults, uint32_t variant)
     call->order = has_fault(faults, 5) ? orders[variant % 8] : variant % 3;
 }
 
-/* The basis of (0, 0), (1, 2), (2, 1); as fault 10 with a byte of a table changed, or with a wrong r. */
+/* A point of a grid; (1, 2) is point 23. */
+static void put_grid_point(uint8_t *levels, int i, int negative)
+{
+    int x1 = i % 11, x2 = i / 11;
+    levels[0] = (uint8_t)(negative && x1 > 0 ? x1 - 11 : x1);
+    levels[1] = (uint8_t)(negative && x2 > 0 ? x2 - 11 : x2);
+}
+
+/* A basis as it is drawn up by the reference, once for each order and number of points: of (0, 0), (1, 2), (2, 1), or of
+ * the first 64 points of the grid. */
+static const struct made *basis_of(int full, uint64_t order)
+{
+    static struct made kept[2][3];
+    static uint8_t three[6] = {0, 0, 1, 2, 2, 1}, many[2 * MISQAFUR_MAX_POINTS];
+    struct made *made = &kept[full][order];
+    if (made->call.r != 0)
+        return made;
+    for (int i = 0; i < MISQAFUR_MAX_POINTS; i++)
+        put_grid_point(many + 2 * i, i, 0);
+    made->call = (struct call){.kind = DRAW_UP, .modulus = 11, .variables = 2, .order = order};
+    for (int t = 0; t < TABLES; t++) {
+        memset(made->bytes[t], 170, table_sizes[t] + 8);
+        lend(made, (enum buffer)t, table_sizes[t]);
+    }
+    made->call.buffer[GIVEN] = full ? (struct bytes){many, sizeof many} : (struct bytes){three, sizeof three};
+    uint32_t answer = (uint32_t)perform(&reference, &made->call);
+    made->call.n = misqafur_points(answer);
+    made->call.r = misqafur_elements(answer);
+    return made;
+}
+
+/* The tables of a basis; the point (1, 2) has another count, as fault 13 the greatest. As fault 10 a byte of a table is
+ * changed, or a point has no count, or r is wrong. */
 static void set_tables(struct made *made, uint32_t faults, uint32_t variant)
 {
-    static uint8_t levels[6] = {0, 0, 1, 2, 2, 1};
-    struct call draw = {.kind = DRAW_UP, .modulus = 11, .variables = 2, .order = variant % 3};
-    for (int t = 0; t < 4; t++) {
-        memset(made->bytes[t], 170, table_sizes[t] + 8);
-        draw.buffer[t] = (struct bytes){made->bytes[t], table_sizes[t]};
-    }
+    int full = has_fault(faults, FULL);
+    const struct made *basis = basis_of(full, variant % 3);
+    for (int t = 0; t < TABLES; t++)
+        if (made->call.kind == DRAW_UP)
+            memset(made->bytes[t], 170, table_sizes[t] + 8);
+        else
+            memcpy(made->bytes[t], basis->bytes[t], table_sizes[t] + 8);
     if (made->call.kind == DRAW_UP)
         return;
-    draw.buffer[GIVEN] = (struct bytes){levels, sizeof levels};
-    made->call.n = 3;
-    made->call.r = misqafur_elements((uint32_t)perform(&reference, &draw));
-    if (has_fault(faults, 10) && variant < 4)
+    made->call.n = basis->call.n;
+    made->call.r = basis->call.r;
+    made->bytes[COUNTS][full ? 23 : 1] = (uint8_t)(has_fault(faults, 13) ? MISQAFUR_MAX_COUNT : 1 + 28 * variant);
+    if (has_fault(faults, 10) && variant < TABLES)
         made->bytes[variant][3] ^= 1;
+    else if (has_fault(faults, 10) && variant == TABLES)
+        made->bytes[COUNTS][0] = 0;
     else if (has_fault(faults, 10))
         made->call.r += variant;
 }
@@ -71,37 +102,34 @@ static uint8_t bad_level(uint32_t variant)
 /* Counts that are too great for any basis, some of which would not be if they were cut to fewer bits. */
 static const uint64_t many[8] = {65, 66, 128, 255, 256 + 3, 65536 + 3, 0x100000000 + 3, UINT64_MAX};
 
-/* The point (3, 4), which is not there, or (1, 2), which is. It is to be added, or withdrawn: then 64 points may be
- * claimed. */
+/* The point (3, 7), which is not there, or (1, 2), which is: to be withdrawn, or to be counted once more. */
 static void set_point(struct made *made, uint32_t faults, uint32_t variant)
 {
     int withdrawn = made->call.kind == WITHDRAW_POINT;
-    int there = withdrawn ? !has_fault(faults, 12) : has_fault(faults, 11);
+    int there = withdrawn ? !has_fault(faults, 12) : has_fault(faults, 13) || (!has_fault(faults, FULL) && variant % 2 == 0);
     made->bytes[GIVEN][0] = there ? (uint8_t)-10 : 3;
-    made->bytes[GIVEN][1] = there ? 2 : 4;
+    made->bytes[GIVEN][1] = there ? 2 : 7;
     if (has_fault(faults, 9))
         made->bytes[GIVEN][variant % 2] = bad_level(variant);
     if (has_fault(faults, 8))
-        made->call.n = withdrawn || variant % 8 > 0 ? many[variant % 8] : MISQAFUR_MAX_POINTS;
+        made->call.n = many[variant % 8];
     set_length(made, GIVEN, 2, faults, variant);
 }
 
-/* 64 points of a grid, or more; every third in negative levels. The last may be (1, 0) again, which is point 1. */
+/* 64 points of a grid, or more, every third in negative levels; and one of them again, so often that it is there 255
+ * times, or as fault 13 once more. In turn these stand in front, between and behind the others. */
 static void set_all_points(struct made *made, uint32_t faults, uint32_t variant)
 {
     uint8_t *levels = made->bytes[GIVEN];
-    for (int i = 0; i < 74; i++) {
-        int x1 = i % 11, x2 = i / 11;
-        levels[2 * i] = (uint8_t)(i % 3 == 0 && x1 > 0 ? x1 - 11 : x1);
-        levels[2 * i + 1] = (uint8_t)(i % 3 == 0 && x2 > 0 ? x2 - 11 : x2);
-    }
-    if (has_fault(faults, 11)) {
-        levels[126] = (uint8_t)-10;
-        levels[127] = 0;
+    int points = has_fault(faults, FULL) ? 65 + (int)variant % 8 : 64, chosen = (int)variant * 7;
+    int again = MISQAFUR_MAX_COUNT - 1 + has_fault(faults, 13), from = (int)(variant % 3) * points / 2;
+    for (int i = 0; i < points + again; i++) {
+        int replicate = from <= i && i < from + again, point = i < from ? i : i - again;
+        put_grid_point(levels + 2 * i, replicate ? chosen : point, i % 3 == 0);
     }
     if (has_fault(faults, 9))
         levels[variant % 8 * 18] = bad_level(variant);
-    set_length(made, GIVEN, 2 * (has_fault(faults, 8) ? 65 + variant % 8 : 64), faults, variant);
+    set_length(made, GIVEN, 2 * (size_t)(points + again), faults, variant);
 }
 
 static void set_values(struct made *made, uint32_t faults, uint32_t variant)
@@ -135,7 +163,7 @@ static void set_terms(struct made *made, uint32_t faults, uint32_t variant)
 void make_faulty_call(struct made *made, enum kind kind, uint32_t faults, uint32_t variant)
 {
     made->call = (struct call){.kind = kind};
-    memset(made->bytes[GIVEN], 0, 600);
+    memset(made->bytes[GIVEN], 0, 1000);
     memset(made->bytes[EXPONENTS], 0, 8 * 300);
     memset(made->bytes[OUT], 170, MISQAFUR_RESIDUES_SIZE + 8);
     set_settings(&made->call, faults, variant);

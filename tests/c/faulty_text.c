@@ -4,8 +4,18 @@
 #include <stdio.h>
 #include <string.h>
 
-/* How many records follow the header where there are not too many. */
+/* How many points there are where there are not too many; the first records have these, each once. */
 #define RECORDS 8
+
+/* The points that have replicates, and the one of which a replicate has another value. */
+#define REPLICATED 5
+#define OTHER 3
+
+/* What is known of a text while it is put down: the records so far, and those at which 8, 13 and 14 are due. */
+struct told {
+    int records, distinct, replicates;
+    uint64_t at[FAULTS];
+};
 
 /* Puts a word at the text's end. */
 static void put(struct made *made, const char *word)
@@ -25,10 +35,10 @@ static void put_number(struct made *made, int number)
 /* As fault 4 none or too many; with many records fewer of these, so that the text is not too long. */
 static int variables_of(uint32_t faults, uint32_t variant)
 {
-    static const int some[4] = {9, 0, 256 + 2, 500}, fewer[4] = {9, 0, 10, 100};
+    static const int some[4] = {9, 0, 256 + 2, 500}, fewer[4] = {9, 0, 10, 100}, fewest[4] = {9, 0, 10, 20};
     if (!has_fault(faults, 4))
         return 2;
-    return has_fault(faults, 8) ? fewer[variant % 4] : some[variant % 4];
+    return has_fault(faults, 13) ? fewest[variant % 4] : has_fault(faults, FULL) ? fewer[variant % 4] : some[variant % 4];
 }
 
 static void put_header(struct made *made, int m, uint32_t faults, uint32_t variant)
@@ -42,28 +52,63 @@ static void put_header(struct made *made, int m, uint32_t faults, uint32_t varia
     put(made, orders[variant % 4]);
 }
 
-/* A level of point i: a grid's, or as fault 11 in the last record (1, 0) again. */
-static int level_of(int i, int k, int records, uint32_t faults)
+/* A level of point i of a grid, in replicates the negative one of the same residue. */
+static int level_of(int i, int k, int negative)
 {
-    if (has_fault(faults, 11) && i + 1 == records)
-        return k == 0 ? -10 : 0;
-    return k == 0 ? i % 11 : k == 1 ? i / 11 : 0;
+    int level = k == 0 ? i % 11 : k == 1 ? i / 11 : 0;
+    return negative && level > 0 ? level - 11 : level;
 }
 
-/* Record i; outside says that it has fault 9, in its first level or, in turn, in its value. */
-static void put_record(struct made *made, int i, int m, int records, uint32_t faults, uint32_t variant, int outside)
+/* A record of point i; outside says that it has fault 9, in its first level or, in turn, in its value. */
+static void put_record(struct made *made, int i, int value, int m, uint32_t variant, int outside, int negative)
 {
     static const int bad_levels[4] = {11, -11, 256, -999};
     int bad = bad_levels[variant / 2 % 4], in_value = variant % 2 == 1 || m == 0;
     for (int k = 0; k < m; k++) {
-        put_number(made, outside && !in_value && k == 0 ? bad : level_of(i, k, records, faults));
+        put_number(made, outside && !in_value && k == 0 ? bad : level_of(i, k, negative));
         put(made, ",");
     }
-    put_number(made, outside && in_value ? bad : i % 11);
+    put_number(made, outside && in_value ? bad : value);
 }
 
 /* What breaks the rules at the end of a record or of the header; the last of these is a blank record behind it. */
 static const char *const breaks[] = {"x", "0000", "+", "\"", "\r1", " ", ",1", ",", "-", "\n"};
+
+/* One record more, of point i, and the end of it. */
+static void put_next(struct made *made, struct told *told, int i, int value, int m, uint32_t faults, uint32_t variant)
+{
+    int outside = has_fault(faults, 9) && told->records == (int)variant % RECORDS, again = i < told->distinct;
+    int broken = has_fault(faults, 2) && told->records + 1 == (int)variant * 5 % (RECORDS + 1);
+    put_record(made, i, value, m, variant, outside, again);
+    if (broken)
+        put(made, breaks[variant % 10]);
+    put(made, variant % 3 == 0 ? "\r\n" : "\n");
+    told->records++;
+    told->distinct += !again;
+    told->replicates += i == REPLICATED;
+    uint64_t record = (uint64_t)told->records + 1;
+    if (!again && told->distinct == MISQAFUR_MAX_POINTS + 1)
+        told->at[FULL] = record;
+    if (i == REPLICATED && told->replicates == MISQAFUR_MAX_COUNT + 1)
+        told->at[13] = record;
+    if (value != i % 11 && told->at[14] == 0)
+        told->at[14] = record;
+}
+
+/* The three parts that stand behind the first records, in one sequence or another: replicates up to 255, or as fault 13
+ * beyond; as fault 14 a replicate with another value, and a second one; as fault FULL points, up to the 65th and more. */
+static void put_part(struct made *made, struct told *told, int part, int m, uint32_t faults, uint32_t variant)
+{
+    if (part == 0 && (has_fault(faults, 13) || variant % 5 == 0))
+        for (int more = MISQAFUR_MAX_COUNT - 1 + 2 * has_fault(faults, 13); more > 0; more--)
+            put_next(made, told, REPLICATED, REPLICATED, m, faults, variant);
+    if (part == 1 && has_fault(faults, 14))
+        for (int more = 1; more <= 2; more++)
+            put_next(made, told, OTHER, OTHER + more, m, faults, variant);
+    if (part == 2 && has_fault(faults, FULL))
+        for (int i = RECORDS; i < MISQAFUR_MAX_POINTS + 1 + (int)variant % 8; i++)
+            put_next(made, told, i, i % 11, m, faults, variant);
+}
 
 /* Long enough to be refused with 1. */
 static void put_too_much(struct made *made)
@@ -74,29 +119,27 @@ static void put_too_much(struct made *made)
 
 uint64_t make_faulty_text(struct made *made, uint32_t faults, uint32_t variant)
 {
-    int m = variables_of(faults, variant), records = has_fault(faults, 8) ? 65 + (int)variant % 8 : RECORDS;
-    int outside = has_fault(faults, 9) ? (int)variant % RECORDS : -1;
-    int broken = has_fault(faults, 2) ? (int)variant * 5 % (RECORDS + 1) : -1; /* 0 is the header */
+    static const int sequences[6][3] = {{0, 1, 2}, {2, 1, 0}, {1, 0, 2}, {2, 0, 1}, {0, 2, 1}, {1, 2, 0}};
+    int m = variables_of(faults, variant), broken = (int)variant * 5 % (RECORDS + 1); /* 0 is the header */
     const char *how = breaks[variant % 10];
+    struct told told = {.at = {[2] = (uint64_t)broken + (*how == '\n' ? 2 : 1), [3] = 1, [4] = 1,
+                               [9] = (uint64_t)(variant % RECORDS) + 2}};
     made->call = (struct call){.kind = READ_TEXT};
     made->call.buffer[GIVEN] = (struct bytes){made->bytes[GIVEN], 0};
     memset(made->bytes[STATES], 170, MISQAFUR_STATES_SIZE + 8);
     memset(made->bytes[OUT], 170, MISQAFUR_RESIDUES_SIZE + 8);
+    memset(made->bytes[COUNTS], 170, MISQAFUR_COUNTS_SIZE + 8);
     set_faulty_sizes(made, faults, variant);
     put_header(made, m, faults, variant);
-    for (int i = 0; i <= records; i++) {
-        if (i > 0)
-            put_record(made, i - 1, m, records, faults, variant, i - 1 == outside);
-        if (i == broken)
-            put(made, how);
-        put(made, variant % 3 == 0 ? "\r\n" : "\n");
-    }
+    if (has_fault(faults, 2) && broken == 0)
+        put(made, how);
+    put(made, variant % 3 == 0 ? "\r\n" : "\n");
+    for (int i = 0; i < RECORDS; i++)
+        put_next(made, &told, i, i, m, faults, variant);
+    for (int part = 0; part < 3; part++)
+        put_part(made, &told, sequences[variant % 6][part], m, faults, variant);
     if (has_fault(faults, 1))
         put_too_much(made);
-    const uint64_t at[REFUSALS] = {[2] = (uint64_t)broken + (*how == '\n' ? 2 : 1), [3] = 1, [4] = 1, [8] = 66,
-                             [9] = (uint64_t)outside + 2, [11] = (uint64_t)records + 1};
-    for (uint64_t refusal = 1; refusal < REFUSALS; refusal++)
-        if (has_fault(faults, (int)refusal))
-            return refusal + 256 * at[refusal];
-    return 0;
+    int first = first_fault(faults);
+    return (uint64_t)refusal_of(first) + 256 * told.at[first];
 }

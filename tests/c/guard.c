@@ -20,8 +20,8 @@ struct guard {
     uint8_t plain[BUFFERS][ROOM]; /* the reference's copies */
 };
 
-static const char *const buffer_names[BUFFERS] = {"states", "standard",  "leads", "coefficients",
-                                                  "given",  "exponents", "out"};
+static const char *const buffer_names[BUFFERS] = {"states", "standard", "leads",     "coefficients",
+                                                  "counts", "given",    "exponents", "out"};
 
 _Thread_local const char *performing = "a call";
 

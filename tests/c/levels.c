@@ -24,10 +24,10 @@ static void make_single(struct made *made, enum kind kind, int p, int number)
     made->call = (struct call){.kind = kind, .modulus = (uint64_t)p, .variables = 1, .n = (uint64_t)on_point, .r = 1};
     for (int i = 0; i < BUFFERS; i++)
         lend(made, (enum buffer)i, buffer_size(kind, (enum buffer)i));
-    for (int t = STATES; t <= COEFFICIENTS; t++)
+    for (int t = 0; t < TABLES; t++)
         memset(made->bytes[t], 0, table_sizes[t]);
     made->bytes[STATES][0] = (uint8_t)point;
-    made->bytes[LEADS][0] = (uint8_t)on_point;
+    made->bytes[LEADS][0] = made->bytes[COUNTS][0] = (uint8_t)on_point;
     made->bytes[COEFFICIENTS][0] = (uint8_t)((p - point) % p);
     made->bytes[GIVEN][0] = misqafur_level(number);
     memset(made->bytes[EXPONENTS], 0, 8);
@@ -48,7 +48,8 @@ static int level_holds(struct made *made, enum kind kind, int p, int number)
     if (!in_range || kind == WIRING)
         return 1;
     if (kind == WITHDRAW_POINT)
-        return answer == 65536 && made->bytes[STATES][0] == 0 && made->bytes[LEADS][0] == 0;
+        return answer == 65536 && made->bytes[STATES][0] == 0 && made->bytes[LEADS][0] == 0 &&
+               made->bytes[COUNTS][0] == 0;
     return made->bytes[kind == ADD_POINT || kind == DRAW_UP ? STATES : OUT][0] == residue_of(p, number);
 }
 
@@ -78,13 +79,16 @@ static int takes_values(const struct made *made, int p, size_t n, const uint8_t 
     return 1;
 }
 
-/* From the text of a call on: the points packed and drawn up, and the interpolant of the values. */
+/* From the text of a call on: the points packed and drawn up, the counts of the text in the place of theirs, and the
+ * interpolant of the values. */
 static int text_leads_on(struct made *made, uint64_t answer)
 {
     static uint8_t points[MISQAFUR_STATES_SIZE], values[MISQAFUR_RESIDUES_SIZE], levels[MISQAFUR_LEVELS_SIZE];
+    static uint8_t counts[MISQAFUR_COUNTS_SIZE];
     uint32_t n = misqafur_read_points(answer), p = misqafur_read_modulus(answer), m = misqafur_read_variables(answer);
     memcpy(points, made->bytes[STATES], sizeof points);
     memcpy(values, made->bytes[OUT], sizeof values);
+    memcpy(counts, made->bytes[COUNTS], sizeof counts);
     size_t length = misqafur_pack_levels(points, n, m, levels);
     made->call = (struct call){.kind = DRAW_UP, .modulus = p, .variables = m, .order = misqafur_read_order(answer)};
     for (int i = 0; i < BUFFERS; i++)
@@ -94,6 +98,7 @@ static int text_leads_on(struct made *made, uint64_t answer)
     if (length != n * m || misqafur_refusal(drawn) != 0 || misqafur_points(drawn) != n ||
         memcmp(made->bytes[STATES], points, sizeof points) != 0)
         return 0;
+    memcpy(made->bytes[COUNTS], counts, sizeof counts);
     made->call.kind = INTERPOLATE;
     made->call.n = n;
     made->call.r = misqafur_elements(drawn);
@@ -123,7 +128,7 @@ static void try_texts(struct score *score, struct made *made, uint64_t wanted)
     count(score, wanted == 0);
 }
 
-/* Points or variables out of range: neither table is touched, and drawing up refuses what is answered. */
+/* Points or variables out of range: no point is read, and drawing up refuses what is answered. */
 static void try_unpackable(struct score *score, struct made *made)
 {
     static const uint64_t many[] = {65, 256, 0x100000000, UINT64_MAX}, odd[] = {0, 9, 256 + 8, UINT64_MAX};
@@ -131,15 +136,17 @@ static void try_unpackable(struct score *score, struct made *made)
         for (int i = 0; i < 4; i++) {
             make_single(made, DRAW_UP, 5, 0);
             made->call.variables = m;
-            lend(made, GIVEN, misqafur_pack_levels(NULL, many[i], m, NULL));
+            lend(made, GIVEN, misqafur_pack_levels(NULL, many[i], m, made->bytes[GIVEN]));
             count(score, made->call.buffer[GIVEN].length <= MISQAFUR_LEVELS_SIZE &&
-                             perform(&archive, &made->call) == 8);
+                             perform(&archive, &made->call) == 9);
         }
     for (int i = 0; i < 4; i++) {
         make_single(made, DRAW_UP, 5, 0);
         made->call.variables = odd[i];
-        lend(made, GIVEN, misqafur_pack_levels(NULL, i % 2 == 0 ? 3 : UINT64_MAX, odd[i], NULL));
-        count(score, made->call.buffer[GIVEN].length == 0 && perform(&archive, &made->call) == 4);
+        memset(made->bytes[GIVEN], 77, 8);
+        lend(made, GIVEN, misqafur_pack_levels(NULL, i % 2 == 0 ? 3 : UINT64_MAX, odd[i], made->bytes[GIVEN]));
+        count(score, made->call.buffer[GIVEN].length == 0 && made->bytes[GIVEN][0] == 77 &&
+                         perform(&archive, &made->call) == 4);
     }
 }
 

@@ -69,11 +69,11 @@ static void long_call(struct score *score, uint8_t *zeros, enum kind kind, size_
                       uint64_t n, uint32_t expected)
 {
     struct call call = {.kind = kind, .modulus = 5, .variables = 8, .n = n, .r = 1};
-    static uint8_t tables[4][MISQAFUR_COEFFICIENTS_SIZE], out[MISQAFUR_RESIDUES_SIZE];
-    for (int t = 0; t < 4; t++)
+    static uint8_t tables[TABLES][MISQAFUR_COEFFICIENTS_SIZE], out[MISQAFUR_RESIDUES_SIZE];
+    for (int t = 0; t < TABLES; t++)
         call.buffer[t] = (struct bytes){tables[t], table_sizes[t]};
     if (kind == CHECK)
-        for (int t = 0; t < 4; t++)
+        for (int t = 0; t < TABLES; t++)
             call.buffer[t] = (struct bytes){zeros, FOUR_GIB + 100 * (size_t)t};
     call.buffer[GIVEN] = (struct bytes){zeros, given};
     call.buffer[EXPONENTS] = (struct bytes){zeros, exponents};
@@ -84,7 +84,8 @@ static void long_call(struct score *score, uint8_t *zeros, enum kind kind, size_
     count(score, number == expected);
 }
 
-/* The region is reserved and never touched, so it takes no memory. */
+/* The region is reserved and never written, so it takes no memory. Drawing up takes any number of levels: it reads them
+ * all, and one point so many times is too often. */
 struct score long_buffers(const struct options *options)
 {
     struct score score = {0, 0};
@@ -96,7 +97,7 @@ struct score long_buffers(const struct options *options)
         count(&score, 0);
         return score;
     }
-    long_call(&score, zeros, DRAW_UP, FOUR_GIB + 8, 0, 0, 8);
+    long_call(&score, zeros, DRAW_UP, FOUR_GIB + 8, 0, 0, 13);
     long_call(&score, zeros, DRAW_UP, FOUR_GIB + 1, 0, 0, 7);
     long_call(&score, zeros, ADD_POINT, FOUR_GIB + 8, 0, 0, 7);
     long_call(&score, zeros, WITHDRAW_POINT, FOUR_GIB + 8, 0, 0, 7);

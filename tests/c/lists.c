@@ -1,5 +1,6 @@
-/* Part "lists": whole lists of additions and withdrawals, refused ones and others between them, against a plain
- * list of points; now and then the same points drawn up in another order, and remainders and wiring lists over both. */
+/* Part "lists": whole lists of additions and withdrawals, replicates, refused ones and others between them, against a
+ * plain list of points with their counts; now and then the same points drawn up in another order, and remainders and wiring
+ * lists over both. */
 #include "parts.h"
 #include "plain_list.h"
 
@@ -10,10 +11,14 @@
 /* With so many lists, each thing that can come up in one is expected to. */
 #define ENOUGH 100
 
-/* How often each answer came to an addition, a withdrawal and a remainder, and how often the rest was tried. */
+/* How often each answer came to an addition, a withdrawal and a remainder, how often a replicate came and went, and how
+ * often the rest was tried. */
 struct tally {
-    long added[REFUSALS], withdrawn[REFUSALS], reduced[REFUSALS], between, back, drawn;
+    long added[REFUSALS], withdrawn[REFUSALS], reduced[REFUSALS], raised, lowered, between, back, drawn;
 };
+
+/* A point of which many pots come is added so many times in a row, or until it is refused. */
+#define BURST 300
 
 /* Levels of any number and content, mostly good ones; those of a point that is there mostly for a withdrawal, and now
  * and then for an addition. */
@@ -49,8 +54,8 @@ static int call_between(struct guard *guard, const struct made *made, struct mad
     return holds;
 }
 
-/* Whether the point of the levels, on copies of the tables added and at once withdrawn by levels of other signs, gives
- * back the counts and every byte. */
+/* Whether the point of the levels, new or not, on copies of the tables added and at once withdrawn by levels of other
+ * signs, gives back n, r and every byte. */
 static int given_back(const struct made *made, struct made *other, const struct list *list, struct tally *tally)
 {
     struct list beside = *list;
@@ -60,12 +65,14 @@ static int given_back(const struct made *made, struct made *other, const struct 
         return 0;
     if (answer != 0)
         return 1;
-    size_t m = (size_t)list->m;
-    random_levels(&other->chance, list->p, m, beside.points + 8 * list->n, 1, other->bytes[GIVEN]);
+    size_t place = 0;
+    while (beside.counts[place] == list->counts[place])
+        place++;
+    random_levels(&other->chance, list->p, (size_t)list->m, beside.points + 8 * place, 1, other->bytes[GIVEN]);
     other->call.kind = WITHDRAW_POINT;
     tally->back++;
     return operation(other, &beside, &answer) && answer == 0 && other->call.n == made->call.n &&
-           other->call.r == made->call.r && memcmp(other->bytes, made->bytes, 4 * sizeof made->bytes[0]) == 0;
+           other->call.r == made->call.r && memcmp(other->bytes, made->bytes, TABLES * sizeof made->bytes[0]) == 0;
 }
 
 /* The points so far drawn up, and a remainder over both. */
@@ -78,21 +85,51 @@ static int both_ways(struct made *made, struct made *other, const struct list *l
     return holds;
 }
 
+/* One call on the list's tables; whether it is answered as the list answers. */
+static int call_holds(struct made *made, struct list *list, struct tally *tally, uint32_t *answer)
+{
+    size_t n = list->n;
+    enum kind kind = made->call.kind;
+    if (!operation(made, list, answer))
+        return 0;
+    (kind == ADD_POINT ? tally->added : tally->withdrawn)[*answer]++;
+    if (*answer == 0 && list->n == n)
+        *(kind == ADD_POINT ? &tally->raised : &tally->lowered) += 1;
+    return 1;
+}
+
+/* Many pots in the state of one of the points, until it is counted 255 times and refused, or for some time. */
+static int burst_holds(struct made *made, struct list *list, struct tally *tally)
+{
+    uint32_t answer = 0;
+    const uint8_t *point = list->points + 8 * below(&made->chance, list->n);
+    size_t times = once_in(&made->chance, 2) ? BURST : below(&made->chance, BURST);
+    made->call.kind = ADD_POINT;
+    for (; times > 0 && answer == 0; times--) {
+        lend(made, GIVEN, random_levels(&made->chance, list->p, (size_t)list->m, point, 1, made->bytes[GIVEN]));
+        if (!call_holds(made, list, tally, &answer))
+            return 0;
+    }
+    return 1;
+}
+
 /* One addition or withdrawal of the list, and what is tried around it. A withdrawal comes once in so many. */
 static int turn_holds(struct guard *guard, struct made *made, struct made *other, struct list *list, uint64_t residues,
                       uint64_t times, struct tally *tally)
 {
     struct chance *c = &made->chance;
     uint32_t answer;
+    if (list->n > 0 && once_in(c, 60) && list_arrivals(list) + BURST + 150 < MOST_ARRIVALS &&
+        !burst_holds(made, list, tally))
+        return 0;
     enum kind kind = made->call.kind = once_in(c, times) ? WITHDRAW_POINT : ADD_POINT;
     next_levels(made, list, residues);
     if (once_in(c, 6) && !call_between(guard, made, other, tally))
         return 0;
     if (kind == ADD_POINT && once_in(c, 6) && !given_back(made, other, list, tally))
         return 0;
-    if (!operation(made, list, &answer))
+    if (!call_holds(made, list, tally, &answer))
         return 0;
-    (kind == ADD_POINT ? tally->added : tally->withdrawn)[answer]++;
     return !once_in(c, 4) || both_ways(made, other, list, tally);
 }
 
@@ -118,13 +155,14 @@ static int list_holds(struct guard *guard, struct made *made, struct made *other
 static int all_came_up(const struct tally *tally)
 {
     const long *added = tally->added, *withdrawn = tally->withdrawn, *reduced = tally->reduced;
-    printf("  added %ld; refused 7: %ld 8: %ld 9: %ld 11: %ld\n", added[0], added[7], added[8], added[9], added[11]);
-    printf("  withdrawn %ld; refused 7: %ld 9: %ld 12: %ld; just added %ld; refused between %ld\n", withdrawn[0],
-           withdrawn[7], withdrawn[9], withdrawn[12], tally->back, tally->between);
+    printf("  added %ld, replicates %ld; refused 7: %ld 8: %ld 9: %ld 13: %ld\n", added[0], tally->raised, added[7],
+           added[8], added[9], added[13]);
+    printf("  withdrawn %ld, replicates %ld; refused 7: %ld 9: %ld 12: %ld; just added %ld; refused between %ld\n",
+           withdrawn[0], tally->lowered, withdrawn[7], withdrawn[9], withdrawn[12], tally->back, tally->between);
     printf("  drawn up %ld; remainders %ld, refused 7: %ld 9: %ld\n", tally->drawn, reduced[0], reduced[7], reduced[9]);
-    return added[0] > 0 && added[7] > 0 && added[8] > 0 && added[9] > 0 && added[11] > 0 && withdrawn[0] > 0 &&
-           withdrawn[7] > 0 && withdrawn[9] > 0 && withdrawn[12] > 0 && tally->back > 0 && tally->between > 0 &&
-           reduced[0] > 0 && reduced[7] > 0 && reduced[9] > 0;
+    return added[0] > tally->raised && tally->raised > 0 && added[7] > 0 && added[8] > 0 && added[9] > 0 &&
+           added[13] > 0 && withdrawn[0] > tally->lowered && tally->lowered > 0 && withdrawn[7] > 0 &&
+           withdrawn[9] > 0 && withdrawn[12] > 0 && tally->back > 0 && tally->between > 0 && reduced[0] > 0 && reduced[7] > 0 && reduced[9] > 0;
 }
 
 struct score lists(const struct options *options)

@@ -7,11 +7,11 @@
 
 const uint8_t primes[18] = {2, 3, 5, 7, 11, 13, 17, 19, 23, 29, 31, 37, 41, 43, 47, 53, 59, 61};
 
-/* Mostly few points, now and then many. */
+/* Mostly few points, now and then many, or as many as there may be. */
 static size_t random_count(struct chance *c)
 {
     if (once_in(c, 50))
-        return 33 + below(c, 32);
+        return once_in(c, 3) ? MISQAFUR_MAX_POINTS : 33 + below(c, 32);
     return once_in(c, 10) ? 11 + below(c, 22) : below(c, 11);
 }
 
@@ -82,13 +82,21 @@ static size_t surplus(struct chance *c)
     return once_in(c, 2) ? 0 : below(c, 300);
 }
 
+/* How often a point was taken: mostly once, now and then any count, or one that is nearly the most or the most. */
+static uint8_t random_times(struct chance *c)
+{
+    if (once_in(c, 2))
+        return 1;
+    return (uint8_t)(once_in(c, 2) ? 1 + below(c, MISQAFUR_MAX_COUNT) : MISQAFUR_MAX_COUNT - below(c, 2));
+}
+
 /* The tables: the basis of the points, or nothing yet, with random bytes past the sizes. */
 static void set_tables(struct made *made, const uint8_t *levels, size_t count)
 {
     struct call *call = &made->call;
-    for (int t = 0; t < 4; t++) {
+    for (int t = 0; t < TABLES; t++) {
         fill(made, (enum buffer)t, 304);
-        memcpy(made->bytes[t] + table_sizes[t], made->bytes[t], 304);
+        memmove(made->bytes[t] + table_sizes[t], made->bytes[t], 304);
         memset(made->bytes[t], 170, table_sizes[t]);
         lend(made, (enum buffer)t, table_sizes[t] + surplus(&made->chance));
     }
@@ -100,6 +108,8 @@ static void set_tables(struct made *made, const uint8_t *levels, size_t count)
     uint32_t answer = (uint32_t)perform(&reference, &draw);
     call->n = misqafur_points(answer);
     call->r = misqafur_elements(answer);
+    for (size_t i = 0; i < call->n && !once_in(&made->chance, 4); i++)
+        made->bytes[COUNTS][i] = random_times(&made->chance);
 }
 
 size_t random_levels(struct chance *c, int p, size_t m, const uint8_t *points, size_t n, uint8_t *levels)
@@ -147,13 +157,35 @@ static void set_given(struct made *made)
         set_terms(made);
     if (kind == ADD_POINT || kind == WITHDRAW_POINT)
         set_levels_in_range(made, made->call.variables);
-    if (kind == WITHDRAW_POINT && made->call.n > 0 && !once_in(&made->chance, 4))
+    if (made->call.n > 0 && ((kind == WITHDRAW_POINT && !once_in(&made->chance, 4)) ||
+                             (kind == ADD_POINT && once_in(&made->chance, 3))))
         name_point(made);
     size_t size = buffer_size(kind, OUT);
     if (size > 0) {
         fill(made, OUT, 400);
         lend(made, OUT, size + surplus(&made->chance));
     }
+}
+
+/* The points as levels, and replicates of them in any place between: some, or of one so many that it is at the most
+ * or beyond; now and then a full list has some more that are perhaps new. */
+static size_t with_replicates(struct made *made, const uint8_t *points, size_t n, uint8_t *levels)
+{
+    struct chance *c = &made->chance;
+    int p = (int)made->call.modulus;
+    size_t m = made->call.variables, count = random_levels(c, p, m, points, n, levels) / m;
+    size_t more = n == 0 || once_in(c, 2) ? 0 : once_in(c, 8) ? 250 + below(c, 10) : below(c, 12);
+    int of_one = once_in(c, 2);
+    for (size_t first = n == 0 ? 0 : below(c, n); more > 0; more--, count++) {
+        const uint8_t *again = points + 8 * (of_one || more > 12 ? first : below(c, n));
+        uint8_t *place = levels + m * below(c, count + 1);
+        memmove(place + m, place, (size_t)(levels + m * count - place));
+        random_levels(c, p, m, again, 1, place);
+    }
+    for (size_t news = n > 60 ? below(c, 6) : 0; news > 0; news--, count++)
+        for (size_t k = 0; k < m; k++)
+            levels[m * count + k] = random_level(c, p, (uint8_t)below(c, (uint64_t)p));
+    return m * count;
 }
 
 void make_call(struct made *made, enum kind kind)
@@ -164,10 +196,8 @@ void make_call(struct made *made, enum kind kind)
     int p = (int)made->call.modulus, m = (int)made->call.variables;
     size_t n = random_points(&made->chance, p, m, random_count(&made->chance), points);
     size_t count = random_levels(&made->chance, p, (size_t)m, points, n, levels);
-    if (kind == DRAW_UP) {
-        memcpy(made->bytes[GIVEN], levels, count);
-        lend(made, GIVEN, count);
-    }
+    if (kind == DRAW_UP)
+        lend(made, GIVEN, with_replicates(made, points, n, made->bytes[GIVEN]));
     set_tables(made, levels, count);
     set_given(made);
 }

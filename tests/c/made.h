@@ -17,8 +17,8 @@ extern const uint8_t primes[18];
 /* A buffer of the call: the first bytes of its own. */
 void lend(struct made *made, enum buffer which, size_t length);
 
-/* The settings, points and tables of a random basis, and the rest of a call of this kind that is to
- * succeed, or to be refused because of a point that repeats or is not there. */
+/* The settings, points and tables of a random basis with random counts, and the rest of a call of this kind that is
+ * to succeed, or to be refused because of a point that is not there, or comes once too often. */
 void make_call(struct made *made, enum kind kind);
 
 /* A random text that is to be read; now and then one that is refused. */
@@ -27,10 +27,20 @@ void make_text(struct made *made);
 /* Changes one thing about the call. */
 void damage(struct made *made);
 
-/* Calls with a set of faults: bit k of the set is a case of refusal k, and each fault has its forms by the variant.
+/* Calls with a set of faults: bit k of the set is a case of refusal k, and each fault has its forms by the variant. Too
+ * many points, refused with 8 in another place than a claimed n or terms, are the fault FULL.
  * The number due for a text is given with its record; 0 where there is no fault. */
+#define FULL REFUSALS
+#define FAULTS (REFUSALS + 1)
 #define FAULT_VARIANTS 10
 int has_fault(uint32_t faults, int refusal);
+
+/* The fault of a set that is looked for first; 0 if there is none. */
+int first_fault(uint32_t faults);
+
+/* The refusal of a fault. */
+int refusal_of(int fault);
+
 void make_faulty_call(struct made *made, enum kind kind, uint32_t faults, uint32_t variant);
 uint64_t make_faulty_text(struct made *made, uint32_t faults, uint32_t variant);
 

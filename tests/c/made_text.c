@@ -65,13 +65,13 @@ static void put_header(struct made *made, size_t m, int p)
     put_field(made, content);
 }
 
-/* A level with this residue; now and then one out of range. */
-static void put_level(struct made *made, int p, uint8_t residue)
+/* A level with this residue; once in so many times one out of range. */
+static void put_level(struct made *made, int p, uint8_t residue, uint64_t times)
 {
     struct chance *c = &made->chance;
     char content[16];
     int level = (int8_t)random_level(c, p, residue);
-    if (once_in(c, 400))
+    if (once_in(c, times))
         level = once_in(c, 2) ? (int)below(c, 1999) - 999 : once_in(c, 2) ? p : -p;
     snprintf(content, sizeof content, "%s%0*d", level < 0 || once_in(c, 60) ? "-" : "", once_in(c, 10) ? 3 : 1,
              level < 0 ? -level : level);
@@ -107,21 +107,38 @@ static void mistype(struct made *made)
     }
 }
 
+/* A record of a point that was chosen, or of any. */
+static void put_record(struct made *made, size_t m, int p, const uint8_t *point, uint8_t value, uint64_t times)
+{
+    put_break(made);
+    for (size_t k = 0; k < m; k++) {
+        put_level(made, p, point == NULL ? (uint8_t)below(&made->chance, (uint64_t)p) : k < 8 ? point[k] : 0, times);
+        put(made, ",", 1);
+    }
+    put_level(made, p, value, times);
+}
+
+/* Records of so many points, each once; then perhaps replicates, some of which may have another value, or so many of one
+ * point that it is at the most or beyond; and behind many points perhaps some more that are new. */
 static void put_records(struct made *made, size_t m, int p, size_t records)
 {
     struct chance *c = &made->chance;
-    uint8_t points[512];
+    uint8_t points[512], values[64];
     size_t found = random_points(c, p, m < 8 ? (int)m : 8, records < 64 ? records : 64, points);
-    size_t lines = once_in(c, 4) ? records : found;
-    for (size_t i = 0; i < lines; i++) {
-        const uint8_t *point = points + 8 * (found == 0 ? 0 : i % found);
-        put_break(made);
-        for (size_t k = 0; k < m; k++) {
-            put_level(made, p, k < 8 ? point[k] : 0);
-            put(made, ",", 1);
-        }
-        put_level(made, p, (uint8_t)below(c, (uint64_t)p));
+    size_t again = found == 0 || once_in(c, 2) ? 0 : once_in(c, 12) ? 250 + below(c, 10) : below(c, 9);
+    const uint64_t never = UINT64_MAX, outside = once_in(c, 4) ? 100 : never, others = once_in(c, 4) ? 8 : never;
+    const int of_one = again > 9;
+    const uint64_t first = found == 0 ? 0 : below(c, found);
+    for (size_t i = 0; i < found; i++) {
+        values[i] = (uint8_t)below(c, (uint64_t)p);
+        put_record(made, m, p, points + 8 * i, values[i], outside);
     }
+    for (; again > 0; again--) {
+        size_t i = of_one ? first : below(c, found);
+        put_record(made, m, p, points + 8 * i, once_in(c, others) ? (uint8_t)below(c, (uint64_t)p) : values[i], outside);
+    }
+    for (size_t news = found > 60 ? below(c, 6) : 0; news > 0; news--)
+        put_record(made, m, p, NULL, (uint8_t)below(c, (uint64_t)p), outside);
 }
 
 void make_text(struct made *made)
@@ -133,10 +150,13 @@ void make_text(struct made *made)
     made->call.buffer[GIVEN] = (struct bytes){made->bytes[GIVEN], 0};
     memset(made->bytes[STATES], 170, 800);
     memset(made->bytes[OUT], 170, 400);
+    memset(made->bytes[COUNTS], 170, 400);
     size_t states = once_in(c, 40) ? below(c, 512) : 512 + below(c, 200);
     size_t values = once_in(c, 40) ? below(c, 64) : 64 + below(c, 200);
     made->call.buffer[STATES] = (struct bytes){made->bytes[STATES], states};
+    size_t counts = once_in(c, 40) ? below(c, 64) : 64 + below(c, 200);
     made->call.buffer[OUT] = (struct bytes){made->bytes[OUT], values};
+    made->call.buffer[COUNTS] = (struct bytes){made->bytes[COUNTS], counts};
     put_header(made, m, p);
     put_records(made, m, p, random_records(c));
     if (once_in(c, 2))

@@ -10,7 +10,7 @@
 #define CALLS_OF_EACH_KIND 300
 
 /* The buffers that are only read, greatest first. Exponents and values follow the tables that they may lie in. */
-static const enum buffer only_read[] = {COEFFICIENTS, LEADS, STATES, STANDARD, EXPONENTS, GIVEN};
+static const enum buffer only_read[] = {COEFFICIENTS, LEADS, STATES, STANDARD, COUNTS, EXPONENTS, GIVEN};
 #define ONLY_READ (sizeof only_read / sizeof *only_read)
 
 /* Memory in which buffers share whatever bytes they can. */
@@ -105,7 +105,7 @@ static int overlap_holds(struct guard *guard, const struct call *call, struct me
 static int all_met(enum kind kind, const struct met *met)
 {
     long whole = 0, part = 0;
-    int all = 1, last = kind == CHECK ? COEFFICIENTS : kind == REMAINDER ? EXPONENTS : GIVEN;
+    int all = 1, last = kind == CHECK ? COUNTS : kind == REMAINDER ? EXPONENTS : GIVEN;
     for (int i = 0; i <= last; i++)
         for (int k = 0; k < i; k++) {
             all &= met->whole[i][k] + met->part[i][k] > 0;

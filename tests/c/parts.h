@@ -40,6 +40,7 @@ struct score past_sizes(const struct options *options);
 struct score overlapping(const struct options *options);
 struct score all_faults(const struct options *options);
 struct score changed_bytes(const struct options *options);
-struct score wrong_counts(const struct options *options);
+struct score wrong_numbers(const struct options *options);
+struct score replicates(const struct options *options);
 
 #endif

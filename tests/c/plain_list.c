@@ -7,7 +7,7 @@ void list_begin(struct list *list, struct made *made, int p, int m, uint64_t ord
 {
     *list = (struct list){.p = p, .m = m};
     made->call = (struct call){.modulus = (uint64_t)p, .variables = (uint64_t)m, .order = order, .r = 1};
-    for (int t = 0; t < 4; t++)
+    for (int t = 0; t < TABLES; t++)
         lend(made, (enum buffer)t, table_sizes[t]);
 }
 
@@ -33,18 +33,29 @@ static int residues(const struct list *list, const uint8_t *levels, uint8_t poin
     return 1;
 }
 
+size_t list_arrivals(const struct list *list)
+{
+    size_t sum = 0;
+    for (size_t i = 0; i < list->n; i++)
+        sum += list->counts[i];
+    return sum;
+}
+
 static uint32_t list_add(struct list *list, const uint8_t *levels, size_t length)
 {
     uint8_t point[8];
     if (length != (size_t)list->m)
         return 7;
-    if (list->n == 64)
-        return 8;
     if (!residues(list, levels, point))
         return 9;
-    if (place_of(list, point) < list->n)
-        return 11;
-    memcpy(list->points + 8 * list->n++, point, 8);
+    size_t place = place_of(list, point);
+    if (place == list->n && list->n == 64)
+        return 8;
+    if (place < list->n && list->counts[place] == 255)
+        return 13;
+    if (place == list->n)
+        memcpy(list->points + 8 * list->n++, point, 8);
+    list->counts[place]++;
     return 0;
 }
 
@@ -58,9 +69,13 @@ static uint32_t list_withdraw(struct list *list, const uint8_t *levels, size_t l
     size_t place = place_of(list, point);
     if (place == list->n)
         return 12;
-    uint8_t *at = list->points + 8 * place;
+    if (--list->counts[place] > 0)
+        return 0;
+    uint8_t *at = list->points + 8 * place, *count = list->counts + place;
     memmove(at, at + 8, 8 * (--list->n - place));
+    memmove(count, count + 1, list->n - place);
     memset(list->points + 8 * list->n, 0, 8);
+    list->counts[list->n] = 0;
     return 0;
 }
 
@@ -76,5 +91,6 @@ int operation(struct made *made, struct list *list, uint32_t *answer)
         call->n = misqafur_points(number);
         call->r = misqafur_elements(number);
     }
-    return call->n == list->n && memcmp(made->bytes[STATES], list->points, 512) == 0;
+    return call->n == list->n && memcmp(made->bytes[STATES], list->points, 512) == 0 &&
+           memcmp(made->bytes[COUNTS], list->counts, 64) == 0;
 }

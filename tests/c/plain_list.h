@@ -1,4 +1,5 @@
-/* The plain list of points that lists of additions and withdrawals are held against, and tables beside it. */
+/* The plain list of points with their counts that lists of additions and withdrawals are held against, and tables
+ * beside it. */
 #ifndef PLAIN_LIST_H
 #define PLAIN_LIST_H
 
@@ -8,17 +9,24 @@
 struct list {
     int p, m;
     size_t n;
-    uint8_t points[512];
+    uint8_t points[512], counts[64];
 };
+
+/* The most points, each as often as its count, that a list may have for its levels to find room in a call's buffer. */
+#define MOST_ARRIVALS (ROOM / 8)
+
+/* How many points that are, each as often as its count. */
+size_t list_arrivals(const struct list *list);
 
 /* An empty list modulo p in m variables, and a call on fresh tables under these settings. */
 void list_begin(struct list *list, struct made *made, int p, int m, uint64_t order);
 
-/* Has the archive add or withdraw, by the call's kind, and keeps the counts. Whether the list's own answer came back,
- * which is *answer, and the states are the list's points. */
+/* Has the archive add or withdraw, by the call's kind, and keeps n and r. Whether the list's own answer came back,
+ * which is *answer, and the states and counts are the list's. */
 int operation(struct made *made, struct list *list, uint32_t *answer);
 
-/* Whether drawing up the list's points, in another order, gives the counts and three tables of the call. */
+/* Whether drawing up the list's points, each as often as its count, in another order, gives n, r and three tables of the
+ * call, and each point its count; and drawing up each of them once or twice n, r and these tables. */
 int drawn_alike(struct made *made, struct made *drawn, const struct list *list);
 
 /* Whether a remainder over either set of tables has the number due, which is *due, and leaves the same bytes. */

@@ -17,14 +17,15 @@ __typeof__(misqafur_read_text) reference_read_text;
 
 /* What the files of the reference share. */
 
-/* The basis of some points, with the inverse of the matrix that evaluates standard monomials at them. */
+/* The basis of some points and their counts, with the inverse of the matrix that evaluates standard monomials at
+ * the points. */
 struct basis {
     int p, m, order, n, r, cancellations;
-    uint8_t states[512], standard[512], leads[3592], coefficients[28736];
+    uint8_t states[512], standard[512], leads[3592], coefficients[28736], counts[64];
     int inverse[64][64]; /* row: standard monomial; column: point */
 };
 
-/* The basis by the definitions, of b->n distinct points in b->states, under b's settings. */
+/* The basis by the definitions, of b->n distinct points in b->states, under b's settings; the counts stay. */
 void reference_basis(struct basis *b);
 
 /* The coefficients over the standard monomials of the combination with these values at the points. */
@@ -35,6 +36,19 @@ int reference_value(int p, const uint8_t *exponents, const uint8_t *point);
 
 /* 3, 4, 5 or 0. */
 int reference_settings_refusal(uint64_t modulus, uint64_t variables, uint64_t order);
+
+/* Points as they come, one after the other: the distinct ones, and how often each came. There is room for the 65th. */
+struct arrivals {
+    int n;
+    uint8_t points[65][8];
+    uint64_t times[65];
+};
+
+/* The place of a point among the first n of a table; n if it is not there. */
+int reference_place(const uint8_t *points, int n, const uint8_t point[8]);
+
+/* One point more; gives its place. */
+int reference_arrive(struct arrivals *a, const uint8_t point[8]);
 
 /* Whether a number is from -(p-1) to p-1, and its residue. */
 int reference_in_range(int p, int level);

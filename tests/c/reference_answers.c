@@ -28,6 +28,7 @@ uint32_t reference_interpolate(uint64_t modulus, uint64_t variables, uint64_t or
                                const uint8_t *standard, size_t standard_length,
                                const uint8_t *leads, size_t leads_length,
                                const uint8_t *coefficients, size_t coefficients_length,
+                               const uint8_t *counts, size_t counts_length,
                                const uint8_t *values, size_t values_length, uint8_t *out, size_t out_length)
 {
     HANDED(h);
@@ -57,6 +58,7 @@ uint32_t reference_wiring(uint64_t modulus, uint64_t variables, uint64_t order, 
                           const uint8_t *standard, size_t standard_length,
                           const uint8_t *leads, size_t leads_length,
                           const uint8_t *coefficients, size_t coefficients_length,
+                          const uint8_t *counts, size_t counts_length,
                           const uint8_t *values, size_t values_length, uint8_t *out, size_t out_length)
 {
     HANDED(h);
@@ -91,6 +93,7 @@ uint32_t reference_remainder(uint64_t modulus, uint64_t variables, uint64_t orde
                              const uint8_t *standard, size_t standard_length,
                              const uint8_t *leads, size_t leads_length,
                              const uint8_t *coefficients, size_t coefficients_length,
+                             const uint8_t *counts, size_t counts_length,
                              const uint8_t *term_coefficients, size_t term_coefficients_length,
                              const uint8_t *exponents, size_t exponents_length, uint8_t *out, size_t out_length)
 {

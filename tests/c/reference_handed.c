@@ -3,7 +3,7 @@
 
 #include <string.h>
 
-static const size_t sizes[4] = {512, 512, 3592, 28736};
+static const size_t sizes[5] = {512, 512, 3592, 28736, 64};
 
 int reference_settings_refusal(uint64_t modulus, uint64_t variables, uint64_t order)
 {
@@ -41,19 +41,29 @@ int reference_early_refusal(const struct handed *h, size_t out_length, size_t ou
     int refusal = reference_settings_refusal(h->modulus, h->variables, h->order);
     if (refusal != 0)
         return refusal;
-    for (int t = 0; t < 4; t++)
+    for (int t = 0; t < 5; t++)
         if (h->length[t] < sizes[t])
             return 6;
     return out_length < out_size ? 6 : 0;
 }
 
-int reference_first_repeat(const uint8_t *states, int n)
+int reference_place(const uint8_t *points, int n, const uint8_t point[8])
 {
-    for (int i = 0; i < n; i++)
-        for (int j = 0; j < i; j++)
-            if (memcmp(states + 8 * i, states + 8 * j, 8) == 0)
-                return i;
-    return n;
+    int place = 0;
+    while (place < n && memcmp(points + 8 * place, point, 8) != 0)
+        place++;
+    return place;
+}
+
+int reference_arrive(struct arrivals *a, const uint8_t point[8])
+{
+    int place = reference_place(a->points[0], a->n, point);
+    if (place == a->n) {
+        memcpy(a->points[a->n++], point, 8);
+        a->times[place] = 0;
+    }
+    a->times[place]++;
+    return place;
 }
 
 static int points_are_good(const uint8_t *states, int p, int m, int n)
@@ -61,7 +71,19 @@ static int points_are_good(const uint8_t *states, int p, int m, int n)
     for (int i = 0; i < 8 * n; i++)
         if (states[i] > (i % 8 < m ? p - 1 : 0))
             return 0;
-    return reference_first_repeat(states, n) == n;
+    for (int i = 0; i < n; i++)
+        if (reference_place(states, n, states + 8 * i) != i)
+            return 0;
+    return 1;
+}
+
+/* A count for each point, and 0 behind them. */
+static int counts_are_good(const uint8_t counts[64], int n)
+{
+    for (int i = 0; i < 64; i++)
+        if ((counts[i] > 0) != (i < n))
+            return 0;
+    return 1;
 }
 
 int reference_table_refusal(const struct handed *h, struct basis *b)
@@ -72,7 +94,8 @@ int reference_table_refusal(const struct handed *h, struct basis *b)
     b->n = (int)h->n;
     memset(b->states, 0, sizeof b->states);
     memcpy(b->states, h->table[0], 8 * (size_t)b->n);
-    if (!points_are_good(b->states, b->p, b->m, b->n))
+    memcpy(b->counts, h->table[4], 64);
+    if (!points_are_good(b->states, b->p, b->m, b->n) || !counts_are_good(b->counts, b->n))
         return 10;
     reference_basis(b);
     if (h->r != (uint64_t)b->r)

@@ -170,62 +170,83 @@ static size_t fault_of_form(const struct records *from, int *modulus, int *order
     return from->broken ? from->count + 1 : 0;
 }
 
-/* Residues of the points and the values, or refusal 9 with its record. */
-static uint64_t read_levels(const struct records *from, int p, int m, uint8_t points[512], uint8_t values[64])
+/* The residues of a record's point and of its value; says whether all are in range. */
+static int read_residues(const struct records *from, size_t record, int p, int m, uint8_t point[8], uint8_t *value)
 {
+    memset(point, 0, 8);
+    for (int k = 0; k <= m; k++) {
+        int level;
+        read_level(from, from->first_field[record] + (size_t)k, &level);
+        if (!reference_in_range(p, level))
+            return 0;
+        *(k < m ? &point[k] : value) = reference_residue(p, level);
+    }
+    return 1;
+}
+
+/* Refusal 9 with its record, or 0. */
+static uint64_t find_outside(const struct records *from, int p, int m)
+{
+    uint8_t point[8], value;
     for (size_t record = 1; record < from->count; record++)
-        for (int k = 0; k <= m; k++) {
-            int level;
-            read_level(from, from->first_field[record] + (size_t)k, &level);
-            if (!reference_in_range(p, level))
-                return refused(9, record + 1);
-            uint8_t residue = reference_residue(p, level);
-            if (k < m)
-                points[8 * (record - 1) + (size_t)k] = residue;
-            else
-                values[record - 1] = residue;
-        }
+        if (!read_residues(from, record, p, m, point, &value))
+            return refused(9, record + 1);
     return 0;
 }
 
-/* Refusal 11 with its record, or 0. */
-static uint64_t find_repeat(const uint8_t points[512], size_t n)
+/* The distinct points with how often each came, and the values of their first records; or refusal 8, 13 or 14 with its
+ * record, each looked for over the whole text before the next. */
+static uint64_t gather(const struct records *from, int p, int m, struct arrivals *a, uint8_t values[64])
 {
-    for (size_t i = 0; i < n; i++)
-        for (size_t j = 0; j < i; j++)
-            if (memcmp(points + 8 * i, points + 8 * j, 8) == 0)
-                return refused(11, i + 2);
-    return 0;
+    size_t too_often = 0, other_value = 0;
+    for (size_t record = 1; record < from->count; record++) {
+        uint8_t point[8], value = 0;
+        read_residues(from, record, p, m, point, &value);
+        int place = reference_arrive(a, point);
+        if (place == 64)
+            return refused(8, record + 1);
+        if (a->times[place] == 1)
+            values[place] = value;
+        if (a->times[place] == 256 && too_often == 0)
+            too_often = record + 1;
+        if (values[place] != value && other_value == 0)
+            other_value = record + 1;
+    }
+    if (too_often != 0)
+        return refused(13, too_often);
+    return other_value != 0 ? refused(14, other_value) : 0;
 }
 
 static uint64_t read_whole(struct records *from, uint8_t *states, size_t states_length, uint8_t *values,
-                           size_t values_length)
+                           size_t values_length, uint8_t *counts, size_t counts_length)
 {
-    uint8_t points[512] = {0}, residues[64] = {0};
+    struct arrivals found = {.n = 0};
+    uint8_t residues[64] = {0};
     int modulus = 0, order = 0;
     size_t fault = fault_of_form(from, &modulus, &order);
     if (fault != 0)
         return refused(2, fault);
-    size_t m = from->first_field[1] - 1, n = from->count - 1;
+    size_t m = from->first_field[1] - 1;
     int refusal = reference_settings_refusal((uint64_t)modulus, m, 0);
     if (refusal != 0)
         return refused((uint64_t)refusal, 1);
-    if (states_length < 512 || values_length < 64)
+    if (states_length < 512 || values_length < 64 || counts_length < 64)
         return refused(6, 0);
-    if (n > 64)
-        return refused(8, 66);
-    uint64_t late = read_levels(from, modulus, (int)m, points, residues);
+    uint64_t late = find_outside(from, modulus, (int)m);
     if (late == 0)
-        late = find_repeat(points, n);
+        late = gather(from, modulus, (int)m, &found, residues);
     if (late != 0)
         return late;
-    memcpy(states, points, 512);
+    memset(states, 0, 512);
+    memcpy(states, found.points, 8 * (size_t)found.n);
     memcpy(values, residues, 64);
-    return 256 * n + 65536 * (uint64_t)modulus + (m << 24) + ((uint64_t)order << 32);
+    for (int i = 0; i < 64; i++)
+        counts[i] = (uint8_t)(i < found.n ? found.times[i] : 0);
+    return 256 * (uint64_t)found.n + 65536 * (uint64_t)modulus + (m << 24) + ((uint64_t)order << 32);
 }
 
 uint64_t reference_read_text(const uint8_t *text, size_t text_length, uint8_t *states, size_t states_length,
-                             uint8_t *values, size_t values_length)
+                             uint8_t *values, size_t values_length, uint8_t *counts, size_t counts_length)
 {
     if (text_length > MOST_TEXT)
         return refused(1, 0);
@@ -233,7 +254,7 @@ uint64_t reference_read_text(const uint8_t *text, size_t text_length, uint8_t *s
     if (records == NULL)
         abort();
     read_records(records, text, text_length);
-    uint64_t answer = read_whole(records, states, states_length, values, values_length);
+    uint64_t answer = read_whole(records, states, states_length, values, values_length, counts, counts_length);
     free(records);
     return answer;
 }

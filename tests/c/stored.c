@@ -14,7 +14,7 @@
 
 /* How many results are stored: a file that ends early has fewer. */
 #define STORED_CALLS 560
-#define STORED_TEXTS 2114
+#define STORED_TEXTS 2115
 
 /* One block of calls.txt: the call, and what is expected of it. */
 struct block {
@@ -23,7 +23,7 @@ struct block {
     uint8_t points[512];
     size_t points_read;
     long number[4];
-    uint64_t hashes[4];
+    uint64_t hashes[TABLES];
     uint8_t answer[ROOM];
     size_t answer_length;
     uint8_t bytes[BUFFERS][ROOM];
@@ -87,14 +87,14 @@ static void read_point(struct block *b, const char *line)
 /* The tables as lent: the basis of the base, bytes past the sizes 170; for drawing up all 170. */
 static void read_lengths(struct block *b, const char *line)
 {
-    long lengths[4];
-    need(numbers(line, lengths, 4) == 4);
-    memset(b->bytes, 170, 4 * sizeof b->bytes[0]);
+    long lengths[TABLES];
+    need(numbers(line, lengths, TABLES) == TABLES);
+    memset(b->bytes, 170, TABLES * sizeof b->bytes[0]);
     if (b->call.kind != DRAW_UP)
         need((reference_draw_up(b->base[0], b->base[1], b->base[2], b->bytes[STATES], ROOM,
-                                b->bytes[STANDARD], ROOM, b->bytes[LEADS], ROOM,
-                                b->bytes[COEFFICIENTS], ROOM, b->points, b->points_read) & 255u) == 0);
-    for (int t = 0; t < 4; t++)
+                                b->bytes[STANDARD], ROOM, b->bytes[LEADS], ROOM, b->bytes[COEFFICIENTS], ROOM,
+                                b->bytes[COUNTS], ROOM, b->points, b->points_read) & 255u) == 0);
+    for (int t = 0; t < TABLES; t++)
         b->call.buffer[t] = (struct bytes){b->bytes[t], (size_t)lengths[t]};
 }
 
@@ -146,8 +146,8 @@ static void take(struct block *b, const char *word, const char *rest)
     else if (strcmp(word, "number") == 0)
         need(numbers(rest, b->number, 4) > 0);
     else if (strcmp(word, "tables") == 0)
-        need(sscanf(rest, "%" SCNx64 " %" SCNx64 " %" SCNx64 " %" SCNx64, &b->hashes[0], &b->hashes[1],
-                    &b->hashes[2], &b->hashes[3]) == 4);
+        need(sscanf(rest, "%" SCNx64 " %" SCNx64 " %" SCNx64 " %" SCNx64 " %" SCNx64, &b->hashes[0], &b->hashes[1],
+                    &b->hashes[2], &b->hashes[3], &b->hashes[4]) == TABLES);
     else if (strcmp(word, "answer") == 0)
         read_answer(b, rest);
     else
@@ -180,7 +180,7 @@ static int block_holds(struct guard *guard, const struct block *b, uint64_t choi
     uint64_t number = perform(&archive, &lent);
     if (number != expected_number(b) || !guard_intact(guard))
         return 0;
-    for (int t = 0; t < 4; t++)
+    for (int t = 0; t < TABLES; t++)
         if (hash(&lent.buffer[t]) != b->hashes[t])
             return 0;
     for (int i = GIVEN; i <= EXPONENTS; i++)
@@ -249,7 +249,7 @@ static uint64_t expected_reading(const char *result)
     abort();
 }
 
-/* The stored line gives the number; the reference gives the residues. */
+/* The stored line gives the number; the reference gives the residues and the counts. */
 static int text_holds(struct guard *guard, const struct call *call, uint64_t expected, uint64_t choice)
 {
     uint64_t number;
@@ -260,11 +260,13 @@ struct score stored_texts(const struct options *options)
 {
     static char line[LINE];
     static uint8_t text[LINE / 2], states[MISQAFUR_STATES_SIZE + 3], values[MISQAFUR_RESIDUES_SIZE + 3];
+    static uint8_t counts[MISQAFUR_COUNTS_SIZE + 3];
     struct score score = {0, 0};
     struct guard *guard = guard_new();
     FILE *file = open_data(options->data, "fuzz.txt");
     memset(states, 170, sizeof states);
     memset(values, 170, sizeof values);
+    memset(counts, 170, sizeof counts);
     for (long at = 1; fgets(line, LINE, file) != NULL; at++) {
         char *result = strstr(line, " -> ");
         need(result != NULL);
@@ -275,6 +277,7 @@ struct score stored_texts(const struct options *options)
         call.buffer[GIVEN] = (struct bytes){text, length};
         call.buffer[STATES] = (struct bytes){states, sizeof states};
         call.buffer[OUT] = (struct bytes){values, sizeof values};
+        call.buffer[COUNTS] = (struct bytes){counts, sizeof counts};
         int holds = text_holds(guard, &call, expected_reading(result + 4), (uint64_t)at);
         if (!holds)
             fprintf(stderr, "fuzz.txt: line %ld does not hold\n", at);

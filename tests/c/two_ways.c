@@ -1,31 +1,47 @@
-/* Tables that a list of calls has left, and those of the same points drawn up in another order. */
+/* Tables that a list of calls has left, and those of the same points drawn up in another order, with the same counts and
+ * with others. */
 #include "plain_list.h"
 
 #include <string.h>
 
-/* The list's points in another order, as levels. */
-static size_t shuffled(struct chance *c, const struct list *list, uint8_t *levels)
+/* The list's points in another order, as levels, each as often as it is counted here. */
+static size_t shuffled(struct chance *c, const struct list *list, const uint8_t counts[64], uint8_t *levels)
 {
-    size_t order[64];
-    for (size_t i = 0; i < list->n; i++) {
-        size_t j = below(c, i + 1);
-        order[i] = order[j];
-        order[j] = i;
-    }
-    size_t m = (size_t)list->m;
+    uint8_t order[MOST_ARRIVALS];
+    size_t m = (size_t)list->m, sum = 0;
     for (size_t i = 0; i < list->n; i++)
+        for (uint8_t times = counts[i]; times > 0; times--, sum++) {
+            size_t j = below(c, sum + 1);
+            order[sum] = order[j];
+            order[j] = (uint8_t)i;
+        }
+    for (size_t i = 0; i < sum; i++)
         random_levels(c, list->p, m, list->points + 8 * order[i], 1, levels + m * i);
-    return m * list->n;
+    return m * sum;
 }
 
-int drawn_alike(struct made *made, struct made *drawn, const struct list *list)
+/* Whether each point of the list has its count in the tables, in whatever place it stands there. */
+static int counted_alike(const struct made *drawn, const struct list *list)
+{
+    for (size_t i = 0; i < list->n; i++) {
+        size_t place = 0;
+        while (place < list->n && memcmp(drawn->bytes[STATES] + 8 * place, list->points + 8 * i, 8) != 0)
+            place++;
+        if (place == list->n || drawn->bytes[COUNTS][place] != list->counts[i])
+            return 0;
+    }
+    return 1;
+}
+
+/* Draws up the list's points with these counts: whether that gives n, r and three tables of the call. */
+static int drawn_with(struct made *made, struct made *drawn, const struct list *list, const uint8_t counts[64])
 {
     memset(drawn->bytes, 170, sizeof drawn->bytes);
     drawn->call = made->call;
     drawn->call.kind = DRAW_UP;
-    for (int t = 0; t < 4; t++)
+    for (int t = 0; t < TABLES; t++)
         lend(drawn, (enum buffer)t, table_sizes[t]);
-    lend(drawn, GIVEN, shuffled(&made->chance, list, drawn->bytes[GIVEN]));
+    lend(drawn, GIVEN, shuffled(&made->chance, list, counts, drawn->bytes[GIVEN]));
     uint32_t answer = (uint32_t)perform(&archive, &drawn->call);
     if (misqafur_refusal(answer) != 0 || misqafur_points(answer) != made->call.n ||
         misqafur_elements(answer) != made->call.r)
@@ -34,6 +50,15 @@ int drawn_alike(struct made *made, struct made *drawn, const struct list *list)
         if (memcmp(made->bytes[t], drawn->bytes[t], table_sizes[t]) != 0)
             return 0;
     return 1;
+}
+
+int drawn_alike(struct made *made, struct made *drawn, const struct list *list)
+{
+    uint8_t once_or_twice[64];
+    for (size_t i = 0; i < 64; i++)
+        once_or_twice[i] = (uint8_t)(1 + below(&made->chance, 2));
+    return drawn_with(made, drawn, list, once_or_twice) && drawn_with(made, drawn, list, list->counts) &&
+           counted_alike(drawn, list);
 }
 
 /* Terms for a remainder, and the number due: now and then a coefficient is out of range or an exponent missing. */

@@ -46,7 +46,7 @@ static struct ends plainly(enum kind kind, struct misqafur_sheet *s, const struc
 {
     uint32_t answer = 0;
 #define SHEET s->modulus, s->variables, s->order, s->n, s->r, TABLES
-#define TABLES s->states, 512, s->standard, 512, s->leads, 3592, s->coefficients, 28736
+#define TABLES s->states, 512, s->standard, 512, s->leads, 3592, s->coefficients, 28736, s->counts, 64
     if (kind == ADD)
         answer = misqafur_add_point(SHEET, t->levels, t->levels_length);
     if (kind == WITHDRAW)
@@ -96,17 +96,21 @@ static struct ends by_helper(enum kind kind, struct misqafur_sheet *s, const str
 static void make_terms(struct terms *t, enum kind kind, const struct misqafur_sheet *s)
 {
     const uint32_t p = (uint32_t)s->modulus, m = (uint32_t)s->variables, n = (uint32_t)s->n;
-    const uint32_t points = rarely() ? 60 + below(8) : below(12), terms = rarely() ? 250 + below(9) : below(6);
+    const uint32_t often = kind == DRAW_UP && m <= 2 && rarely();
+    const uint32_t points = often ? 250 + below(12) : rarely() ? 60 + below(8) : below(12);
+    const uint32_t terms = rarely() ? 250 + below(9) : below(6);
     t->levels_length = (kind <= WITHDRAW ? m : kind == DRAW_UP ? m * points : kind == REMAINDER ? terms : n) + rarely();
     t->exponents_length = 8 * t->levels_length + rarely();
     t->out_length = (kind == WIRING ? 8 : 64) - rarely() + below(3);
     for (size_t i = 0; i < sizeof t->levels; i++)
         t->levels[i] = misqafur_level((int)below(2 * p - 1) - (int)(p - 1));
+    if (often)
+        memset(t->levels, 0, sizeof t->levels);
     if (rarely() && t->levels_length > 0)
         t->levels[below((uint32_t)t->levels_length)] = misqafur_level((int)p);
     for (size_t i = 0; i < sizeof t->exponents; i++)
         t->exponents[i] = (uint8_t)(i % 8 < m ? below(4) : 0);
-    if (kind == WITHDRAW && n > 0 && below(3) != 0)
+    if (n > 0 && ((kind == WITHDRAW && below(3) != 0) || (kind == ADD && below(4) == 0)))
         memcpy(t->levels, s->states + 8 * below(n), 8);
 }
 
@@ -118,11 +122,15 @@ static void try_call(long index, struct misqafur_sheet *sheet)
     struct ends before = {99, 99, {0}}, plain, helped;
     enum kind kind = below(2) == 0 ? ADD : (enum kind)below(KINDS);
     const int damaged = rarely() == 1;
+    if (sheet->n > 0 && rarely())
+        memset(sheet->counts, 255 - (int)below(3), sheet->n);
     make_terms(&terms, kind, sheet);
     memset(before.out, 170, sizeof before.out);
     ours = *sheet;
-    if (damaged)
+    if (damaged && below(2) == 0)
         ((uint8_t *)&ours)[offsetof(struct misqafur_sheet, n) + below(6000)] ^= 1;
+    else if (damaged)
+        ours.counts[below(64)] ^= 1;
     theirs = ours;
     plain = plainly(kind, &theirs, &terms, before);
     helped = by_helper(kind, &ours, &terms, before);
@@ -144,7 +152,8 @@ static void begin(long index, struct misqafur_sheet *sheet)
     expect(misqafur_sheet_init(sheet, p, m, order) == due, "the refusal of settings", index);
     expect(sheet->modulus == p && sheet->variables == m && sheet->order == order && sheet->n == 0 && sheet->r == 1 &&
                memcmp(sheet->states, zeros, 512) == 0 && memcmp(sheet->standard, zeros, 512) == 0 &&
-               memcmp(sheet->leads, zeros, 3592) == 0 && memcmp(sheet->coefficients, zeros, 28736) == 0,
+               memcmp(sheet->leads, zeros, 3592) == 0 && memcmp(sheet->coefficients, zeros, 28736) == 0 &&
+               memcmp(sheet->counts, zeros, 64) == 0,
            "the fresh sheet", index);
     if (due != 0)
         expect(misqafur_sheet_init(sheet, 5, 2, MISQAFUR_GREVLEX) == 0, "settings that are taken", index);
@@ -155,14 +164,14 @@ static void texts(void)
 {
     for (uint32_t a = 0; a < 256; a++)
         for (uint32_t b = 0; b < a; b++)
-            expect((strcmp(misqafur_refusal_text(a), misqafur_refusal_text(b)) == 0) == (b > MISQAFUR_REFUSED_ABSENT),
+            expect((strcmp(misqafur_refusal_text(a), misqafur_refusal_text(b)) == 0) == (b > MISQAFUR_REFUSED_OTHER_VALUE),
                    "the sentences of refusals", (long)a);
 }
 
 /* With enough calls, each kind was taken and refused in the ways that it can be. */
 static void all_seen(void)
 {
-    static const int due[KINDS][6] = {{0, 7, 9, 10, 11}, {0, 7, 9, 10, 12}, {0, 7, 8, 9, 11}, {0, 10}, {0, 6, 7, 9, 10},
+    static const int due[KINDS][6] = {{0, 7, 9, 10, 13}, {0, 7, 9, 10, 12}, {0, 7, 8, 9, 13}, {0, 10}, {0, 6, 7, 9, 10},
                                       {0, 6, 7, 8, 9, 10}, {0, 6, 7, 9, 10}};
     for (int kind = 0; kind < KINDS; kind++)
         for (int i = 0; i < 6; i++)

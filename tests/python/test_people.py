@@ -121,6 +121,9 @@ class Reports(unittest.TestCase):
         for part in ("3 states of 2 genes (g1, g2), levels modulo 5, order grlex", "    1 + 2*g2\n", "1. g2^2 + g2 + 4*g1", "3. g1^2 + 4*g2 + g1",
                      "    1, g2, g1", "\nWiring: " + (", ".join(f"g{k}" for k in sheet_of().wiring([1, 0, 3])) or "none")):
             self.assertIn(part, said)
+        self.assertNotIn("replicates", said)
+        twice = misqafur.report(*misqafur.read(THREE + b"-4,2,0\n2,1,-2\n2,1,3\n"))
+        self.assertIn("\n  replicates: (1, 2) 2 times, (2, 1) 3 times\n", twice)
         larger = (ROOT / "tests/texts/vectors/026-random-p7-m3-n27-lex.csv").read_bytes()
         self.assertLessEqual(max(map(len, misqafur.report(*misqafur.read(larger)).split("\n"))), 100)
         self.assertIn("0 states of 1 gene (a)", misqafur.report(*misqafur.read(b"a,mod 5")))
@@ -132,12 +135,14 @@ class Reports(unittest.TestCase):
                            ("g1,mod 5\n0,1\n".encode("utf-16"), "UTF-16"), (b"g1,g2\n0,0\n", "last field has to be `mod P`"),
                            (THREE + b"1,1\n", "Record 5 has 2 fields, the header 3."), (THREE + b"1,1.0,1\n", "`1.0` is no level"),
                            (THREE + b"1, 1,1\n", "` 1` is no level"), (THREE + b"1,7,1\n", "Record 5, field 2 (g2): 7 is not from -4 to 4."),
-                           (THREE + b"1,1,-9\n", "Record 5, field 3 (the value): -9"), (THREE + b"-4,2,1\n", "Record 5 repeats the state of record 3."),
+                           (THREE + b"1,1,-9\n", "Record 5, field 3 (the value): -9"),
+                           (THREE + b"-4,2,1\n", "Record 5 repeats the state of record 3, with the value 1 in place of 0."),
+                           (THREE + b"2,-4,3\n" * 255, "Record 259 repeats the state of record 4."),
                            (b'"","g1","mod 5"\n"1",0,1\n"2",1,1\n"3",1,1\n"4",1,1\n"5",0,0\n', "row.names=FALSE in R"),
                            (b",g1,mod 2\n0,0,1\n1,1,1\n2,1,1\n", "index=False in pandas"), (b"g1,mod 4\n", "Take 2, 3, 5"),
                            (b"a,b,c,d,e,f,g,h,i,mod 5\n", "at most 8 genes"), (b"a,mod 5" + b"x" * 20000, "Leave out states"),
                            (b"", "last field has to be `mod P`"), (b'a,"mod 5\n0,0\n', "Refused with 2, record 1"),
-                           (b"a,mod 61\n" + b"".join(b"%d,0\n" % (i % 61) for i in range(65)), "64 states that matter most")):
+                           (b"a,b,mod 61\n" + b"".join(b"%d,%d,0\n" % (i % 61, i // 61) for i in range(65)), "64 states that matter most")):
             with self.subTest(part):
                 self.assertIn(part, self.advice(text))
         for text in (b'"","g1","mod 5"\n"1",0,1\n"2",1,1\n', b"\xef\xbb\xbfg1,mod 5\n0,1\n"):

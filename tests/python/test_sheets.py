@@ -85,17 +85,28 @@ class Refusals(unittest.TestCase):
         before = [bytes(table) for table in sheet._tables.values()]
         for number, call, *arguments in (
                 (7, sheet.add, (1,)), (7, sheet.add, (1, 2, 3)), (9, sheet.add, (5, 0)), (9, sheet.add, (0, 300)), (9, sheet.add, (4, 260)),
-                (9, sheet.add, (-252, 4)), (11, sheet.add, (-4, 2)),
+                (9, sheet.add, (-252, 4)),
                 (12, sheet.withdraw, (4, 4)), (9, sheet.withdraw, (0, -5)), (7, sheet.withdraw, ()), (7, sheet.draw_up, [(1, 2), (3,)]),
-                (7, sheet.draw_up, [(1,), (2, 3, 4)]), (8, sheet.draw_up, [(i % 5, i // 5 % 5) for i in range(65)]), (11, sheet.draw_up, [(4, 0), (-1, 0)]),
+                (7, sheet.draw_up, [(1,), (2, 3, 4)]), (13, sheet.draw_up, [(4, 0), (0, 0)] * 128 + [(-1, 0)] * 128),
                 (9, sheet.draw_up, [(0, -129)]), (7, sheet.interpolate, [1, 2]), (9, sheet.interpolate, [1, 2, 5]), (7, sheet.wiring, []),
                 (8, sheet.remainder, [(1, (0, 0))] * 257), (9, sheet.remainder, [(7, (0, 0))]), (9, sheet.remainder, [(1, (0, 0, 1))]),
                 (7, sheet.remainder, [(1, (0,))])):
             with self.subTest(f"{call.__name__} {arguments}"):
                 self.refused(number, call, *arguments)
         self.assertEqual([bytes(table) for table in sheet._tables.values()], before)
+        wide = misqafur.Sheet(61, 2, "grlex").draw_up([(i % 61, i // 61) for i in range(64)])
+        for number, call, *arguments in (
+                (8, wide.add, (60, 60)), (9, wide.add, (60, 61)), (8, wide.draw_up, [(i % 61, i // 61) for i in range(65)] * 256),
+                (9, wide.draw_up, [(i % 61, i // 61) for i in range(65)] + [(0, 61)])):
+            self.refused(number, call, *arguments)
         sheet._tables["coefficients"][1] ^= 1
         self.refused(10, sheet.check)
+        for place, count in ((0, 0), (2, 0), (3, 1), (63, 255)):
+            damaged = misqafur.Sheet(5, 2, "grlex").draw_up([(0, 0), (1, 2), (2, 1)])
+            damaged._tables["counts"][place] = count
+            for call, *arguments in ((damaged.check,), (damaged.add, (4, 4)), (damaged.withdraw, (0, 0)), (damaged.interpolate, [0, 0, 0]),
+                                     (damaged.remainder, []), (damaged.wiring, [0, 0, 0])):
+                self.refused(10, call, *arguments)
         for values in ([1.5, 0, 0], ["a", 0, 0], [None, 0, 0], [float("nan"), 0, 0]):
             with self.assertRaises(TypeError):
                 sheet.interpolate(values)
@@ -113,7 +124,7 @@ class Refusals(unittest.TestCase):
 
 
 class RandomCalls(unittest.TestCase):
-    """Lists of additions and withdrawals beside a plain list of states, each sheet by the exact check and drawn up anew."""
+    """Lists of additions and withdrawals beside a plain list of states and counts, each sheet by the exact check and drawn up anew."""
 
     def answered(self, sheet, chance):
         values = [chance.randrange(1 - sheet.modulus, sheet.modulus) for _ in sheet.states]
@@ -127,23 +138,28 @@ class RandomCalls(unittest.TestCase):
 
     def one_list(self, chance):
         modulus, genes, order = chance.choice(PRIMES), chance.randrange(1, 9), chance.choice(misqafur.ORDERS)
-        sheet, states = misqafur.Sheet(modulus, genes, order), []
+        sheet, counts = misqafur.Sheet(modulus, genes, order), {}
         for _ in range(chance.randrange(1, 40)):
             levels = [chance.randrange(1 - modulus, modulus) for _ in range(genes)]
-            if states and chance.random() < 0.3:
-                levels = list(chance.choice(states))
+            if counts and chance.random() < 0.4:
+                levels = [x - modulus * (x > 0) for x in chance.choice(list(counts))]
             state, add = tuple(x % modulus for x in levels), chance.random() < 0.75
-            due = 11 if add and state in states else 12 if not add and state not in states else 0
-            try:
-                (sheet.add if add else sheet.withdraw)(levels)
-                self.assertEqual(due, 0)
-                states.append(state) if add else states.remove(state)
-            except misqafur.Refusal as refusal:
-                self.assertEqual(refusal.number, due)
-            self.assertEqual(sheet.states, states)
+            for _ in range(chance.choice((1, 1, 1, 2, 300)) if add and chance.random() < 0.1 else 1):
+                due = (13 if counts.get(state) == 255 else 0) if add else 0 if state in counts else 12
+                try:
+                    (sheet.add if add else sheet.withdraw)(levels)
+                    self.assertEqual(due, 0)
+                    counts[state] = counts.get(state, 0) + (1 if add else -1)
+                    counts = {state: count for state, count in counts.items() if count}
+                except misqafur.Refusal as refusal:
+                    self.assertEqual(refusal.number, due)
+                self.assertEqual((sheet.states, sheet.counts), (list(counts), list(counts.values())))
         self.assertEqual(list(exact.faults(sheet)), [])
-        drawn = misqafur.Sheet(modulus, genes, order).draw_up(sorted(states))
+        pots = [state for state, count in counts.items() for _ in range(count)]
+        chance.shuffle(pots)
+        drawn = misqafur.Sheet(modulus, genes, order).draw_up(pots)
         self.assertEqual((drawn.standard, drawn.basis), (sheet.standard, sheet.basis))
+        self.assertEqual(dict(zip(drawn.states, drawn.counts)), counts)
         self.assertTrue(sheet.check())
         self.answered(sheet, chance)
 
@@ -163,6 +179,17 @@ class RandomCalls(unittest.TestCase):
                 sheet = misqafur.Sheet(modulus, genes, order).draw_up(list(states))
                 self.assertEqual(list(exact.faults(sheet)), [])
                 self.answered(sheet, chance)
+
+    def test_replicates(self):
+        """The example of the requirement: 4, 0 and -1 modulo 5 are two states, the first seen twice; it goes with its last pot."""
+        sheet = misqafur.Sheet(5, 1).draw_up([(4,), (0,), (-1,)])
+        self.assertEqual((sheet.states, sheet.counts, len(sheet)), ([(4,), (0,)], [2, 1], 2))
+        once = misqafur.Sheet(5, 1).draw_up([(4,), (0,)])
+        self.assertEqual((sheet.basis, sheet.cancellations), (once.basis, once.cancellations))
+        self.assertEqual(sheet.withdraw((4,)).counts, [1, 1])
+        self.assertEqual((sheet.withdraw((-1,)).states, sheet.counts), ([(0,)], [1]))
+        sheet, values = misqafur.read(b"a,mod 5\n4,1\n0,2\n-1,-4\n")
+        self.assertEqual((sheet.states, sheet.counts, values), ([(4,), (0,)], [2, 1], [1, 2]))
 
     def test_cancellations(self):
         """The example of the requirement, in two orders of arrival; no other call answers them."""

@@ -39,17 +39,26 @@ for (file in texts[!large | seq_along(texts) %% 8 == 0])
 
 # Refusals leave the sheet, and come with their numbers.
 three <- draw_up(sheet(5, 2, "grlex"), data.frame(g1 = c(0, 1, 2), g2 = c(0, 2, 1)))
+often <- draw_up(three, matrix(c(1, 2), 255, 2, byrow = TRUE))
 tries <- list(list(3, quote(sheet(4, 2))), list(3, quote(sheet(-5, 2))), list(3, quote(sheet(5.5, 2))), list(4, quote(sheet(5, 9))), list(4, quote(sheet(5, 2.5))), list(4, quote(sheet(5, NA))),
               list(4, quote(sheet(5, character(0)))), list(5, quote(sheet(5, 2, "Lex"))), list(7, quote(add_state(three, 1))),
               list(9, quote(add_state(three, c(5, 0)))), list(9, quote(add_state(three, c(NA, 0)))), list(9, quote(add_state(three, c(0.5, 0)))),
-              list(11, quote(add_state(three, c(-4, 2)))), list(12, quote(withdraw_state(three, c(4, 4)))), list(7, quote(interpolate(three, 1:2))),
+              list(13, quote(add_state(often, c(-4, 2)))), list(12, quote(withdraw_state(three, c(4, 4)))), list(7, quote(interpolate(three, 1:2))),
               list(9, quote(interpolate(three, c(0, 0, 5)))), list(7, quote(draw_up(three, matrix(0, 2, 3)))),
-              list(11, quote(draw_up(three, matrix(0, 2, 2)))), list(0, quote(draw_up(three, data.frame(a = numeric(0), b = numeric(0))))),
+              list(13, quote(draw_up(three, matrix(0, 256, 2)))), list(0, quote(draw_up(three, data.frame(a = numeric(0), b = numeric(0))))),
               list(0, quote(check_sheet(three))))
 for (try in tries) expect(refusal(eval(try[[2]])) == try[[1]], deparse(try[[2]]))
 damaged <- three
 damaged$raw[100] <- as.raw(3)
 expect(refusal(check_sheet(damaged)) == 10 && refusal(basis(damaged)) == 10, "a damaged sheet")
+
+# Replicates: the example of the requirement, one state 255 times, and pots that come and go.
+example <- draw_up(sheet(5, 1), matrix(c(4, 0, -1), 3))
+expect(identical(counts(example), c(2L, 1L)) && identical(unlist(states(example), use.names = FALSE), c(4L, 0L)), "4, 0 and -1 modulo 5")
+expect(identical(counts(often), 255L) && nrow(states(often)) == 1, "one state 255 times")
+twice <- add_state(three, c(-4, 2))
+expect(identical(counts(twice), c(1L, 2L, 1L)) && identical(basis(twice), basis(three)), "a replicate")
+expect(identical(withdraw_state(twice, c(1, 2))$raw, three$raw), "a replicate that came and went")
 expect(remainder(three, "g1^2*g2") == "2*g1" && remainder(three, "g1^2 g2 - 3") == "2 + 2*g1", "remainders")
 expect(identical(basis(withdraw_state(add_state(three, c(4, 0)), c(-1, 0))), basis(three)), "a state that came and went")
 

@@ -1,3 +1,5 @@
--- Checking lent tables, and what recognised tables hold.
+-- Checking lent tables, what recognised tables hold, and where a named point stands among theirs.
+pub mod Counts
 pub mod Tests
 pub mod Recognised
+pub mod Named

@@ -14,7 +14,7 @@ ghost use Prim.Native.Nat.{_*_, _≤_};
 ghost use lib.ListN.{length, replicate};
 ghost use Rattle.residue.specs.Layout.{fill, inPlaces, groups};
 ghost use Rattle.specification.specs.Refusal.{firstOf};
-ghost use Rattle.specification.specs.Tables.{fourTables, pointsIn, statesSize};
+ghost use Rattle.specification.specs.Tables.{fiveTables, pointsIn, statesSize};
 ghost use Rattle.specification.specs.Solving.{answering, valuesCases, interpolateOutcome, listed, wiringOutcome};
 ghost use Rattle.specification.specs.Solving.{withinVariables, remainderCases, remainderOutcome};
 ghost use Rattle.construction.specs.Drawing.{RowsLong, Solves};
@@ -28,6 +28,7 @@ fn values_refusal(
     standard: &[u8],
     leads: &[u8],
     coefficients: &[u8],
+    counts: &[u8],
     values: &[i8],
     size: usize,
     out: &[u8],
@@ -37,8 +38,8 @@ fn values_refusal(
 ) -> u8
     requires { ⌜ (now points ≡ replicate statesSize 0) × RowsLong (now rows) (now pivots) ⌝ }
     ensures { λ k. ⌜ k ≡ firstOf 0 (valuesCases size settings n r
-        (fourTables (now (states .entry)) (now (standard .entry)) (now (leads .entry)) (now (coefficients .entry))) (now (values .entry))
-        (now (out .entry))) ⌝ }
+        (fiveTables (now (states .entry)) (now (standard .entry)) (now (leads .entry)) (now (coefficients .entry)) (now (counts .entry)))
+        (now (values .entry)) (now (out .entry))) ⌝ }
     ensures { λ k. ⌜ (k ≡ 0 → now (points .exit) ≡ fill statesSize (inPlaces 8 (pointsIn settings n (now (states .entry))))) ⌝ }
     ensures { λ k. ⌜ (k ≡ 0 → Solves settings (pointsIn settings n (now (states .entry))) (now (rows .exit)) (now (pivots .exit))) ⌝ }
 {
@@ -47,6 +48,7 @@ fn values_refusal(
         standard.len(),
         leads.len(),
         coefficients.len(),
+        counts.len(),
     );
     let refusal = values_sizes(settings, short, out.len(), size, values.len(), n);
     if refusal != 0 {
@@ -63,6 +65,7 @@ fn values_refusal(
         standard,
         leads,
         coefficients,
+        counts,
         points,
         rows,
         pivots,
@@ -81,11 +84,13 @@ pub fn interpolate(
     standard: &[u8],
     leads: &[u8],
     coefficients: &[u8],
+    counts: &[u8],
     values: &[i8],
     out: &mut [u8],
 ) -> u8
     ensures { λ k. ⌜ answering k (now (out .exit))
-        ≡ interpolateOutcome settings n r (fourTables (now (states .entry)) (now (standard .entry)) (now (leads .entry)) (now (coefficients .entry)))
+        ≡ interpolateOutcome settings n r
+        (fiveTables (now (states .entry)) (now (standard .entry)) (now (leads .entry)) (now (coefficients .entry)) (now (counts .entry)))
         (now (values .entry)) (now (out .entry)) ⌝ }
 {
     let mut points = [0u8; 512];
@@ -99,6 +104,7 @@ pub fn interpolate(
         standard,
         leads,
         coefficients,
+        counts,
         values,
         64,
         out,
@@ -129,11 +135,13 @@ pub fn wiring(
     standard: &[u8],
     leads: &[u8],
     coefficients: &[u8],
+    counts: &[u8],
     values: &[i8],
     out: &mut [u8],
 ) -> Wired
     ensures { λ a. ⌜ listed a (now (out .exit))
-        ≡ wiringOutcome settings n r (fourTables (now (states .entry)) (now (standard .entry)) (now (leads .entry)) (now (coefficients .entry)))
+        ≡ wiringOutcome settings n r
+        (fiveTables (now (states .entry)) (now (standard .entry)) (now (leads .entry)) (now (coefficients .entry)) (now (counts .entry)))
         (now (values .entry)) (now (out .entry)) ⌝ }
 {
     let mut points = [0u8; 512];
@@ -147,6 +155,7 @@ pub fn wiring(
         standard,
         leads,
         coefficients,
+        counts,
         values,
         8,
         out,
@@ -196,6 +205,7 @@ fn remainder_refusal(
     standard: &[u8],
     leads: &[u8],
     coefficients: &[u8],
+    counts: &[u8],
     term_coefficients: &[i8],
     exponents: &[u8],
     out: &[u8],
@@ -205,8 +215,8 @@ fn remainder_refusal(
 ) -> u8
     requires { ⌜ (now points ≡ replicate statesSize 0) × RowsLong (now rows) (now pivots) ⌝ }
     ensures { λ k. ⌜ k ≡ firstOf 0 (remainderCases settings n r
-        (fourTables (now (states .entry)) (now (standard .entry)) (now (leads .entry)) (now (coefficients .entry))) (now («term_coefficients» .entry))
-        (now (exponents .entry)) (now (out .entry))) ⌝ }
+        (fiveTables (now (states .entry)) (now (standard .entry)) (now (leads .entry)) (now (coefficients .entry)) (now (counts .entry)))
+        (now («term_coefficients» .entry)) (now (exponents .entry)) (now (out .entry))) ⌝ }
     ensures { λ k. ⌜ (k ≡ 0 → now (points .exit) ≡ fill statesSize (inPlaces 8 (pointsIn settings n (now (states .entry))))) ⌝ }
     ensures { λ k. ⌜ (k ≡ 0 → Solves settings (pointsIn settings n (now (states .entry))) (now (rows .exit)) (now (pivots .exit))) ⌝ }
 {
@@ -216,6 +226,7 @@ fn remainder_refusal(
         standard.len(),
         leads.len(),
         coefficients.len(),
+        counts.len(),
     );
     let refusal = remainder_sizes(settings, short, out.len(), terms, exponents.len(), n);
     if refusal != 0 {
@@ -235,6 +246,7 @@ fn remainder_refusal(
         standard,
         leads,
         coefficients,
+        counts,
         points,
         rows,
         pivots,
@@ -253,12 +265,14 @@ pub fn remainder(
     standard: &[u8],
     leads: &[u8],
     coefficients: &[u8],
+    counts: &[u8],
     term_coefficients: &[i8],
     exponents: &[u8],
     out: &mut [u8],
 ) -> u8
     ensures { λ k. ⌜ answering k (now (out .exit))
-        ≡ remainderOutcome settings n r (fourTables (now (states .entry)) (now (standard .entry)) (now (leads .entry)) (now (coefficients .entry)))
+        ≡ remainderOutcome settings n r
+        (fiveTables (now (states .entry)) (now (standard .entry)) (now (leads .entry)) (now (coefficients .entry)) (now (counts .entry)))
         (now («term_coefficients» .entry)) (now (exponents .entry)) (now (out .entry)) ⌝ }
 {
     let mut points = [0u8; 512];
@@ -272,6 +286,7 @@ pub fn remainder(
         standard,
         leads,
         coefficients,
+        counts,
         term_coefficients,
         exponents,
         out,

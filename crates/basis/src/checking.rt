@@ -9,16 +9,44 @@ ghost use mathlib.Core.Path.{_≡_};
 ghost use mathlib.Core.Bool.{true, false, _&&_};
 ghost use Prim.Native.Nat.{_≤_};
 ghost use lib.ListN.{length, replicate};
+ghost use Rattle.residue.specs.Lists.{every};
 ghost use Rattle.residue.specs.Layout.{fill, inPlaces, begins};
 ghost use Rattle.specification.specs.Refusal.{firstOf};
 ghost use Rattle.specification.specs.Settings.{settingsCases};
-ghost use Rattle.specification.specs.Tables.{fourTables, pointsIn, recognised, tooShort};
-ghost use Rattle.specification.specs.Tables.{statesSize, standardSize, leadsSize, coefficientsSize};
+ghost use Rattle.specification.specs.Counted.{isCount};
+ghost use Rattle.specification.specs.Tables.{fiveTables, pointsIn, recognised, tooShort};
+ghost use Rattle.specification.specs.Tables.{statesSize, standardSize, leadsSize, coefficientsSize, countsSize};
 ghost use Rattle.specification.specs.Solving.{checkRefusal};
 ghost use Rattle.construction.specs.Drawing.{RowsLong, Solves};
 
-// Whether the lent tables begin with these.
+// Whether each of the first n bytes is a count, which of bytes 0 alone is not.
+fn are_counts(n: usize, counts: &[u8]) -> bool
+    requires { ⌜ n ≤ length (now counts) ⌝ }
+    ensures { λ r. ⌜ r ≡ every isCount (fill n (now (counts .entry))) ⌝ }
+{
+    for i in 0..n {
+        if counts[i] == 0 {
+            return false;
+        }
+    }
+    true
+}
+
+// Whether a lent table has a count for each of n points, and 0 for unused places.
+fn counts_fit(n: usize, counts: &[u8]) -> bool
+    requires { ⌜ (n ≤ countsSize) × (countsSize ≤ length (now counts)) ⌝ }
+    ensures { λ r. ⌜ r ≡ (every isCount (fill n (now (counts .entry)))
+        && begins (fill countsSize (fill n (now (counts .entry)))) (now (counts .entry))) ⌝ }
+{
+    if !are_counts(n, counts) {
+        return false;
+    }
+    bytes::all_zero(&counts[n..64])
+}
+
+// Whether the lent tables begin with these, and the counts fit n points.
 fn agree(
+    n: usize,
     new_states: &[u8],
     new_standard: &[u8],
     new_leads: &[u8],
@@ -27,14 +55,18 @@ fn agree(
     standard: &[u8],
     leads: &[u8],
     coefficients: &[u8],
+    counts: &[u8],
 ) -> bool
+    requires { ⌜ n ≤ countsSize ⌝ }
     requires { ⌜ (length (now «new_states») ≡ statesSize)
         × ((length (now «new_standard») ≡ standardSize)
         × ((length (now «new_leads») ≡ leadsSize) × (length (now «new_coefficients») ≡ coefficientsSize))) ⌝ }
-    requires { ⌜ tooShort (fourTables (now states) (now standard) (now leads) (now coefficients)) ≡ false ⌝ }
+    requires { ⌜ tooShort (fiveTables (now states) (now standard) (now leads) (now coefficients) (now counts)) ≡ false ⌝ }
     ensures { λ r. ⌜ r ≡ (begins (now («new_states» .entry)) (now (states .entry))
         && (begins (now («new_standard» .entry)) (now (standard .entry))
-        && (begins (now («new_leads» .entry)) (now (leads .entry)) && begins (now («new_coefficients» .entry)) (now (coefficients .entry))))) ⌝ }
+        && (begins (now («new_leads» .entry)) (now (leads .entry))
+        && (begins (now («new_coefficients» .entry)) (now (coefficients .entry))
+        && (every isCount (fill n (now (counts .entry))) && begins (fill countsSize (fill n (now (counts .entry)))) (now (counts .entry))))))) ⌝ }
 {
     if !bytes::begins(new_states, states) {
         return false;
@@ -45,7 +77,10 @@ fn agree(
     if !bytes::begins(new_leads, leads) {
         return false;
     }
-    bytes::begins(new_coefficients, coefficients)
+    if !bytes::begins(new_coefficients, coefficients) {
+        return false;
+    }
+    counts_fit(n, counts)
 }
 
 // Whether lent tables are the basis of their points. The points are left as a table, and where the tables are recognised the pivot rows of the points.
@@ -57,15 +92,16 @@ pub(crate) fn recognise(
     standard: &[u8],
     leads: &[u8],
     coefficients: &[u8],
+    counts: &[u8],
     points: &mut [u8],
     rows: &mut [u8],
     pivots: &mut [u8],
 ) -> bool
     requires { ⌜ (firstOf 0 (settingsCases settings) ≡ 0) × (n ≤ 64) ⌝ }
-    requires { ⌜ tooShort (fourTables (now states) (now standard) (now leads) (now coefficients)) ≡ false ⌝ }
+    requires { ⌜ tooShort (fiveTables (now states) (now standard) (now leads) (now coefficients) (now counts)) ≡ false ⌝ }
     requires { ⌜ (now points ≡ replicate statesSize 0) × RowsLong (now rows) (now pivots) ⌝ }
     ensures { λ b. ⌜ b ≡ recognised settings n r
-        (fourTables (now (states .entry)) (now (standard .entry)) (now (leads .entry)) (now (coefficients .entry))) ⌝ }
+        (fiveTables (now (states .entry)) (now (standard .entry)) (now (leads .entry)) (now (coefficients .entry)) (now (counts .entry))) ⌝ }
     ensures { λ b. ⌜ now (points .exit) ≡ fill statesSize (inPlaces 8 (pointsIn settings n (now (states .entry)))) ⌝ }
     ensures { λ b. ⌜ (b ≡ true → Solves settings (pointsIn settings n (now (states .entry))) (now (rows .exit)) (now (pivots .exit))) ⌝ }
 {
@@ -90,6 +126,7 @@ pub(crate) fn recognise(
         return false;
     }
     agree(
+        n,
         points,
         &new_standard,
         &new_leads,
@@ -98,6 +135,7 @@ pub(crate) fn recognise(
         standard,
         leads,
         coefficients,
+        counts,
     )
 }
 
@@ -110,15 +148,17 @@ pub fn check(
     standard: &[u8],
     leads: &[u8],
     coefficients: &[u8],
+    counts: &[u8],
 ) -> u8
     ensures { λ k. ⌜ k ≡ checkRefusal settings n r
-        (fourTables (now (states .entry)) (now (standard .entry)) (now (leads .entry)) (now (coefficients .entry))) ⌝ }
+        (fiveTables (now (states .entry)) (now (standard .entry)) (now (leads .entry)) (now (coefficients .entry)) (now (counts .entry))) ⌝ }
 {
     let short = too_short(
         states.len(),
         standard.len(),
         leads.len(),
         coefficients.len(),
+        counts.len(),
     );
     let refusal = check_sizes(settings, short, n);
     if refusal != 0 {
@@ -135,6 +175,7 @@ pub fn check(
         standard,
         leads,
         coefficients,
+        counts,
         &mut points,
         &mut rows,
         &mut pivots,

@@ -6,8 +6,8 @@ use specification::settings::Settings;
 ghost use mathlib.Core.Path.{_≡_};
 ghost use mathlib.Core.Bool.{not, false, _||_};
 ghost use mathlib.Core.List.{[], _∷_, _++_};
-ghost use Prim.Native.Nat.{_*_, _/_, _%_};
-ghost use lib.Dec.{eqb, leb, ltb};
+ghost use Prim.Native.Nat.{_*_, _%_};
+ghost use lib.Dec.{eqb, ltb};
 ghost use Rattle.specification.specs.Refusal.{firstOf};
 ghost use Rattle.specification.specs.Settings.{settingsCases};
 ghost use Rattle.specification.specs.Tables.{shortLengths};
@@ -63,9 +63,17 @@ pub(crate) const LEADS: usize = 3592;
 
 pub(crate) const COEFFICIENTS: usize = 28736;
 
+pub(crate) const COUNTS: usize = 64;
+
 // Whether one of the lent tables, of these lengths, is shorter than its size.
-pub fn too_short(states: usize, standard: usize, leads: usize, coefficients: usize) -> bool
-    ensures { λ b. ⌜ b ≡ shortLengths states standard leads coefficients ⌝ }
+pub fn too_short(
+    states: usize,
+    standard: usize,
+    leads: usize,
+    coefficients: usize,
+    counts: usize,
+) -> bool
+    ensures { λ b. ⌜ b ≡ shortLengths states standard leads coefficients counts ⌝ }
 {
     if states < STATES {
         return true;
@@ -76,7 +84,10 @@ pub fn too_short(states: usize, standard: usize, leads: usize, coefficients: usi
     if leads < LEADS {
         return true;
     }
-    coefficients < COEFFICIENTS
+    if coefficients < COEFFICIENTS {
+        return true;
+    }
+    counts < COUNTS
 }
 
 // A table or buffer is too short, a length is wrong, there are too many points or terms.
@@ -99,16 +110,7 @@ fn by_sizes(settings: Settings, short: bool, wrong: bool, many: bool) -> u8
     0
 }
 
-// Division as the definitions have it, by 0 too: lengths are judged before the settings are known to be good.
-fn quotient(k: usize, m: u64) -> usize
-    ensures { λ q. ⌜ q ≡ k / m ⌝ }
-{
-    if m == 0 {
-        return 0;
-    }
-    k / m as usize
-}
-
+// The remainder of a division as the definitions have it, by 0 too: lengths are judged before the settings are known to be good.
 fn rest(k: usize, m: u64) -> usize
     ensures { λ r. ⌜ r ≡ k % m ⌝ }
 {
@@ -118,36 +120,25 @@ fn rest(k: usize, m: u64) -> usize
     k % m as usize
 }
 
-// Adding one point of this many levels to n points; `short` is whether a lent table is too short, here and below.
-pub fn add_sizes(settings: Settings, short: bool, levels: usize, n: u64) -> u8
-    ensures { λ k. ⌜ k ≡ firstOf 0 (settingsCases settings
-        ++ ((short, 6) ∷ (not (eqb levels (settings .variables)), 7) ∷ (leb 64 n, 8) ∷ [])) ⌝ }
-{
-    by_sizes(
-        settings,
-        short,
-        levels as u64 != settings.variables,
-        64 <= n,
-    )
-}
-
-// Withdrawing the one of n points that has this many levels.
-pub fn withdraw_sizes(settings: Settings, short: bool, levels: usize, n: u64) -> u8
+// Adding a point of this many levels to n points, or withdrawing it; `short` is whether a lent table is too short, here and below.
+pub fn point_sizes(settings: Settings, short: bool, levels: usize, n: u64) -> u8
     ensures { λ k. ⌜ k ≡ firstOf 0 (settingsCases settings
         ++ ((short, 6) ∷ (not (eqb levels (settings .variables)), 7) ∷ (ltb 64 n, 8) ∷ [])) ⌝ }
 {
     by_sizes(settings, short, levels as u64 != settings.variables, 64 < n)
 }
 
-// Drawing up from this many levels.
+// Drawing up from this many levels, of any number of points: 8 counts the distinct ones, and comes later.
 pub fn draw_sizes(settings: Settings, short: bool, levels: usize) -> u8
     ensures { λ k. ⌜ k ≡ firstOf 0 (settingsCases settings
-        ++ ((short, 6) ∷ (not (eqb (levels % settings .variables) 0), 7) ∷ (ltb 64 (levels / settings .variables), 8) ∷ [])) ⌝ }
+        ++ ((short, 6) ∷ (not (eqb (levels % settings .variables) 0), 7) ∷ (false, 8) ∷ [])) ⌝ }
 {
-    let m = settings.variables;
-    let left = rest(levels, m);
-    let points = quotient(levels, m);
-    by_sizes(settings, short, left != 0, 64 < points)
+    by_sizes(
+        settings,
+        short,
+        rest(levels, settings.variables) != 0,
+        false,
+    )
 }
 
 // Checking the tables of n points.

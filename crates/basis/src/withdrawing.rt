@@ -1,47 +1,35 @@
-// Withdrawing a point from tables. Every refusal is decided before a lent byte is written; then the points that are left are drawn up anew, over the pivot
-// rows with which the tables were recognised: two sets of them would take more stack than the header promises.
+// Withdrawing a point from tables. Every refusal is decided before a lent byte is written; then its count is lowered, or, where that was 1, the points that are
+// left are drawn up anew, over the pivot rows with which the tables were recognised: two sets of them would take more stack than the header promises.
 use crate::checking::recognise;
 use crate::drawing::draw_points;
+use crate::settings::point_sizes;
 use crate::settings::refused;
 use crate::settings::too_short;
-use crate::settings::withdraw_sizes;
 use construction::points;
 use monomial::insert::take_out;
 use specification::settings::Answer;
 use specification::settings::Settings;
 ghost use mathlib.Core.Path.{_≡_};
-ghost use mathlib.Core.Bool.{cond};
-ghost use Prim.Native.Nat.{_≤_};
-ghost use lib.ListN.{length, replicate};
+ghost use mathlib.Core.Bool.{not, false, cond};
+ghost use mathlib.Core.List.{[], _∷_, _++_};
+ghost use Prim.Native.Nat.{_-_, _<_, _≤_};
+ghost use lib.ListN.{length, getD, replicate};
+ghost use lib.Dec.{eqb, ltb};
 ghost use Rattle.residue.specs.Layout.{fill, inPlaces};
+ghost use Rattle.monomial.specs.Insert.{removedAt};
 ghost use Rattle.specification.specs.Refusal.{firstOf};
 ghost use Rattle.specification.specs.Settings.{settingsCases};
-ghost use Rattle.specification.specs.Levels.{residues, isAmong};
-ghost use Rattle.specification.specs.Tables.{fourTables, pointsIn, statesSize};
+ghost use Rattle.specification.specs.Levels.{inRange, residues};
+ghost use Rattle.specification.specs.Counted.{placeIn};
+ghost use Rattle.specification.specs.Tables.{fiveTables, pointsIn, statesSize, tooShort, recognised};
 ghost use Rattle.specification.specs.Adding.{ended};
-ghost use Rattle.specification.specs.Withdrawing.{remaining, withdrawRefusal, withdrawOutcome};
-ghost use Rattle.construction.specs.Drawing.{RowsLong};
+ghost use Rattle.specification.specs.Withdrawing.{withdrawOutcome};
+ghost use Rattle.specification.specs.CallByCall.{recounted};
+ghost use Rattle.specification.proofs.Replicates.{holdingBoth};
+ghost use Rattle.specification.proofs.agreement.Points.{Points};
+ghost use Rattle.construction.specs.Drawing.{RowsLong, PointsGiven};
 
-// The points of a table without the named one, left in a second table, and 0; or 12, where it is not among them.
-fn put_others(settings: Settings, n: usize, points: &[u8], levels: &[i8], left: &mut [u8]) -> u8
-    requires { ⌜ (firstOf 0 (settingsCases settings) ≡ 0) × (n ≤ 64) ⌝ }
-    requires { ⌜ now points ≡ fill statesSize (inPlaces 8 (pointsIn settings n (now points))) ⌝ }
-    requires { ⌜ (length (now levels) ≡ settings .variables) × (now left ≡ replicate statesSize 0) ⌝ }
-    ensures { λ k. ⌜ k ≡ cond (isAmong (residues (settings .modulus) (now (levels .entry))) (pointsIn settings n (now (points .entry)))) 0 12 ⌝ }
-    ensures { λ k. ⌜ (k ≡ 0 → now (left .exit)
-        ≡ fill statesSize (inPlaces 8 (remaining (residues (settings .modulus) (now (levels .entry))) (pointsIn settings n (now (points .entry)))))) ⌝ }
-{
-    let mut point = [0u8; 8];
-    points::put_residues(settings.modulus as u8, levels, &mut point);
-    let place = points::place_of(n, points, &point);
-    if place == n {
-        return 12;
-    }
-    take_out(8, n, place, points, left);
-    0
-}
-
-// The refusal of a withdrawal, or 0; then the points that remain are left in a table.
+// The refusal of a withdrawal up to 10, or 0; then the points of the tables are left in a table.
 fn withdraw_refusal(
     settings: Settings,
     n: u64,
@@ -50,32 +38,40 @@ fn withdraw_refusal(
     standard: &[u8],
     leads: &[u8],
     coefficients: &[u8],
+    counts: &[u8],
     levels: &[i8],
-    left: &mut [u8],
+    points: &mut [u8],
     rows: &mut [u8],
     pivots: &mut [u8],
 ) -> u8
-    requires { ⌜ (now left ≡ replicate statesSize 0) × RowsLong (now rows) (now pivots) ⌝ }
-    ensures { λ k. ⌜ k ≡ withdrawRefusal settings n r
-        (fourTables (now (states .entry)) (now (standard .entry)) (now (leads .entry)) (now (coefficients .entry))) (now (levels .entry)) ⌝ }
-    ensures { λ k. ⌜ (k ≡ 0 → now (left .exit)
-        ≡ fill statesSize (inPlaces 8 (remaining (residues (settings .modulus) (now (levels .entry))) (pointsIn settings n (now (states .entry)))))) ⌝ }
+    requires { ⌜ (now points ≡ replicate statesSize 0) × RowsLong (now rows) (now pivots) ⌝ }
+    ensures { λ k. ⌜ k ≡ firstOf 0 (settingsCases settings
+        ++ ((tooShort (fiveTables (now (states .entry)) (now (standard .entry)) (now (leads .entry)) (now (coefficients .entry)) (now (counts .entry))), 6)
+        ∷ (not (eqb (length (now (levels .entry))) (settings .variables)), 7)
+        ∷ (ltb 64 n, 8)
+        ∷ (not (inRange (settings .modulus) (now (levels .entry))), 9)
+        ∷ (
+          not (recognised settings n r
+              (fiveTables (now (states .entry)) (now (standard .entry)) (now (leads .entry)) (now (coefficients .entry)) (now (counts .entry)))),
+          10,
+        ) ∷ [])) ⌝ }
+    ensures { λ k. ⌜ (k ≡ 0 → now (points .exit) ≡ fill statesSize (inPlaces 8 (pointsIn settings n (now (states .entry))))) ⌝ }
 {
     let short = too_short(
         states.len(),
         standard.len(),
         leads.len(),
         coefficients.len(),
+        counts.len(),
     );
-    let refusal = withdraw_sizes(settings, short, levels.len(), n);
+    let refusal = point_sizes(settings, short, levels.len(), n);
     if refusal != 0 {
         return refusal;
     }
     if !points::in_range(settings.modulus as u8, levels) {
         return 9;
     }
-    let mut points = [0u8; 512];
-    let known = recognise(
+    if !recognise(
         settings,
         n as usize,
         r,
@@ -83,14 +79,87 @@ fn withdraw_refusal(
         standard,
         leads,
         coefficients,
-        &mut points,
+        counts,
+        points,
+        rows,
+        pivots,
+    ) {
+        return 10;
+    }
+    0
+}
+
+// Where the point of these levels stands among the n of a table, or n.
+fn place_named(settings: Settings, n: usize, points: &[u8], levels: &[i8]) -> usize
+    requires { ⌜ (firstOf 0 (settingsCases settings) ≡ 0) × (n ≤ 64) ⌝ }
+    requires { ⌜ now points ≡ fill statesSize (inPlaces 8 (pointsIn settings n (now points))) ⌝ }
+    requires { ⌜ length (now levels) ≡ settings .variables ⌝ }
+    ensures { λ i. ⌜ i ≡ placeIn (residues (settings .modulus) (now (levels .entry))) (pointsIn settings n (now (points .entry))) ⌝ }
+{
+    let mut point = [0u8; 8];
+    points::put_residues(settings.modulus as u8, levels, &mut point);
+    points::place_of(n, points, &point)
+}
+
+// One occurrence fewer of the point at a place among the n of a table: its count is lowered, or, where that was 1, the points and counts behind move up and the
+// points that are left are drawn up.
+fn withdraw_accepted(
+    settings: Settings,
+    n: usize,
+    r: u16,
+    place: usize,
+    points: &[u8],
+    states: &mut [u8],
+    standard: &mut [u8],
+    leads: &mut [u8],
+    coefficients: &mut [u8],
+    counts: &mut [u8],
+    rows: &mut [u8],
+    pivots: &mut [u8],
+) -> Answer
+    requires { ⌜ PointsGiven settings n (now points) × (place < n) ⌝ }
+    requires { ⌜ (getD (now counts) place 0 ≤ 1 → Points settings (removedAt place (pointsIn settings n (now points)))) ⌝ }
+    requires { ⌜ tooShort (fiveTables (now states) (now standard) (now leads) (now coefficients) (now counts)) ≡ false ⌝ }
+    requires { ⌜ RowsLong (now rows) (now pivots) ⌝ }
+    ensures { λ a. ⌜ ended a (now (states .exit)) (now (standard .exit)) (now (leads .exit)) (now (coefficients .exit)) (now (counts .exit))
+        ≡ cond (ltb 1 (getD (now (counts .entry)) place 0))
+        (recounted n r
+        (fiveTables (now (states .entry)) (now (standard .entry)) (now (leads .entry)) (now (coefficients .entry)) (now (counts .entry)))
+        place (getD (now (counts .entry)) place 0 - 1))
+        (holdingBoth settings (removedAt place (pointsIn settings n (now (points .entry)))) (removedAt place (fill n (now (counts .entry))))
+        (fiveTables (now (states .entry)) (now (standard .entry)) (now (leads .entry)) (now (coefficients .entry)) (now (counts .entry)))) ⌝ }
+{
+    let count = counts[place];
+    if 1 < count {
+        counts[place] = count - 1;
+        return Answer {
+            refusal: 0,
+            n: n as u8,
+            r,
+        };
+    }
+    let mut left = [0u8; 512];
+    let mut times = [0u8; 64];
+    take_out(8, n, place, points, &mut left);
+    take_out(1, n, place, counts, &mut times);
+    let drawn = draw_points(
+        settings,
+        n - 1,
+        &left,
+        &times,
+        states,
+        standard,
+        leads,
+        coefficients,
+        counts,
         rows,
         pivots,
     );
-    if !known {
-        return 10;
+    Answer {
+        refusal: drawn.refusal,
+        n: drawn.n,
+        r: drawn.r,
     }
-    put_others(settings, n as usize, &points, levels, left)
 }
 
 // Withdrawing one of the n points of the tables.
@@ -102,13 +171,15 @@ pub fn withdraw_point(
     standard: &mut [u8],
     leads: &mut [u8],
     coefficients: &mut [u8],
+    counts: &mut [u8],
     levels: &[i8],
 ) -> Answer
-    ensures { λ a. ⌜ ended a (now (states .exit)) (now (standard .exit)) (now (leads .exit)) (now (coefficients .exit))
-        ≡ withdrawOutcome settings n r (fourTables (now (states .entry)) (now (standard .entry)) (now (leads .entry)) (now (coefficients .entry)))
+    ensures { λ a. ⌜ ended a (now (states .exit)) (now (standard .exit)) (now (leads .exit)) (now (coefficients .exit)) (now (counts .exit))
+        ≡ withdrawOutcome settings n r
+        (fiveTables (now (states .entry)) (now (standard .entry)) (now (leads .entry)) (now (coefficients .entry)) (now (counts .entry)))
         (now (levels .entry)) ⌝ }
 {
-    let mut left = [0u8; 512];
+    let mut points = [0u8; 512];
     let mut rows = [0u8; 73728];
     let mut pivots = [0u8; 64];
     let refusal = withdraw_refusal(
@@ -119,28 +190,32 @@ pub fn withdraw_point(
         standard,
         leads,
         coefficients,
+        counts,
         levels,
-        &mut left,
+        &mut points,
         &mut rows,
         &mut pivots,
     );
     if refusal != 0 {
         return refused(refusal);
     }
-    let drawn = draw_points(
+    let count = n as usize;
+    let place = place_named(settings, count, &points, levels);
+    if place == count {
+        return refused(12);
+    }
+    withdraw_accepted(
         settings,
-        n as usize - 1,
-        &left,
+        count,
+        r as u16,
+        place,
+        &points,
         states,
         standard,
         leads,
         coefficients,
+        counts,
         &mut rows,
         &mut pivots,
-    );
-    Answer {
-        refusal: drawn.refusal,
-        n: drawn.n,
-        r: drawn.r,
-    }
+    )
 }

@@ -11,6 +11,7 @@ pub fn interpolated(
     standard: &[u8],
     leads: &[u8],
     coefficients: &[u8],
+    times: &[u8],
     values: &[i8],
 ) -> bool {
     let mut want = [0u8; 64];
@@ -25,6 +26,7 @@ pub fn interpolated(
         standard,
         leads,
         coefficients,
+        times,
         values,
         &mut out,
     );
@@ -71,6 +73,7 @@ fn lists(
     standard: &[u8],
     leads: &[u8],
     coefficients: &[u8],
+    times: &[u8],
     values: &[i8],
     variables: &mut [u8; 8],
 ) -> bool {
@@ -84,6 +87,7 @@ fn lists(
         standard,
         leads,
         coefficients,
+        times,
         values,
         &mut out,
     );
@@ -107,6 +111,7 @@ pub fn wired(
     standard: &[u8],
     leads: &[u8],
     coefficients: &[u8],
+    times: &[u8],
     values: &[i8],
 ) -> bool {
     let mut variables = [0u8; 8];
@@ -117,6 +122,7 @@ pub fn wired(
         standard,
         leads,
         coefficients,
+        times,
         values,
         &mut variables,
     )
@@ -130,6 +136,7 @@ pub fn reduced(
     standard: &[u8; 512],
     leads: &[u8; 3592],
     coefficients: &[u8; 28736],
+    times: &[u8; 64],
 ) -> bool {
     let count = buffers::read_byte(fd) as usize;
     let size = 8 * count;
@@ -149,6 +156,7 @@ pub fn reduced(
         standard,
         leads,
         coefficients,
+        times,
         buffers::signed_front(&terms, count),
         buffers::front(&exponents, size),
         &mut out,

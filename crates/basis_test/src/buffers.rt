@@ -62,7 +62,18 @@ pub fn holds(buffer: &[u8], want: &[u8]) -> bool {
     check::same(back(buffer, want.len()), &[170u8; 8])
 }
 
-// Whether four lent tables hold these bytes.
+// Whether byte n of a buffer, counted from 1, is this one.
+pub fn ends(buffer: &[u8], n: usize, byte: u8) -> bool {
+    if n == 0 {
+        return false;
+    }
+    if buffer.len() < n {
+        return false;
+    }
+    buffer[n - 1] == byte
+}
+
+// Whether the four tables of a basis hold these bytes.
 pub fn hold(
     states: &[u8; 520],
     standard: &[u8; 520],

@@ -21,6 +21,7 @@ pub fn drawn(head: Head, levels: &[i8]) -> bool {
     let mut standard = [170u8; 520];
     let mut leads = [170u8; 3600];
     let mut coefficients = [170u8; 28744];
+    let mut times = [170u8; 72];
     let settings = head.settings;
     let got = drawing::draw_up(
         settings,
@@ -28,12 +29,16 @@ pub fn drawn(head: Head, levels: &[i8]) -> bool {
         &mut standard,
         &mut leads,
         &mut coefficients,
+        &mut times,
         levels,
     );
     if got.cancellations != 0 {
         return false;
     }
     if !is_due(written::plain(got), head.refusal) {
+        return false;
+    }
+    if !buffers::holds(&times, &[170u8; 64]) {
         return false;
     }
     buffers::hold(

@@ -64,12 +64,13 @@ fn try_points(
     standard: &[u8; 512],
     leads: &[u8; 3592],
     coefficients: &[u8; 28736],
+    times: &[u8; 64],
     counts: &mut [u64; 16],
 ) {
-    let drawn = written::drawn(head, levels, states, standard, leads, coefficients);
+    let drawn = written::drawn(head, levels, states, standard, leads, coefficients, times);
     counts::count(counts, counts::DRAWN, drawn);
     if head.n != 0 {
-        let added = written::added(head, levels, states, standard, leads, coefficients);
+        let added = written::added(head, levels, states, standard, leads, coefficients, times);
         counts::count(counts, counts::ADDED, added);
     }
 }
@@ -83,6 +84,7 @@ fn try_answers(
     standard: &[u8; 512],
     leads: &[u8; 3592],
     coefficients: &[u8; 28736],
+    times: &[u8; 64],
     counts: &mut [u64; 16],
 ) {
     let values = buffers::signed_front(all_values, head.n as usize);
@@ -93,14 +95,24 @@ fn try_answers(
         standard,
         leads,
         coefficients,
+        times,
         values,
     );
     counts::count(counts, counts::INTERPOLATED, interpolated);
-    let wired = answered::wired(fd, head, states, standard, leads, coefficients, values);
+    let wired = answered::wired(
+        fd,
+        head,
+        states,
+        standard,
+        leads,
+        coefficients,
+        times,
+        values,
+    );
     counts::count(counts, counts::WIRED, wired);
-    let first = answered::reduced(fd, head, states, standard, leads, coefficients);
+    let first = answered::reduced(fd, head, states, standard, leads, coefficients, times);
     counts::count(counts, counts::REDUCED, first);
-    let second = answered::reduced(fd, head, states, standard, leads, coefficients);
+    let second = answered::reduced(fd, head, states, standard, leads, coefficients, times);
     counts::count(counts, counts::REDUCED, second);
 }
 
@@ -116,6 +128,8 @@ fn run_basis(fd: i32, head: Head, levels: &[i8], counts: &mut [u64; 16]) {
     buffers::read_front(fd, &mut leads, head.leads as usize);
     let mut coefficients = [0u8; 28736];
     buffers::read_front(fd, &mut coefficients, head.coefficients as usize);
+    let mut times = [0u8; 64];
+    buffers::read_front(fd, &mut times, head.n as usize);
     try_points(
         head,
         levels,
@@ -123,6 +137,7 @@ fn run_basis(fd: i32, head: Head, levels: &[i8], counts: &mut [u64; 16]) {
         &standard,
         &leads,
         &coefficients,
+        &times,
         counts,
     );
     try_answers(
@@ -133,6 +148,7 @@ fn run_basis(fd: i32, head: Head, levels: &[i8], counts: &mut [u64; 16]) {
         &standard,
         &leads,
         &coefficients,
+        &times,
         counts,
     );
 }

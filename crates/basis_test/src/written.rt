@@ -34,11 +34,13 @@ pub fn drawn(
     standard: &[u8; 512],
     leads: &[u8; 3592],
     coefficients: &[u8; 28736],
+    times: &[u8; 64],
 ) -> bool {
     let mut new_states = [170u8; 520];
     let mut new_standard = [170u8; 520];
     let mut new_leads = [170u8; 3600];
     let mut new_coefficients = [170u8; 28744];
+    let mut new_times = [170u8; 72];
     let settings = head.settings;
     let got = drawing::draw_up(
         settings,
@@ -46,12 +48,16 @@ pub fn drawn(
         &mut new_standard,
         &mut new_leads,
         &mut new_coefficients,
+        &mut new_times,
         levels,
     );
     if got.cancellations != head.cancellations as u32 {
         return false;
     }
     if !is_due(plain(got), head) {
+        return false;
+    }
+    if !buffers::holds(&new_times, times) {
         return false;
     }
     buffers::hold(
@@ -66,23 +72,69 @@ pub fn drawn(
     )
 }
 
-// The refusal of a point that is offered once more, and of one whose levels are out of range.
-fn again(head: Head) -> u8 {
-    if head.n == 64 { 8 } else { 11 }
-}
-
-fn outside(head: Head) -> u8 {
-    if head.n == 64 { 8 } else { 9 }
-}
-
-// Adding the last point to the others leaves the same as drawing up all; then it is refused, and so is one out of range, and neither changes a byte.
-fn add(
+// Offering the last point once more counts it twice.
+fn again(
     head: Head,
-    levels: &[i8],
+    last: &[i8],
     states: &mut [u8; 520],
     standard: &mut [u8; 520],
     leads: &mut [u8; 3600],
     coefficients: &mut [u8; 28744],
+    times: &mut [u8; 72],
+) -> bool {
+    let settings = head.settings;
+    let repeated = adding::add_point(
+        settings,
+        head.n as u64,
+        head.r as u64,
+        states,
+        standard,
+        leads,
+        coefficients,
+        times,
+        last,
+    );
+    if !is_due(repeated, head) {
+        return false;
+    }
+    buffers::ends(times, head.n as usize, 2)
+}
+
+// A point out of range is refused.
+fn outside(
+    head: Head,
+    count: usize,
+    states: &mut [u8; 520],
+    standard: &mut [u8; 520],
+    leads: &mut [u8; 3600],
+    coefficients: &mut [u8; 28744],
+    times: &mut [u8; 72],
+) -> bool {
+    let settings = head.settings;
+    let large = adding::add_point(
+        settings,
+        head.n as u64,
+        head.r as u64,
+        states,
+        standard,
+        leads,
+        coefficients,
+        times,
+        buffers::signed_front(&[127i8; 8], count),
+    );
+    refused::is_due(large, 9)
+}
+
+// Adding the last point to the others answers the same as drawing up all.
+fn add(
+    head: Head,
+    levels: &[i8],
+    last: &[i8],
+    states: &mut [u8; 520],
+    standard: &mut [u8; 520],
+    leads: &mut [u8; 3600],
+    coefficients: &mut [u8; 28744],
+    times: &mut [u8; 72],
 ) -> bool {
     let settings = head.settings;
     let before = drawing::draw_up(
@@ -91,9 +143,9 @@ fn add(
         standard,
         leads,
         coefficients,
+        times,
         buffers::signed_front(levels, head.before as usize),
     );
-    let last = buffers::signed_back(levels, head.before as usize);
     let got = adding::add_point(
         settings,
         before.n as u64,
@@ -102,37 +154,54 @@ fn add(
         standard,
         leads,
         coefficients,
+        times,
         last,
     );
-    if !is_due(got, head) {
-        return false;
-    }
-    let repeated = adding::add_point(
-        settings,
-        got.n as u64,
-        got.r as u64,
-        states,
-        standard,
-        leads,
-        coefficients,
-        last,
-    );
-    if !refused::is_due(repeated, again(head)) {
-        return false;
-    }
-    let large = adding::add_point(
-        settings,
-        got.n as u64,
-        got.r as u64,
-        states,
-        standard,
-        leads,
-        coefficients,
-        buffers::signed_front(&[127i8; 8], last.len()),
-    );
-    refused::is_due(large, outside(head))
+    is_due(got, head)
 }
 
+// The counts after the last point is added to the others; then it is offered once more, and one out of range is refused.
+fn offered(
+    head: Head,
+    levels: &[i8],
+    states: &mut [u8; 520],
+    standard: &mut [u8; 520],
+    leads: &mut [u8; 3600],
+    coefficients: &mut [u8; 28744],
+    times: &mut [u8; 72],
+    due_times: &[u8; 64],
+) -> bool {
+    let last = buffers::signed_back(levels, head.before as usize);
+    if !add(
+        head,
+        levels,
+        last,
+        states,
+        standard,
+        leads,
+        coefficients,
+        times,
+    ) {
+        return false;
+    }
+    if !buffers::holds(times, due_times) {
+        return false;
+    }
+    if !again(head, last, states, standard, leads, coefficients, times) {
+        return false;
+    }
+    outside(
+        head,
+        last.len(),
+        states,
+        standard,
+        leads,
+        coefficients,
+        times,
+    )
+}
+
+// The four tables are those of drawing up all, whatever was offered after the last point.
 pub fn added(
     head: Head,
     levels: &[i8],
@@ -140,18 +209,22 @@ pub fn added(
     standard: &[u8; 512],
     leads: &[u8; 3592],
     coefficients: &[u8; 28736],
+    times: &[u8; 64],
 ) -> bool {
     let mut new_states = [170u8; 520];
     let mut new_standard = [170u8; 520];
     let mut new_leads = [170u8; 3600];
     let mut new_coefficients = [170u8; 28744];
-    let passed = add(
+    let mut new_times = [170u8; 72];
+    let passed = offered(
         head,
         levels,
         &mut new_states,
         &mut new_standard,
         &mut new_leads,
         &mut new_coefficients,
+        &mut new_times,
+        times,
     );
     if !passed {
         return false;

@@ -2,3 +2,5 @@
 pub mod LevelLists
 pub mod PointTables
 pub mod PointPlaces
+pub mod EnteredBytes
+pub mod Gathering

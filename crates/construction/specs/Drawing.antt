@@ -11,7 +11,7 @@ use Rattle.residue.specs.Layout.{fill, inPlaces, over}
 use Rattle.specification.specs.declared.settings.Settings.{Settings}
 use Rattle.specification.specs.Levels.{noRepeat}
 use Rattle.specification.specs.BasisOf.{interpolantOf}
-use Rattle.specification.specs.Tables.{spaceUnder, pointsUnder, rowCount, tablesOf, pointsIn, statesSize}
+use Rattle.specification.specs.Tables.{spaceUnder, pointsUnder, rowCount, standardTable, leadsTable, coefficientsTable, pointsIn, statesSize}
 use Rattle.specification.proofs.agreement.Refusals.{Accepted}
 
 -- A working row: empty, and with values at its front.
@@ -52,9 +52,9 @@ pub record Solves (s : Settings) (S : List (List ℕ)) (rows pivots : List ℕ) 
 -- The row count and the three tables of the points' basis.
 pub record Tabled (s : Settings) (S : List (List ℕ)) (r : ℕ) (standard leads coefficients : List ℕ) : Type 0 where
   pub row-count : r ≡ rowCount s S
-  pub standard-table : standard ≡ tablesOf s S .standard
-  pub leads-table : leads ≡ tablesOf s S .leads
-  pub coefficients-table : coefficients ≡ tablesOf s S .coefficients
+  pub standard-table : standard ≡ standardTable s S
+  pub leads-table : leads ≡ leadsTable s S
+  pub coefficients-table : coefficients ≡ coefficientsTable s S
 
 -- And the pivot rows.
 pub record DrawnUp (s : Settings) (S : List (List ℕ)) (r : ℕ) (standard leads coefficients rows pivots : List ℕ) : Type 0 where

@@ -1,3 +1,3 @@
 -- The definitions of the crate construction.
-pub mod Points
 pub mod Drawing
+pub mod Gathering

@@ -1,29 +1,35 @@
 // Points: the residues of levels, as places of 8 bytes in a table, and whether one repeats.
 use residue::arithmetic;
+use residue::bytes;
 use residue::level;
 use residue::level::Level;
 use specification::settings::Settings;
 ghost use mathlib.Core.Path.{_≡_};
+ghost use mathlib.Core.Bool.{_&&_};
 ghost use mathlib.Core.List.{map};
-ghost use Prim.Native.Nat.{_*_, _%_, _≤_};
-ghost use lib.ListN.{length, replicate};
+ghost use Prim.Native.Nat.{_+_, _*_, _%_, _≤_};
+ghost use lib.ListN.{length, getD, take, drop, replicate};
+ghost use lib.Dec.{T, eqb, ltb};
 ghost use Rattle.residue.specs.Level.{residueOf};
 ghost use Rattle.residue.specs.Layout.{groups, fill, inPlaces, over};
 ghost use Rattle.residue.specs.Lists.{keyOf};
 ghost use Rattle.specification.specs.Levels.{residueOr0, inRange, residues, isAmong, noRepeat};
-ghost use Rattle.specification.specs.Tables.{pointsIn, statesSize};
-ghost use Rattle.construction.specs.Points.{placeIn};
+ghost use Rattle.specification.specs.Tables.{pointsIn, statesSize, countsSize, statesTable};
+ghost use Rattle.specification.specs.Refusal.{firstOf};
+ghost use Rattle.specification.specs.Counted.{placeIn, pointsOf, countsOf, gathered, overfull};
+ghost use Rattle.construction.specs.Gathering.{pointsEntered, countsEntered};
 
-// Whether each level has a residue.
+// Whether each level has a residue. The loop runs to the end, so that it is compiled to packed instructions.
 pub fn in_range(p: u8, levels: &[i8]) -> bool
     ensures { λ r. ⌜ r ≡ inRange p (now (levels .entry)) ⌝ }
 {
+    let mut outside: u8 = 0;
     for i in 0..levels.len() {
-        let Level::Residue(_) = level::residue(p, levels[i]) else {
-            return false;
-        };
+        if p <= level::magnitude(levels[i]) {
+            outside = 1;
+        }
     }
-    true
+    outside == 0
 }
 
 // The residue of a level that has one.
@@ -46,18 +52,30 @@ pub fn put_residues(p: u8, levels: &[i8], to: &mut [u8])
     }
 }
 
-// The points of levels, m a point, in a table of zeros.
-pub fn put_points(p: u8, m: usize, count: usize, levels: &[i8], states: &mut [u8])
-    requires { ⌜ (m ≤ 8) × (count ≤ 64) ⌝ }
-    requires { ⌜ length (now levels) ≡ m * count ⌝ }
-    requires { ⌜ now states ≡ replicate statesSize 0 ⌝ }
-    ensures { λ _. ⌜ now (states .exit) ≡ fill statesSize (inPlaces 8 (groups m count (residues p (now (levels .entry))))) ⌝ }
+// The residues of the first m of 8 levels, and zeros behind them. All 8 are gone through: so they are compiled to packed instructions.
+fn put_first(p: u8, m: usize, levels: &[i8], to: &mut [u8])
+    requires { ⌜ (m ≤ 8) × (length (now levels) ≡ 8) × (length (now to) ≡ 8) ⌝ }
+    ensures { λ _. ⌜ now (to .exit) ≡ fill 8 (residues p (take m (now (levels .entry)))) ⌝ }
 {
-    for i in 0..count {
-        let level = m * i;
-        let place = 8 * i;
-        put_residues(p, &levels[level..level + m], &mut states[place..place + 8]);
+    for i in 0..8 {
+        let mut x = residue_or_0(p, levels[i]);
+        if m <= i {
+            x = 0;
+        }
+        to[i] = x;
     }
+}
+
+// The point whose m levels begin at a place, in 8 bytes of zeros. Where 8 levels are left, some of them of later points, they are read at once.
+fn put_point(p: u8, m: usize, from: usize, levels: &[i8], to: &mut [u8])
+    requires { ⌜ (m ≤ 8) × (from + m ≤ length (now levels)) × (now to ≡ replicate 8 0) ⌝ }
+    ensures { λ _. ⌜ now (to .exit) ≡ fill 8 (take m (drop from (residues p (now (levels .entry))))) ⌝ }
+{
+    if levels.len() - from < 8 {
+        put_residues(p, &levels[from..from + m], to);
+        return;
+    }
+    put_first(p, m, &levels[from..from + 8], to);
 }
 
 // The m coordinates of one point, reduced.
@@ -138,4 +156,114 @@ pub fn no_repeat(n: usize, states: &[u8]) -> bool
         }
     }
     true
+}
+
+// Where a point stands among the first n of a table, none of which repeats, or n. Where a point with the same remainder of its key by 2039 was found last is
+// looked at first: any place will do as a guess. The 256 points of 8 coordinates modulo 2 have different remainders.
+fn find(n: usize, points: &[u8], point: &[u8], guesses: &mut [u8]) -> usize
+    requires { ⌜ (n ≤ 64) × (8 * n ≤ length (now points)) × (length (now point) ≡ 8) × (length (now guesses) ≡ 2039) ⌝ }
+    requires { ⌜ T (noRepeat (groups 8 n (now points))) ⌝ }
+    ensures { λ i. ⌜ i ≡ placeIn (now (point .entry)) (groups 8 n (now (points .entry))) ⌝ }
+{
+    let own = key(point);
+    let remainder = (own % 2039) as usize;
+    let guess = guesses[remainder] as usize;
+    if guess < n {
+        let place = 8 * guess;
+        if own == key(&points[place..place + 8]) {
+            return guess;
+        }
+    }
+    let at = place_of(n, points, point);
+    guesses[remainder] = at as u8;
+    at
+}
+
+// Enters a point whose place among the first n of a table is known, n where it is new: a new one behind them, with count 1, unless 64 are there; one that is
+// there is counted, unless its count is 255. Says whether it is.
+fn enter_at(n: usize, at: usize, points: &mut [u8], counts: &mut [u8], point: &[u8]) -> bool
+    requires { ⌜ (n ≤ 64) × (at ≤ n) ⌝ }
+    requires { ⌜ (length (now points) ≡ 512) × (length (now counts) ≡ 64) × (length (now point) ≡ 8) ⌝ }
+    ensures { λ over. ⌜ over ≡ (ltb at n && eqb (getD (now (counts .entry)) at 0) 255) ⌝ }
+    ensures { λ _. ⌜ now (points .exit) ≡ pointsEntered n at (now (point .entry)) (now (points .entry)) ⌝ }
+    ensures { λ _. ⌜ now (counts .exit) ≡ countsEntered n at (now (counts .entry)) ⌝ }
+{
+    if at < n {
+        let count = counts[at];
+        if count == 255 {
+            return true;
+        }
+        counts[at] = count + 1;
+        return false;
+    }
+    if n < 64 {
+        let place = 8 * n;
+        bytes::copy(point, &mut points[place..place + 8]);
+        counts[n] = 1;
+    }
+    false
+}
+
+// Where a point stands among the first n of a table, n where it is new; whether its count is 255 already.
+pub struct Entered {
+    pub at: usize,
+    pub over: bool,
+}
+
+// Enters a point among the first n of a table.
+pub fn enter(n: usize, points: &mut [u8], counts: &mut [u8], point: &[u8]) -> Entered
+    requires { ⌜ n ≤ 64 ⌝ }
+    requires { ⌜ (length (now points) ≡ 512) × (length (now counts) ≡ 64) × (length (now point) ≡ 8) ⌝ }
+    ensures { λ e. ⌜ e .at ≡ placeIn (now (point .entry)) (groups 8 n (now (points .entry))) ⌝ }
+    ensures { λ e. ⌜ e .over ≡ (ltb (e .at) n && eqb (getD (now (counts .entry)) (e .at) 0) 255) ⌝ }
+    ensures { λ e. ⌜ now (points .exit) ≡ pointsEntered n (e .at) (now (point .entry)) (now (points .entry)) ⌝ }
+    ensures { λ e. ⌜ now (counts .exit) ≡ countsEntered n (e .at) (now (counts .entry)) ⌝ }
+{
+    let at = place_of(n, points, point);
+    let over = enter_at(n, at, points, counts, point);
+    Entered { at, over }
+}
+
+// How many points were gathered, or why they are refused.
+pub struct Gathered {
+    pub refusal: u8,
+    pub n: usize,
+}
+
+// The distinct points of levels, m a point, in a table of zeros, with their counts: refused with 8 at the 65th, with 13 where one occurs more than 255 times.
+pub fn gather(
+    p: u8,
+    m: usize,
+    count: usize,
+    levels: &[i8],
+    points: &mut [u8],
+    counts: &mut [u8],
+) -> Gathered
+    requires { ⌜ (m ≤ 8) × (length (now levels) ≡ m * count) ⌝ }
+    requires { ⌜ (now points ≡ replicate statesSize 0) × (now counts ≡ replicate countsSize 0) ⌝ }
+    ensures { λ g. ⌜ g .refusal ≡ firstOf 0 (overfull (gathered (groups m count (residues p (now (levels .entry)))))) ⌝ }
+    ensures { λ g. ⌜ (g .refusal ≡ 0 → (g .n ≡ length (gathered (groups m count (residues p (now (levels .entry))))))
+        × ((now (points .exit) ≡ statesTable (pointsOf (gathered (groups m count (residues p (now (levels .entry)))))))
+        × (now (counts .exit) ≡ fill countsSize (countsOf (gathered (groups m count (residues p (now (levels .entry))))))))) ⌝ }
+{
+    let mut guesses = [0u8; 2039];
+    let mut n = 0;
+    let mut over = false;
+    for i in 0..count {
+        let mut point = [0u8; 8];
+        put_point(p, m, m * i, levels, &mut point);
+        let at = find(n, points, &point, &mut guesses);
+        let full = enter_at(n, at, points, counts, &point);
+        if at == 64 {
+            return Gathered { refusal: 8, n };
+        }
+        if at == n {
+            n += 1;
+        }
+        over = over | full;
+    }
+    if over {
+        return Gathered { refusal: 13, n };
+    }
+    Gathered { refusal: 0, n }
 }

@@ -97,7 +97,8 @@ pub fn print_text(text: &[u8], out: &mut [u8]) -> usize
     }
     let mut states = [0u8; 512];
     let mut values = [0u8; 64];
-    let read = read_text(text, &mut states, &mut values);
+    let mut counts = [0u8; 64];
+    let read = read_text(text, &mut states, &mut values, &mut counts);
     let refusal = read.refusal;
     if refusal != 0 {
         return put_refusal(out, 0, refusal, read.at);

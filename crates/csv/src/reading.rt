@@ -1,9 +1,9 @@
 // The text reader.
 mod fields;
 pub mod forms;
+mod gathering;
 mod points;
 mod records;
-mod repeats;
 
 ghost use mathlib.Core.Path.{_≡_};
 ghost use Prim.Native.Nat.{_≤_};
@@ -33,15 +33,15 @@ pub struct Read {
     pub n: u8,
 }
 
-// What the settings, the number of entries and the lent lengths decide.
+// What the settings and the lent lengths decide.
 fn settings_refusal(
     modulus: u16,
     variables: usize,
-    n: usize,
     states: usize,
     values: usize,
+    counts: usize,
 ) -> Refusal
-    ensures { λ r. ⌜ r ≡ firstOf notRefused (headerCases modulus variables n states values) ⌝ }
+    ensures { λ r. ⌜ r ≡ firstOf notRefused (headerCases modulus variables states values counts) ⌝ }
 {
     if !residue::level::is_modulus(modulus as u64) {
         return Refusal { refusal: 3, at: 1 };
@@ -58,8 +58,8 @@ fn settings_refusal(
     if values < 64 {
         return Refusal { refusal: 6, at: 0 };
     }
-    if 64 < n {
-        return Refusal { refusal: 8, at: 66 };
+    if counts < 64 {
+        return Refusal { refusal: 6, at: 0 };
     }
     Refusal { refusal: 0, at: 0 }
 }
@@ -78,60 +78,67 @@ fn refused(refusal: u8, at: u16) -> Read
     }
 }
 
-// The n entries from `from` on under these settings. Every refusal is decided before a lent byte is written.
+// The entries from `from` on, so many, under these settings. Every refusal is decided before a lent byte is written.
 fn read_entries(
     text: &[u8],
     from: usize,
     modulus: u16,
     variables: usize,
     order: u8,
-    n: usize,
+    entries: usize,
     states: &mut [u8],
     values: &mut [u8],
+    counts: &mut [u8],
 ) -> Read
-    requires { ⌜ from ≤ length (now text) ⌝ }
-    requires { ⌜ counted 0 (entriesAt variables (drop from (now text))) ≡ Count n ⌝ }
-    ensures { λ r. ⌜ textEnded r (now (states .exit)) (now (values .exit))
-        ≡ entriesOutcome modulus variables order n (drop from (now (text .entry))) (now (states .entry)) (now (values .entry)) ⌝ }
+    requires { ⌜ (from ≤ length (now text)) × (length (now text) ≤ 16384) ⌝ }
+    requires { ⌜ counted 0 (entriesAt variables (drop from (now text))) ≡ Count entries ⌝ }
+    ensures { λ r. ⌜ textEnded r (now (states .exit)) (now (values .exit)) (now (counts .exit))
+        ≡ entriesOutcome modulus variables order (drop from (now (text .entry))) (now (states .entry)) (now (values .entry)) (now (counts .entry)) ⌝ }
 {
-    let first = settings_refusal(modulus, variables, n, states.len(), values.len());
+    let first = settings_refusal(modulus, variables, states.len(), values.len(), counts.len());
     let refusal = first.refusal;
     if refusal != 0 {
         return refused(refusal, first.at);
     }
-    let mut rows = [0u8; 512];
-    let mut residues = [0u8; 64];
-    let outside = points::fill_entries(
-        text,
-        from,
-        modulus as u8,
-        variables,
-        n,
-        &mut rows,
-        &mut residues,
-    );
+    let p = modulus as u8;
+    let outside = points::first_outside(text, from, p, variables, entries);
     if outside != 0 {
         return refused(9, outside as u16 + 1);
     }
-    let repeated = repeats::first_repeat(&rows, n);
-    if repeated != 0 {
-        return refused(11, repeated as u16 + 1);
+    let mut rows = [0u8; 512];
+    let mut times = [0u8; 64];
+    let mut residues = [0u8; 64];
+    let all = gathering::gather_entries(
+        text,
+        from,
+        p,
+        variables,
+        entries,
+        &mut rows,
+        &mut times,
+        &mut residues,
+    );
+    let beyond = all.refusal;
+    if beyond != 0 {
+        return refused(beyond, all.at);
     }
     bytes::copy(&rows, states);
     bytes::copy(&residues, values);
+    bytes::copy(&times, counts);
     Read {
         refusal: 0,
         at: 0,
         modulus,
         variables: variables as u8,
         order,
-        n: n as u8,
+        n: all.n,
     }
 }
 
-// The settings and the number of points of a text, the points and values into the lent buffers.
-pub fn read_text(text: &[u8], states: &mut [u8], values: &mut [u8]) -> Read
-    ensures { λ r. ⌜ textEnded r (now (states .exit)) (now (values .exit)) ≡ readOutcome (now (text .entry)) (now (states .entry)) (now (values .entry)) ⌝ }
+// The settings of a text and the number of its distinct points; the points, the values of their first records and their counts into the lent buffers.
+pub fn read_text(text: &[u8], states: &mut [u8], values: &mut [u8], counts: &mut [u8]) -> Read
+    ensures { λ r. ⌜ textEnded r (now (states .exit)) (now (values .exit)) (now (counts .exit))
+        ≡ readOutcome (now (text .entry)) (now (states .entry)) (now (values .entry)) (now (counts .entry)) ⌝ }
 {
     if 16384 < text.len() {
         return refused(1, 0);
@@ -147,6 +154,16 @@ pub fn read_text(text: &[u8], states: &mut [u8], values: &mut [u8]) -> Read
     };
     match records::check_entries(text, next, variables) {
         Entries::Refused { refusal, at } => refused(refusal, at as u16),
-        Entries::Count(n) => read_entries(text, next, modulus, variables, order, n, states, values),
+        Entries::Count(n) => read_entries(
+            text,
+            next,
+            modulus,
+            variables,
+            order,
+            n,
+            states,
+            values,
+            counts,
+        ),
     }
 }

@@ -53,8 +53,8 @@ fn read_front(fd: i32, buffer: &mut [u8], n: usize) {
     }
 }
 
-// An accepted text leaves n points and values, zeros behind them, and nothing beyond the sizes.
-fn filled(fd: i32, n: u8, states: &[u8], values: &[u8]) -> bool {
+// An accepted text leaves n points, values and counts, zeros behind them, and nothing beyond the sizes.
+fn filled(fd: i32, n: u8, states: &[u8], values: &[u8], counts: &[u8]) -> bool {
     let count = n as usize;
     if 64 < count {
         return false;
@@ -63,40 +63,37 @@ fn filled(fd: i32, n: u8, states: &[u8], values: &[u8]) -> bool {
     read_front(fd, &mut points, 8 * count);
     let mut residues = [0u8; 64];
     read_front(fd, &mut residues, count);
+    let mut times = [0u8; 64];
+    read_front(fd, &mut times, count);
     if !holds(states, &points, &[170u8; 8]) {
         return false;
     }
-    holds(values, &residues, &[170u8; 6])
+    if !holds(values, &residues, &[170u8; 6]) {
+        return false;
+    }
+    holds(counts, &times, &[170u8; 4])
 }
 
 // A refused text leaves the buffers as they were.
-fn untouched(states: &[u8], values: &[u8]) -> bool {
+fn untouched(states: &[u8], values: &[u8], counts: &[u8]) -> bool {
     if !forms::same(states, &[170u8; 520]) {
         return false;
     }
-    forms::same(values, &[170u8; 70])
+    if !forms::same(values, &[170u8; 70]) {
+        return false;
+    }
+    forms::same(counts, &[170u8; 68])
 }
 
-// The reader over the first bytes of each buffer; refusal 255 where one is too short for the case.
-fn read_parts(
-    text: &[u8],
-    length: usize,
-    states: &mut [u8],
-    lent: usize,
-    values: &mut [u8],
-    room: usize,
-) -> Read {
-    if length <= text.len() {
-        if lent <= states.len() {
-            if room <= values.len() {
-                return reading::read_text(
-                    &text[..length],
-                    &mut states[..lent],
-                    &mut values[..room],
-                );
-            }
-        }
-    }
+// What a case lends: so many bytes of each buffer.
+struct Lent {
+    states: usize,
+    values: usize,
+    counts: usize,
+}
+
+// What stands for a case that lends more than there is.
+fn unread() -> Read {
     Read {
         refusal: 255,
         at: 0,
@@ -107,25 +104,58 @@ fn read_parts(
     }
 }
 
+// The reader over the first bytes of each buffer.
+fn read_parts(
+    text: &[u8],
+    length: usize,
+    lent: Lent,
+    states: &mut [u8],
+    values: &mut [u8],
+    counts: &mut [u8],
+) -> Read {
+    let a = lent.states;
+    let b = lent.values;
+    let c = lent.counts;
+    if text.len() < length {
+        return unread();
+    }
+    if states.len() < a {
+        return unread();
+    }
+    if values.len() < b {
+        return unread();
+    }
+    if counts.len() < c {
+        return unread();
+    }
+    reading::read_text(
+        &text[..length],
+        &mut states[..a],
+        &mut values[..b],
+        &mut counts[..c],
+    )
+}
+
 // One text, lent buffers of these lengths, and what must be answered and left: 1 where it passed, 2 where it did not.
-fn run_text(fd: i32, length: usize, lent: usize, room: usize, want: Read) -> u8 {
+fn run_text(fd: i32, length: usize, lent: Lent, want: Read) -> u8 {
     let mut text = [0u8; 70000];
     let mut states = [170u8; 520];
     let mut values = [170u8; 70];
+    let mut counts = [170u8; 68];
     let refusal = want.refusal;
     let n = want.n;
     read_front(fd, &mut text, length);
-    let got = read_parts(&text, length, &mut states, lent, &mut values, room);
+    let got = read_parts(&text, length, lent, &mut states, &mut values, &mut counts);
     if !same_answer(got, want) {
         return 2;
     }
     if refusal == 0 {
-        if filled(fd, n, &states, &values) {
+        if filled(fd, n, &states, &values, &counts) {
             return 1;
         }
         return 2;
     }
-    if untouched(&states, &values) {
+    if untouched(&states, &values, &counts) {
         return 1;
     }
     2
@@ -133,23 +163,26 @@ fn run_text(fd: i32, length: usize, lent: usize, room: usize, want: Read) -> u8 
 
 // The next case, or 0 where there is none left.
 fn run_case(fd: i32) -> u8 {
-    let mut head = [0u8; 14];
+    let mut head = [0u8; 15];
     let got = io::read_full(fd, &mut head);
-    if got < 14 {
+    if got < 15 {
         return 0;
     }
     let length = size(head[0], head[1], head[2]);
-    let lent = size(head[3], head[4], 0);
-    let room = size(head[5], 0, 0);
-    let want = Read {
-        refusal: head[6],
-        at: word(head[7], head[8]),
-        modulus: word(head[9], head[10]),
-        variables: head[11],
-        order: head[12],
-        n: head[13],
+    let lent = Lent {
+        states: size(head[3], head[4], 0),
+        values: size(head[5], 0, 0),
+        counts: size(head[6], 0, 0),
     };
-    run_text(fd, length, lent, room, want)
+    let want = Read {
+        refusal: head[7],
+        at: word(head[8], head[9]),
+        modulus: word(head[10], head[11]),
+        variables: head[12],
+        order: head[13],
+        n: head[14],
+    };
+    run_text(fd, length, lent, want)
 }
 
 // A case that does not pass is printed by its place.

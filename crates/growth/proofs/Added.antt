@@ -27,7 +27,8 @@ use Rattle.specification.specs.Space.{Space}
 use Rattle.specification.specs.Polynomial.{Distinct}
 use Rattle.specification.specs.BasisOf.{standardOf, leadsOf, rowOf, rowsOf, interpolantOf}
 use Rattle.specification.specs.Instance.{Monomial, Point, reduced, pointOf}
-use Rattle.specification.specs.Tables.{spaceUnder, pointsUnder, standardUnder, leadsUnder, rowsUnder, rowCount, tablesOf, pointsIn}
+use Rattle.specification.specs.Tables.{spaceUnder, pointsUnder, standardUnder, leadsUnder, rowsUnder, rowCount, pointsIn}
+use Rattle.specification.specs.Tables.{statesTable, standardTable, leadsTable, coefficientsTable}
 use Rattle.specification.proofs.Repeats.{is-among}
 use Rattle.specification.proofs.agreement.Points.{IsPoint, Points, points-more}
 use Rattle.specification.proofs.agreement.Drawings as Drawings
@@ -162,15 +163,15 @@ module _ {s : Settings} {n r : ℕ} {points standard leads coefficients rows piv
 
   -- the tables
   standard-is : standard ≡ table q m o (given .settings .few) L 512 (standardUnder s K)
-  unfolding tablesOf
+  unfolding standardTable
   standard-is = drawn .tabled .standard-table
 
   leads-are : leads ≡ table q m o (given .settings .few) L 3592 (leadsUnder s K)
-  unfolding tablesOf
+  unfolding leadsTable
   leads-are = drawn .tabled .leads-table
 
   rows-are : coefficients ≡ fill 28736 (inPlaces 64 (rowsUnder s K))
-  unfolding tablesOf
+  unfolding coefficientsTable
   rows-are = drawn .tabled .coefficients-table
 
   point-is : point ≡ fill 8 (P .0)
@@ -264,7 +265,7 @@ module _ {s : Settings} {n r : ℕ} {points standard leads coefficients rows piv
 
     pub added : (k : ℕ) (ns nl nc : List ℕ) → ns ≡ standardGrown o n standard (rowAt 8 j leads) → grown k nl nc ≡ grownBy p m o n r points standard leads coefficients rows pivots point vs j
         → Tabled s (allPoints s n points point) k ns nl nc
-    unfolding tablesOf rowCount
+    unfolding standardTable leadsTable coefficientsTable rowCount
     added k ns nl nc es eg =
         let all : pointsUnder s (K ++ (take m point ∷ [])) ≡ S ++ (P ∷ []) = map-append (pointOf q m) K (take m point ∷ []) in
         let b = basis-snoc D L S P d far in
@@ -282,8 +283,8 @@ module _ {s : Settings} {n r : ℕ} {points standard leads coefficients rows piv
 
 -- the table of points with the new one in its place
 pub states-more : (s : Settings) (n : ℕ) {points point : List ℕ} → PointsGiven s n points → n < 64 → NewPoint s (pointsIn s n points) point
-    → withPlace 8 n point points ≡ tablesOf s (allPoints s n points point) .states
-unfolding tablesOf inPlaces withPlace
+    → withPlace 8 n point points ≡ statesTable (allPoints s n points point)
+unfolding statesTable inPlaces withPlace
 states-more s n {points} {point} given room new =
     let K : List (List ℕ) = pointsIn s n points in
     let P : List ℕ = take (s .variables) point in

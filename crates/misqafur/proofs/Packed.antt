@@ -11,18 +11,18 @@ use Rattle.csv.specs.declared.reading.Read.{Read}
 use Rattle.csv.specs.reading.Text.{TextOutcome, textEnded}
 use Rattle.misqafur.specs.Packing.{packedAnswer, packedDrawn, packedWired, packedRead, left, packedOutcome, packedDrawing, leftList, packedList, leftReading, packedReading}
 
-pub packs : {a : Answer} {b c d e : List ℕ} {o : Outcome} {k : ℕ} → ended a b c d e ≡ o → k ≡ packedAnswer a → left k b c d e ≡ packedOutcome o
+pub packs : {a : Answer} {b c d e f : List ℕ} {o : Outcome} {k : ℕ} → ended a b c d e f ≡ o → k ≡ packedAnswer a → left k b c d e f ≡ packedOutcome o
 unfolding packedOutcome
-packs {b = b} {c = c} {d = d} {e = e} h n = ap (λ (k : ℕ). left k b c d e) n ∙ ap packedOutcome h
+packs {b = b} {c = c} {d = d} {e = e} {f = f} h n = ap (λ (k : ℕ). left k b c d e f) n ∙ ap packedOutcome h
 
-pub packs-drawn : {a : Drawn} {b c d e : List ℕ} {o : DrawOutcome} {k : ℕ} → drawEnded a b c d e ≡ o → k ≡ packedDrawn a → left k b c d e ≡ packedDrawing o
+pub packs-drawn : {a : Drawn} {b c d e f : List ℕ} {o : DrawOutcome} {k : ℕ} → drawEnded a b c d e f ≡ o → k ≡ packedDrawn a → left k b c d e f ≡ packedDrawing o
 unfolding packedDrawing
-packs-drawn {b = b} {c = c} {d = d} {e = e} h n = ap (λ (k : ℕ). left k b c d e) n ∙ ap packedDrawing h
+packs-drawn {b = b} {c = c} {d = d} {e = e} {f = f} h n = ap (λ (k : ℕ). left k b c d e f) n ∙ ap packedDrawing h
 
 pub packs-list : {w : Wired} {b : List ℕ} {o : Listed} {k : ℕ} → listed w b ≡ o → k ≡ packedWired w → leftList k b ≡ packedList o
 unfolding packedList
 packs-list {b = b} h n = ap (λ (k : ℕ). leftList k b) n ∙ ap packedList h
 
-pub packs-read : {r : Read} {b c : List ℕ} {o : TextOutcome} {k : ℕ} → textEnded r b c ≡ o → k ≡ packedRead r → leftReading k b c ≡ packedReading o
+pub packs-read : {r : Read} {b c d : List ℕ} {o : TextOutcome} {k : ℕ} → textEnded r b c d ≡ o → k ≡ packedRead r → leftReading k b c d ≡ packedReading o
 unfolding packedReading
-packs-read {b = b} {c = c} h n = ap (λ (k : ℕ). leftReading k b c) n ∙ ap packedReading h
+packs-read {b = b} {c = c} {d = d} h n = ap (λ (k : ℕ). leftReading k b c d) n ∙ ap packedReading h

@@ -7,7 +7,7 @@ use Rattle.specification.specs.declared.settings.Settings.{Settings}
 use Rattle.specification.specs.declared.settings.Answer.{Answer}
 use Rattle.specification.specs.declared.settings.Drawn.{Drawn}
 use Rattle.specification.specs.declared.settings.Wired.{Wired}
-use Rattle.specification.specs.Tables.{Tables, fourTables}
+use Rattle.specification.specs.Tables.{Tables, fiveTables}
 use Rattle.specification.specs.Adding.{Outcome, DrawOutcome}
 use Rattle.specification.specs.Solving.{Listed}
 use Rattle.csv.specs.declared.reading.Read.{Read}
@@ -43,8 +43,8 @@ pub record Left : Type 0 where
   pub number : ℕ
   pub tables : Tables
 
-abbrev pub left : ℕ → List ℕ → List ℕ → List ℕ → List ℕ → Left
-left a states standard leads coefficients = record { number = a; tables = fourTables states standard leads coefficients }
+abbrev pub left : ℕ → List ℕ → List ℕ → List ℕ → List ℕ → List ℕ → Left
+left a states standard leads coefficients counts = record { number = a; tables = fiveTables states standard leads coefficients counts }
 
 unfoldable pub packedOutcome : Outcome → Left
 packedOutcome o = record { number = packedAnswer (o .answer); tables = o .tables }
@@ -68,9 +68,10 @@ pub record LeftReading : Type 0 where
   pub number : ℕ
   pub states : List ℕ
   pub values : List ℕ
+  pub counts : List ℕ
 
-abbrev pub leftReading : ℕ → List ℕ → List ℕ → LeftReading
-leftReading a states values = record { number = a; states = states; values = values }
+abbrev pub leftReading : ℕ → List ℕ → List ℕ → List ℕ → LeftReading
+leftReading a states values counts = record { number = a; states = states; values = values; counts = counts }
 
 unfoldable pub packedReading : TextOutcome → LeftReading
-packedReading o = record { number = packedRead (o .answer); states = o .states; values = o .values }
+packedReading o = record { number = packedRead (o .answer); states = o .states; values = o .values; counts = o .counts }

@@ -3,7 +3,7 @@ use crate::packing::pack_wired;
 use basis::answers;
 use specification::settings::Settings;
 ghost use mathlib.Core.Path.{_≡_};
-ghost use Rattle.specification.specs.Tables.{fourTables};
+ghost use Rattle.specification.specs.Tables.{fiveTables};
 ghost use Rattle.specification.specs.Solving.{answering, interpolateOutcome, remainderOutcome, wiringOutcome};
 ghost use Rattle.misqafur.specs.Packing.{givenSettings, leftList, packedList};
 
@@ -19,12 +19,13 @@ pub extern "C" fn misqafur_interpolate(
     standard: &[u8],
     leads: &[u8],
     coefficients: &[u8],
+    counts: &[u8],
     values: &[i8],
     out: &mut [u8],
 ) -> u32
     ensures { λ a. ⌜ answering a (now (out .exit))
         ≡ interpolateOutcome (givenSettings modulus variables order) n r
-        (fourTables (now (states .entry)) (now (standard .entry)) (now (leads .entry)) (now (coefficients .entry)))
+        (fiveTables (now (states .entry)) (now (standard .entry)) (now (leads .entry)) (now (coefficients .entry)) (now (counts .entry)))
         (now (values .entry)) (now (out .entry)) ⌝ }
 {
     let settings = Settings {
@@ -40,6 +41,7 @@ pub extern "C" fn misqafur_interpolate(
         standard,
         leads,
         coefficients,
+        counts,
         values,
         out,
     ) as u32
@@ -57,13 +59,14 @@ pub extern "C" fn misqafur_remainder(
     standard: &[u8],
     leads: &[u8],
     coefficients: &[u8],
+    counts: &[u8],
     term_coefficients: &[i8],
     exponents: &[u8],
     out: &mut [u8],
 ) -> u32
     ensures { λ a. ⌜ answering a (now (out .exit))
         ≡ remainderOutcome (givenSettings modulus variables order) n r
-        (fourTables (now (states .entry)) (now (standard .entry)) (now (leads .entry)) (now (coefficients .entry)))
+        (fiveTables (now (states .entry)) (now (standard .entry)) (now (leads .entry)) (now (coefficients .entry)) (now (counts .entry)))
         (now («term_coefficients» .entry)) (now (exponents .entry)) (now (out .entry)) ⌝ }
 {
     let settings = Settings {
@@ -79,6 +82,7 @@ pub extern "C" fn misqafur_remainder(
         standard,
         leads,
         coefficients,
+        counts,
         term_coefficients,
         exponents,
         out,
@@ -97,12 +101,13 @@ pub extern "C" fn misqafur_wiring(
     standard: &[u8],
     leads: &[u8],
     coefficients: &[u8],
+    counts: &[u8],
     values: &[i8],
     out: &mut [u8],
 ) -> u32
     ensures { λ a. ⌜ leftList a (now (out .exit))
         ≡ packedList (wiringOutcome (givenSettings modulus variables order) n r
-        (fourTables (now (states .entry)) (now (standard .entry)) (now (leads .entry)) (now (coefficients .entry)))
+        (fiveTables (now (states .entry)) (now (standard .entry)) (now (leads .entry)) (now (coefficients .entry)) (now (counts .entry)))
         (now (values .entry)) (now (out .entry))) ⌝ }
 {
     let settings = Settings {
@@ -118,6 +123,7 @@ pub extern "C" fn misqafur_wiring(
         standard,
         leads,
         coefficients,
+        counts,
         values,
         out,
     ))

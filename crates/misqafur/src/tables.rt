@@ -1,4 +1,4 @@
-// Adding to, withdrawing from, drawing up and checking the four lent tables. Levels are bytes that are read as signed ones, 255 as -1.
+// Adding to, withdrawing from, drawing up and checking the five lent tables. Levels are bytes that are read as signed ones, 255 as -1.
 use crate::packing::pack_answer;
 use crate::packing::pack_drawn;
 use basis::adding;
@@ -7,7 +7,7 @@ use basis::drawing;
 use basis::withdrawing;
 use specification::settings::Settings;
 ghost use mathlib.Core.Path.{_≡_};
-ghost use Rattle.specification.specs.Tables.{fourTables};
+ghost use Rattle.specification.specs.Tables.{fiveTables};
 ghost use Rattle.specification.specs.Adding.{addOutcome, drawOutcome};
 ghost use Rattle.specification.specs.Withdrawing.{withdrawOutcome};
 ghost use Rattle.specification.specs.Solving.{checkRefusal};
@@ -25,11 +25,12 @@ pub extern "C" fn misqafur_add_point(
     standard: &mut [u8],
     leads: &mut [u8],
     coefficients: &mut [u8],
+    counts: &mut [u8],
     levels: &[i8],
 ) -> u32
-    ensures { λ a. ⌜ left a (now (states .exit)) (now (standard .exit)) (now (leads .exit)) (now (coefficients .exit))
+    ensures { λ a. ⌜ left a (now (states .exit)) (now (standard .exit)) (now (leads .exit)) (now (coefficients .exit)) (now (counts .exit))
         ≡ packedOutcome (addOutcome (givenSettings modulus variables order) n r
-        (fourTables (now (states .entry)) (now (standard .entry)) (now (leads .entry)) (now (coefficients .entry))) (now (levels .entry))) ⌝ }
+        (fiveTables (now (states .entry)) (now (standard .entry)) (now (leads .entry)) (now (coefficients .entry)) (now (counts .entry))) (now (levels .entry))) ⌝ }
 {
     let settings = Settings {
         modulus,
@@ -44,6 +45,7 @@ pub extern "C" fn misqafur_add_point(
         standard,
         leads,
         coefficients,
+        counts,
         levels,
     );
     pack_answer(a)
@@ -61,11 +63,12 @@ pub extern "C" fn misqafur_withdraw_point(
     standard: &mut [u8],
     leads: &mut [u8],
     coefficients: &mut [u8],
+    counts: &mut [u8],
     levels: &[i8],
 ) -> u32
-    ensures { λ a. ⌜ left a (now (states .exit)) (now (standard .exit)) (now (leads .exit)) (now (coefficients .exit))
+    ensures { λ a. ⌜ left a (now (states .exit)) (now (standard .exit)) (now (leads .exit)) (now (coefficients .exit)) (now (counts .exit))
         ≡ packedOutcome (withdrawOutcome (givenSettings modulus variables order) n r
-        (fourTables (now (states .entry)) (now (standard .entry)) (now (leads .entry)) (now (coefficients .entry))) (now (levels .entry))) ⌝ }
+        (fiveTables (now (states .entry)) (now (standard .entry)) (now (leads .entry)) (now (coefficients .entry)) (now (counts .entry))) (now (levels .entry))) ⌝ }
 {
     let settings = Settings {
         modulus,
@@ -80,6 +83,7 @@ pub extern "C" fn misqafur_withdraw_point(
         standard,
         leads,
         coefficients,
+        counts,
         levels,
     );
     pack_answer(a)
@@ -95,18 +99,27 @@ pub extern "C" fn misqafur_draw_up(
     standard: &mut [u8],
     leads: &mut [u8],
     coefficients: &mut [u8],
+    counts: &mut [u8],
     levels: &[i8],
 ) -> u64
-    ensures { λ a. ⌜ left a (now (states .exit)) (now (standard .exit)) (now (leads .exit)) (now (coefficients .exit))
+    ensures { λ a. ⌜ left a (now (states .exit)) (now (standard .exit)) (now (leads .exit)) (now (coefficients .exit)) (now (counts .exit))
         ≡ packedDrawing (drawOutcome (givenSettings modulus variables order)
-        (fourTables (now (states .entry)) (now (standard .entry)) (now (leads .entry)) (now (coefficients .entry))) (now (levels .entry))) ⌝ }
+        (fiveTables (now (states .entry)) (now (standard .entry)) (now (leads .entry)) (now (coefficients .entry)) (now (counts .entry))) (now (levels .entry))) ⌝ }
 {
     let settings = Settings {
         modulus,
         variables,
         order,
     };
-    let a = drawing::draw_up(settings, states, standard, leads, coefficients, levels);
+    let a = drawing::draw_up(
+        settings,
+        states,
+        standard,
+        leads,
+        coefficients,
+        counts,
+        levels,
+    );
     pack_drawn(a)
 }
 
@@ -122,15 +135,26 @@ pub extern "C" fn misqafur_check(
     standard: &[u8],
     leads: &[u8],
     coefficients: &[u8],
+    counts: &[u8],
 ) -> u32
     ensures { λ a. ⌜ a
         ≡ checkRefusal (givenSettings modulus variables order) n r
-        (fourTables (now (states .entry)) (now (standard .entry)) (now (leads .entry)) (now (coefficients .entry))) ⌝ }
+        (fiveTables (now (states .entry)) (now (standard .entry)) (now (leads .entry)) (now (coefficients .entry)) (now (counts .entry))) ⌝ }
 {
     let settings = Settings {
         modulus,
         variables,
         order,
     };
-    checking::check(settings, n, r, states, standard, leads, coefficients) as u32
+    let refusal = checking::check(
+        settings,
+        n,
+        r,
+        states,
+        standard,
+        leads,
+        coefficients,
+        counts,
+    );
+    refusal as u32
 }

@@ -1,5 +1,6 @@
 // The moduli, and the residues of levels.
 ghost use mathlib.Core.Path.{_≡_};
+ghost use lib.IntN.{natAbs};
 ghost use Rattle.residue.specs.Modulus.{isModulus};
 ghost use Rattle.residue.specs.Level.{residueOf, signedOf};
 
@@ -42,20 +43,25 @@ pub enum Level {
     Outside,
 }
 
-// The residue of a level. The level is widened before it is negated: -128 has no negation of its own width.
+// How far a level is from 0. It is widened before it is negated: -128 has no negation of its own width.
+pub fn magnitude(level: i8) -> u8
+    ensures { λ size. ⌜ size ≡ natAbs level ⌝ }
+{
+    if level < 0 {
+        return (-(level as i16)) as u8;
+    }
+    level as u8
+}
+
+// The residue of a level. The sign is looked at last, so that it costs no branch.
 pub fn residue(p: u8, level: i8) -> Level
     ensures { λ r. ⌜ r ≡ residueOf p level ⌝ }
 {
-    if level < 0 {
-        let size = (-(level as i16)) as u16;
-        let modulus = p as u16;
-        if size < modulus {
-            return Level::Residue((modulus - size) as u8);
-        }
-        return Level::Outside;
-    }
-    let size = level as u8;
+    let size = magnitude(level);
     if size < p {
+        if level < 0 {
+            return Level::Residue(p - size);
+        }
         return Level::Residue(size);
     }
     Level::Outside

@@ -15,7 +15,7 @@ use Rattle.residue.specs.Modulus.{primes, isOneOf, isModulus}
 use Rattle.residue.specs.Inverse.{inverseBelow, inverseOf}
 use Rattle.residue.specs.Level.{residueOf}
 use Rattle.residue.specs.declared.level.Level.the-variants.{Residue}
-use Rattle.residue.specs.Layout.{fill, begins}
+use Rattle.residue.specs.Layout.{groups, fill, begins}
 use Rattle.residue.proofs.level.Moduli.{below, below-at}
 use Rattle.residue.proofs.Tests.{and-left, and-right}
 use Rattle.residue.proofs.bytes.Equality.{same-is}
@@ -28,11 +28,14 @@ use Rattle.specification.specs.Levels.{isResidue, residueOr0, inRange, r
 use Rattle.specification.specs.Extension.{slot, minus, without, divided, extended, gap, first, newton, grow}
 use Rattle.specification.specs.BasisOf.{basisOf, valueAt}
 use Rattle.specification.specs.Instance.{monomialOf, pointOf}
-use Rattle.specification.specs.Tables.{standardUnder, leadsUnder, rowsUnder, statesSize, standardSize, leadsSize, coefficientsSize}
+use Rattle.specification.specs.Counted.{entered, lowered, enteredAll, gathered, overfull}
+use Rattle.specification.specs.Tables.{standardUnder, leadsUnder, rowsUnder, heldIn, statesSize, standardSize, leadsSize, coefficientsSize, countsSize}
+use Rattle.specification.specs.Adding.{pointsOffered}
 use Rattle.specification.specs.Needed.{alike, apart, contrary, pairIn, wiringOf}
 use Rattle.specification.specs.Solving.{polynomialOf}
-use Rattle.specification.specs.Reference.{referenceAnswer, pointsAfter, referenceAfter, addition, Held, heldAfter, numbers, fed, dueAt, due, RefusesAt, Refuses}
-use Rattle.specification.specs.Examples.{Example, Holds, LaidOut, under, anyOrder, fresh, A, examples}
+use Rattle.specification.specs.Reference.{referenceAnswer, listAfter, referenceAfter, addition, Held, heldAfter, numbers, heldAtEnd, fed, referenceAtEnd, dueAt, due, RefusesAt, Refuses}
+use Rattle.specification.specs.Agreement.{freshly, Agrees}
+use Rattle.specification.specs.Examples.{Example, Holds, LaidOut, under, anyOrder, fresh, A, examples, CountedExamples}
 use Rattle.residue.proofs.Tests.{true-of}
 use Rattle.specification.proofs.agreement.Claim.{agreement}
 
@@ -98,10 +101,20 @@ unfolding Refuses RefusesAt
 alone s h [] = tt
 alone s h (levels ∷ offered) = (tt, alone s (heldAfter s h (addition levels)) offered)
 
-added : (s : Settings) (offered : List (List ℤ)) → firstOf 0 (settingsCases s) ≡ 0 → numbers s fresh (map addition offered) ≡ due s [] fresh (map addition offered)
-added s offered fine =
-    agreement s fine (record { states = replicate statesSize 0; standard = replicate standardSize 0; leads = replicate leadsSize 0; coefficients = replicate coefficientsSize 0 })
-    (record { states = blank statesSize; standard = blank standardSize; leads = blank leadsSize; coefficients = blank coefficientsSize }) (map addition offered) (alone s fresh offered) .answers
+-- by the agreement: the numbers, and what is held
+module _ (s : Settings) (offered : List (List ℤ)) (fine : firstOf 0 (settingsCases s) ≡ 0) where
+  agreed : Agrees s (fresh .tables) (map addition offered) (referenceAtEnd s [] (map addition offered)) (heldAtEnd s fresh (map addition offered))
+  unfolding freshly
+  agreed =
+      agreement s fine (fresh .tables)
+      (record { states = blank statesSize; standard = blank standardSize; leads = blank leadsSize; coefficients = blank coefficientsSize; counts = blank countsSize }) (map addition offered) (alone s fresh offered)
+
+  added : numbers s fresh (map addition offered) ≡ due s [] fresh (map addition offered)
+  unfolding freshly
+  added = agreed .answers
+
+  now-held : let h = heldAtEnd s fresh (map addition offered) in heldIn s (h .n) (h .tables) ≡ referenceAtEnd s [] (map addition offered)
+  now-held = agreed .held
 
 -- settings with one of the orders 0 to 2 are accepted
 known-order : (order : ℕ) → Among order anyOrder → order < 3
@@ -123,7 +136,7 @@ range-append p (z ∷ k) l = ap (λ (b : Bool). isResidue (residueOf p z) && b) 
 -- two additions, of which the second has a level out of range
 ranged : (p m order : ℕ) (k l : List ℤ) → firstOf 0 (settingsCases (under p m order)) ≡ 0 → length k ≡ m → length l ≡ m → inRange p k ≡ true → inRange p l ≡ false
     → numbers (under p m order) fresh (addition k ∷ addition l ∷ []) ≡ 0 ∷ 9 ∷ []
-unfolding due dueAt fed referenceAnswer referenceAfter pointsAfter firstOf isAmong
+unfolding due dueAt fed referenceAnswer referenceAfter listAfter entered overfull firstOf
 ranged p m order k l f ek el rk rl = added (under p m order) (k ∷ l ∷ []) f ∙ simp (eq-eqb (length k) m ek, eq-eqb (length l) m el, rk, rl)
 
 abbrev All : List Example → Type 0
@@ -131,7 +144,7 @@ All [] = Unit {0}
 All (e ∷ l) = Holds e × All l
 
 all : All examples
-unfolding tested each-tested sameLists examples Holds primes isOneOf isModulus inverseBelow inverseOf residueOf orderOf cmp firstOf settingsCases isResidue residueOr0 inRange residues fill sameList isAmong slot minus without divided extended gap first newton grow basisOf valueAt monomialOf pointOf alike apart contrary pairIn wiringOf zip polynomialOf referenceAnswer referenceAfter pointsAfter fed dueAt due
+unfolding tested each-tested sameLists examples Holds primes isOneOf isModulus inverseBelow inverseOf residueOf orderOf cmp firstOf settingsCases isResidue residueOr0 inRange residues fill sameList isAmong slot minus without divided extended gap first newton grow basisOf valueAt monomialOf pointOf alike apart contrary pairIn wiringOf zip polynomialOf referenceAnswer referenceAfter listAfter entered overfull fed dueAt due referenceAtEnd
 all = (under-each 5 2 (1 ∷ []) A _ _ _ tt, (under-each 5 2 (0 ∷ []) A _ _ _ tt, (under-each 3 2 (1 ∷ []) A _ _ _ tt, ((λ s. (record { standard-are = refl; leads-are = refl; rows-are = refl }, (λ values. refl), λ f. refl)), (single, (under-each 2 1 anyOrder _ _ _ _ tt, ((refl, refl), (refl, (lowest, (again, (ends, tt)))))))))))
   where
     -- each order, and each point (a, b) modulo 5
@@ -149,8 +162,12 @@ all = (under-each 5 2 (1 ∷ []) A _ _ _ tt, (under-each 5 2 (0 ∷ []) A _ _ _ 
     lowest e (inr (inr (inl q))) = rw q
     lowest e (inr (inr (inr q))) = absurd q
 
-    again : (order : ℕ) → Among order anyOrder → numbers (under 5 1 order) fresh (map addition ((pos 4 ∷ []) ∷ (negsuc 0 ∷ []) ∷ [])) ≡ 0 ∷ 11 ∷ []
-    again order q = added (under 5 1 order) ((pos 4 ∷ []) ∷ (negsuc 0 ∷ []) ∷ []) (fine 5 1 order refl (omega arith) (omega arith) q)
+    twice : List (List ℤ)
+    twice = (pos 4 ∷ []) ∷ (negsuc 0 ∷ []) ∷ []
+
+    again : (order : ℕ) → Among order anyOrder → let end = heldAtEnd (under 5 1 order) fresh (map addition twice) in
+        (numbers (under 5 1 order) fresh (map addition twice) ≡ 0 ∷ 0 ∷ []) × (heldIn (under 5 1 order) (end .n) (end .tables) ≡ (4 ∷ [], 2) ∷ [])
+    again order q = let f = fine 5 1 order refl (omega arith) (omega arith) q in (added (under 5 1 order) twice f, now-held (under 5 1 order) twice f)
 
     ends : (m order : ℕ) (before behind : List ℤ) → m ≤ 8 → Among order anyOrder → length before + suc (length behind) ≡ m → T (inRange 5 before) → T (inRange 5 behind)
         → numbers (under 5 m order) fresh (addition (before ++ (negsuc 3 ∷ behind)) ∷ addition (before ++ (negsuc 4 ∷ behind)) ∷ []) ≡ 0 ∷ 9 ∷ []
@@ -165,3 +182,8 @@ each-of (a ∷ l) h e (inr q) = each-of l (h .1) e q
 
 pub every-example : (e : Example) → Among e examples → Holds e
 every-example = each-of examples all
+
+-- beside them, points with their counts
+pub counted-examples : CountedExamples
+unfolding entered lowered enteredAll gathered pointsOffered groups residues residueOr0 residueOf sameList
+counted-examples = record { offered = refl; withdrawn = refl; gone = refl; again = refl }

@@ -5,10 +5,13 @@ pub mod ideal
 pub mod drawing
 pub mod Wiring
 pub mod needed
+pub mod counted
 pub mod agreement
 pub mod cancellations
 pub mod Instance
 pub mod Recognised
 pub mod CallByCall
 pub mod Withdrawing
+pub mod Replicates
+pub mod Numbers
 pub mod Examples

@@ -9,27 +9,29 @@ use native.Mathlib.Nat.{div-add-mod', mul-comm}
 use native.Mathlib.Decide.{ℕ-discrete}
 use native.Mathlib.Omega.{arith}
 use lib.IntN.{ℤ}
-use lib.ListN.{length, take, drop, length-drop, length-map}
+use lib.ListN.{length, take, drop, length-drop}
 use lib.Seq.{length-take-le}
 use lib.Dec.{T, eqb}
 use borrow.Author.Tests.{eqb-true}
-use Rattle.residue.specs.Lists.{Among}
+use Rattle.residue.specs.Lists.{Among, every}
 use Rattle.residue.proofs.level.Moduli.{modulus-range}
 use Rattle.specification.specs.declared.settings.Settings.{Settings}
 use Rattle.specification.specs.Refusal.{Case, firstOf}
 use Rattle.specification.specs.Settings.{settingsCases}
 use Rattle.specification.specs.Levels.{inRange, residues, noRepeat}
-use Rattle.residue.specs.Layout.{groups}
-use Rattle.residue.specs.Layout.{begins}
+use Rattle.residue.specs.Layout.{groups, fill, begins}
 use Rattle.specification.specs.Instance.{Point, reduced, pointOf}
-use Rattle.specification.specs.Tables.{Tables, pointsUnder, rowCount, tablesOf, pointsIn, recognised}
+use Rattle.specification.specs.Counted.{isCount, gathered, overfull}
+use Rattle.specification.specs.Tables.{Tables, pointsUnder, rowCount, statesTable, standardTable, leadsTable, coefficientsTable, tablesOf, pointsIn, recognised, countsSize}
 use Rattle.specification.specs.Adding.{pointsOffered}
 use Rattle.specification.proofs.Cases.{numbered, None, none-holds, first-stop}
 use Rattle.specification.proofs.Instance.{point-of}
 use Rattle.residue.proofs.Layouts.{fill-exact}
 use Rattle.residue.proofs.Places.{length-groups}
 use Rattle.specification.proofs.ideal.Lists.{among-map}
-use Rattle.specification.proofs.agreement.Points.{IsPoint, Points, residues-same, length-residues}
+use Rattle.specification.proofs.agreement.Points.{IsPoint, Points, read-count, residues-same, length-residues}
+use Rattle.specification.proofs.counted.Gathered.{Entries, entries-gathered}
+use Rattle.specification.proofs.counted.Held.{points-held, counts-held}
 use Rattle.specification.proofs.agreement.Refusals.{Accepted, settings-pass}
 
 -- no case of the settings holds, and none of those behind them
@@ -64,7 +66,7 @@ rows-of q m (suc k) R e l P (inr w) =
 
 module _ (s : Settings) (ok : Accepted s) where
   -- Points offered.
-  module _ (levels : List ℤ) (whole : length levels % s .variables ≡ 0) (few : length levels / s .variables ≤ 64) (range : T (inRange (s .modulus) levels)) where
+  module _ (levels : List ℤ) (whole : length levels % s .variables ≡ 0) (range : T (inRange (s .modulus) levels)) where
     pub whole-levels : length levels ≡ s .variables * (length levels / s .variables)
     whole-levels = sym (div-add-mod' (length levels) (s .variables)) ∙ omega (arith, mul-comm (length levels / s .variables) (s .variables))
 
@@ -80,8 +82,8 @@ module _ (s : Settings) (ok : Accepted s) where
         (length-residues (s .modulus) levels ∙ whole-levels) P w in
         record { long = g .0; same = g .1 }
 
-    pub offered : T (noRepeat (pointsOffered s levels)) → Points s (pointsOffered s levels)
-    offered once = record { points = offered-each; once = once; few = omega (arith, length-offered) }
+    pub offered : None (overfull (gathered (pointsOffered s levels))) → Entries s (gathered (pointsOffered s levels))
+    offered n = entries-gathered s (pointsOffered s levels) offered-each n
 
   -- Points read.
   pub is-read : (X : Point (suc (s .modulus - 1)) (s .variables)) → IsPoint s (X .0)
@@ -98,8 +100,7 @@ module _ (s : Settings) (ok : Accepted s) where
   read-each n t P w = let g = among-map (λ X. X .0) (pointsUnder s (groups 8 n t)) P w in subst (IsPoint s) (sym (g .2)) (is-read (g .0))
 
   pub length-read : (n : ℕ) (t : List ℕ) → length (pointsIn s n t) ≡ n
-  unfolding pointsIn
-  length-read n t = length-map (pointsUnder s (groups 8 n t)) _ ∙ length-map (groups 8 n t) _ ∙ length-groups 8 n t
+  length-read = read-count s
 
   pub read : (n : ℕ) (t : List ℕ) → n ≤ 64 → T (noRepeat (pointsIn s n t)) → Points s (pointsIn s n t)
   read n t few once = record { points = read-each n t; once = once; few = omega (arith, length-read n t) }
@@ -112,21 +113,44 @@ module _ (s : Settings) (n r : ℕ) (t : Tables) where
   pub record Parts : Type 0 where
     pub once : noRepeat readIn ≡ true
     pub rows : r ≡ rowCount s readIn
-    pub states : begins (tablesOf s readIn .states) (t .states) ≡ true
-    pub standard : begins (tablesOf s readIn .standard) (t .standard) ≡ true
-    pub leads : begins (tablesOf s readIn .leads) (t .leads) ≡ true
-    pub coefficients : begins (tablesOf s readIn .coefficients) (t .coefficients) ≡ true
+    pub states : begins (statesTable readIn) (t .states) ≡ true
+    pub standard : begins (standardTable s readIn) (t .standard) ≡ true
+    pub leads : begins (leadsTable s readIn) (t .leads) ≡ true
+    pub coefficients : begins (coefficientsTable s readIn) (t .coefficients) ≡ true
+    -- the counts: 1 to 255 for each point, and 0 for unused places
+    pub range : every isCount (fill n (t .counts)) ≡ true
+    pub counts : begins (fill countsSize (fill n (t .counts))) (t .counts) ≡ true
+
+  -- the tests, over the points and the counts as they are read
+  abbrev pub tests : Bool
+  tests = noRepeat readIn && eqb r (rowCount s readIn) && begins (statesTable readIn) (t .states) && begins (standardTable s readIn) (t .standard)
+      && begins (leadsTable s readIn) (t .leads) && begins (coefficientsTable s readIn) (t .coefficients) && every isCount (fill n (t .counts))
+      && begins (fill countsSize (fill n (t .counts))) (t .counts)
+
+  pub recognised-tests : recognised s n r t ≡ tests
+  unfolding recognised tablesOf
+  recognised-tests = rw (points-held s n t, counts-held s n t) refl
 
   both : (a b : Bool) → (a && b) ≡ true → (a ≡ true) × (b ≡ true)
   both true b e = (refl, e)
   both false b e = absurd (true≢false (sym e))
 
   pub recognised-parts : recognised s n r t ≡ true → Parts
-  unfolding recognised
   recognised-parts e =
-      let a = both _ (begins (tablesOf s readIn .coefficients) (t .coefficients)) e in
-      let b = both _ (begins (tablesOf s readIn .leads) (t .leads)) (a .0) in
-      let c = both _ (begins (tablesOf s readIn .standard) (t .standard)) (b .0) in
-      let d = both _ (begins (tablesOf s readIn .states) (t .states)) (c .0) in
+      let h = both _ (begins (fill countsSize (fill n (t .counts))) (t .counts)) (sym recognised-tests ∙ e) in
+      let g = both _ (every isCount (fill n (t .counts))) (h .0) in
+      let a = both _ (begins (coefficientsTable s readIn) (t .coefficients)) (g .0) in
+      let b = both _ (begins (leadsTable s readIn) (t .leads)) (a .0) in
+      let c = both _ (begins (standardTable s readIn) (t .standard)) (b .0) in
+      let d = both _ (begins (statesTable readIn) (t .states)) (c .0) in
       let f = both (noRepeat readIn) (eqb r (rowCount s readIn)) (d .0) in
-      record { once = f .0; rows = eqb-true r (rowCount s readIn) (f .1); states = d .1; standard = c .1; leads = b .1; coefficients = a .1 }
+      record {
+        once = f .0;
+        rows = eqb-true r (rowCount s readIn) (f .1);
+        states = d .1;
+        standard = c .1;
+        leads = b .1;
+        coefficients = a .1;
+        range = g .1;
+        counts = h .1;
+      }

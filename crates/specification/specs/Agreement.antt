@@ -7,17 +7,18 @@ use Prim.Native.Nat.{ℕ, suc, _-_, _%_, _≤_}
 use lib.IntN.{ℤ}
 use lib.ListN.{length, take}
 use lib.Dec.{T}
-use Rattle.residue.specs.Lists.{Among}
+use Rattle.residue.specs.Lists.{Among, every}
 use Rattle.residue.specs.Layout.{fill, over, begins}
 use Rattle.specification.specs.declared.settings.Settings.{Settings}
 use Rattle.specification.specs.Refusal.{firstOf}
-use Rattle.specification.specs.Levels.{inRange, noRepeat, residues}
+use Rattle.specification.specs.Levels.{inRange, residues}
+use Rattle.specification.specs.Counted.{Counted, pointsOf, countsOf, isCount, countOf, timesIn}
 use Rattle.specification.specs.Polynomial.{eval}
 use Rattle.specification.specs.Basis.{IsBasis, Fits}
 use Rattle.specification.specs.BasisOf.{valueAt}
-use Rattle.specification.specs.Tables.{Tables, rowCount, tablesOf, written, tooShort, pointsIn}
+use Rattle.specification.specs.Tables.{Tables, rowCount, tablesOf, written, tooShort, pointsIn, heldIn}
 use Rattle.specification.specs.Tables.{spaceUnder, pointsUnder, standardUnder, leadsUnder, rowsUnder}
-use Rattle.specification.specs.Tables.{statesSize, standardSize, leadsSize, coefficientsSize}
+use Rattle.specification.specs.Tables.{statesSize, standardSize, leadsSize, coefficientsSize, countsSize}
 use Rattle.specification.specs.Adding.{DrawOutcome, pointsOffered, drawOutcome}
 use Rattle.specification.specs.Solving.{valuesCases, polynomialUnder, remainderCases, remainderOutcome, Listed, wiringOutcome}
 use Rattle.specification.specs.Needed.{Needed, Names}
@@ -30,17 +31,21 @@ pub record Fresh (t : Tables) : Type 0 where
   pub standard : T (begins (fill standardSize []) (t .standard))
   pub leads : T (begins (fill leadsSize []) (t .leads))
   pub coefficients : T (begins (fill coefficientsSize []) (t .coefficients))
+  pub counts : T (begins (fill countsSize []) (t .counts))
 
 -- n = 0, r = 1
 unfoldable pub freshly : Tables → Held
 freshly t = record { n = 0; r = 1; tables = t }
 
--- The points of L, each once, in any order and as any levels in range with their residues.
-pub record Rearranges (s : Settings) (L : List (List ℕ)) (levels : List ℤ) : Type 0 where
+-- Levels that offer the points of L and no other, each at least once ('equal sets'; request M-106).
+abbrev pub SameSet : Settings → Counted → List ℤ → Type 0
+SameSet s L levels = (P : List ℕ) → Among P (pointsOffered s levels) ↔ Among P (pointsOf L)
+
+-- The points of L, each as many times as L counts it ('equal multisets'), in any order and as any levels in range with their residues.
+pub record Arranges (s : Settings) (L : Counted) (levels : List ℤ) : Type 0 where
   pub whole : length levels % s .variables ≡ 0
   pub range : T (inRange (s .modulus) levels)
-  pub once : T (noRepeat (pointsOffered s levels))
-  pub members : (P : List ℕ) → Among P (pointsOffered s levels) ↔ Among P L
+  pub times : (P : List ℕ) → timesIn P (pointsOffered s levels) ≡ countOf P L
 
 -- Values of any number and content that two calls are handed with the same points in the orders K and L: as many, and equal at each point. Two levels are
 -- equal when they have one residue, or neither is in range (docs/SCOPE.md, 'The two desks'; request M-100).
@@ -48,12 +53,10 @@ pub record SameValues (s : Settings) (K L : List (List ℕ)) (v w : List ℤ) : 
   pub count : length v ≡ length w
   pub equal : (P : List ℕ) (y z : ℤ) → Among (P, y) (zip K v) → Among (P, z) (zip L w) → residueOf (s .modulus) y ≡ residueOf (s .modulus) z
 
--- A drawing up agrees with what the list holds: the number is 0, and n, r and the three tables are equal in each byte of their sizes. (Its cancellations
--- depend on the order of its points, and the list has none.) The remainder call, handed the same terms, and the wiring call, handed values that are equal at
--- each point, each desk's in the order of its own points, answer the same with either tables, and leave equal buffers where they were lent buffers of equal
--- bytes.
+-- A drawing up agrees with what the list holds: n, r and the three tables are equal in each byte of their sizes. (Its cancellations depend on the order of
+-- its points, and the list has none.) The remainder call, handed the same terms, and the wiring call, handed values that are equal at each point, each desk's
+-- in the order of its own points, answer the same with either tables, and leave equal buffers where they were lent buffers of equal bytes.
 pub record SameAs (s : Settings) (h : Held) (o : DrawOutcome) : Type 0 where
-  pub number : o .answer .refusal ≡ 0
   pub count : o .answer .n ≡ h .n
   pub rows : o .answer .r ≡ h .r
   pub standard : take standardSize (o .tables .standard) ≡ take standardSize (h .tables .standard)
@@ -64,6 +67,12 @@ pub record SameAs (s : Settings) (h : Held) (o : DrawOutcome) : Type 0 where
       ≡ remainderOutcome s (h .n) (h .r) (h .tables) terms exponents buffer
   pub wiring : (v w : List ℤ) (buffer : List ℕ) → SameValues s (pointsIn s (o .answer .n) (o .tables .states)) (pointsIn s (h .n) (h .tables .states)) v w
       → wiringOutcome s (o .answer .n) (o .answer .r) (o .tables) v buffer ≡ wiringOutcome s (h .n) (h .r) (h .tables) w buffer
+
+-- Besides, the number is 0, and 'each state's count agrees'.
+pub record SameCounts (s : Settings) (h : Held) (o : DrawOutcome) : Type 0 where
+  pub number : o .answer .refusal ≡ 0
+  pub agrees : SameAs s h o
+  pub counts : (P : List ℕ) → countOf P (heldIn s (o .answer .n) (o .tables)) ≡ countOf P (heldIn s (h .n) (h .tables))
 
 -- The buffer of a remainder call whose number is 0 holds the one combination of standard monomials with the polynomial's values at the points.
 pub record Remains (s : Settings) (L : List (List ℕ)) (terms : List ℤ) (exponents buffer end : List ℕ) : Type 0 where
@@ -82,27 +91,32 @@ pub record Wires (s : Settings) (L : List (List ℕ)) (values : List ℤ) (buffe
   pub held : end .buffer ≡ over (fill 8 names) buffer
 
 -- After the list `es` from fresh tables `start`, with L the reference list then and h what is held.
-pub record Agrees (s : Settings) (start : Tables) (es : List Event) (L : List (List ℕ)) (h : Held) : Type 0 where
+pub record Agrees (s : Settings) (start : Tables) (es : List Event) (L : Counted) (h : Held) : Type 0 where
   -- each operation of the list has returned the reference list's answer, each interposed call its number of the list of refusals
   pub answers : numbers s (freshly start) es ≡ due s [] (freshly start) es
-  -- n is its length; the tables are those of its points, in its order, and zeros in the rest of their sizes; bytes past the sizes are as they were
+  -- n is its length; the tables are those of its points, in its order, with its counts, and zeros in the rest of their sizes; bytes past the sizes are as
+  -- they were
   pub count : h .n ≡ length L
-  pub rows : h .r ≡ rowCount s L
+  pub rows : h .r ≡ rowCount s (pointsOf L)
   pub tables : h .tables ≡ written (tablesOf s L) start
+  -- read back, they are the list: its counts 'are those of the fifth table'
+  pub held : heldIn s (h .n) (h .tables) ≡ L
   -- these are the basis by definition, as many standard monomials as points; nothing of it is cut off in the tables
-  pub basis : IsBasis (spaceUnder s) (pointsUnder s L) (standardUnder s L) (leadsUnder s L) (rowsUnder s L)
-  pub as-many : length (standardUnder s L) ≡ length L
+  pub basis : IsBasis (spaceUnder s) (pointsUnder s (pointsOf L)) (standardUnder s (pointsOf L)) (leadsUnder s (pointsOf L)) (rowsUnder s (pointsOf L))
+  pub as-many : length (standardUnder s (pointsOf L)) ≡ length L
   pub few-points : length L ≤ 64
-  pub few-rows : rowCount s L ≤ 449
-  -- every drawing up of its points into tables none of which is shorter than its size
-  pub drawn : (t : Tables) (levels : List ℤ) → tooShort t ≡ false → Rearranges s L levels → SameAs s h (drawOutcome s t levels)
+  pub few-replicates : T (every isCount (countsOf L))
+  pub few-rows : rowCount s (pointsOf L) ≤ 449
+  -- every drawing up of its points that returns 0; every drawing up of its points with its counts into tables none of which is shorter than its size
+  pub drawn : (t : Tables) (levels : List ℤ) → SameSet s L levels → drawOutcome s t levels .answer .refusal ≡ 0 → SameAs s h (drawOutcome s t levels)
+  pub arranged : (t : Tables) (levels : List ℤ) → tooShort t ≡ false → Arranges s L levels → SameCounts s h (drawOutcome s t levels)
   -- remainders and wiring lists: the number is that of the list of refusals; where it is 0, the buffer holds what is due
   pub remainder-numbers : (terms : List ℤ) (exponents buffer : List ℕ)
       → remainderOutcome s (h .n) (h .r) (h .tables) terms exponents buffer .refusal
       ≡ firstOf 0 (remainderCases s (h .n) (h .r) (h .tables) terms exponents buffer)
   pub remainders : (terms : List ℤ) (exponents buffer : List ℕ) → remainderOutcome s (h .n) (h .r) (h .tables) terms exponents buffer .refusal ≡ 0
-      → Remains s L terms exponents buffer (remainderOutcome s (h .n) (h .r) (h .tables) terms exponents buffer .buffer)
+      → Remains s (pointsOf L) terms exponents buffer (remainderOutcome s (h .n) (h .r) (h .tables) terms exponents buffer .buffer)
   pub wiring-numbers : (values : List ℤ) (buffer : List ℕ)
       → wiringOutcome s (h .n) (h .r) (h .tables) values buffer .answer .refusal ≡ firstOf 0 (valuesCases 8 s (h .n) (h .r) (h .tables) values buffer)
   pub wirings : (values : List ℤ) (buffer : List ℕ) → wiringOutcome s (h .n) (h .r) (h .tables) values buffer .answer .refusal ≡ 0
-      → Wires s L values buffer (wiringOutcome s (h .n) (h .r) (h .tables) values buffer)
+      → Wires s (pointsOf L) values buffer (wiringOutcome s (h .n) (h .r) (h .tables) values buffer)

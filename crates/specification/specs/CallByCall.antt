@@ -3,10 +3,13 @@ use mathlib.Core.Path.{_≡_}
 use mathlib.Core.List.{List, map}
 use Prim.Native.Nat.{ℕ, suc, _+_, _*_, _-_, _≤_, _<_}
 use lib.IntN.{ℤ}
-use lib.ListN.{length, getD}
+use lib.ListN.{length, getD, set}
+use lib.Dec.{T}
+use Rattle.residue.specs.Lists.{every}
 use Rattle.residue.specs.Congruence.{Mod}
 use Rattle.specification.specs.declared.settings.Settings.{Settings}
 use Rattle.specification.specs.Levels.{residues}
+use Rattle.specification.specs.Counted.{Counted, pointsOf, countsOf, isCount}
 use Rattle.residue.specs.Layout.{fill, over}
 use Rattle.specification.specs.Polynomial.{eval, Distinct, terms}
 use Rattle.specification.specs.Basis.{IsBasis, Fits}
@@ -15,21 +18,25 @@ use Rattle.specification.specs.BasisOf.{valueAt}
 use Rattle.specification.specs.Cancellations.{Found}
 use Rattle.specification.specs.Examination.{Examination}
 use Rattle.specification.specs.Instance.{Point}
-use Rattle.specification.specs.Tables.{Tables, spaceUnder, pointsUnder, standardUnder, leadsUnder, rowsUnder, rowCount, tablesOf, written}
+use Rattle.specification.specs.Adding.{Outcome}
+use Rattle.specification.specs.Tables.{Tables, fiveTables, spaceUnder, pointsUnder, standardUnder, leadsUnder, rowsUnder, rowCount, tablesOf, written}
 
--- n, r and the tables at exit are the basis of the points S by definition, laid out in the sizes of the lent tables.
-pub record HoldsBasis (s : Settings) (S : List (List ℕ)) (lent : Tables) (n r : ℕ) (end : Tables) : Type 0 where
+-- n, r and the tables at exit are the basis of the points of L by definition with their counts, laid out in the sizes of the lent tables.
+pub record HoldsBasis (s : Settings) (L : Counted) (lent : Tables) (n r : ℕ) (end : Tables) : Type 0 where
   -- each point is m residues, and none stands twice
-  pub points : map (λ P. P .0) (pointsUnder s S) ≡ S
-  pub distinct : Distinct (spaceUnder s) (pointsUnder s S)
-  pub basis : IsBasis (spaceUnder s) (pointsUnder s S) (standardUnder s S) (leadsUnder s S) (rowsUnder s S)
-  pub groebner : ReducedGroebner (spaceUnder s) (pointsUnder s S) (rowPolynomials (spaceUnder s) (standardUnder s S) (leadsUnder s S) (rowsUnder s S))
+  pub points : map (λ P. P .0) (pointsUnder s (pointsOf L)) ≡ pointsOf L
+  pub distinct : Distinct (spaceUnder s) (pointsUnder s (pointsOf L))
+  pub basis : IsBasis (spaceUnder s) (pointsUnder s (pointsOf L)) (standardUnder s (pointsOf L)) (leadsUnder s (pointsOf L)) (rowsUnder s (pointsOf L))
+  pub groebner : ReducedGroebner (spaceUnder s) (pointsUnder s (pointsOf L))
+      (rowPolynomials (spaceUnder s) (standardUnder s (pointsOf L)) (leadsUnder s (pointsOf L)) (rowsUnder s (pointsOf L)))
+  -- '1 to 255 for each state'
+  pub counts : T (every isCount (countsOf L))
   -- its layout; nothing of it is cut off, and bytes past the sizes are as they were
-  pub count : n ≡ length S
-  pub rows : r ≡ rowCount s S
-  pub tables : end ≡ written (tablesOf s S) lent
-  pub few-points : length S ≤ 64
-  pub few-rows : rowCount s S ≤ 449
+  pub count : n ≡ length L
+  pub rows : r ≡ rowCount s (pointsOf L)
+  pub tables : end ≡ written (tablesOf s L) lent
+  pub few-points : length L ≤ 64
+  pub few-rows : rowCount s (pointsOf L) ≤ 449
 
 -- The buffer holds 'the interpolant of n values (as levels, in state order)' over the standard monomials: it has the i-th value at the i-th point.
 pub record Interpolates (s : Settings) (S : List (List ℕ)) (values : List ℤ) (buffer end : List ℕ) : Type 0 where
@@ -51,3 +58,10 @@ pub record Costs (s : Settings) (S : List (List ℕ)) (cancellations : ℕ) : Ty
   pub standard : found .standard ≡ standardUnder s S
   pub leads : found .leads ≡ leadsUnder s S
   pub most : cancellations ≤ length S * (length S * s .variables + 1)
+
+-- A replicate, request M-106: the sheet of n and r in the tables t, of whose counts the i-th is now k, and nothing else has changed.
+unfoldable pub recounted : ℕ → ℕ → Tables → ℕ → ℕ → Outcome
+recounted n r t i k = record {
+  answer = record { refusal = 0; n = n; r = r };
+  tables = fiveTables (t .states) (t .standard) (t .leads) (t .coefficients) (set (t .counts) i k);
+}

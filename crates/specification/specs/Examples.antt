@@ -10,15 +10,16 @@ use Rattle.residue.specs.Level.{residueOf}
 use Rattle.residue.specs.declared.level.Level.the-variants.{Residue}
 use Rattle.specification.specs.declared.settings.Settings.{Settings}
 use Rattle.specification.specs.Levels.{inRange}
+use Rattle.specification.specs.Counted.{Counted, pointsOf, entered, lowered, gathered}
 use Rattle.specification.specs.Polynomial.{Polynomial}
 use Rattle.specification.specs.BasisOf.{interpolantOf, remainderOf}
 use Rattle.specification.specs.Cancellations.{examinedAll}
-use Rattle.specification.specs.Adding.{cancellationsUnder}
-use Rattle.specification.specs.Tables.{spaceUnder, pointsUnder, standardUnder, leadsUnder, rowsUnder, fourTables}
-use Rattle.specification.specs.Tables.{statesSize, standardSize, leadsSize, coefficientsSize}
+use Rattle.specification.specs.Adding.{cancellationsUnder, pointsOffered}
+use Rattle.specification.specs.Tables.{spaceUnder, pointsUnder, standardUnder, leadsUnder, rowsUnder, fiveTables, heldIn}
+use Rattle.specification.specs.Tables.{statesSize, standardSize, leadsSize, coefficientsSize, countsSize}
 use Rattle.specification.specs.Solving.{polynomialOf}
 use Rattle.specification.specs.Needed.{wiringOf}
-use Rattle.specification.specs.Reference.{addition, Held, numbers}
+use Rattle.specification.specs.Reference.{addition, Held, numbers, heldAtEnd}
 use Rattle.specification.specs.Agreement.{freshly}
 
 pub data Example : Type 0 where
@@ -32,8 +33,8 @@ pub data Example : Type 0 where
   remainder : (s : Settings) (S : List (List ℕ)) (coefficients : List ℕ) (exponents : List (List ℕ)) (left : List ℕ) → Example
   -- a modulus, a level and its residue
   levels : List (ℕ × ℤ × ℕ) → Example
-  -- additions to fresh tables, and the numbers they return
-  additions : (p m : ℕ) (offered : List (List ℤ)) (numbers : List ℕ) → Example
+  -- additions to fresh tables, the numbers they return, and the points with their counts that the tables then hold
+  additions : (p m : ℕ) (offered : List (List ℤ)) (numbers : List ℕ) (held : Counted) → Example
   -- a level that is taken and one that is refused with 9
   range : (p : ℕ) (taken outside : ℤ) → Example
 
@@ -50,7 +51,8 @@ abbrev pub anyOrder : List ℕ
 anyOrder = 0 ∷ 1 ∷ 2 ∷ []
 
 abbrev pub fresh : Held
-fresh = freshly (fourTables (replicate statesSize 0) (replicate standardSize 0) (replicate leadsSize 0) (replicate coefficientsSize 0))
+fresh = freshly
+    (fiveTables (replicate statesSize 0) (replicate standardSize 0) (replicate leadsSize 0) (replicate coefficientsSize 0) (replicate countsSize 0))
 
 unfoldable pub Holds : Example → Type 0
 Holds (basis p m orders S standard leads rows) = (order : ℕ) → Among order orders → LaidOut (under p m order) S standard leads rows
@@ -64,7 +66,8 @@ Holds (interpolant s S values coefficients names) =
     (interpolantOf (spaceUnder s) (pointsUnder s S) values ≡ coefficients) × (wiringOf (s .variables) S values ≡ names)
 Holds (remainder s S coefficients exponents left) = remainderOf (spaceUnder s) (pointsUnder s S) (polynomialOf (s .variables) coefficients exponents) ≡ left
 Holds (levels l) = (e : ℕ × ℤ × ℕ) → Among e l → residueOf (e .0) (e .1) ≡ Residue (e .2)
-Holds (additions p m offered due) = (order : ℕ) → Among order anyOrder → numbers (under p m order) fresh (map addition offered) ≡ due
+Holds (additions p m offered due held) = (order : ℕ) → Among order anyOrder → let end = heldAtEnd (under p m order) fresh (map addition offered) in
+    (numbers (under p m order) fresh (map addition offered) ≡ due) × (heldIn (under p m order) (end .n) (end .tables) ≡ held)
 -- under every m and order, in any place of m levels of which the others are in range
 Holds (range p taken outside) = (m order : ℕ) (before behind : List ℤ) → m ≤ 8 → Among order anyOrder
     → length before + suc (length behind) ≡ m → T (inRange p before) → T (inRange p behind)
@@ -93,8 +96,8 @@ examples =
     ∷ remainder (under 5 2 1) A (1 ∷ []) ((2 ∷ 1 ∷ []) ∷ []) (0 ∷ 0 ∷ 2 ∷ [])
     -- level -1: residue 4 for p=5, 2 for p=3, 1 for p=2
     ∷ levels ((5, negsuc 0, 4) ∷ (3, negsuc 0, 2) ∷ (2, negsuc 0, 1) ∷ [])
-    -- p=5, m=1: level -1 after level 4 is refused with 11
-    ∷ additions 5 1 ((pos 4 ∷ []) ∷ (negsuc 0 ∷ []) ∷ []) (0 ∷ 11 ∷ [])
+    -- p=5, m=1: level -1 after level 4 is a count of 2 (M-106)
+    ∷ additions 5 1 ((pos 4 ∷ []) ∷ (negsuc 0 ∷ []) ∷ []) (0 ∷ 0 ∷ []) ((4 ∷ [], 2) ∷ [])
     -- p=5: level -4 is taken, -5 refused with 9
     ∷ range 5 (negsuc 3) (negsuc 4) ∷ []
 
@@ -110,5 +113,17 @@ pub record ExaminedExamples : Type 0 where
   -- p=3, m=1: the count depends on the order of arrival
   pub in-order : Examined (under 3 1 0) ((0 ∷ []) ∷ (1 ∷ []) ∷ (2 ∷ []) ∷ []) ((0 ∷ []) ∷ (1 ∷ []) ∷ (2 ∷ []) ∷ []) ((3 ∷ []) ∷ []) 2
   pub out-of-order : Examined (under 3 1 0) ((1 ∷ []) ∷ (0 ∷ []) ∷ (2 ∷ []) ∷ []) ((0 ∷ []) ∷ (1 ∷ []) ∷ (2 ∷ []) ∷ []) ((3 ∷ []) ∷ []) 5
+  -- A with every point twice (M-106): three points, at the same cost
+  pub replicates : Examined (under 3 2 1) (pointsOf (gathered (A ++ A))) ((0 ∷ 0 ∷ []) ∷ (0 ∷ 1 ∷ []) ∷ (0 ∷ 2 ∷ []) ∷ []) ((1 ∷ 0 ∷ []) ∷ (0 ∷ 3 ∷ []) ∷ []) 3
   -- no points: the column of 1 is empty, so 1 is a lead, at no cost
   pub no-points : Examined (under 3 2 0) [] [] ((0 ∷ 0 ∷ []) ∷ []) 0
+
+-- And docs/SCOPE.md, 'Replicates' (request M-106): points with their counts, p=5, m=1.
+pub record CountedExamples : Type 0 where
+  -- the levels 4, 0, -1 are the points 4 and 0, the first of them twice
+  pub offered : gathered (pointsOffered (under 5 1 0) (pos 4 ∷ pos 0 ∷ negsuc 0 ∷ [])) ≡ (4 ∷ [], 2) ∷ (0 ∷ [], 1) ∷ []
+  -- one pot withdrawn, then the other: 0 moves up
+  pub withdrawn : lowered (4 ∷ []) ((4 ∷ [], 2) ∷ (0 ∷ [], 1) ∷ []) ≡ (4 ∷ [], 1) ∷ (0 ∷ [], 1) ∷ []
+  pub gone : lowered (4 ∷ []) ((4 ∷ [], 1) ∷ (0 ∷ [], 1) ∷ []) ≡ (0 ∷ [], 1) ∷ []
+  -- and added again it comes last
+  pub again : entered (4 ∷ []) ((0 ∷ [], 1) ∷ []) ≡ (0 ∷ [], 1) ∷ (4 ∷ [], 1) ∷ []

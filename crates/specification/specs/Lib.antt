@@ -2,6 +2,7 @@
 pub mod Refusal
 pub mod Settings
 pub mod Levels
+pub mod Counted
 pub mod Space
 pub mod Polynomial
 pub mod Basis
@@ -19,4 +20,5 @@ pub mod Solving
 pub mod Reference
 pub mod Agreement
 pub mod CallByCall
+pub mod Calls
 pub mod Examples

@@ -1,13 +1,15 @@
--- The four lent tables of a list of points under settings: docs/SCOPE.md, 'The sheet'.
+-- The five lent tables of points with their counts under settings: docs/SCOPE.md, 'The sheet'; the fifth is request M-106's.
 use mathlib.Core.Bool.{Bool, _&&_, _||_}
-use mathlib.Core.List.{List, map}
+use mathlib.Core.List.{List, map, zip}
 use Prim.Native.Nat.{ℕ, suc, _-_}
 use lib.ListN.{length}
 use lib.Dec.{ltb, eqb}
+use Rattle.residue.specs.Lists.{every}
 use Rattle.residue.specs.Layout.{groups, fill, inPlaces, over, begins}
 use Rattle.monomial.specs.Order.{orderOf}
 use Rattle.specification.specs.declared.settings.Settings.{Settings}
 use Rattle.specification.specs.Levels.{noRepeat}
+use Rattle.specification.specs.Counted.{Counted, pointsOf, countsOf, isCount}
 use Rattle.specification.specs.Space.{Space}
 use Rattle.specification.specs.BasisOf.{standardOf, leadsOf, rowsOf}
 use Rattle.specification.specs.Instance.{Monomial, Point, spaceOf, pointOf}
@@ -29,7 +31,7 @@ leadsUnder s S = leadsOf (spaceUnder s) (pointsUnder s S)
 abbrev pub rowsUnder : Settings → List (List ℕ) → List (List ℕ)
 rowsUnder s S = rowsOf (spaceUnder s) (pointsUnder s S)
 
--- The sizes of the lent tables in bytes: 64 points and as many standard monomials, 449 leading monomials, 449 rows.
+-- The sizes of the lent tables in bytes: 64 points and as many standard monomials, 449 leading monomials, 449 rows, 64 counts.
 abbrev pub statesSize : ℕ
 statesSize = 512
 
@@ -42,26 +44,45 @@ leadsSize = 3592
 abbrev pub coefficientsSize : ℕ
 coefficientsSize = 28736
 
+abbrev pub countsSize : ℕ
+countsSize = 64
+
 pub record Tables : Type 0 where
   pub states : List ℕ
   pub standard : List ℕ
   pub leads : List ℕ
   pub coefficients : List ℕ
+  pub counts : List ℕ
 
-abbrev pub fourTables : List ℕ → List ℕ → List ℕ → List ℕ → Tables
-fourTables a b c d = record { states = a; standard = b; leads = c; coefficients = d }
+abbrev pub fiveTables : List ℕ → List ℕ → List ℕ → List ℕ → List ℕ → Tables
+fiveTables a b c d e = record { states = a; standard = b; leads = c; coefficients = d; counts = e }
 
 -- The row count r.
 unfoldable pub rowCount : Settings → List (List ℕ) → ℕ
 rowCount s S = length (leadsUnder s S)
 
--- 8 bytes for a point, a standard monomial and a leading monomial, 64 for a row of coefficients; each byte of the sizes that is not so described is 0.
-unfoldable pub tablesOf : Settings → List (List ℕ) → Tables
-tablesOf s S = record {
-  states = fill statesSize (inPlaces 8 S);
-  standard = fill standardSize (inPlaces 8 (map (λ a. a .0) (standardUnder s S)));
-  leads = fill leadsSize (inPlaces 8 (map (λ a. a .0) (leadsUnder s S)));
-  coefficients = fill coefficientsSize (inPlaces 64 (rowsUnder s S));
+-- The tables of points: 8 bytes for a point, a standard monomial and a leading monomial, 64 for a row of coefficients; each byte of the sizes that is not so
+-- described is 0.
+unfoldable pub statesTable : List (List ℕ) → List ℕ
+statesTable S = fill statesSize (inPlaces 8 S)
+
+unfoldable pub standardTable : Settings → List (List ℕ) → List ℕ
+standardTable s S = fill standardSize (inPlaces 8 (map (λ a. a .0) (standardUnder s S)))
+
+unfoldable pub leadsTable : Settings → List (List ℕ) → List ℕ
+leadsTable s S = fill leadsSize (inPlaces 8 (map (λ a. a .0) (leadsUnder s S)))
+
+unfoldable pub coefficientsTable : Settings → List (List ℕ) → List ℕ
+coefficientsTable s S = fill coefficientsSize (inPlaces 64 (rowsUnder s S))
+
+-- The tables of points with their counts: a byte for each count, and '0 for unused places'.
+unfoldable pub tablesOf : Settings → Counted → Tables
+tablesOf s L = record {
+  states = statesTable (pointsOf L);
+  standard = standardTable s (pointsOf L);
+  leads = leadsTable s (pointsOf L);
+  coefficients = coefficientsTable s (pointsOf L);
+  counts = fill countsSize (countsOf L);
 }
 
 -- the lent tables with these in their sizes
@@ -71,23 +92,27 @@ written new old = record {
   standard = over (new .standard) (old .standard);
   leads = over (new .leads) (old .leads);
   coefficients = over (new .coefficients) (old .coefficients);
+  counts = over (new .counts) (old .counts);
 }
 
 -- a lent table is shorter than its size: by the tables' lengths, and of tables
-unfoldable pub shortLengths : ℕ → ℕ → ℕ → ℕ → Bool
-shortLengths states standard leads coefficients =
-    ltb states statesSize || ltb standard standardSize || ltb leads leadsSize || ltb coefficients coefficientsSize
+unfoldable pub shortLengths : ℕ → ℕ → ℕ → ℕ → ℕ → Bool
+shortLengths states standard leads coefficients counts =
+    ltb states statesSize || ltb standard standardSize || ltb leads leadsSize || ltb coefficients coefficientsSize || ltb counts countsSize
 
 unfoldable pub tooShort : Tables → Bool
-tooShort t = shortLengths (length (t .states)) (length (t .standard)) (length (t .leads)) (length (t .coefficients))
+tooShort t = shortLengths (length (t .states)) (length (t .standard)) (length (t .leads)) (length (t .coefficients)) (length (t .counts))
 
--- the first n points of a table of points
+-- the first n points of a table of points; the first n points of lent tables with their counts
 unfoldable pub pointsIn : Settings → ℕ → List ℕ → List (List ℕ)
 pointsIn s n states = map (λ P. P .0) (pointsUnder s (groups 8 n states))
 
--- The lent n, r and tables are the basis of their points under these settings: refusal 10 is given where they are not. A residue above p-1, or a byte that
--- is not 0 where it has to be, differs from the table of the points.
+unfoldable pub heldIn : Settings → ℕ → Tables → Counted
+heldIn s n t = zip (pointsIn s n (t .states)) (fill n (t .counts))
+
+-- The lent n, r and tables are the basis of their points under these settings, with counts from 1 to 255: refusal 10 is given where they are not. A residue
+-- above p-1, or a byte that is not 0 where it has to be, differs from the tables of the points.
 unfoldable pub recognised : Settings → ℕ → ℕ → Tables → Bool
-recognised s n r t = let S = pointsIn s n (t .states) in let new = tablesOf s S in
-    noRepeat S && eqb r (rowCount s S) && begins (new .states) (t .states) && begins (new .standard) (t .standard) && begins (new .leads) (t .leads)
-    && begins (new .coefficients) (t .coefficients)
+recognised s n r t = let L = heldIn s n t in let new = tablesOf s L in
+    noRepeat (pointsOf L) && eqb r (rowCount s (pointsOf L)) && begins (new .states) (t .states) && begins (new .standard) (t .standard)
+    && begins (new .leads) (t .leads) && begins (new .coefficients) (t .coefficients) && every isCount (countsOf L) && begins (new .counts) (t .counts)

@@ -29,7 +29,7 @@ sheet <- function(modulus, genes, order = "grevlex") {
   structure(list(raw = raw, genes = names, modulus = modulus, order = orders[number + 1]), class = "misqafur_sheet")
 }
 
-# A state as levels: a vector, or one row of a data frame.
+# A state as levels: a vector, or one row of a data frame. One that is there already is a replicate, and counted.
 add_state <- function(sheet, state) {
   sheet$raw <- taken(.Call(C_add, sheet$raw, whole(state)))
   sheet
@@ -40,7 +40,7 @@ withdraw_state <- function(sheet, state) {
   sheet
 }
 
-# All states at once, in place of those that the sheet has: a data frame or a matrix with a row for each.
+# All states at once, in place of those that the sheet has: a data frame or a matrix with a row for each. Rows may repeat.
 draw_up <- function(sheet, states) {
   states <- as.matrix(states)
   if (nrow(states) > 0 && ncol(states) != length(sheet$genes)) taken(list(7L))
@@ -81,6 +81,9 @@ table_of <- function(sheet, place, names = sheet$genes) {
 
 states <- function(sheet) as.data.frame(table_of(sheet, 1), optional = TRUE)
 
+# How often each state was taken, in their order.
+counts <- function(sheet) as.vector(taken(.Call(C_tables, sheet$raw))[[5]])
+
 # The exponents of the standard monomials and of the leading monomials, increasing in the order.
 standard <- function(sheet) table_of(sheet, 2)
 leads <- function(sheet) table_of(sheet, 3)
@@ -95,14 +98,16 @@ basis <- function(sheet) {
   }, "")
 }
 
-# The sheet and the values of a text: gene names and `mod P` in its header, states and values below.
+# The sheet and the values of a text: gene names and `mod P` in its header, states and values below. Records that repeat a
+# state are its replicates; there is one value for each state.
 read_sheet <- function(file) {
   bytes <- readBin(file, "raw", 1e6)
   answer <- .Call(C_read_text, bytes)
   parts <- taken(answer, if (answer[[1]] != 0) answer[[2]][[1]])
   text <- enc2utf8(iconv(rawToChar(bytes[bytes != 0]), "UTF-8", "UTF-8", sub = "byte"))
   names <- scan(text = sub("^\ufeff", "", text), what = "", sep = ",", quote = "\"", n = parts[[2]], quiet = TRUE, encoding = "UTF-8")
-  list(sheet = draw_up(sheet(parts[[1]], names, orders[parts[[3]] + 1]), parts[[4]]), values = as.vector(parts[[5]]))
+  pots <- parts[[4]][rep(seq_len(nrow(parts[[4]])), as.vector(parts[[6]])), , drop = FALSE]
+  list(sheet = draw_up(sheet(parts[[1]], names, orders[parts[[3]] + 1]), pots), values = as.vector(parts[[5]]))
 }
 
 print.misqafur_sheet <- function(x, ...) {

@@ -138,31 +138,32 @@ static SEXP matrix_of(const uint8_t *table, uint64_t rows, uint64_t width, uint6
     return matrix;
 }
 
-/* The states, the standard monomials, the leads and the coefficients of a sheet, which it has to be. */
+/* The states, the standard monomials, the leads, the coefficients and the counts of a sheet, which it has to be. */
 static SEXP tables(SEXP raw)
 {
     const struct misqafur_sheet sheet = sheet_of(raw);
     const uint32_t refusal = misqafur_sheet_check(&sheet);
-    SEXP four = PROTECT(allocVector(VECSXP, 4)), both;
+    SEXP five = PROTECT(allocVector(VECSXP, 5)), both;
     if (refusal == 0) {
-        SET_VECTOR_ELT(four, 0, matrix_of(sheet.states, sheet.n, 8, sheet.variables));
-        SET_VECTOR_ELT(four, 1, matrix_of(sheet.standard, sheet.n, 8, sheet.variables));
-        SET_VECTOR_ELT(four, 2, matrix_of(sheet.leads, sheet.r, 8, sheet.variables));
-        SET_VECTOR_ELT(four, 3, matrix_of(sheet.coefficients, sheet.r, 64, sheet.n));
+        SET_VECTOR_ELT(five, 0, matrix_of(sheet.states, sheet.n, 8, sheet.variables));
+        SET_VECTOR_ELT(five, 1, matrix_of(sheet.standard, sheet.n, 8, sheet.variables));
+        SET_VECTOR_ELT(five, 2, matrix_of(sheet.leads, sheet.r, 8, sheet.variables));
+        SET_VECTOR_ELT(five, 3, matrix_of(sheet.coefficients, sheet.r, 64, sheet.n));
+        SET_VECTOR_ELT(five, 4, matrix_of(sheet.counts, sheet.n, 1, 1));
     }
-    both = answered(refusal, four);
+    both = answered(refusal, five);
     UNPROTECT(1);
     return both;
 }
 
-/* A text as a raw vector: the record of a refusal; or modulus, genes, order, states (row after row) and values. */
+/* A text as a raw vector: the record of a refusal; or modulus, genes, order, states (row after row), values and counts. */
 static SEXP read_text(SEXP text)
 {
-    uint8_t points[MISQAFUR_STATES_SIZE], values[MISQAFUR_RESIDUES_SIZE];
-    const uint64_t answer =
-        misqafur_read_text(RAW(text), (size_t)XLENGTH(text), points, sizeof points, values, sizeof values);
+    uint8_t points[MISQAFUR_STATES_SIZE], values[MISQAFUR_RESIDUES_SIZE], counts[MISQAFUR_COUNTS_SIZE];
+    const uint64_t answer = misqafur_read_text(RAW(text), (size_t)XLENGTH(text), points, sizeof points, values, sizeof values,
+                                               counts, sizeof counts);
     const uint32_t refusal = misqafur_read_refusal(answer), n = misqafur_read_points(answer);
-    SEXP parts = PROTECT(allocVector(VECSXP, 5)), both;
+    SEXP parts = PROTECT(allocVector(VECSXP, 6)), both;
     if (refusal != 0) {
         SET_VECTOR_ELT(parts, 0, ScalarReal((double)misqafur_read_record(answer)));
     } else {
@@ -171,6 +172,7 @@ static SEXP read_text(SEXP text)
         SET_VECTOR_ELT(parts, 2, ScalarInteger((int)misqafur_read_order(answer)));
         SET_VECTOR_ELT(parts, 3, matrix_of(points, n, 8, misqafur_read_variables(answer)));
         SET_VECTOR_ELT(parts, 4, matrix_of(values, n, 1, 1));
+        SET_VECTOR_ELT(parts, 5, matrix_of(counts, n, 1, 1));
     }
     both = answered(refusal, parts);
     UNPROTECT(1);

@@ -13,7 +13,7 @@ use Rattle.residue.proofs.Tests.{of-true}
 use Rattle.residue.proofs.bytes.Equality.{same-is}
 use Rattle.residue.proofs.Layouts.{below-fill, length-fill}
 use Rattle.specification.specs.declared.settings.Settings.{Settings}
-use Rattle.specification.specs.Tables.{Tables, tablesOf, recognised}
+use Rattle.specification.specs.Tables.{Tables, standardTable, leadsTable, coefficientsTable, recognised}
 use Rattle.specification.proofs.agreement.Points.{IsPoint, Points}
 use Rattle.specification.proofs.agreement.Refusals.{Accepted}
 use Rattle.specification.proofs.Recognised.{read, Parts, recognised-parts, readIn, length-read}
@@ -50,16 +50,16 @@ module _ (s : Settings) (ok : Accepted s) (n r : ℕ) (t : Tables) (few : n ≤ 
       low P h = let e : suc (s .modulus - 1) ≡ s .modulus = omega (arith, positive) in subst (λ (k : ℕ). Below k P) e (below-reduced (s .modulus - 1) P (h .same))
 
   -- the lent tables have the standard monomials, the leads and their rows
-  pub standard-there : take 512 (t .standard) ≡ tablesOf s S .standard
-  unfolding tablesOf
+  pub standard-there : take 512 (t .standard) ≡ standardTable s S
+  unfolding standardTable
   standard-there = front 512 _ (t .standard) (parts .standard)
 
-  pub leads-there : take 3592 (t .leads) ≡ tablesOf s S .leads
-  unfolding tablesOf
+  pub leads-there : take 3592 (t .leads) ≡ leadsTable s S
+  unfolding leadsTable
   leads-there = front 3592 _ (t .leads) (parts .leads)
 
-  pub coefficients-there : take 28736 (t .coefficients) ≡ tablesOf s S .coefficients
-  unfolding tablesOf
+  pub coefficients-there : take 28736 (t .coefficients) ≡ coefficientsTable s S
+  unfolding coefficientsTable
   coefficients-there = front 28736 _ (t .coefficients) (parts .coefficients)
 
   -- what elimination asks of the pivot rows

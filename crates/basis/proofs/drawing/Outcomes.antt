@@ -1,65 +1,99 @@
--- The outcome of drawing up by what its tests found, in the order of checking.
-use mathlib.Core.Path.{_≡_, _∙_}
-use mathlib.Core.Bool.{true, false, not}
-use mathlib.Core.List.{List, _++_}
-use Prim.Native.Nat.{ℕ, _/_, _%_}
+-- The number of a drawing up by what its tests found, in the order of checking, and its outcome.
+use mathlib.Core.Path.{_≡_, refl, sym, ap, ap₂, _∙_}
+use mathlib.Core.Bool.{Bool, true, false, not}
+use mathlib.Core.List.{List, _∷_, _++_}
+use Prim.Native.Nat.{ℕ, _%_}
 use native.Mathlib.Omega.{arith}
 use lib.IntN.{ℤ}
-use lib.ListN.{length, drop}
-use lib.Dec.{eqb, ltb}
-use Rattle.residue.specs.Layout.{over}
-use Rattle.residue.proofs.Layouts.{answered}
+use lib.ListN.{length, length-map}
+use lib.Dec.{eqb}
+use Rattle.residue.specs.Layout.{fill}
+use Rattle.residue.proofs.Layouts.{fill-twice}
 use Rattle.specification.specs.declared.settings.Settings.{Settings}
 use Rattle.specification.specs.Refusal.{Case, firstOf}
 use Rattle.specification.specs.Settings.{settingsCases}
-use Rattle.specification.specs.Levels.{inRange, noRepeat}
-use Rattle.specification.specs.Tables.{Tables, rowCount, tablesOf, written, tooShort}
-use Rattle.specification.specs.Adding.{ended, refused, holding, pointsOffered, drawCases, drawRefusal, costing, cancellationsUnder, drawOutcome}
-use Rattle.construction.specs.Drawing.{Tabled}
-use Rattle.basis.proofs.settings.BySize.{sizes, by-size, by-rest, two, two-first, two-second, two-none}
+use Rattle.specification.specs.Levels.{inRange}
+use Rattle.specification.specs.Counted.{Counted, pointsOf, countsOf, gathered, overfull}
+use Rattle.specification.specs.Tables.{Tables, statesTable, tooShort, pointsIn}
+use Rattle.specification.specs.Adding.{refused, pointsOffered, drawCases, drawRefusal, costing, cancellationsUnder, drawOutcome}
+use Rattle.specification.proofs.Replicates.{holdingBoth, holding-told}
+use Rattle.specification.proofs.CallByCall.{Offered, drawn-points}
+use Rattle.construction.specs.Drawing.{PointsGiven}
+use Rattle.construction.proofs.drawing.Given.{table-points, given}
+use Rattle.basis.proofs.settings.BySize.{sizes, by-size, by-rest}
 use Rattle.basis.proofs.settings.ByNumber.{cost-refused, cost-accepted}
 
--- what the writers of the tables of S left
-pub all-written : (s : Settings) (S : List (List ℕ)) (t : Tables) (n r : ℕ) (a b c d : List ℕ) → n ≡ length S → r ≡ rowCount s S
-    → a ≡ over (tablesOf s S .states) (t .states) → b ≡ over (tablesOf s S .standard) (t .standard) → c ≡ over (tablesOf s S .leads) (t .leads)
-    → d ≡ over (tablesOf s S .coefficients) (t .coefficients) → ended (record { refusal = 0; n = n; r = r }) a b c d ≡ holding s S t
-unfolding holding written
-all-written s S t n r a b c d e f g h i j = rw (e, f, g, h, i, j)
+-- The number, where `short` is whether a lent table is too short.
+module _ (s : Settings) (short : Bool) (levels : List ℤ) where
+  abbrev wrong : Bool
+  wrong = not (eqb (length levels % s .variables) 0)
 
--- and of their fronts, the rest behind them
-pub fronts-written : (s : Settings) (S : List (List ℕ)) (t : Tables) (n r : ℕ) (a x y z : List ℕ) → n ≡ length S → a ≡ over (tablesOf s S .states) (t .states) → Tabled s S r x y z
-    → ended (record { refusal = 0; n = n; r = r }) a (x ++ drop 512 (t .standard)) (y ++ drop 3592 (t .leads)) (z ++ drop 28736 (t .coefficients)) ≡ holding s S t
-unfolding tablesOf
-fronts-written s S t n r a x y z e g h =
-    all-written s S t n r a (x ++ drop 512 (t .standard)) (y ++ drop 3592 (t .leads)) (z ++ drop 28736 (t .coefficients)) e (h .row-count) g (answered 512 _ (t .standard) x (h .standard-table))
-    (answered 3592 _ (t .leads) y (h .leads-table)) (answered 28736 _ (t .coefficients) z (h .coefficients-table))
-
--- Drawing up.
-module _ (s : Settings) (t : Tables) (levels : List ℤ) where
   -- the refusals on numbers
   abbrev pub drawSizes : ℕ
-  drawSizes = firstOf 0 (settingsCases s ++ sizes s (tooShort t) (not (eqb (length levels % s .variables) 0)) (ltb 64 (length levels / s .variables)))
+  drawSizes = firstOf 0 (settingsCases s ++ sizes s short wrong false)
 
   abbrev tests : List Case
-  tests = two 9 (inRange (s .modulus) levels) 11 (noRepeat (pointsOffered s levels))
+  tests = (not (inRange (s .modulus) levels), 9) ∷ overfull (gathered (pointsOffered s levels))
 
-  behind : drawSizes ≡ 0 → firstOf 0 tests ≡ drawRefusal s t levels
-  unfolding drawRefusal drawCases two
-  behind e = by-rest s (tooShort t) (not (eqb (length levels % s .variables) 0)) (ltb 64 (length levels / s .variables)) tests e
+  abbrev pub drawNumber : ℕ
+  drawNumber = firstOf 0 (settingsCases s ++ ((short, 6) ∷ (wrong, 7) ∷ tests))
 
-  pub draw-size : (k : ℕ) → k ≡ drawSizes → (k ≡ 0 → ⊥) → costing 0 (refused k t) ≡ drawOutcome s t levels
-  unfolding drawOutcome drawRefusal drawCases two
-  draw-size k e n = cost-refused t _ _ _ k (by-size s (tooShort t) (not (eqb (length levels % s .variables) 0)) (ltb 64 (length levels / s .variables)) tests k e n) n
+  -- a case that never holds is none
+  whole : firstOf 0 (settingsCases s ++ (sizes s short wrong false ++ tests)) ≡ drawNumber
+  unfolding firstOf settingsCases
+  whole = refl
 
-  pub draw-range : drawSizes ≡ 0 → inRange (s .modulus) levels ≡ false → costing 0 (refused 9 t) ≡ drawOutcome s t levels
+  -- a level out of range decides, or the points that were gathered
+  stop : inRange (s .modulus) levels ≡ false → 9 ≡ firstOf 0 tests
+  unfolding firstOf
+  stop f = rw f refl
+
+  on : inRange (s .modulus) levels ≡ true → firstOf 0 (overfull (gathered (pointsOffered s levels))) ≡ firstOf 0 tests
+  unfolding firstOf
+  on f = rw f refl
+
+  pub draw-size : (k : ℕ) → k ≡ drawSizes → (k ≡ 0 → ⊥) → k ≡ drawNumber
+  draw-size k e n = by-size s short wrong false tests k e n ∙ whole
+
+  pub draw-range : drawSizes ≡ 0 → inRange (s .modulus) levels ≡ false → 9 ≡ drawNumber
+  draw-range e f = stop f ∙ by-rest s short wrong false tests e ∙ whole
+
+  pub draw-gathered : drawSizes ≡ 0 → inRange (s .modulus) levels ≡ true → (k : ℕ) → k ≡ firstOf 0 (overfull (gathered (pointsOffered s levels))) → k ≡ drawNumber
+  draw-gathered e f k g = g ∙ on f ∙ by-rest s short wrong false tests e ∙ whole
+
+-- The outcome.
+module _ (s : Settings) (t : Tables) (levels : List ℤ) (k : ℕ) (e : k ≡ drawNumber s (tooShort t) levels) where
+  number : k ≡ drawRefusal s t levels
+  unfolding drawRefusal drawCases
+  number = e
+
+  pub draw-refused : (k ≡ 0 → ⊥) → costing 0 (refused k t) ≡ drawOutcome s t levels
   unfolding drawOutcome
-  draw-range e f = cost-refused t _ _ _ 9 (two-first 9 11 _ f ∙ behind e) (λ z. omega arith)
+  draw-refused n = cost-refused t _ _ _ k number n
 
-  pub draw-repeat : drawSizes ≡ 0 → inRange (s .modulus) levels ≡ true → noRepeat (pointsOffered s levels) ≡ false → costing 0 (refused 11 t) ≡ drawOutcome s t levels
-  unfolding drawOutcome
-  draw-repeat e f g = cost-refused t _ _ _ 11 (two-second 9 11 f g ∙ behind e) (λ z. omega arith)
+  -- nothing refuses: the distinct points are drawn up
+  module _ (zero : k ≡ 0) where
+    abbrev L : Counted
+    L = gathered (pointsOffered s levels)
 
-  pub draw-good : drawSizes ≡ 0 → inRange (s .modulus) levels ≡ true → noRepeat (pointsOffered s levels) ≡ true
-      → costing (cancellationsUnder s (pointsOffered s levels)) (holding s (pointsOffered s levels) t) ≡ drawOutcome s t levels
-  unfolding drawOutcome
-  draw-good e f g = cost-accepted t _ _ _ (two-none 9 11 f g ∙ behind e)
+    offered : Offered s t levels
+    offered = drawn-points s t levels (sym number ∙ zero)
+
+    pub enough : tooShort t ≡ false
+    enough = offered .large
+
+    module _ (n : ℕ) (points : List ℕ) (count : n ≡ length L) (table : points ≡ statesTable (pointsOf L)) where
+      many : n ≡ length (pointsOf L)
+      many = count ∙ sym (length-map L (λ q. q .0))
+
+      pub draw-given : PointsGiven s n points
+      unfolding statesTable
+      draw-given = rw (many, table) (given s (offered .ok) (pointsOf L) (offered .entries .points))
+
+      pub draw-done : (times : List ℕ) → times ≡ fill 64 (countsOf L)
+          → costing (cancellationsUnder s (pointsIn s n points)) (holdingBoth s (pointsIn s n points) times t) ≡ drawOutcome s t levels
+      unfolding drawOutcome statesTable
+      draw-done times f =
+          let back : pointsIn s n points ≡ pointsOf L = ap₂ (pointsIn s) many table ∙ table-points s (offered .ok) (pointsOf L) (offered .entries .points) in
+          rw (back, f, fill-twice 64 64 (countsOf L) (omega arith))
+          (ap (costing (cancellationsUnder s (pointsOf L))) (sym (holding-told s L t (pointsOf L) (countsOf L) refl refl)) ∙ cost-accepted t _ _ _ (sym zero ∙ number))

@@ -12,7 +12,7 @@ use Rattle.residue.proofs.Layouts.{over-all, length-fill}
 use Rattle.residue.proofs.Places.{table-groups}
 use Rattle.specification.specs.declared.settings.Settings.{Settings}
 use Rattle.specification.specs.Levels.{noRepeat}
-use Rattle.specification.specs.Tables.{rowCount, tablesOf, pointsIn}
+use Rattle.specification.specs.Tables.{rowCount, statesTable, standardTable, leadsTable, coefficientsTable, pointsIn}
 use Rattle.specification.specs.Adding.{cancellationsUnder}
 use Rattle.specification.proofs.Repeats.{repeat-filled}
 use Rattle.specification.proofs.agreement.Points.{IsPoint, Points, points-back}
@@ -52,6 +52,7 @@ module _ (s : Settings) (ok : Accepted s) where
 
   module _ (L : List (List ℕ)) (h : Points s L) where
     pub table-points : pointsIn s (length L) (fill 512 (inPlaces 8 L)) ≡ L
+    unfolding statesTable
     table-points =
         let t : List ℕ = fill 512 (inPlaces 8 L) in
         ap (pointsIn s (length L)) (sym (over-all t t refl)) ∙ points-back s (ok .few) L h t
@@ -67,7 +68,7 @@ module _ (s : Settings) (ok : Accepted s) where
 -- the sizes of the tables
 pub tabled-long : {s : Settings} {S : List (List ℕ)} {r : ℕ} {standard leads coefficients : List ℕ} → Tabled s S r standard leads coefficients
     → (length standard ≡ 512) × ((length leads ≡ 3592) × (length coefficients ≡ 28736))
-unfolding tablesOf
+unfolding standardTable leadsTable coefficientsTable
 tabled-long h = (ap length (h .standard-table) ∙ length-fill 512 _, (ap length (h .leads-table) ∙ length-fill 3592 _, ap length (h .coefficients-table) ∙ length-fill 28736 _))
 
 -- written over tables of the same sizes

@@ -28,7 +28,7 @@ use Rattle.specification.specs.Space.{Space}
 use Rattle.specification.specs.Basis.{Fits}
 use Rattle.specification.specs.BasisOf.{valueAt, interpolantOf}
 use Rattle.specification.specs.Instance.{Residues, Point, reduced, pointOf}
-use Rattle.specification.specs.Tables.{spaceUnder, pointsUnder, standardUnder, leadsUnder, rowCount, tablesOf, pointsIn}
+use Rattle.specification.specs.Tables.{spaceUnder, pointsUnder, standardUnder, leadsUnder, rowCount, standardTable, leadsTable, coefficientsTable, pointsIn}
 use Rattle.specification.proofs.Instance.{laws, residues-reduced, point-of}
 use Rattle.specification.proofs.ideal.Laws.{Laws}
 use Rattle.specification.proofs.ideal.Lists.{getD-among}
@@ -174,7 +174,7 @@ module _ {s : Settings} {n : ℕ} {points : List ℕ} (given : PointsGiven s n p
             then interpolant-values D L S (ground .distinct) vs i (pointOf q m []) (omega (arith, ground .count)) (omega arith)
 
     pub drawn-up : {r : ℕ} → r ≡ length (leadsUnder s K) → DrawnUp s K r standard leads coefficients rows pivots
-    unfolding rowCount tablesOf
+    unfolding rowCount standardTable leadsTable coefficientsTable
     drawn-up e = record {
       tabled = record {
         row-count = e;

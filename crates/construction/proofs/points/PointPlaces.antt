@@ -2,20 +2,33 @@
 use mathlib.Core.Path.{_≡_, refl, sym, ap, ap₂, _∙_}
 use mathlib.Core.Bool.{Bool, true, false, cond, _||_}
 use mathlib.Core.Logic.{inl, inr}
-use mathlib.Core.List.{List, [], _∷_, _++_, map}
-use Prim.Native.Nat.{ℕ, suc, _+_, _*_, _-_, _<_, _≤_}
+use mathlib.Core.List.{List, [], _∷_, map}
+use Prim.Native.Nat.{ℕ, zero, suc, _+_, _*_, _-_, _<_, _≤_}
 use native.Mathlib.Omega.{arith}
-use lib.ListN.{length, take, drop}
-use lib.Dec.{ltb}
+use lib.ListN.{length, getD, take, drop}
+use lib.Dec.{T, eqb, ltb}
 use borrow.Author.Tests.{ltb-true, ltb-false, lt-ltb, le-ltb}
+use Rattle.residue.specs.Vector.{Below}
 use Rattle.residue.specs.Layout.{groups, fill}
-use Rattle.residue.specs.Lists.{Among, sameList}
-use Rattle.residue.proofs.bytes.Equality.{same-filled}
-use Rattle.residue.proofs.Places.{groups-step, groups-end}
-use Rattle.monomial.specs.Insert.{removedAt}
-use Rattle.specification.specs.Levels.{isAmong}
-use Rattle.specification.specs.Withdrawing.{remaining}
-use Rattle.construction.specs.Points.{placeIn}
+use Rattle.residue.specs.Lists.{Among, sameList, keyOf}
+use Rattle.residue.proofs.Tests.{of-true}
+use Rattle.residue.proofs.vector.Vectors.{below-take, below-drop}
+use Rattle.residue.proofs.bytes.Equality.{same-filled, same-is}
+use Rattle.residue.proofs.bytes.Keys.{key-same}
+use Rattle.residue.proofs.Places.{groups-step, groups-end, length-groups, groups-at}
+use Rattle.residue.proofs.Replaced.{part-long}
+use Rattle.specification.specs.Levels.{isAmong, noRepeat}
+use Rattle.specification.specs.Counted.{placeIn}
+use Rattle.specification.proofs.agreement.Points.{once-of}
+use Rattle.specification.proofs.ideal.Lists.{getD-among}
+
+-- the key of a point and the one of the ith place of a table are equal exactly where the bytes are
+pub keys-told : (P t : List ℕ) (i : ℕ) {own other : ℕ} → Below 256 P → Below 256 t → length P ≡ 8 → 8 * i + 8 ≤ length t → own ≡ keyOf 8 P
+    → other ≡ keyOf 8 (take (8 * i + 8 - 8 * i) (drop (8 * i) t)) → sameList P (take 8 (drop (8 * i) t)) ≡ eqb own other
+keys-told P t i f g long room u v =
+    let e : 8 * i + 8 - 8 * i ≡ 8 = omega arith in
+    sym (ap₂ eqb u (v ∙ ap (λ (k : ℕ). keyOf 8 (take k (drop (8 * i) t))) e)
+    ∙ key-same P (take 8 (drop (8 * i) t)) f (below-take 256 8 (drop (8 * i) t) (below-drop 256 (8 * i) t g)) long (part-long (8 * i) 8 8 t refl room))
 
 pub place-start : (P t : List ℕ) (n : ℕ) → 0 + placeIn P (groups 8 (n - 0) (drop (8 * 0) t)) ≡ placeIn P (groups 8 n t)
 place-start P t n = let e : n - 0 ≡ n = omega arith in rw e (omega arith)
@@ -43,6 +56,22 @@ place-le P (Q ∷ S) = go (sameList P Q) (place-le P S)
     go true h = omega arith
     go false h = omega arith
 
+-- where no point repeats, a place with this point is its place
+pub place-once : (P : List ℕ) (S : List (List ℕ)) (i : ℕ) → T (noRepeat S) → i < length S → sameList P (getD S i []) ≡ true → i ≡ placeIn P S
+unfolding placeIn
+place-once P [] i t h e = absurd (omega arith)
+place-once P (Q ∷ S) zero t h e = rw e refl
+place-once P (Q ∷ S) (suc i) t h e = go (sameList P Q) refl (place-once P S i (once-of S Q t .1) (omega arith) e)
+  where
+    go : (b : Bool) → sameList P Q ≡ b → i ≡ placeIn P S → suc i ≡ cond b 0 (suc (placeIn P S))
+    go true f k =
+        let same = sym (same-is P Q (of-true f)) ∙ same-is P (getD S i []) (of-true e) in
+        absurd (once-of S Q t .0 (getD S i []) (getD-among S i [] (omega arith)) same)
+    go false f k = ap suc k
+
+pub guessed : (P t : List ℕ) (n i : ℕ) → T (noRepeat (groups 8 n t)) → i < n → sameList P (take 8 (drop (8 * i) t)) ≡ true → i ≡ placeIn P (groups 8 n t)
+guessed P t n i once h e = place-once P (groups 8 n t) i once (omega (arith, length-groups 8 n t)) (ap (sameList P) (groups-at 8 n i t [] h) ∙ e)
+
 -- the same place among points that are filled up with zeros
 pub place-filled : (k m : ℕ) → m ≤ k → (P : List ℕ) (S : List (List ℕ)) → length P ≡ m → ((Q : List ℕ) → Among Q S → length Q ≡ m)
     → placeIn (fill k P) (map (fill k) S) ≡ placeIn P S
@@ -64,13 +93,3 @@ among-place P (Q ∷ S) = go (sameList P Q) (among-place P S)
     go : (b : Bool) → ltb (placeIn P S) (length S) ≡ isAmong P S → ltb (cond b 0 (suc (placeIn P S))) (suc (length S)) ≡ (b || isAmong P S)
     go true e = lt-ltb 0 (suc (length S)) (omega arith)
     go false e = step (ltb (placeIn P S) (length S)) refl ∙ e
-
--- the points without the one at its place
-pub place-out : (P : List ℕ) (S : List (List ℕ)) → placeIn P S < length S → removedAt (placeIn P S) S ≡ remaining P S
-unfolding placeIn removedAt remaining
-place-out P (Q ∷ S) h = go (sameList P Q) (λ k. place-out P S k) h
-  where
-    go : (b : Bool) → (placeIn P S < length S → take (placeIn P S) S ++ drop (suc (placeIn P S)) S ≡ remaining P S) → cond b 0 (suc (placeIn P S)) < suc (length S)
-        → take (cond b 0 (suc (placeIn P S))) (Q ∷ S) ++ drop (suc (cond b 0 (suc (placeIn P S)))) (Q ∷ S) ≡ cond b S (Q ∷ remaining P S)
-    go true f h = refl
-    go false f h = ap (λ (l : List (List ℕ)). Q ∷ l) (f (omega arith))

@@ -1,23 +1,40 @@
 -- Tables of points: the points of levels, and the points that are read from a table.
 use mathlib.Core.Path.{_≡_, refl, sym, _∙_, ap}
 use mathlib.Core.List.{List, [], _∷_, _++_, map, map-append}
-use Prim.Native.Nat.{ℕ, suc, _+_, _-_, _*_, _%_, _≤_}
+use Prim.Native.Nat.{ℕ, suc, _+_, _-_, _*_, _%_, _<_, _≤_}
 use native.Mathlib.Omega.{arith}
-use lib.IntN.{ℤ}
-use lib.ListN.{length, take, drop, length-map}
-use Rattle.residue.specs.Layout.{groups}
+use lib.IntN.{ℤ, pos}
+use lib.ListN.{length, getD, take, drop, length-map, length-take, List·getD-eq-default}
+use lib.Seq.{getD-take, length-take-le}
+use Rattle.residue.specs.Level.{residueOf}
+use Rattle.residue.specs.Layout.{groups, fill}
 use Rattle.residue.proofs.Places.{length-groups, groups-more}
-use Rattle.residue.proofs.Layouts.{fill-take}
+use Rattle.residue.proofs.Layouts.{fill-at, fill-take}
+use Rattle.residue.proofs.vector.Vectors.{map-at}
 use Rattle.specification.specs.declared.settings.Settings.{Settings}
-use Rattle.specification.specs.Levels.{residues}
+use Rattle.specification.specs.Levels.{residueOr0, residues}
 use Rattle.specification.specs.Instance.{reduced, pointOf}
 use Rattle.specification.specs.Tables.{pointsIn}
 use Rattle.specification.proofs.Recognised.{map-take, map-drop}
+use Rattle.specification.proofs.agreement.Points.{length-residues}
 
 -- the residues of a part of the levels
 pub residues-part : (p k at : ℕ) (zs : List ℤ) → residues p (take k (drop at zs)) ≡ take k (drop at (residues p zs))
 unfolding residues
 residues-part p k at zs = map-take _ k (drop at zs) ∙ ap (take k) (map-drop _ at zs)
+
+-- the residues of the first m levels, with zeros behind them: at a level, and behind the levels
+module _ (p m i : ℕ) (zs : List ℤ) (h : i < 8) where
+  pub first-there : i < m → m ≤ length zs → residueOr0 (residueOf p (getD zs i (pos 0))) ≡ getD (fill 8 (residues p (take m zs))) i 0
+  unfolding residues
+  first-there k room =
+      let f : ℤ → ℕ = λ z. residueOr0 (residueOf p z) in
+      sym (fill-at 8 (map f (take m zs)) i h ∙ map-at f (take m zs) (pos 0) 0 i (omega (arith, length-take-le m zs room)) ∙ ap f (getD-take m zs i (pos 0) k))
+
+  pub first-past : m ≤ i → 0 ≡ getD (fill 8 (residues p (take m zs))) i 0
+  first-past k =
+      sym (fill-at 8 (residues p (take m zs)) i h
+      ∙ List·getD-eq-default (residues p (take m zs)) 0 (omega (arith, length-residues p (take m zs), length-take m zs)))
 
 module _ (p m : ℕ) where
   -- a point is what its place holds, cut and reduced

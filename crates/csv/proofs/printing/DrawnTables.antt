@@ -19,7 +19,7 @@ use Rattle.specification.specs.declared.settings.Settings.{Settings}
 use Rattle.specification.specs.Polynomial.{Distinct}
 use Rattle.specification.specs.BasisOf.{basisOf, rowOf, interpolantOf}
 use Rattle.specification.specs.Instance.{Monomial, Point, pointOf}
-use Rattle.specification.specs.Tables.{spaceUnder, pointsUnder, standardUnder, leadsUnder, rowsUnder, rowCount, tablesOf}
+use Rattle.specification.specs.Tables.{spaceUnder, pointsUnder, standardUnder, leadsUnder, rowsUnder, rowCount, standardTable, leadsTable, coefficientsTable}
 use Rattle.specification.specs.Needed.{pairIn, wiringOf, Names}
 use Rattle.specification.proofs.Instance.{standard-exponent, lead-exponent}
 use Rattle.specification.proofs.ideal.Lists.{getD-among, among-map}
@@ -100,16 +100,16 @@ module _ (s : Settings) (ok : Accepted s) (S : List (List ℕ)) (h : Points s S)
       ap (λ (z : List ℕ). length z) (t .2) ∙ solved-long _
 
   -- The tables read back.
-  pub standard-back : inTable 8 (length S) (s .variables) (tablesOf s S .standard) ≡ standards
-  unfolding tablesOf
+  pub standard-back : inTable 8 (length S) (s .variables) (standardTable s S) ≡ standards
+  unfolding standardTable
   standard-back = table-back 8 512 (length S) (s .variables) standards (length-map (standardUnder s S) _ ∙ standard-count) (omega (arith, h .few)) (ok .few) (long (standardUnder s S))
 
-  pub leads-back : inTable 8 (rowCount s S) (s .variables) (tablesOf s S .leads) ≡ leads
-  unfolding tablesOf
+  pub leads-back : inTable 8 (rowCount s S) (s .variables) (leadsTable s S) ≡ leads
+  unfolding leadsTable
   leads-back = table-back 8 3592 (rowCount s S) (s .variables) leads lead-count (omega (arith, few-rows s ok S h)) (ok .few) (long (leadsUnder s S))
 
-  pub rows-back : inTable 64 (rowCount s S) (length S) (tablesOf s S .coefficients) ≡ rowsUnder s S
-  unfolding tablesOf
+  pub rows-back : inTable 64 (rowCount s S) (length S) (coefficientsTable s S) ≡ rowsUnder s S
+  unfolding coefficientsTable
   rows-back = table-back 64 28736 (rowCount s S) (length S) (rowsUnder s S) row-count (omega (arith, few-rows s ok S h)) (h .few) rows-long
 
   -- What is printed fits.

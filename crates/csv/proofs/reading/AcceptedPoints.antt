@@ -4,36 +4,21 @@ use mathlib.Core.Bool.{Bool, true, false, not, cond}
 use mathlib.Core.List.{List, [], _∷_, map}
 use mathlib.Core.Logic.{inl, inr}
 use mathlib.Core.Option.{Option, some, none, Option·getD}
-use Prim.Native.Nat.{ℕ, zero, suc, _≤_}
+use Prim.Native.Nat.{ℕ, suc, _≤_}
 use native.Mathlib.Omega.{arith}
 use lib.IntN.{ℤ}
 use lib.ListN.{take, drop}
-use lib.Dec.{T, eqb·suc-zero}
+use lib.Dec.{T}
 use borrow.Author.Tests.{not-false}
 use Rattle.residue.specs.Lists.{Among, sameList}
-use Rattle.residue.proofs.Tests.{true-of, of-true, and-both}
-use Rattle.specification.specs.Levels.{inRange, isAmong, noRepeat}
-use Rattle.specification.proofs.Repeats.{among-is, is-among}
+use Rattle.residue.proofs.Tests.{of-true}
+use Rattle.specification.specs.Levels.{inRange}
 use Rattle.csv.specs.reading.Fields.{front}
 use Rattle.csv.specs.Digits.{isDigit, numberOf}
 use Rattle.csv.specs.reading.Forms.{lex-word, grlex-word, grevlex-word, mod-word, defaultOrder, orderWord, Header, header, modulusAndOrder, lastField, headerFrom, headerOf}
-use Rattle.specification.specs.Refusal.{firstOf}
-use Rattle.csv.specs.reading.Text.{TextCase, further, firstFault, isNone, headerIn, entryIn, entriesIn, formFault, isOutside, firstRepeat, notRefused, refusalAt}
-pub use Rattle.csv.proofs.reading.repeats.RepeatedRows.{AllLong}
-use Rattle.csv.proofs.reading.RepeatedPoints.{entries-long}
-
--- A case that refuses and does not hold.
-pub passed : (b : Bool) (k at : ℕ) (l : List TextCase) → firstOf notRefused ((b, refusalAt (suc k) at) ∷ l) .refusal ≡ 0 → (b ≡ false) × (firstOf notRefused l .refusal ≡ 0)
-unfolding firstOf
-passed true k at l h = absurd (omega arith)
-passed false k at l h = (refl, h)
-
--- no fault before, none behind
-fault-step : (b : Bool) (k : ℕ) → cond b 1 (further k) ≡ 0 → (b ≡ false) × (k ≡ 0)
-unfolding further
-fault-step true k h = absurd (omega arith)
-fault-step false zero h = (refl, refl)
-fault-step false (suc k) h = let z = rw (eqb·suc-zero k) at h in absurd (omega arith)
+use Rattle.csv.specs.reading.Text.{firstFault, isNone, headerIn, entryIn, entriesIn, formFault, isOutside}
+use Rattle.csv.proofs.reading.FirstPlaces.{fault-step}
+use Rattle.csv.proofs.reading.points.EntryLengths.{AllLong, entries-long}
 
 -- The order's number is at most 2.
 abbrev Small : Option ℕ → Type 0
@@ -101,27 +86,8 @@ pub all-long : (m : ℕ) (t : List (Option (List (List ℕ)))) → firstFault is
 unfolding entriesIn
 all-long m t h = entries-long m (drop 1 t) (map (λ e. Option·getD e []) (map (entryIn m) (drop 1 t))) (all-some (map (entryIn m) (drop 1 t)) h)
 
--- Every entry is in range, and no point repeats.
+-- Every entry is in range.
 pub all-inside : (p : ℕ) (S : List (List ℤ)) → firstFault (isOutside p) S ≡ 0 → (zs : List ℤ) → Among zs S → T (inRange p zs)
 unfolding firstFault isOutside
 all-inside p (z ∷ S) h zs (inl e) = subst (λ (y : List ℤ). T (inRange p y)) (sym e) (of-true (not-false (inRange p z) (fault-step (not (inRange p z)) (firstFault (isOutside p) S) h .0)))
 all-inside p (z ∷ S) h zs (inr q) = all-inside p S (fault-step (not (inRange p z)) (firstFault (isOutside p) S) h .1) zs q
-
-pub none-again : (seen S : List (List ℕ)) → firstRepeat seen S ≡ 0 → T (noRepeat S) × ((P : List ℕ) → Among P seen → ¬ Among P S)
-unfolding firstRepeat noRepeat
-none-again seen [] h = (tt, λ P w q. q)
-none-again seen (P ∷ S) h =
-    let c = fault-step (isAmong P seen) (firstRepeat (P ∷ seen) S) h in
-    let r = none-again (P ∷ seen) S (c .1) in
-    (and-both (not (isAmong P S)) (noRepeat S) (fresh (isAmong P S) refl (r .1 P (inl refl))) (r .0), λ Q w q. apart c r Q w q)
-  where
-    fresh : (b : Bool) → isAmong P S ≡ b → ¬ Among P S → T (not b)
-    fresh true e n = absurd (n (among-is P S (of-true e)))
-    fresh false e n = tt
-
-    apart : (isAmong P seen ≡ false) × (firstRepeat (P ∷ seen) S ≡ 0) → T (noRepeat S) × ((Q : List ℕ) → Among Q (P ∷ seen) → ¬ Among Q S) → (Q : List ℕ) → Among Q seen → Among Q (P ∷ S) → ⊥
-    apart c r Q w (inl e) =
-        let t : isAmong P seen ≡ true = true-of (isAmong P seen) (is-among P seen (subst (λ (Z : List ℕ). Among Z seen) e w)) in
-        let z : _≡_ {A = ℕ} 0 1 = cc in
-        absurd (omega arith)
-    apart c r Q w (inr q) = r .1 Q (inr w) q

@@ -1,24 +1,29 @@
 -- The whole text: what its header and its entries say of the outcome.
 use mathlib.Core.Path.{_≡_, refl, sym, ap, ap₂, _∙_}
+use mathlib.Core.Bool.{Bool, true, false, cond}
+use mathlib.Core.Logic.{_≢_}
 use mathlib.Core.List.{List, [], _∷_, _++_, map}
 use mathlib.Core.Option.{Option, some, none, Option·getD}
 use Prim.Native.Nat.{ℕ, zero, suc, _+_, _<_, _≤_}
 use native.Mathlib.Omega.{arith}
 use lib.IntN.{ℤ}
 use lib.ListN.{length, drop, length-map}
+use lib.Dec.{eqb}
 use borrow.Author.Tests.{lt-ltb, le-ltb, eq-eqb, ne-eqb}
 use Rattle.residue.specs.Lists.{sameList}
 use Rattle.csv.specs.reading.Fields.{Part, part, faulty, front, ending, unquoted, fieldOf, behindField, recordFrom, recordOf, behindRecord, recordsFrom, recordsOf}
 use Rattle.csv.specs.reading.Forms.{Header, lastField, headerFrom, headerOf}
 use Rattle.specification.specs.Refusal.{firstOf}
-use Rattle.csv.specs.reading.Text.{Contents, TextOutcome, further, firstFault, isNone, headerIn, entryIn, entriesIn, formFault, contentsOf, headerCases, entriesCases, readCases, notRefused, textAccepted, textRefused, textDecided, readOutcome, refusalAt}
+use Rattle.specification.proofs.Numbers.{never}
+use Rattle.csv.specs.reading.Text.{Contents, TextOutcome, pointsCases, further, firstFault, isNone, headerIn, entryIn, entriesIn, formFault, contentsOf, headerCases, entriesCases, readCases, notRefused, textAccepted, textRefused, textDecided, readOutcome, refusalAt}
 use Rattle.csv.specs.reading.Records.{kept, reads, headerPart, entriesAt, counted}
-use Rattle.csv.specs.reading.Points.{levelsAt, saying}
+use Rattle.csv.specs.reading.Points.{levelsAt, saying, entriesOutcome}
 use Rattle.csv.specs.declared.reading.Refusal.{Refusal}
 use Rattle.csv.specs.declared.reading.records.Entries.the-variants as N
 use Rattle.csv.proofs.reading.fields.EnoughTurns.{records-unroll}
-use Rattle.csv.proofs.reading.RepeatedPoints.{entries-count}
-use Rattle.csv.proofs.reading.TextCases.{text-refused, fault-le}
+use Rattle.csv.proofs.reading.points.EntriesRead.{all-entries}
+use Rattle.csv.proofs.reading.FirstPlaces.{fault-le}
+use Rattle.csv.proofs.reading.TextCases.{text-refused}
 
 -- the header is the first record
 first-none : (p : Part (List (List ℕ))) → reads headerOf p ≡ faulty → headerIn (behindRecord recordsOf p) ≡ none
@@ -106,35 +111,35 @@ unfolding entriesAt recordsOf
 entries-few m l = let e = length-map (recordsOf l) (entryIn m) in omega (arith, records-few (length l) l)
 
 -- the first two cases
-module _ (t : List ℕ) (f : ℕ) (e : Contents) (a b : ℕ) where
-  refuse-1 : 16384 < length t → refusalAt 1 0 ≡ (firstOf notRefused (readCases t f e a b))
+module _ (t : List ℕ) (f : ℕ) (e : Contents) (a b c : ℕ) where
+  refuse-1 : 16384 < length t → refusalAt 1 0 ≡ (firstOf notRefused (readCases t f e a b c))
   unfolding firstOf readCases
   refuse-1 h = simp (lt-ltb 16384 (length t) h)
 
   module _ (h : length t ≤ 16384) where
-    refuse-2 : (f ≡ 0 → ⊥) → refusalAt 2 f ≡ (firstOf notRefused (readCases t f e a b))
+    refuse-2 : (f ≡ 0 → ⊥) → refusalAt 2 f ≡ (firstOf notRefused (readCases t f e a b c))
     unfolding firstOf readCases
     refuse-2 n = simp (le-ltb 16384 (length t) h, ne-eqb f 0 n)
 
-    form-pass : f ≡ 0 → firstOf notRefused (readCases t f e a b) ≡ firstOf notRefused (headerCases (e .header .modulus) (e .header .variables) (length (e .entries)) a b ++ entriesCases e)
+    form-pass : f ≡ 0 → firstOf notRefused (readCases t f e a b c) ≡ firstOf notRefused (headerCases (e .header .modulus) (e .header .variables) a b c ++ entriesCases e)
     unfolding firstOf readCases
     form-pass z = simp (le-ltb 16384 (length t) h, eq-eqb f 0 z)
 
 -- The outcome, case by case.
-module _ (t s v : List ℕ) where
-  pub too-long : 16384 < length t → textRefused (refusalAt 1 0) s v ≡ readOutcome t s v
+module _ (t s v n : List ℕ) where
+  pub too-long : 16384 < length t → textRefused (refusalAt 1 0) s v n ≡ readOutcome t s v n
   unfolding readOutcome
-  too-long h = text-refused _ _ s v _ (refuse-1 t _ _ (length s) (length v) h) (λ z. omega arith)
+  too-long h = text-refused _ _ s v n _ (refuse-1 t _ _ (length s) (length v) (length n) h) (λ z. omega arith)
 
   module _ (h : length t ≤ 16384) where
-    pub header-broken : headerPart t ≡ faulty → textRefused (refusalAt 2 1) s v ≡ readOutcome t s v
+    pub header-broken : headerPart t ≡ faulty → textRefused (refusalAt 2 1) s v n ≡ readOutcome t s v n
     unfolding readOutcome formFault
     header-broken e =
         let r = recordsOf t in
         let k = Option·getD (headerIn r) (record { variables = 0; modulus = 0; order = 0 }) in
-        text-refused _ _ s v (refusalAt 2 1)
-        (refuse-2 t 1 (contentsOf k r) (length s) (length v) h (λ z. omega arith)
-        ∙ ap (λ (o : Option Header). firstOf notRefused (readCases t (formFault o r) (contentsOf k r) (length s) (length v))) (sym (no-header t e)))
+        text-refused _ _ s v n (refusalAt 2 1)
+        (refuse-2 t 1 (contentsOf k r) (length s) (length v) (length n) h (λ z. omega arith)
+        ∙ ap (λ (o : Option Header). firstOf notRefused (readCases t (formFault o r) (contentsOf k r) (length s) (length v) (length n))) (sym (no-header t e)))
         (λ z. omega arith)
 
     module _ (k : Header) (rest : List ℕ) (e : headerPart t ≡ part k rest) where
@@ -145,40 +150,36 @@ module _ (t s v : List ℕ) where
       unfolding entriesIn entriesAt
       behind = ap (map (entryIn (k .variables))) (some-header k rest t e .1)
 
-      outcome : readOutcome t s v ≡ textDecided (firstOf notRefused (readCases t (further (firstFault isNone (entriesAt (k .variables) rest))) says (length s) (length v))) (textAccepted says s v) s v
+      outcome : readOutcome t s v n ≡ textDecided (firstOf notRefused (readCases t (further (firstFault isNone (entriesAt (k .variables) rest))) says (length s) (length v) (length n))) (textAccepted says s v n) s v n
       unfolding readOutcome formFault contentsOf says saying levelsAt
       outcome =
           ap (λ (o : Option Header). of-header o) (some-header k rest t e .0) ∙ ap of-entries behind
         where
           of-header : Option Header → TextOutcome
           of-header o = let f = contentsOf (Option·getD o (record { variables = 0; modulus = 0; order = 0 })) (recordsOf t) in
-              textDecided (firstOf notRefused (readCases t (formFault o (recordsOf t)) f (length s) (length v))) (textAccepted f s v) s v
+              textDecided (firstOf notRefused (readCases t (formFault o (recordsOf t)) f (length s) (length v) (length n))) (textAccepted f s v n) s v n
 
           of-entries : List (Option (List ℤ)) → TextOutcome
           of-entries es = let f : Contents = record { header = k; entries = map (λ x. Option·getD x []) es } in
-              textDecided (firstOf notRefused (readCases t (further (firstFault isNone es)) f (length s) (length v))) (textAccepted f s v) s v
+              textDecided (firstOf notRefused (readCases t (further (firstFault isNone es)) f (length s) (length v) (length n))) (textAccepted f s v n) s v n
 
-      pub entry-broken : (r a : ℕ) → N.Refused r a ≡ counted 0 (entriesAt (k .variables) rest) → textRefused (refusalAt r a) s v ≡ readOutcome t s v
+      pub entry-broken : (r a : ℕ) → N.Refused r a ≡ counted 0 (entriesAt (k .variables) rest) → textRefused (refusalAt r a) s v n ≡ readOutcome t s v n
       entry-broken r a c =
           let f = counted-refused 0 r a (entriesAt (k .variables) rest) c in
           let g = further-some (firstFault isNone (entriesAt (k .variables) rest)) (f .found) in
           let q = f .at in
           let i : further (firstFault isNone (entriesAt (k .variables) rest)) ≡ a = omega arith in
-          ap₂ (λ (x y : ℕ). textRefused (refusalAt x y) s v) (f .refusal) (sym i)
-          ∙ text-refused _ _ s v _ (refuse-2 t (further (firstFault isNone (entriesAt (k .variables) rest))) says (length s) (length v) h (λ z. omega arith)) (λ z. omega arith)
+          ap₂ (λ (x y : ℕ). textRefused (refusalAt x y) s v n) (f .refusal) (sym i)
+          ∙ text-refused _ _ s v n _ (refuse-2 t (further (firstFault isNone (entriesAt (k .variables) rest))) says (length s) (length v) (length n) h (λ z. omega arith)) (λ z. omega arith)
           ∙ sym outcome
 
-      pub form-right : (n : ℕ) → N.Count n ≡ counted 0 (entriesAt (k .variables) rest)
-          → textDecided (firstOf notRefused (headerCases (k .modulus) (k .variables) n (length s) (length v) ++ entriesCases (saying (k .modulus) (k .variables) (k .order) rest)))
-          (textAccepted (saying (k .modulus) (k .variables) (k .order) rest) s v) s v
-          ≡ readOutcome t s v
+      pub form-right : (entries : ℕ) → N.Count entries ≡ counted 0 (entriesAt (k .variables) rest)
+          → entriesOutcome (k .modulus) (k .variables) (k .order) rest s v n ≡ readOutcome t s v n
       unfolding says saying further
-      form-right n c =
-          let z = counted-none 0 n (entriesAt (k .variables) rest) c in
-          let m = entries-count (k .modulus) (k .variables) n rest (sym c) in
-          ap (λ (x : Refusal). textDecided x (textAccepted says s v) s v)
-          (ap (λ (j : ℕ). firstOf notRefused (headerCases (k .modulus) (k .variables) j (length s) (length v) ++ entriesCases says)) (sym m)
-          ∙ sym (form-pass t (further (firstFault isNone (entriesAt (k .variables) rest))) says (length s) (length v) h (ap further z)))
+      form-right entries c =
+          let z = counted-none 0 entries (entriesAt (k .variables) rest) c in
+          ap (λ (x : Refusal). textDecided x (textAccepted says s v n) s v n)
+          (sym (form-pass t (further (firstFault isNone (entriesAt (k .variables) rest))) says (length s) (length v) (length n) h (ap further z)))
           ∙ sym outcome
 
 -- the record of a refused entry, within its type
@@ -186,3 +187,20 @@ pub record-small : (m k a : ℕ) (l : List ℕ) → length l ≤ 16384 → N.Ref
 record-small m k a l h c =
     let f = counted-refused 0 k a (entriesAt m l) c .at in
     omega (arith, fault-le isNone (entriesAt m l), entries-few m l)
+
+-- the number of entries, within the text's length
+pub count-small : (m n : ℕ) (l : List ℕ) → length l ≤ 16384 → counted 0 (entriesAt m l) ≡ N.Count n → n ≤ 16384
+count-small m n l h c = omega (arith, all-entries 0 n (entriesAt m l) c .1, entries-few m l)
+
+-- No text is refused with 11, whatever it is and whatever is lent (request M-106).
+decided-eleven : (r : Refusal) (done : TextOutcome) (s v n : List ℕ) → done .answer .refusal ≡ 0 → textDecided r done s v n .answer .refusal ≡ 11 → r .refusal ≡ 11
+unfolding textDecided textRefused
+decided-eleven r done s v n z = go (eqb (r .refusal) 0)
+  where
+    go : (b : Bool) → cond b done (textRefused r s v n) .answer .refusal ≡ 11 → r .refusal ≡ 11
+    go true e = absurd (omega (arith, z, e))
+    go false e = e
+
+pub text-never-eleven : (t s v n : List ℕ) → readOutcome t s v n .answer .refusal ≢ 11
+unfolding readOutcome readCases headerCases entriesCases pointsCases textAccepted
+text-never-eleven t s v n e = never (λ r. r .refusal) 11 notRefused _ (λ z. omega (arith, z)) tt (decided-eleven _ _ s v n refl e)

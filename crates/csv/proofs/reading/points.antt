@@ -2,4 +2,6 @@
 pub mod LevelResidues
 pub mod OneMore
 pub mod EntryFilled
-pub mod EntriesFilled
+pub mod EntryLengths
+pub mod EntriesRead
+pub mod EntriesInside

@@ -1,21 +1,25 @@
 -- What the readers of residues answer, in the terms of the definitions.
 use mathlib.Core.Path.{_≡_}
 use mathlib.Core.Bool.{Bool, cond}
-use mathlib.Core.List.{List, [], _∷_, _++_, map}
+use mathlib.Core.List.{List, [], _++_, map}
 use mathlib.Core.Option.{Option·getD}
-use Prim.Native.Nat.{ℕ, zero, suc, _≤_}
+use Prim.Native.Nat.{ℕ, _≤_}
 use lib.IntN.{ℤ, pos}
 use lib.ListN.{length, drop}
 use lib.Dec.{eqb}
 use Rattle.residue.specs.Level.{residueOf}
-use Rattle.residue.specs.Layout.{rowAt}
+use Rattle.residue.specs.Layout.{fill}
 use Rattle.specification.specs.Levels.{isResidue, residueOr0, inRange}
+use Rattle.specification.specs.Counted.{pointsOf, countsOf, gathered}
+use Rattle.specification.specs.Tables.{statesTable, countsSize}
 use Rattle.csv.specs.reading.Fields.{Field, field, broken, Part, part, faulty}
 use Rattle.specification.specs.Refusal.{firstOf}
-use Rattle.csv.specs.reading.Text.{Contents, TextOutcome, entryValue, notRefused, headerCases, entriesCases, textAccepted, textDecided}
+use Rattle.csv.specs.reading.Text.{Contents, Valued, TextOutcome, entryValue, firstValues, textAccepted, textDecided}
+use Rattle.csv.specs.reading.Text.{refusalAt, notRefused, headerCases, pointsCases, entriesCases}
 use Rattle.csv.specs.reading.Records.{entriesAt}
 use Rattle.csv.specs.declared.reading.points.Placed.{Placed}
 use Rattle.csv.specs.declared.reading.points.Filled.{Filled}
+use Rattle.csv.specs.declared.reading.gathering.Gathered.{Gathered}
 
 -- the level in a field that has one, and the text behind it
 unfoldable pub levelIn : Field ℤ → ℤ
@@ -57,16 +61,24 @@ levelsAt m l = map (λ e. Option·getD e []) (entriesAt m l)
 unfoldable pub saying : ℕ → ℕ → ℕ → List ℕ → Contents
 saying p m order l = record { header = record { variables = m; modulus = p; order = order }; entries = levelsAt m l }
 
--- what is left of a text of right form, by its settings and its n entries
-abbrev pub entriesOutcome : (p m order n : ℕ) → List ℕ → List ℕ → List ℕ → TextOutcome
-entriesOutcome p m order n l states values = let said = saying p m order l in
-    textDecided (firstOf notRefused (headerCases p m n (length states) (length values) ++ entriesCases said)) (textAccepted said states values) states values
+-- what is left of a text of right form, by its settings and its entries
+abbrev pub entriesOutcome : (p m order : ℕ) → List ℕ → List ℕ → List ℕ → List ℕ → TextOutcome
+entriesOutcome p m order l states values counts = let said = saying p m order l in
+    textDecided (firstOf notRefused (headerCases p m (length states) (length values) (length counts) ++ entriesCases said))
+    (textAccepted said states values counts) states values counts
 
 -- the first place found, or this one if it has a fault
 unfoldable pub firstPlace : ℕ → Bool → ℕ → ℕ
 firstPlace found inside place = cond (eqb found 0) (cond inside 0 place) found
 
--- the rows before the jth of a table of rows of 8, the last first
-unfoldable pub earlier : ℕ → List ℕ → List (List ℕ)
-earlier zero t = []
-earlier (suc j) t = rowAt 8 j t ∷ earlier j t
+-- the distinct points of entries in three tables, with their counts and their first values
+pub record Tabled (l : List Valued) (n : ℕ) (points counts values : List ℕ) : Type 0 where
+  pub number : n ≡ length (gathered (pointsOf l))
+  pub states : points ≡ statesTable (pointsOf (gathered (pointsOf l)))
+  pub times : counts ≡ fill countsSize (countsOf (gathered (pointsOf l)))
+  pub firsts : values ≡ fill 64 (firstValues (pointsOf (gathered (pointsOf l))) l)
+
+-- `gather_entries`: the refusal of these entries, or their tables
+pub record GatheredAs (l : List Valued) (r : Gathered) (points counts values : List ℕ) : Type 0 where
+  pub decided : refusalAt (r .refusal) (r .at) ≡ firstOf notRefused (pointsCases l)
+  pub tabled : r .refusal ≡ 0 → Tabled l (r .n) points counts values

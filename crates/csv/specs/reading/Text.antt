@@ -7,8 +7,12 @@ use lib.IntN.{ℤ}
 use lib.ListN.{length, getD, take, drop}
 use lib.Dec.{eqb, leb, ltb}
 use Rattle.residue.specs.Modulus.{isModulus}
-use Rattle.residue.specs.Layout.{fill, inPlaces, over}
-use Rattle.specification.specs.Levels.{inRange, residues, isAmong}
+use Rattle.residue.specs.Layout.{fill, over}
+use Rattle.residue.specs.Lists.{sameList}
+use Rattle.residue.specs.Lists as Lists
+use Rattle.specification.specs.Levels.{inRange, residues}
+use Rattle.specification.specs.Counted.{pointsOf, countsOf, gathered}
+use Rattle.specification.specs.Tables.{statesSize, countsSize, statesTable}
 use Rattle.specification.specs.Refusal.{firstOf}
 use Rattle.csv.specs.declared.reading.Refusal.{Refusal}
 use Rattle.csv.specs.declared.reading.Read.{Read}
@@ -65,21 +69,40 @@ entryValue p m l = getD (residues p l) m 0
 unfoldable pub isOutside : ℕ → List ℤ → Bool
 isOutside p l = not (inRange p l)
 
--- the points, and the values in their order
-unfoldable pub entryPoints : Contents → List (List ℕ)
-entryPoints e = map (entryPoint (e .header .modulus) (e .header .variables)) (e .entries)
+-- An entry as its point with its value.
+abbrev pub Valued : Type 0
+Valued = List ℕ × ℕ
 
-unfoldable pub entryValues : Contents → List ℕ
-entryValues e = map (entryValue (e .header .modulus) (e .header .variables)) (e .entries)
+unfoldable pub valuedPoint : ℕ → ℕ → List ℤ → Valued
+valuedPoint p m l = (entryPoint p m l, entryValue p m l)
+
+unfoldable pub valuedPoints : Contents → List Valued
+valuedPoints e = map (valuedPoint (e .header .modulus) (e .header .variables)) (e .entries)
 
 -- the place, from 1, of the first entry out of range; 0 where there is none
 unfoldable pub firstOutside : Contents → ℕ
 firstOutside e = firstFault (isOutside (e .header .modulus)) (e .entries)
 
--- the place, from 1, of the first point that equals an earlier one; 0 where there is none
-unfoldable pub firstRepeat : List (List ℕ) → List (List ℕ) → ℕ
-firstRepeat seen [] = 0
-firstRepeat seen (P ∷ S) = cond (isAmong P seen) 1 (further (firstRepeat (P ∷ seen) S))
+-- the place, from 1, of the first of a list that has a fault by those before it, which are `seen`; 0 where none has
+unfoldable pub firstAfter : {A : Type 0} → (List A → A → Bool) → List A → List A → ℕ
+firstAfter f seen [] = 0
+firstAfter f seen (a ∷ l) = cond (f seen a) 1 (further (firstAfter f (seen ++ (a ∷ [])) l))
+
+-- with this entry there are more than 64 distinct points; with it a point is there more than 255 times
+unfoldable pub tooMany : List Valued → Valued → Bool
+tooMany seen q = ltb 64 (length (gathered (pointsOf (seen ++ (q ∷ [])))))
+
+unfoldable pub tooOften : List Valued → Valued → Bool
+tooOften seen q = Lists.some (ltb 255) (countsOf (gathered (pointsOf (seen ++ (q ∷ [])))))
+
+-- the value of the first entry that has this point; v where none has
+unfoldable pub firstValue : List ℕ → ℕ → List Valued → ℕ
+firstValue P v [] = v
+firstValue P v (q ∷ l) = cond (sameList P (q .0)) (q .1) (firstValue P v l)
+
+-- its value is not that of its point's first entry
+unfoldable pub otherValue : List Valued → Valued → Bool
+otherValue seen q = not (eqb (firstValue (q .0) (q .1) seen) (q .1))
 
 -- A refusal with its record; 0 where a text is not refused.
 abbrev pub refusalAt : ℕ → ℕ → Refusal
@@ -96,53 +119,65 @@ brokenAt at = refusalAt 2 at
 abbrev pub TextCase : Type 0
 TextCase = Bool × Refusal
 
--- what the settings, the number of entries and the lent lengths decide: 3 and 4 come with record 1, and 6 with record 0; record 66 is the 65th behind
--- the header
+-- what the settings and the lent lengths decide: 3 and 4 come with record 1, and 6 with record 0
 unfoldable pub headerCases : ℕ → ℕ → ℕ → ℕ → ℕ → List TextCase
-headerCases p m n states values =
+headerCases p m states values counts =
     (not (isModulus p), refusalAt 3 1)
     ∷ (not (leb 1 m && leb m 8), refusalAt 4 1)
-    ∷ (ltb states 512 || ltb values 64, refusalAt 6 0)
-    ∷ (ltb 64 n, refusalAt 8 66) ∷ []
+    ∷ (ltb states statesSize || ltb values 64 || ltb counts countsSize, refusalAt 6 0) ∷ []
 
--- what the entries decide, the header being record 1
+-- an entry at a place, from 1, is refused, the header being record 1; 0 is no place
+abbrev pub entryCase : ℕ → ℕ → TextCase
+entryCase refusal place = (not (eqb place 0), refusalAt refusal (suc place))
+
+-- what the points and their values decide: 8, 13 and 14, each looked for over the whole text
+unfoldable pub pointsCases : List Valued → List TextCase
+pointsCases l = entryCase 8 (firstAfter tooMany [] l) ∷ entryCase 13 (firstAfter tooOften [] l) ∷ entryCase 14 (firstAfter otherValue [] l) ∷ []
+
+-- what the entries decide
 unfoldable pub entriesCases : Contents → List TextCase
-entriesCases e =
-    (not (eqb (firstOutside e) 0), refusalAt 9 (suc (firstOutside e)))
-    ∷ (not (eqb (firstRepeat [] (entryPoints e)) 0), refusalAt 11 (suc (firstRepeat [] (entryPoints e)))) ∷ []
+entriesCases e = entryCase 9 (firstOutside e) ∷ pointsCases (valuedPoints e)
 
 -- all of them, in the order of checking
-unfoldable pub readCases : List ℕ → ℕ → Contents → ℕ → ℕ → List TextCase
-readCases text fault e states values =
+unfoldable pub readCases : List ℕ → ℕ → Contents → ℕ → ℕ → ℕ → List TextCase
+readCases text fault e states values counts =
     (ltb 16384 (length text), refusalAt 1 0)
     ∷ (not (eqb fault 0), brokenAt fault)
-    ∷ (headerCases (e .header .modulus) (e .header .variables) (length (e .entries)) states values ++ entriesCases e)
+    ∷ (headerCases (e .header .modulus) (e .header .variables) states values counts ++ entriesCases e)
 
 -- the answer, and the lent buffers at exit
 pub record TextOutcome : Type 0 where
   pub answer : Read
   pub states : List ℕ
   pub values : List ℕ
+  pub counts : List ℕ
 
-abbrev pub textEnded : Read → List ℕ → List ℕ → TextOutcome
-textEnded r states values = record { answer = r; states = states; values = values }
+abbrev pub textEnded : Read → List ℕ → List ℕ → List ℕ → TextOutcome
+textEnded r states values counts = record { answer = r; states = states; values = values; counts = counts }
 
-unfoldable pub textAccepted : Contents → List ℕ → List ℕ → TextOutcome
-textAccepted e states values =
+-- the values of points, each that of its first entry
+unfoldable pub firstValues : List (List ℕ) → List Valued → List ℕ
+firstValues S l = map (λ P. firstValue P 0 l) S
+
+-- The points of an accepted text are distinct, in order of first occurrence, each with the number of its entries and the value of the first.
+unfoldable pub textAccepted : Contents → List ℕ → List ℕ → List ℕ → TextOutcome
+textAccepted e states values counts = let L = gathered (pointsOf (valuedPoints e)) in
     textEnded
-    (record { refusal = 0; at = 0; modulus = e .header .modulus; variables = e .header .variables; order = e .header .order; n = length (e .entries) })
-    (over (fill 512 (inPlaces 8 (entryPoints e))) states)
-    (over (fill 64 (entryValues e)) values)
+    (record { refusal = 0; at = 0; modulus = e .header .modulus; variables = e .header .variables; order = e .header .order; n = length L })
+    (over (statesTable (pointsOf L)) states)
+    (over (fill 64 (firstValues (pointsOf L) (valuedPoints e))) values)
+    (over (fill countsSize (countsOf L)) counts)
 
 -- A refusal comes with its record and changes nothing.
-unfoldable pub textRefused : Refusal → List ℕ → List ℕ → TextOutcome
-textRefused r states values = textEnded (record { refusal = r .refusal; at = r .at; modulus = 0; variables = 0; order = 0; n = 0 }) states values
+unfoldable pub textRefused : Refusal → List ℕ → List ℕ → List ℕ → TextOutcome
+textRefused r states values counts = textEnded (record { refusal = r .refusal; at = r .at; modulus = 0; variables = 0; order = 0; n = 0 }) states values counts
 
-unfoldable pub textDecided : Refusal → TextOutcome → List ℕ → List ℕ → TextOutcome
-textDecided r done states values = cond (eqb (r .refusal) 0) done (textRefused r states values)
+unfoldable pub textDecided : Refusal → TextOutcome → List ℕ → List ℕ → List ℕ → TextOutcome
+textDecided r done states values counts = cond (eqb (r .refusal) 0) done (textRefused r states values counts)
 
-unfoldable pub readOutcome : List ℕ → List ℕ → List ℕ → TextOutcome
-readOutcome text states values =
+unfoldable pub readOutcome : List ℕ → List ℕ → List ℕ → List ℕ → TextOutcome
+readOutcome text states values counts =
     let t = recordsOf text in
     let e = contentsOf (Option·getD (headerIn t) (record { variables = 0; modulus = 0; order = 0 })) t in
-    textDecided (firstOf notRefused (readCases text (formFault (headerIn t) t) e (length states) (length values))) (textAccepted e states values) states values
+    textDecided (firstOf notRefused (readCases text (formFault (headerIn t) t) e (length states) (length values) (length counts)))
+    (textAccepted e states values counts) states values counts

@@ -5,16 +5,15 @@ use residue::level;
 use residue::level::Level;
 ghost use mathlib.Core.Path.{_≡_};
 ghost use mathlib.Core.Bool.{_&&_};
-ghost use mathlib.Core.List.{[], map};
 ghost use Prim.Native.Nat.{_≤_};
 ghost use lib.ListN.{length, drop};
 ghost use Rattle.residue.specs.Level.{residueOf};
-ghost use Rattle.residue.specs.Layout.{fill, inPlaces, over};
+ghost use Rattle.residue.specs.Layout.{over};
 ghost use Rattle.csv.specs.reading.Fields.{broken, faulty};
 ghost use Rattle.csv.specs.reading.Said.{withSign};
-ghost use Rattle.csv.specs.reading.Text.{entryPoint, entryValue, isOutside, firstFault};
+ghost use Rattle.csv.specs.reading.Text.{entryPoint, isOutside, firstFault};
 ghost use Rattle.csv.specs.reading.Records.{levelField, entryPart, entriesAt, counted};
-ghost use Rattle.csv.specs.reading.Points.{PlacedAs, levelsIn, FilledAs, levelsAt, firstPlace};
+ghost use Rattle.csv.specs.reading.Points.{PlacedAs, levelsIn, FilledAs, levelsAt};
 ghost use Rattle.csv.specs.declared.reading.records.Entries.the-variants.{Count};
 
 // The residue of a level by its sign and size. A size that fits no signed byte is out of range like any other.
@@ -88,7 +87,7 @@ pub struct Filled {
 }
 
 // The point and the value of the entry at `at`.
-fn fill_entry(text: &[u8], at: usize, p: u8, variables: usize, row: &mut [u8]) -> Filled
+pub fn fill_entry(text: &[u8], at: usize, p: u8, variables: usize, row: &mut [u8]) -> Filled
     requires { ⌜ (at ≤ length (now text)) × (variables ≤ length (now row)) × (p ≤ 128) ⌝ }
     requires { ⌜ (entryPart variables (drop at (now text)) ≡ faulty → ⊥) ⌝ }
     ensures { λ r. ⌜ FilledAs p variables (now (text .entry)) (entryPart variables (drop at (now (text .entry)))) r ⌝
@@ -110,43 +109,20 @@ fn fill_entry(text: &[u8], at: usize, p: u8, variables: usize, row: &mut [u8]) -
     }
 }
 
-fn first_place(found: usize, inside: bool, place: usize) -> usize
-    ensures { λ r. ⌜ r ≡ firstPlace found inside place ⌝ }
-{
-    if found != 0 {
-        return found;
-    }
-    if inside {
-        return 0;
-    }
-    place
-}
-
-// The points and the values of the n entries from `at` on, and the place, from 1, of the first that is out of range.
-pub fn fill_entries(
-    text: &[u8],
-    at: usize,
-    p: u8,
-    variables: usize,
-    n: usize,
-    points: &mut [u8],
-    values: &mut [u8],
-) -> usize
-    requires { ⌜ (at ≤ length (now text)) × (variables ≤ 8) × (n ≤ 64) × (p ≤ 128) ⌝ }
+// The place, from 1, of the first of the n entries from `at` on that is out of range, or 0.
+pub fn first_outside(text: &[u8], at: usize, p: u8, variables: usize, n: usize) -> usize
+    requires { ⌜ (at ≤ length (now text)) × (variables ≤ 8) × (p ≤ 128) ⌝ }
     requires { ⌜ counted 0 (entriesAt variables (drop at (now text))) ≡ Count n ⌝ }
-    requires { ⌜ (now points ≡ fill 512 []) × (now values ≡ fill 64 []) ⌝ }
-    ensures { λ r. ⌜ r ≡ firstFault (isOutside p) (levelsAt variables (drop at (now (text .entry)))) ⌝
-        ∗ ⌜ now (points .exit) ≡ fill 512 (inPlaces 8 (map (entryPoint p variables) (levelsAt variables (drop at (now (text .entry)))))) ⌝
-        ∗ ⌜ now (values .exit) ≡ fill 64 (map (entryValue p variables) (levelsAt variables (drop at (now (text .entry))))) ⌝ }
+    ensures { λ r. ⌜ r ≡ firstFault (isOutside p) (levelsAt variables (drop at (now (text .entry)))) ⌝ }
 {
     let mut from = at;
-    let mut outside = 0;
     for i in 0..n {
-        let place = 8 * i;
-        let entry = fill_entry(text, from, p, variables, &mut points[place..place + 8]);
-        values[i] = entry.value;
-        outside = first_place(outside, entry.inside, i + 1);
+        let mut row = [0u8; 8];
+        let entry = fill_entry(text, from, p, variables, &mut row);
+        if !entry.inside {
+            return i + 1;
+        }
         from = entry.next;
     }
-    outside
+    0
 }

@@ -1,6 +1,6 @@
 -- Levels: which residue a level has, and the signed byte of a byte.
 use mathlib.Core.Path.{_≡_, refl}
-use mathlib.Core.Bool.{Bool, true, false, cond}
+use mathlib.Core.Bool.{Bool, true, false, cond, true≢false}
 use Prim.Native.Nat.{ℕ, suc, _-_, _<_, _≤_}
 use native.Mathlib.Nat.{not-suc-le-zero}
 use native.Mathlib.Omega.{arith}
@@ -13,25 +13,22 @@ use borrow.Author.Tests.{ltb-true, lt-ltb, le-ltb}
 use Rattle.residue.specs.Level.{residueOf, signedOf}
 use Rattle.residue.specs.declared.level.Level.the-variants.{Residue, Outside}
 
--- a negative level in range has p added; below the range there is none
+-- a negative level in range has p added, any other in range is kept
 pub of-negative : (p : ℕ) (z : ℤ) → ltZ z (pos 0) ≡ true → natAbs z < p → Residue (p - natAbs z) ≡ residueOf p z
 unfolding residueOf
 of-negative p (pos k) e h = absurd (not-suc-le-zero (ltb-true k 0 e))
 of-negative p (negsuc k) e h = simp (lt-ltb (suc k) p h)
 
-pub of-low : (p : ℕ) (z : ℤ) → ltZ z (pos 0) ≡ true → p ≤ natAbs z → Outside ≡ residueOf p z
+pub of-kept : (p : ℕ) (z : ℤ) → ltZ z (pos 0) ≡ false → natAbs z < p → Residue (natAbs z) ≡ residueOf p z
 unfolding residueOf
-of-low p (pos k) e h = absurd (not-suc-le-zero (ltb-true k 0 e))
-of-low p (negsuc k) e h = simp (le-ltb (suc k) p h)
+of-kept p (pos k) e h = simp (lt-ltb k p h)
+of-kept p (negsuc k) e h = absurd (true≢false e)
 
--- any other level in range is kept; above the range there is none
-pub of-kept : (p k : ℕ) → k < p → Residue k ≡ residueOf p (pos k)
+-- there is none outside the range
+pub of-outside : (p : ℕ) (z : ℤ) → p ≤ natAbs z → Outside ≡ residueOf p z
 unfolding residueOf
-of-kept p k h = simp (lt-ltb k p h)
-
-pub of-high : (p k : ℕ) → p ≤ k → Outside ≡ residueOf p (pos k)
-unfolding residueOf
-of-high p k h = simp (le-ltb k p h)
+of-outside p (pos k) h = simp (le-ltb k p h)
+of-outside p (negsuc k) h = simp (le-ltb (suc k) p h)
 
 pub signed-low : (b : ℕ) → b < 128 → toZ w8 b ≡ signedOf b
 unfolding signedOf

@@ -3,7 +3,7 @@ use mathlib.Core.Path.{_≡_, refl, sym, _∙_, ap, subst}
 use mathlib.Core.List.{List, [], _∷_, _++_, append-nil}
 use Prim.Native.Nat.{ℕ, zero, suc, _≤_}
 use native.Mathlib.Omega.{arith}
-use lib.ListN.{length, take, replicate, length-take}
+use lib.ListN.{length, take, replicate, length-take, length-map}
 use lib.Dec.{T}
 use Rattle.residue.specs.Layout.{fill, inPlaces, over, begins}
 use Rattle.residue.proofs.bytes.Equality.{same-is}
@@ -13,16 +13,20 @@ use Rattle.specification.specs.Refusal.{firstOf}
 use Rattle.specification.specs.Settings.{settingsCases}
 use Rattle.specification.specs.Polynomial.{Distinct}
 use Rattle.specification.specs.BasisOf.{basisOf}
-use Rattle.specification.specs.Tables.{Tables, spaceUnder, pointsUnder, rowCount, tablesOf, written, pointsIn, statesSize, standardSize, leadsSize, coefficientsSize}
+use Rattle.specification.specs.Counted.{Counted, pointsOf}
+use Rattle.specification.specs.Tables.{Tables, spaceUnder, pointsUnder, rowCount, statesTable, standardTable, leadsTable, coefficientsTable, tablesOf, written, pointsIn, heldIn}
+use Rattle.specification.specs.Tables.{statesSize, standardSize, leadsSize, coefficientsSize, countsSize}
 use Rattle.specification.specs.Solving.{filling, remainderOutcome, listing, wiringOutcome}
 use Rattle.specification.specs.Reference.{Event, Held, numbers, heldAtEnd, referenceAtEnd, due, Refuses}
 use Rattle.specification.specs.Agreement.{Fresh, freshly, Remains, Agrees, Wires}
 use Rattle.specification.proofs.ideal.Basis.{basis-is}
-use Rattle.specification.proofs.agreement.Points.{no-points}
-use Rattle.specification.proofs.agreement.Refusals.{Accepted, accepted, Large, over-begins}
-use Rattle.specification.proofs.agreement.Run.{same-tables, At, held-points, run}
-use Rattle.specification.proofs.agreement.Drawings.{laws-under, distinct-points, standard-count, few-rows, drawn-same}
-use Rattle.specification.proofs.CallByCall.{remainder-leaves}
+use Rattle.specification.proofs.counted.Gathered.{no-entries}
+use Rattle.specification.proofs.counted.Held.{points-held}
+use Rattle.specification.proofs.agreement.Refusals.{Accepted, accepted, Large, large-of, over-begins}
+use Rattle.specification.proofs.agreement.Run.{same-tables, At, held-list, run}
+use Rattle.specification.proofs.agreement.Drawings.{laws-under, distinct-points, standard-count, few-rows}
+use Rattle.specification.proofs.agreement.Arrangements.{drawn-same, arranged-same}
+use Rattle.specification.proofs.CallByCall.{drawn-points, drawn-number, remainder-leaves}
 use Rattle.specification.proofs.needed.Calls.{wiring-leaves}
 
 -- zeros filled up are zeros
@@ -43,19 +47,20 @@ module _ (s : Settings) (fine : firstOf 0 (settingsCases s) ≡ 0) (start : Tabl
   long k t h = omega (arith, length-fill k [], ap length (same-is (fill k []) (take (length (fill k [])) t) h), length-take (length (fill k [])) t)
 
   large : Large start
-  large = record { states = long statesSize (start .states) (fresh .states); standard = long standardSize (start .standard) (fresh .standard); leads = long leadsSize (start .leads) (fresh .leads); coefficients = long coefficientsSize (start .coefficients) (fresh .coefficients) }
+  large = record { states = long statesSize (start .states) (fresh .states); standard = long standardSize (start .standard) (fresh .standard); leads = long leadsSize (start .leads) (fresh .leads); coefficients = long coefficientsSize (start .coefficients) (fresh .coefficients); counts = long countsSize (start .counts) (fresh .counts) }
 
   -- fresh tables are those of no points: one row, the monomial 1
   at-start : At s fine start large (freshly start) []
-  unfolding freshly rowCount tablesOf written basisOf inPlaces
+  unfolding freshly rowCount statesTable standardTable leadsTable coefficientsTable tablesOf written basisOf inPlaces
   at-start = record {
-    points = no-points s;
+    entries = no-entries s;
     count = refl;
     rows = refl;
     tables =
         sym
         (same-tables (over-begins (fill statesSize []) (start .states) (fresh .states)) (over-begins (fill standardSize []) (start .standard) (fresh .standard))
-        (nothing leadsSize 8 (s .variables) (start .leads) (fresh .leads)) (nothing coefficientsSize 64 0 (start .coefficients) (fresh .coefficients)));
+        (nothing leadsSize 8 (s .variables) (start .leads) (fresh .leads)) (nothing coefficientsSize 64 0 (start .coefficients) (fresh .coefficients))
+        (over-begins (fill countsSize []) (start .counts) (fresh .counts)));
   }
 
 -- For all settings that adding does not refuse, all fresh tables, and every list of operations with refused calls between them.
@@ -67,16 +72,20 @@ agreement s fine start fresh es refuses = record {
   count = at .count;
   rows = at .rows;
   tables = at .tables;
-  basis = basis-is (spaceUnder s) (laws-under s good) (pointsUnder s L) distinct;
-  as-many = standard-count s good L distinct;
-  few-points = at .points .few;
-  few-rows = few-rows s good L (at .points);
-  drawn = λ t levels short a. drawn-same s good fine L (at .points) levels a start big h (at .count) (at .rows) (at .tables) t short;
+  held = held;
+  basis = basis-is (spaceUnder s) (laws-under s good) (pointsUnder s S) distinct;
+  as-many = standard-count s good S distinct ∙ length-map L (λ q. q .0);
+  few-points = omega (arith, length-map L (λ q. q .0), at .entries .points .few);
+  few-replicates = at .entries .counts;
+  few-rows = few-rows s good S (at .entries .points);
+  drawn = λ t levels same zero. let k = sym (drawn-number s t levels) ∙ zero in let o = drawn-points s t levels k in
+      drawn-same s good fine L (at .entries) levels same (o .small) start big h (at .count) (at .rows) (at .tables) t (large-of t (o .large)) k;
+  arranged = λ t levels short a. arranged-same s good fine L (at .entries) levels a start big h (at .count) (at .rows) (at .tables) t short;
   remainder-numbers = λ terms exponents buffer. refl;
-  remainders = λ terms exponents buffer e. subst (λ (S : List (List ℕ)). Remains s S terms exponents buffer (remainderOutcome s (h .n) (h .r) (h .tables) terms exponents buffer .buffer)) points
+  remainders = λ terms exponents buffer e. subst (λ (K : List (List ℕ)). Remains s K terms exponents buffer (remainderOutcome s (h .n) (h .r) (h .tables) terms exponents buffer .buffer)) points
       (remainder-leaves s (h .n) (h .r) (h .tables) terms exponents buffer e .1);
   wiring-numbers = λ values buffer. refl;
-  wirings = λ values buffer e. subst (λ (S : List (List ℕ)). Wires s S values buffer (wiringOutcome s (h .n) (h .r) (h .tables) values buffer)) points
+  wirings = λ values buffer e. subst (λ (K : List (List ℕ)). Wires s K values buffer (wiringOutcome s (h .n) (h .r) (h .tables) values buffer)) points
       (wiring-leaves s (h .n) (h .r) (h .tables) values buffer e .1);
 }
   where
@@ -86,8 +95,11 @@ agreement s fine start fresh es refuses = record {
     big : Large start
     big = large s fine start fresh
 
-    L : List (List ℕ)
+    L : Counted
     L = referenceAtEnd s [] es
+
+    S : List (List ℕ)
+    S = pointsOf L
 
     h : Held
     h = heldAtEnd s (freshly start) es
@@ -98,8 +110,11 @@ agreement s fine start fresh es refuses = record {
     at : At s fine start big h L
     at = end .1
 
-    distinct : Distinct (spaceUnder s) (pointsUnder s L)
-    distinct = distinct-points s good L (at .points)
+    distinct : Distinct (spaceUnder s) (pointsUnder s S)
+    distinct = distinct-points s good S (at .entries .points)
 
-    points : pointsIn s (h .n) (h .tables .states) ≡ L
-    points = held-points s fine start big h L at
+    held : heldIn s (h .n) (h .tables) ≡ L
+    held = held-list s fine start big h L at
+
+    points : pointsIn s (h .n) (h .tables .states) ≡ S
+    points = sym (points-held s (h .n) (h .tables)) ∙ ap pointsOf held

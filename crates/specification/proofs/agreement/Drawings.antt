@@ -1,24 +1,22 @@
--- Drawing up the same points in any order gives the same basis, the same remainders and the same wiring lists.
+-- The same points in any order have the same basis, and calls that are handed the tables of points are told by the points.
 use mathlib.Core.Path.{_≡_, refl, sym, _∙_, ap, ap₂, subst}
 use mathlib.Core.Bool.{Bool, true, false, not, cond, _&&_, _||_}
 use mathlib.Core.List.{List, [], _∷_, _++_, zipWith, zip}
 use mathlib.Core.Logic.{inl, inr, _≢_}
-use Prim.Native.Nat.{ℕ, suc, _+_, _-_, _*_, _/_, _%_, _≤_}
+use Prim.Native.Nat.{ℕ, suc, _+_, _-_, _*_, _≤_}
 use native.Mathlib.Nat.{mul-le-mul-left}
 use native.Mathlib.Decide.{ℕ-discrete}
 use native.Mathlib.Omega.{arith}
 use lib.IntN.{ℤ}
-use lib.ListN.{length, take, length-map}
+use lib.ListN.{length, length-map}
 use lib.Dec.{T, eqb, ltb}
-use borrow.Author.Tests.{eq-eqb, ne-eqb, le-ltb}
+use borrow.Author.Tests.{ne-eqb}
 use Rattle.residue.specs.Lists.{Among}
 use Rattle.residue.specs.Level.{residueOf}
 use Rattle.residue.specs.Modulus.{isModulus}
-use Rattle.residue.specs.Layout.{groups, fill, over}
+use Rattle.residue.specs.Layout.{groups, fill}
 use Rattle.residue.proofs.level.Moduli.{modulus-range}
-use Rattle.residue.proofs.Tests.{true-of, cond-so, cond-not}
-use Rattle.residue.proofs.Layouts.{take-over, length-fill}
-use Rattle.residue.proofs.Places.{length-groups}
+use Rattle.residue.proofs.Tests.{cond-so, cond-not}
 use Rattle.monomial.specs.Order.{orderOf}
 use Rattle.specification.specs.declared.settings.Settings.{Settings}
 use Rattle.specification.specs.Refusal.{firstOf}
@@ -27,21 +25,19 @@ use Rattle.specification.specs.Levels.{inRange, residues, noRepeat, resi
 use Rattle.specification.specs.Polynomial.{Polynomial, Distinct}
 use Rattle.specification.specs.BasisOf.{valueAt, remainderOf}
 use Rattle.specification.specs.Instance.{Point, pointOf}
-use Rattle.specification.specs.Tables.{Tables, spaceUnder, pointsUnder, standardUnder, leadsUnder, rowsUnder, rowCount, tablesOf, written, tooShort, standardSize, leadsSize, coefficientsSize}
-use Rattle.specification.specs.Adding.{holding, byRefusal, pointsOffered, drawCases, drawRefusal, costing, cancellationsUnder, drawOutcome}
+use Rattle.specification.specs.Tables.{Tables, spaceUnder, pointsUnder, standardUnder, leadsUnder, rowsUnder, rowCount, standardTable, leadsTable, coefficientsTable, tablesOf, written}
+use Rattle.specification.specs.Counted.{Counted, pointsOf}
 use Rattle.specification.specs.Solving.{Filled, filling, withinVariables, polynomialUnder, remainderIn, remainderCases, remainderOutcome, valuesCases, Listed, listing, wiringOutcome}
 use Rattle.specification.specs.Needed.{wiringOf}
-use Rattle.specification.specs.Reference.{Held}
-use Rattle.specification.specs.Agreement.{Rearranges, SameAs}
 use Rattle.specification.proofs.Instance.{laws}
 use Rattle.specification.proofs.ideal.Laws.{Laws, point-told}
 use Rattle.specification.proofs.ideal.Lists.{among-map, map-among}
 use Rattle.specification.proofs.ideal.Counts.{standard-length, leads-length}
 use Rattle.specification.proofs.ideal.Permutation.{basis-permuted, remainder-permuted}
 use Rattle.specification.proofs.agreement.Points.{Points, IsPoint, point-same, once-of}
-use Rattle.specification.proofs.agreement.Refusals.{Accepted, settings-pass, Large, not-short, large-of, written-large, written-points, written-recognised}
-use Rattle.specification.proofs.agreement.Values.{point-of, same-range}
-use Rattle.specification.proofs.needed.Arranged.{wiring-arranged}
+use Rattle.specification.proofs.counted.Gathered.{Entries}
+use Rattle.specification.proofs.agreement.Refusals.{Accepted, settings-pass, Large, not-short, written-large, written-points, written-recognised}
+use Rattle.specification.proofs.agreement.Values.{point-of}
 
 module _ (s : Settings) (ok : Accepted s) where
   -- the space under these settings obeys the laws
@@ -109,16 +105,16 @@ module _ (s : Settings) (ok : Accepted s) where
     pub same-remainder : (f : Polynomial (spaceUnder s)) → remainderOf (spaceUnder s) (pointsUnder s K) f ≡ remainderOf (spaceUnder s) (pointsUnder s L) f
     same-remainder = remainder-permuted (spaceUnder s) laws-under (pointsUnder s K) (pointsUnder s L) dK dL (carried K L to) (carried L K from)
 
-    pub same-standard : tablesOf s K .standard ≡ tablesOf s L .standard
-    unfolding tablesOf
+    pub same-standard : standardTable s K ≡ standardTable s L
+    unfolding standardTable
     same-standard = rw (same-basis .0)
 
-    pub same-leads : tablesOf s K .leads ≡ tablesOf s L .leads
-    unfolding tablesOf
+    pub same-leads : leadsTable s K ≡ leadsTable s L
+    unfolding leadsTable
     same-leads = rw (same-basis .1)
 
-    pub same-coefficients : tablesOf s K .coefficients ≡ tablesOf s L .coefficients
-    unfolding tablesOf
+    pub same-coefficients : coefficientsTable s K ≡ coefficientsTable s L
+    unfolding coefficientsTable
     same-coefficients = rw (same-basis .2)
 
   -- The remainder call, handed the basis of A, is told by how many points there are and by the remainder.
@@ -128,8 +124,8 @@ module _ (s : Settings) (ok : Accepted s) where
         ++ ((false || ltb (length buffer) 64, 6) ∷ (not (eqb (length exponents) (8 * length terms)), 7) ∷ (ltb 64 n || ltb 256 (length terms), 8)
         ∷ (not (inRange (s .modulus) terms && withinVariables (s .variables) (groups 8 (length terms) exponents)), 9) ∷ (false, 10) ∷ []))) (fill 64 l) buffer
 
-    pub remainder-told : (A : List (List ℕ)) → Points s A → (t : Tables) → Large t
-        → remainderOutcome s (length A) (rowCount s A) (written (tablesOf s A) t) terms exponents buffer ≡ told (length A) (remainderOf (spaceUnder s) (pointsUnder s A) (polynomialUnder s terms exponents))
+    pub remainder-told : (A : Counted) → Entries s A → (t : Tables) → Large t
+        → remainderOutcome s (length A) (rowCount s (pointsOf A)) (written (tablesOf s A) t) terms exponents buffer ≡ told (length A) (remainderOf (spaceUnder s) (pointsUnder s (pointsOf A)) (polynomialUnder s terms exponents))
     unfolding remainderOutcome remainderCases remainderIn told
     remainder-told A h t large =
         rw (not-short (written (tablesOf s A) t) (written-large s A t large), written-recognised s ok A h t, written-points s ok A h t)
@@ -139,8 +135,8 @@ module _ (s : Settings) (ok : Accepted s) where
     unfoldable pub wired : ℕ → ℕ → Bool → List ℕ → Listed
     wired n count range names = listing (firstOf 0 ((ltb (length buffer) 8, 6) ∷ (not (eqb count n), 7) ∷ (ltb 64 n, 8) ∷ (not range, 9) ∷ [])) names buffer
 
-    pub wiring-told : (v : List ℤ) (A : List (List ℕ)) → Points s A → (t : Tables) → Large t
-        → wiringOutcome s (length A) (rowCount s A) (written (tablesOf s A) t) v buffer ≡ wired (length A) (length v) (inRange (s .modulus) v) (wiringOf (s .variables) A (residues (s .modulus) v))
+    pub wiring-told : (v : List ℤ) (A : Counted) → Entries s A → (t : Tables) → Large t
+        → wiringOutcome s (length A) (rowCount s (pointsOf A)) (written (tablesOf s A) t) v buffer ≡ wired (length A) (length v) (inRange (s .modulus) v) (wiringOf (s .variables) (pointsOf A) (residues (s .modulus) v))
     unfolding wiringOutcome valuesCases wired firstOf
     wiring-told v A h t large =
         rw (settings-pass s fine _, not-short (written (tablesOf s A) t) (written-large s A t large), written-recognised s ok A h t, written-points s ok A h t)
@@ -157,72 +153,3 @@ module _ (s : Settings) (ok : Accepted s) where
         go : Dec (count ≡ n) → wired n count a k ≡ wired n count b l
         go (yes e) = ap₂ (wired n count) (h e .0) (h e .1)
         go (no e) = rw (ne-eqb count n e) (alone (ltb (length buffer) 8))
-
-  -- the sizes of the tables
-  pub record Sized (t : Tables) : Type 0 where
-    pub standard : length (t .standard) ≡ standardSize
-    pub leads : length (t .leads) ≡ leadsSize
-    pub coefficients : length (t .coefficients) ≡ coefficientsSize
-
-  sizes : (A : List (List ℕ)) → Sized (tablesOf s A)
-  unfolding tablesOf
-  sizes A = record { standard = length-fill standardSize _; leads = length-fill leadsSize _; coefficients = length-fill coefficientsSize _ }
-
-  -- Every drawing up of the points of L, in any order.
-  module _ (fine : firstOf 0 (settingsCases s) ≡ 0) (L : List (List ℕ)) (hL : Points s L) (levels : List ℤ) (a : Rearranges s L levels) where
-    abbrev K : List (List ℕ)
-    K = pointsOffered s levels
-
-    is-point : (P : List ℕ) → Among P K → IsPoint s P
-    is-point P q = hL .points P (a .members P .0 q)
-
-    dK : Distinct (spaceUnder s) (pointsUnder s K)
-    dK = distinct-under K is-point (a .once)
-
-    dL : Distinct (spaceUnder s) (pointsUnder s L)
-    dL = distinct-points L hL
-
-    to : (P : List ℕ) → Among P K → Among P L
-    to P = a .members P .0
-
-    from : (P : List ℕ) → Among P L → Among P K
-    from P = a .members P .1
-
-    as-many : length K ≡ length L
-    as-many = same-length L K dL dK to from
-
-    hK : Points s K
-    hK = record { points = is-point; once = a .once; few = omega (arith, as-many, hL .few) }
-
-    -- nothing refuses
-    draws : (t : Tables) → tooShort t ≡ false → drawOutcome s t levels ≡ costing (cancellationsUnder s K) (holding s K t)
-    unfolding drawOutcome drawRefusal drawCases byRefusal firstOf pointsOffered
-    draws t large = rw (settings-pass s fine _, large, eq-eqb (length levels % s .variables) 0 (a .whole), le-ltb 64 (length levels / s .variables) few, true-of (inRange (s .modulus) levels) (a .range), true-of (noRepeat K) (a .once))
-      where
-        few : length levels / s .variables ≤ 64
-        few = omega (arith, length-groups (s .variables) (length levels / s .variables) (residues (s .modulus) levels), as-many, hL .few)
-
-    -- and what is drawn up is what is held, with the same remainders and wiring lists
-    pub drawn-same : (start : Tables) → Large start → (h : Held) → h .n ≡ length L → h .r ≡ rowCount s L → h .tables ≡ written (tablesOf s L) start
-        → (t : Tables) → tooShort t ≡ false → SameAs s h (drawOutcome s t levels)
-    unfolding holding written
-    drawn-same start large h en er et t short = subst (SameAs s h) (sym (draws t short)) (record {
-      number = refl;
-      count = as-many ∙ sym en;
-      rows = same-rows L K dL dK to from ∙ sym er;
-      standard = sized standardSize (tablesOf s K .standard) (tablesOf s L .standard) (same-standard L K dL dK to from) (t .standard) (start .standard) (sizes K .standard) ∙ ap (λ (u : Tables). take standardSize (u .standard)) (sym et);
-      leads = sized leadsSize (tablesOf s K .leads) (tablesOf s L .leads) (same-leads L K dL dK to from) (t .leads) (start .leads) (sizes K .leads) ∙ ap (λ (u : Tables). take leadsSize (u .leads)) (sym et);
-      coefficients = sized coefficientsSize (tablesOf s K .coefficients) (tablesOf s L .coefficients) (same-coefficients L K dL dK to from) (t .coefficients) (start .coefficients) (sizes K .coefficients) ∙ ap (λ (u : Tables). take coefficientsSize (u .coefficients)) (sym et);
-      remainder = λ terms exponents buffer. remainder-told terms exponents buffer K hK t (large-of t short)
-          ∙ ap₂ (told terms exponents buffer) as-many (same-remainder L K dL dK to from (polynomialUnder s terms exponents))
-          ∙ sym (rw (en, er, et) (remainder-told terms exponents buffer L hL start large));
-      wiring = λ v w buffer same. let e = rw (written-points s ok K hK t, en, et, written-points s ok L hL start) at same in
-          wiring-told fine buffer v K hK t (large-of t short)
-          ∙ ap₂ (λ (n k : ℕ). wired fine buffer n k (inRange (s .modulus) v) (wiringOf (s .variables) K (residues (s .modulus) v))) as-many (e .count)
-          ∙ same-wired fine buffer (length L) (length w) _ _ _ _ (λ l. let k : length v ≡ length K = e .count ∙ l ∙ sym as-many in (same-range s K L v w k l to from e, wiring-arranged s K L v w k l to from e (s .variables)))
-          ∙ sym (rw (en, er, et) (wiring-told fine buffer w L hL start large));
-    })
-      where
-        -- two tables of one layout agree in each byte of its size
-        sized : (k : ℕ) (a b : List ℕ) → a ≡ b → (u v : List ℕ) → length a ≡ k → take k (over a u) ≡ take k (over b v)
-        sized k a b e u v l = ap (λ (j : ℕ). take j (over a u)) (sym l) ∙ take-over a u ∙ e ∙ sym (ap (λ (j : ℕ). take j (over b v)) (sym (ap length (sym e) ∙ l)) ∙ take-over b v)

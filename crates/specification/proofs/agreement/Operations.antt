@@ -1,29 +1,29 @@
 -- What the run of a list stands on, of each operation: record and proofs. A further operation is one more clause of `lawful`.
-use mathlib.Core.Path.{_≡_, refl, _∙_, subst}
+use mathlib.Core.Path.{_≡_, refl, _∙_}
 use mathlib.Core.Bool.{true, false}
 use mathlib.Core.List.{List}
 use Prim.Native.Nat.{ℕ, _≤_}
 use native.Mathlib.Omega.{arith}
 use lib.IntN.{ℤ}
 use lib.ListN.{length}
-use lib.Dec.{T}
-use borrow.Author.Tests.{eqb-true, leb-false, not-false, le-ltb, ltb-false}
+use borrow.Author.Tests.{eqb-true, not-false, le-ltb, ltb-false}
 use Rattle.residue.proofs.level.Moduli.{modulus-range}
 use Rattle.residue.proofs.Tests.{of-true}
 use Rattle.specification.specs.declared.settings.Settings.{Settings}
 use Rattle.specification.specs.Refusal.{firstOf}
 use Rattle.specification.specs.Settings.{settingsCases}
 use Rattle.specification.specs.Levels.{inRange, residues}
-use Rattle.specification.specs.Tables.{Tables, tooShort, pointsIn, recognised}
+use Rattle.specification.specs.Counted.{Counted, overfull}
+use Rattle.specification.specs.Tables.{Tables, tooShort, heldIn, recognised}
 use Rattle.specification.specs.Adding.{holding, byRefusal, addCases, addRefusal, addOutcome}
 use Rattle.specification.specs.Withdrawing.{withdrawCases, withdrawRefusal, withdrawOutcome}
-use Rattle.specification.specs.Reference.{Operation, adding, withdrawing, outcomeOf, refusalOf, referenceAnswer, pointsAfter}
+use Rattle.specification.specs.Reference.{Operation, adding, withdrawing, outcomeOf, refusalOf, referenceAnswer, listAfter}
 use Rattle.specification.proofs.Cases.{none-holds}
-use Rattle.specification.proofs.Repeats.{is-among}
-use Rattle.specification.proofs.Recognised.{length-read, none-of}
-use Rattle.specification.proofs.agreement.Points.{Points, levels-point, points-more}
-use Rattle.specification.proofs.agreement.Refusals.{Accepted, accepted, settings-pass}
-use Rattle.specification.proofs.agreement.Removal.{points-left}
+use Rattle.specification.proofs.Recognised.{none-of}
+use Rattle.specification.proofs.agreement.Points.{levels-point}
+use Rattle.specification.proofs.counted.Gathered.{Entries, entries-entered}
+use Rattle.specification.proofs.agreement.Refusals.{Accepted, settings-pass}
+use Rattle.specification.proofs.counted.Lowered.{entries-lowered}
 
 -- What an operation has found that it does not refuse.
 pub record Passed (s : Settings) (n r : ℕ) (t : Tables) : Type 0 where
@@ -35,41 +35,40 @@ pub record Passed (s : Settings) (n r : ℕ) (t : Tables) : Type 0 where
 pub record Lawful (o : Operation) : Type 0 where
   -- it is refused, or the tables are now those of the points after it
   pub outcome : (s : Settings) (n r : ℕ) (t : Tables)
-      → outcomeOf o s n r t ≡ byRefusal (refusalOf o s n r t) t (holding s (pointsAfter o s (pointsIn s n (t .states))) t)
+      → outcomeOf o s n r t ≡ byRefusal (refusalOf o s n r t) t (holding s (listAfter o s (heldIn s n t)) t)
   -- handed the basis of at most 64 points, its number is what the reference list of these answers
   pub number : (s : Settings) → firstOf 0 (settingsCases s) ≡ 0 → (n r : ℕ) (t : Tables) → n ≤ 64 → tooShort t ≡ false → recognised s n r t ≡ true
-      → refusalOf o s n r t ≡ referenceAnswer o s (pointsIn s n (t .states))
-  -- and what it makes of distinct points are distinct points
-  pub points : (s : Settings) → Accepted s → (L : List (List ℕ)) → Points s L → referenceAnswer o s L ≡ 0 → Points s (pointsAfter o s L)
+      → refusalOf o s n r t ≡ referenceAnswer o s (heldIn s n t)
+  -- and what it makes of distinct points with their counts are distinct points with their counts
+  pub entries : (s : Settings) → Accepted s → (L : Counted) → Entries s L → referenceAnswer o s L ≡ 0 → Entries s (listAfter o s L)
   pub passed : (s : Settings) (n r : ℕ) (t : Tables) → refusalOf o s n r t ≡ 0 → Passed s n r t
 
--- Adding: a point that the reference list takes is m residues, is not among its points, and finds room.
-adding-points : (levels : List ℤ) (s : Settings) → Accepted s → (L : List (List ℕ)) → Points s L → referenceAnswer (adding levels) s L ≡ 0 → Points s (pointsAfter (adding levels) s L)
-unfolding referenceAnswer pointsAfter
-adding-points levels s ok L h e =
+-- Adding: a point that the reference list takes is m residues; with it there are no more than 64 points, and no count is above 255.
+adding-entries : (levels : List ℤ) (s : Settings) → Accepted s → (L : Counted) → Entries s L → referenceAnswer (adding levels) s L ≡ 0 → Entries s (listAfter (adding levels) s L)
+unfolding referenceAnswer listAfter overfull
+adding-entries levels s ok L h e =
     let n = none-holds _ tt e in
-    let P = residues (s .modulus) levels in
-    let range = of-true (not-false (inRange (s .modulus) levels) (n .1 .1 .0)) in
+    let range = of-true (not-false (inRange (s .modulus) levels) (n .1 .0)) in
     let point = levels-point s levels (omega (arith, modulus-range (s .modulus) (ok .modulus))) (eqb-true (length levels) (s .variables) (not-false _ (n .0))) range in
-    points-more s L P h point (λ q. subst T (n .1 .1 .1 .0) (is-among P L q)) (leb-false 64 (length L) (n .1 .0))
+    entries-entered s (residues (s .modulus) levels) L h point (n .1 .1)
 
 adding-lawful : (levels : List ℤ) → Lawful (adding levels)
-unfolding outcomeOf refusalOf referenceAnswer pointsAfter addOutcome addRefusal addCases firstOf
+unfolding outcomeOf refusalOf referenceAnswer listAfter addOutcome addRefusal addCases overfull firstOf
 adding-lawful levels = record {
   outcome = λ s n r t. refl;
-  number = λ s fine n r t few large known. settings-pass s fine _ ∙ rw (large, known, length-read s (accepted s fine) n (t .states));
-  points = adding-points levels;
+  number = λ s fine n r t few large known. settings-pass s fine _ ∙ rw (large, known, le-ltb 64 n few);
+  entries = adding-entries levels;
   passed = λ s n r t e. let z = none-of s _ tt e in
-      record { fine = z .0; few = omega (arith, leb-false 64 n (z .1 .1 .1 .0)); large = z .1 .0; known = not-false (recognised s n r t) (z .1 .1 .1 .1 .1 .0) };
+      record { fine = z .0; few = ltb-false 64 n (z .1 .1 .1 .0); large = z .1 .0; known = not-false (recognised s n r t) (z .1 .1 .1 .1 .1 .0) };
 }
 
--- Withdrawing: what is left of distinct points are distinct points.
+-- Withdrawing: what is left of distinct points with their counts are such.
 withdrawing-lawful : (levels : List ℤ) → Lawful (withdrawing levels)
-unfolding outcomeOf refusalOf referenceAnswer pointsAfter withdrawOutcome withdrawRefusal withdrawCases firstOf
+unfolding outcomeOf refusalOf referenceAnswer listAfter withdrawOutcome withdrawRefusal withdrawCases firstOf
 withdrawing-lawful levels = record {
   outcome = λ s n r t. refl;
   number = λ s fine n r t few large known. settings-pass s fine _ ∙ rw (large, known, le-ltb 64 n few);
-  points = λ s ok L h e. points-left s (residues (s .modulus) levels) L h;
+  entries = λ s ok L h e. entries-lowered (residues (s .modulus) levels) s L h;
   passed = λ s n r t e. let z = none-of s _ tt e in
       record { fine = z .0; few = ltb-false 64 n (z .1 .1 .1 .0); large = z .1 .0; known = not-false (recognised s n r t) (z .1 .1 .1 .1 .1 .0) };
 }

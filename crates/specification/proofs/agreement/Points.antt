@@ -17,10 +17,11 @@ use Rattle.residue.specs.Layout.{groups, fill, inPlaces, over}
 use Rattle.residue.proofs.level.Levels.{residue-below}
 use Rattle.residue.proofs.Tests.{and-left, and-right, and-both}
 use Rattle.residue.proofs.Layouts.{fill-exact, fill-twice, places-back, table-split}
+use Rattle.residue.proofs.Places.{length-groups}
 use Rattle.specification.specs.declared.settings.Settings.{Settings}
 use Rattle.specification.specs.Levels.{isResidue, residueOr0, inRange, residues, isAmong, noRepeat}
 use Rattle.specification.specs.Instance.{reduced, pointOf}
-use Rattle.specification.specs.Tables.{pointsUnder, pointsIn, statesSize}
+use Rattle.specification.specs.Tables.{pointsUnder, pointsIn, statesSize, statesTable}
 use Rattle.specification.proofs.Repeats.{among-is, is-among}
 use Rattle.specification.proofs.ideal.Lists.{snoc-of}
 
@@ -38,6 +39,11 @@ pub record Points (s : Settings) (L : List (List ℕ)) : Type 0 where
 pub no-points : (s : Settings) → Points s []
 unfolding noRepeat
 no-points s = record { points = λ P q. absurd q; once = tt; few = omega arith }
+
+-- as many points as are read
+pub read-count : (s : Settings) (n : ℕ) (t : List ℕ) → length (pointsIn s n t) ≡ n
+unfolding pointsIn
+read-count s n t = length-map (pointsUnder s (groups 8 n t)) _ ∙ length-map (groups 8 n t) _ ∙ length-groups 8 n t
 
 module _ (s : Settings) (small : s .variables ≤ 8) where
   abbrev coordinates : List ℕ → List ℕ
@@ -58,8 +64,8 @@ module _ (s : Settings) (small : s .variables ≤ 8) where
       ap₂ (λ (a : List ℕ) (l : List (List ℕ)). a ∷ l) (place-same P (h P (inl refl))) (all-same L (λ Q q. h Q (inr q)))
 
   -- The points of a table of points.
-  pub points-back : (L : List (List ℕ)) → Points s L → (t : List ℕ) → pointsIn s (length L) (over (fill statesSize (inPlaces 8 L)) t) ≡ L
-  unfolding pointsIn over
+  pub points-back : (L : List (List ℕ)) → Points s L → (t : List ℕ) → pointsIn s (length L) (over (statesTable L) t) ≡ L
+  unfolding pointsIn over statesTable
   points-back L h t = ap (λ (z : List (List ℕ)). map (λ P. P .0) (pointsUnder s z)) (ap (groups 8 (length L)) front ∙ places-back 8 L rest) ∙ all-same L (h .points)
     where
       size : 8 * length L + (statesSize - 8 * length L) ≡ statesSize
@@ -112,7 +118,7 @@ unfolding noRepeat
 of-once L P far t = and-both (not (isAmong P L)) (noRepeat L) (not-T (isAmong P L) (λ k. far P (among-is P L k) refl)) t
 
 -- one point more at the end
-once-snoc : (L : List (List ℕ)) (P : List ℕ) → T (noRepeat L) → ¬ Among P L → T (noRepeat (L ++ (P ∷ [])))
+pub once-snoc : (L : List (List ℕ)) (P : List ℕ) → T (noRepeat L) → ¬ Among P L → T (noRepeat (L ++ (P ∷ [])))
 once-snoc [] P t out = of-once [] P (λ Q q. absurd q) t
 once-snoc (R ∷ L) P t out =
     of-once (L ++ (P ∷ [])) R

@@ -1,12 +1,13 @@
 -- Which refusals are left for tables that hold the basis of their points, under settings that no call refuses.
 use mathlib.Core.Path.{_≡_, sym, _∙_, ap}
-use mathlib.Core.Bool.{true, false, _&&_, _||_}
+use mathlib.Core.Bool.{Bool, true, false, _&&_, _||_}
 use mathlib.Core.List.{List, _++_}
 use Prim.Native.Nat.{ℕ, _≤_}
 use native.Mathlib.Omega.{arith}
 use lib.ListN.{length, take, drop, take-append-drop}
 use lib.Dec.{T, eqb, leb, ltb, leb→le, eqb-refl}
 use borrow.Author.Tests.{le-ltb, ltb-false, not-false}
+use Rattle.residue.specs.Lists.{every}
 use Rattle.residue.specs.Modulus.{isModulus}
 use Rattle.residue.specs.Layout.{fill, over, begins}
 use Rattle.residue.proofs.bytes.Equality.{same-is}
@@ -16,9 +17,12 @@ use Rattle.specification.specs.declared.settings.Settings.{Settings}
 use Rattle.specification.specs.Refusal.{Case, firstOf}
 use Rattle.specification.specs.Settings.{settingsCases}
 use Rattle.specification.specs.Levels.{noRepeat}
-use Rattle.specification.specs.Tables.{Tables, rowCount, tablesOf, written, shortLengths, tooShort, pointsIn, recognised, statesSize, standardSize, leadsSize, coefficientsSize}
+use Rattle.specification.specs.Counted.{Counted, pointsOf, countsOf, isCount}
+use Rattle.specification.specs.Tables.{Tables, rowCount, statesTable, standardTable, leadsTable, coefficientsTable, tablesOf, written, shortLengths, tooShort, pointsIn, heldIn, recognised}
+use Rattle.specification.specs.Tables.{statesSize, standardSize, leadsSize, coefficientsSize, countsSize}
 use Rattle.specification.proofs.Cases.{none-holds, first-on}
-use Rattle.specification.proofs.agreement.Points.{Points, points-back}
+use Rattle.specification.proofs.counted.Gathered.{Entries}
+use Rattle.specification.proofs.counted.Held.{points-held, held-back}
 
 -- What settings that no call refuses say.
 pub record Accepted (s : Settings) : Type 0 where
@@ -50,23 +54,47 @@ pub record Large (t : Tables) : Type 0 where
   pub standard : standardSize ≤ length (t .standard)
   pub leads : leadsSize ≤ length (t .leads)
   pub coefficients : coefficientsSize ≤ length (t .coefficients)
+  pub counts : countsSize ≤ length (t .counts)
 
 pub not-short : (t : Tables) → Large t → tooShort t ≡ false
 unfolding tooShort shortLengths
-not-short t h = simp (le-ltb (length (t .states)) statesSize (h .states), le-ltb (length (t .standard)) standardSize (h .standard), le-ltb (length (t .leads)) leadsSize (h .leads), le-ltb (length (t .coefficients)) coefficientsSize (h .coefficients))
+not-short t h = simp (
+  le-ltb (length (t .states)) statesSize (h .states),
+  le-ltb (length (t .standard)) standardSize (h .standard),
+  le-ltb (length (t .leads)) leadsSize (h .leads),
+  le-ltb (length (t .coefficients)) coefficientsSize (h .coefficients),
+  le-ltb (length (t .counts)) countsSize (h .counts),
+)
 
 pub large-of : (t : Tables) → tooShort t ≡ false → Large t
 unfolding tooShort shortLengths
 large-of t e =
-    let a = neither (ltb (length (t .states)) statesSize || ltb (length (t .standard)) standardSize || ltb (length (t .leads)) leadsSize) (ltb (length (t .coefficients)) coefficientsSize) e in
-    let b = neither (ltb (length (t .states)) statesSize || ltb (length (t .standard)) standardSize) (ltb (length (t .leads)) leadsSize) (a .0) in
-    let c = neither (ltb (length (t .states)) statesSize) (ltb (length (t .standard)) standardSize) (b .0) in
+    let a = neither (states || standard || leads || coefficients) counts e in
+    let b = neither (states || standard || leads) coefficients (a .0) in
+    let c = neither (states || standard) leads (b .0) in
+    let d = neither states standard (c .0) in
     record {
-      states = ltb-false (length (t .states)) statesSize (c .0);
-      standard = ltb-false (length (t .standard)) standardSize (c .1);
-      leads = ltb-false (length (t .leads)) leadsSize (b .1);
-      coefficients = ltb-false (length (t .coefficients)) coefficientsSize (a .1);
+      states = ltb-false (length (t .states)) statesSize (d .0);
+      standard = ltb-false (length (t .standard)) standardSize (d .1);
+      leads = ltb-false (length (t .leads)) leadsSize (c .1);
+      coefficients = ltb-false (length (t .coefficients)) coefficientsSize (b .1);
+      counts = ltb-false (length (t .counts)) countsSize (a .1);
     }
+  where
+    states : Bool
+    states = ltb (length (t .states)) statesSize
+
+    standard : Bool
+    standard = ltb (length (t .standard)) standardSize
+
+    leads : Bool
+    leads = ltb (length (t .leads)) leadsSize
+
+    coefficients : Bool
+    coefficients = ltb (length (t .coefficients)) coefficientsSize
+
+    counts : Bool
+    counts = ltb (length (t .counts)) countsSize
 
 -- the front of a list is what it begins with
 pub over-begins : (a t : List ℕ) → T (begins a t) → over a t ≡ t
@@ -77,28 +105,38 @@ over-begins a t h = ap (λ (z : List ℕ). z ++ drop (length a) t) (same-is a (t
 kept : (k : ℕ) (l t : List ℕ) → k ≤ length t → k ≤ length (over (fill k l) t)
 kept k l t h = omega (arith, length-over (fill k l) t (omega (arith, length-fill k l)))
 
-pub written-large : (s : Settings) (L : List (List ℕ)) (t : Tables) → Large t → Large (written (tablesOf s L) t)
-unfolding written tablesOf
-written-large s L t h = record { states = kept statesSize _ (t .states) (h .states); standard = kept standardSize _ (t .standard) (h .standard); leads = kept leadsSize _ (t .leads) (h .leads); coefficients = kept coefficientsSize _ (t .coefficients) (h .coefficients) }
+pub written-large : (s : Settings) (L : Counted) (t : Tables) → Large t → Large (written (tablesOf s L) t)
+unfolding written tablesOf statesTable standardTable leadsTable coefficientsTable
+written-large s L t h = record {
+  states = kept statesSize _ (t .states) (h .states);
+  standard = kept standardSize _ (t .standard) (h .standard);
+  leads = kept leadsSize _ (t .leads) (h .leads);
+  coefficients = kept coefficientsSize _ (t .coefficients) (h .coefficients);
+  counts = kept countsSize _ (t .counts) (h .counts);
+}
 
-module _ (s : Settings) (ok : Accepted s) (L : List (List ℕ)) (h : Points s L) (t : Tables) where
-  -- the points of the tables of L are L
-  pub written-points : pointsIn s (length L) (written (tablesOf s L) t .states) ≡ L
-  unfolding written tablesOf
-  written-points = points-back s (ok .few) L h (t .states)
+module _ (s : Settings) (ok : Accepted s) (L : Counted) (h : Entries s L) (t : Tables) where
+  -- the points of the tables of L with their counts are L
+  pub written-held : heldIn s (length L) (written (tablesOf s L) t) ≡ L
+  written-held = held-back s (ok .few) L h t
+
+  pub written-points : pointsIn s (length L) (written (tablesOf s L) t .states) ≡ pointsOf L
+  written-points = sym (points-held s (length L) (written (tablesOf s L) t)) ∙ ap pointsOf written-held
 
   -- tables that hold the basis of their points are recognised
-  pub written-recognised : recognised s (length L) (rowCount s L) (written (tablesOf s L) t) ≡ true
+  pub written-recognised : recognised s (length L) (rowCount s (pointsOf L)) (written (tablesOf s L) t) ≡ true
   unfolding recognised written
   written-recognised =
-      rw written-points
+      rw written-held
       (simp (
-        true-of (noRepeat L) (h .once),
-        true-of (eqb (rowCount s L) (rowCount s L)) (eqb-refl (rowCount s L)),
+        true-of (noRepeat (pointsOf L)) (h .points .once),
+        true-of (eqb (rowCount s (pointsOf L)) (rowCount s (pointsOf L))) (eqb-refl (rowCount s (pointsOf L))),
         begun (tablesOf s L .states) (t .states),
         begun (tablesOf s L .standard) (t .standard),
         begun (tablesOf s L .leads) (t .leads),
         begun (tablesOf s L .coefficients) (t .coefficients),
+        true-of (every isCount (countsOf L)) (h .counts),
+        begun (tablesOf s L .counts) (t .counts),
       ))
     where
       begun : (a l : List ℕ) → begins a (over a l) ≡ true

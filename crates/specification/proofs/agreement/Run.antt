@@ -3,9 +3,9 @@
 use mathlib.Core.Path.{_≡_, refl, sym, _∙_, ap, ap₂, subst}
 use mathlib.Core.Bool.{Bool, true, false, cond}
 use mathlib.Core.List.{List, [], _∷_, _++_}
-use Prim.Native.Nat.{ℕ}
+use Prim.Native.Nat.{ℕ, _≤_}
 use native.Mathlib.Omega.{arith}
-use lib.ListN.{length, take, drop, take-append-drop}
+use lib.ListN.{length, take, drop, take-append-drop, length-map}
 use lib.Dec.{eqb}
 use borrow.Author.Tests.{eqb-true, ne-eqb}
 use Rattle.residue.specs.Layout.{fill, over}
@@ -13,16 +13,18 @@ use Rattle.residue.proofs.Layouts.{over-over, length-fill}
 use Rattle.specification.specs.declared.settings.Settings.{Settings}
 use Rattle.specification.specs.Refusal.{firstOf}
 use Rattle.specification.specs.Settings.{settingsCases}
-use Rattle.specification.specs.Tables.{Tables, rowCount, tablesOf, written, tooShort, pointsIn, recognised, statesSize, standardSize, leadsSize, coefficientsSize}
+use Rattle.specification.specs.Counted.{Counted, pointsOf}
+use Rattle.specification.specs.Tables.{Tables, fiveTables, rowCount, statesTable, standardTable, leadsTable, coefficientsTable, tablesOf, written, tooShort, heldIn, recognised}
+use Rattle.specification.specs.Tables.{statesSize, standardSize, leadsSize, coefficientsSize, countsSize}
 use Rattle.specification.specs.Adding.{Outcome, refused, holding, byRefusal}
 use Rattle.specification.specs.Reference
-use Rattle.specification.specs.Reference.{Operation, outcomeOf, refusalOf, referenceAnswer, pointsAfter, referenceAfter, Table, states, standard, leads, coefficients, tableIn, withTable, Lent, part, other, Event, own, interposed, Held, lentTables, tablesAfter, outcomeAt, keeping, heldAfter, numbers, heldAtEnd, fed, referenceAtEnd, dueAt, due, RefusesAt, Refuses}
-use Rattle.specification.proofs.agreement.Points.{Points}
-use Rattle.specification.proofs.agreement.Refusals.{Accepted, accepted, Large, not-short, written-large, written-points, written-recognised}
+use Rattle.specification.specs.Reference.{Operation, outcomeOf, refusalOf, referenceAnswer, listAfter, referenceAfter, Table, states, standard, leads, coefficients, counts, tableIn, withTable, Lent, part, other, Event, own, interposed, Held, lentTables, tablesAfter, outcomeAt, keeping, heldAfter, numbers, heldAtEnd, fed, referenceAtEnd, dueAt, due, RefusesAt, Refuses}
+use Rattle.specification.proofs.counted.Gathered.{Entries}
+use Rattle.specification.proofs.agreement.Refusals.{Accepted, accepted, Large, not-short, written-large, written-held, written-recognised}
 use Rattle.specification.proofs.agreement.Operations.{lawful}
 
 -- the number of an outcome is that of its refusal
-pub number-of : (k : ℕ) (t : Tables) (s : Settings) (S : List (List ℕ)) → byRefusal k t (holding s S t) .answer .refusal ≡ k
+pub number-of : (k : ℕ) (t : Tables) (s : Settings) (S : Counted) → byRefusal k t (holding s S t) .answer .refusal ≡ k
 unfolding byRefusal refused holding
 number-of k t s S = pick (eqb k 0) refl
   where
@@ -30,16 +32,18 @@ number-of k t s S = pick (eqb k 0) refl
     pick true e = sym (eqb-true k 0 e)
     pick false e = refl
 
--- tables are equal where each of the four is
-pub same-tables : {t u : Tables} → t .states ≡ u .states → t .standard ≡ u .standard → t .leads ≡ u .leads → t .coefficients ≡ u .coefficients → t ≡ u
-same-tables {t} {u} a b c d =
-    ap₂ (λ (w x : List ℕ). record { states = w; standard = x; leads = t .leads; coefficients = t .coefficients }) a b
-    ∙ ap₂ (λ (y z : List ℕ). record { states = u .states; standard = u .standard; leads = y; coefficients = z }) c d
+-- tables are equal where each of the five is
+pub same-tables : {t u : Tables} → t .states ≡ u .states → t .standard ≡ u .standard → t .leads ≡ u .leads → t .coefficients ≡ u .coefficients → t .counts ≡ u .counts → t ≡ u
+same-tables {t} {u} a b c d e =
+    ap₂ (λ (w x : List ℕ). fiveTables w x (t .leads) (t .coefficients) (t .counts)) a b
+    ∙ ap₂ (λ (y z : List ℕ). fiveTables (u .states) (u .standard) y z (t .counts)) c d
+    ∙ ap (λ (v : List ℕ). fiveTables (u .states) (u .standard) (u .leads) (u .coefficients) v) e
 
 -- tables written twice are those of the second time
-pub written-twice : (s : Settings) (L L′ : List (List ℕ)) (t : Tables) → written (tablesOf s L′) (written (tablesOf s L) t) ≡ written (tablesOf s L′) t
-unfolding written tablesOf
-written-twice s L L′ t = same-tables (twice statesSize _ _ (t .states)) (twice standardSize _ _ (t .standard)) (twice leadsSize _ _ (t .leads)) (twice coefficientsSize _ _ (t .coefficients))
+pub written-twice : (s : Settings) (L L′ : Counted) (t : Tables) → written (tablesOf s L′) (written (tablesOf s L) t) ≡ written (tablesOf s L′) t
+unfolding written tablesOf statesTable standardTable leadsTable coefficientsTable
+written-twice s L L′ t =
+    same-tables (twice statesSize _ _ (t .states)) (twice standardSize _ _ (t .standard)) (twice leadsSize _ _ (t .leads)) (twice coefficientsSize _ _ (t .coefficients)) (twice countsSize _ _ (t .counts))
   where
     twice : (k : ℕ) (l l′ u : List ℕ) → over (fill k l′) (over (fill k l) u) ≡ over (fill k l′) u
     twice k l l′ u = over-over (fill k l′) (fill k l) u (length-fill k l′ ∙ sym (length-fill k l))
@@ -51,6 +55,7 @@ put-back states t = refl
 put-back standard t = refl
 put-back leads t = refl
 put-back coefficients t = refl
+put-back counts t = refl
 
 unlent : (a : Lent) (t : Tables) → Reference.after a (Reference.lent a t) t ≡ t
 unfolding Reference.after Reference.lent
@@ -59,42 +64,45 @@ unlent (part k from count) t =
     ∙ put-back k t
 unlent (other bytes) t = refl
 
-untouched : (a b c d : Lent) (t : Tables) → tablesAfter a b c d (lentTables a b c d t) t ≡ t
+untouched : (a b c d e : Lent) (t : Tables) → tablesAfter a b c d e (lentTables a b c d e t) t ≡ t
 unfolding tablesAfter lentTables
-untouched a b c d t = rw (unlent d t, unlent c t, unlent b t, unlent a t)
+untouched a b c d e t = rw (unlent e t, unlent d t, unlent c t, unlent b t, unlent a t)
 
 module _ (s : Settings) (fine : firstOf 0 (settingsCases s) ≡ 0) (start : Tables) (large : Large start) where
   ok : Accepted s
   ok = accepted s fine
 
   -- What is held is the basis of the reference list.
-  pub record At (h : Held) (L : List (List ℕ)) : Type 0 where
-    pub points : Points s L
+  pub record At (h : Held) (L : Counted) : Type 0 where
+    pub entries : Entries s L
     pub count : h .n ≡ length L
-    pub rows : h .r ≡ rowCount s L
+    pub rows : h .r ≡ rowCount s (pointsOf L)
     pub tables : h .tables ≡ written (tablesOf s L) start
 
-  module _ (h : Held) (L : List (List ℕ)) (a : At h L) where
+  module _ (h : Held) (L : Counted) (a : At h L) where
     not-too-short : tooShort (h .tables) ≡ false
     not-too-short = not-short (h .tables) (subst Large (sym (a .tables)) (written-large s L start large))
 
     held-recognised : recognised s (h .n) (h .r) (h .tables) ≡ true
-    held-recognised = rw (a .count, a .rows, a .tables) (written-recognised s ok L (a .points) start)
+    held-recognised = rw (a .count, a .rows, a .tables) (written-recognised s ok L (a .entries) start)
 
-    pub held-points : pointsIn s (h .n) (h .tables .states) ≡ L
-    held-points = rw (a .count, a .tables) (written-points s ok L (a .points) start)
+    pub held-list : heldIn s (h .n) (h .tables) ≡ L
+    held-list = rw (a .count, a .tables) (written-held s ok L (a .entries) start)
+
+    few : h .n ≤ 64
+    few = omega (arith, a .count, length-map L (λ q. q .0), a .entries .points .few)
 
     module _ (o : Operation) where
       -- an operation answers as the reference list does
       number : refusalOf o s (h .n) (h .r) (h .tables) ≡ referenceAnswer o s L
-      number = lawful o .number s fine (h .n) (h .r) (h .tables) (omega (arith, a .count, a .points .few)) not-too-short held-recognised ∙ ap (referenceAnswer o s) held-points
+      number = lawful o .number s fine (h .n) (h .r) (h .tables) few not-too-short held-recognised ∙ ap (referenceAnswer o s) held-list
 
       abbrev due-outcome : Outcome
-      due-outcome = byRefusal (referenceAnswer o s L) (h .tables) (holding s (pointsAfter o s L) (h .tables))
+      due-outcome = byRefusal (referenceAnswer o s L) (h .tables) (holding s (listAfter o s L) (h .tables))
 
       outcome : outcomeOf o s (h .n) (h .r) (h .tables) ≡ due-outcome
       outcome = lawful o .outcome s (h .n) (h .r) (h .tables)
-          ∙ ap₂ (λ (k : ℕ) (S : List (List ℕ)). byRefusal k (h .tables) (holding s (pointsAfter o s S) (h .tables))) number held-points
+          ∙ ap₂ (λ (k : ℕ) (S : Counted). byRefusal k (h .tables) (holding s (listAfter o s S) (h .tables))) number held-list
 
       -- and what is held afterwards is the basis of the reference list then
       own-held : At (keeping h due-outcome) (referenceAfter o s L)
@@ -102,12 +110,12 @@ module _ (s : Settings) (fine : firstOf 0 (settingsCases s) ≡ 0) (start : Tabl
       own-held = pick (eqb (referenceAnswer o s L) 0) refl
         where
           pick : (b : Bool) → eqb (referenceAnswer o s L) 0 ≡ b
-              → At (keeping h (cond b (holding s (pointsAfter o s L) (h .tables)) (refused (referenceAnswer o s L) (h .tables)))) (cond b (pointsAfter o s L) L)
+              → At (keeping h (cond b (holding s (listAfter o s L) (h .tables)) (refused (referenceAnswer o s L) (h .tables)))) (cond b (listAfter o s L) L)
           pick true e = record {
-            points = lawful o .points s ok L (a .points) (eqb-true (referenceAnswer o s L) 0 e);
+            entries = lawful o .entries s ok L (a .entries) (eqb-true (referenceAnswer o s L) 0 e);
             count = refl;
             rows = refl;
-            tables = ap (written (tablesOf s (pointsAfter o s L))) (a .tables) ∙ written-twice s L (pointsAfter o s L) start;
+            tables = ap (written (tablesOf s (listAfter o s L))) (a .tables) ∙ written-twice s L (listAfter o s L) start;
           }
           pick false e = rw e a
 
@@ -115,13 +123,13 @@ module _ (s : Settings) (fine : firstOf 0 (settingsCases s) ≡ 0) (start : Tabl
     step : (e : Event) → RefusesAt h e → (outcomeAt s h e .answer .refusal ≡ dueAt s L h e) × At (heldAfter s h e) (fed s L e)
     unfolding outcomeAt heldAfter fed dueAt RefusesAt byRefusal refused
     step (own o) t = (ap (λ (w : Outcome). w .answer .refusal) (outcome o) ∙ number-of (referenceAnswer o s L) (h .tables) s _, rw (outcome o) (own-held o))
-    step (interposed u n r b c d e o) t =
-        let k = refusalOf o u n r (lentTables b c d e (h .tables)) in
-        let is : outcomeOf o u n r (lentTables b c d e (h .tables)) ≡ refused k (lentTables b c d e (h .tables)) = lawful o .outcome u n r _ ∙ rw (ne-eqb k 0 t) in
-        (ap (λ (w : Outcome). w .answer .refusal) is, rw (is, untouched b c d e (h .tables)) a)
+    step (interposed u n r b c d e f o) t =
+        let k = refusalOf o u n r (lentTables b c d e f (h .tables)) in
+        let is : outcomeOf o u n r (lentTables b c d e f (h .tables)) ≡ refused k (lentTables b c d e f (h .tables)) = lawful o .outcome u n r _ ∙ rw (ne-eqb k 0 t) in
+        (ap (λ (w : Outcome). w .answer .refusal) is, rw (is, untouched b c d e f (h .tables)) a)
 
   -- Every list of calls, from tables that hold the basis of a list of points.
-  pub run : (es : List Event) (h : Held) (L : List (List ℕ)) → At h L → Refuses s h es → (numbers s h es ≡ due s L h es) × At (heldAtEnd s h es) (referenceAtEnd s L es)
+  pub run : (es : List Event) (h : Held) (L : Counted) → At h L → Refuses s h es → (numbers s h es ≡ due s L h es) × At (heldAtEnd s h es) (referenceAtEnd s L es)
   unfolding numbers due heldAtEnd referenceAtEnd Refuses
   run [] h L a t = (refl, a)
   run (e ∷ es) h L a t =

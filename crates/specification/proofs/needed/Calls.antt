@@ -20,19 +20,19 @@ use Rattle.specification.specs.Levels.{inRange, residues}
 use Rattle.specification.specs.Basis.{Fits}
 use Rattle.specification.specs.BasisOf.{valueAt}
 use Rattle.specification.specs.Instance.{Point}
-use Rattle.specification.specs.Tables.{Tables, spaceUnder, pointsUnder, standardUnder, pointsIn, recognised}
+use Rattle.specification.specs.Tables.{Tables, spaceUnder, pointsUnder, standardUnder, pointsIn, heldIn, recognised}
 use Rattle.specification.specs.Needed.{Needed, wiringOf, Names, occurs}
 use Rattle.specification.specs.Solving.{valuesCases, Listed, listing, wiringOutcome}
 use Rattle.specification.specs.Agreement.{SameValues, Wires}
 use Rattle.specification.specs.CallByCall.{HoldsBasis}
 use Rattle.specification.proofs.Instance.{point-of as point-read}
 use Rattle.specification.proofs.Recognised.{none-of}
-use Rattle.specification.proofs.CallByCall.{known-basis}
+use Rattle.specification.proofs.CallByCall.{same-points, known-points, known-basis}
 use Rattle.specification.proofs.Wiring.{names-length, list-accepted}
-use Rattle.specification.proofs.agreement.Points.{residues-same, length-residues}
+use Rattle.specification.proofs.agreement.Points.{Points, read-count, residues-same, length-residues}
 use Rattle.specification.proofs.agreement.Refusals.{Accepted, accepted}
 use Rattle.specification.proofs.agreement.Values.{value-of, level-there}
-use Rattle.specification.proofs.agreement.Drawings.{value-told}
+use Rattle.specification.proofs.agreement.Drawings.{distinct-points, value-told}
 use Rattle.specification.proofs.needed.Pairs.{Valued, wiring-needed}
 use Rattle.specification.proofs.needed.Arranged.{wiring-arranged}
 use Rattle.specification.proofs.needed.Occurring.{needed-occurs}
@@ -59,7 +59,8 @@ module _ (s : Settings) (n r : ℕ) (t : Tables) (values : List ℤ) (buffer : L
   -- What the call stands on.
   record Stands : Type 0 where
     ok : Accepted s
-    basis : HoldsBasis s S t n r t
+    basis : HoldsBasis s (heldIn s n t) t n r t
+    points : Points s S
     long : length values ≡ length S
     range : T (inRange (s .modulus) values)
 
@@ -69,32 +70,37 @@ module _ (s : Settings) (n r : ℕ) (t : Tables) (values : List ℤ) (buffer : L
     stands =
         let z = none-of s _ tt e in
         let good = accepted s (z .0) in
-        let b = known-basis s good n r t (ltb-false 64 n (z .1 .1 .1 .0)) (not-false (recognised s n r t) (z .1 .1 .1 .1 .1 .0)) in
+        let few = ltb-false 64 n (z .1 .1 .1 .0) in
+        let known = not-false (recognised s n r t) (z .1 .1 .1 .1 .1 .0) in
         record {
           ok = good;
-          basis = b;
-          long = eqb-true (length values) n (not-false _ (z .1 .1 .0)) ∙ b .count;
+          basis = known-basis s good n r t few known;
+          points = known-points s good n r t few known;
+          long = eqb-true (length values) n (not-false _ (z .1 .1 .0)) ∙ sym (read-count s n (t .states));
           range = of-true (not-false (inRange (s .modulus) values) (z .1 .1 .1 .1 .0));
         }
+
+    as-they-are : map (λ Q. Q .0) pts ≡ S
+    as-they-are = same-points s (stands .ok) S (stands .points .points)
 
     valued : Valued (s .modulus - 1) (s .variables) φ pts vs
     valued = record { long = length-residues (s .modulus) values ∙ stands .long ∙ sym (length-map S _); each = at }
       where
         at : (P : Point (suc (s .modulus - 1)) (s .variables)) (v : ℕ) → Among (P .0, v) (zip (map (λ Q. Q .0) pts) vs) → φ P % suc (s .modulus - 1) ≡ v
         at P v mem =
-            let there : Among (P .0, v) (zip S vs) = subst (λ (K : List (List ℕ)). Among (P .0, v) (zip K vs)) (stands .basis .points) mem in
+            let there : Among (P .0, v) (zip S vs) = subst (λ (K : List (List ℕ)). Among (P .0, v) (zip K vs)) as-they-are mem in
             let y = level-there (s .modulus) S values (P .0) v there in
-            let is : φ P ≡ v = ap φ (sym (point-read (s .modulus - 1) (s .variables) P)) ∙ value-told s (stands .ok) S (stands .basis .distinct) values (P .0) (y .0) (y .1) ∙ sym (y .2) in
+            let is : φ P ≡ v = ap φ (sym (point-read (s .modulus - 1) (s .variables) P)) ∙ value-told s (stands .ok) S (distinct-points s (stands .ok) S (stands .points)) values (P .0) (y .0) (y .1) ∙ sym (y .2) in
             let same = residues-same (s .modulus) values (omega (arith, modulus-range (s .modulus) (stands .ok .modulus))) (stands .range) in
             ap (λ (x : ℕ). x % suc (s .modulus - 1)) is ∙ kept (λ x. x % suc (s .modulus - 1)) vs same v (value-of S vs (P .0) v there)
 
     -- the computed list is of the needed variables
     needed : Names (s .variables) (Needed (suc (s .modulus - 1)) (s .variables) pts φ) (wiringOf (s .variables) S vs)
-    needed = subst (λ (K : List (List ℕ)). Names (s .variables) (Needed (suc (s .modulus - 1)) (s .variables) pts φ) (wiringOf (s .variables) K vs)) (stands .basis .points)
+    needed = subst (λ (K : List (List ℕ)). Names (s .variables) (Needed (suc (s .modulus - 1)) (s .variables) pts φ) (wiringOf (s .variables) K vs)) as-they-are
         (wiring-needed (s .modulus - 1) (s .variables) φ pts vs valued)
 
     -- The wiring call leaves the list of the variables on which every function with the values at the points of the tables depends.
-    pub wiring-leaves : HoldsBasis s S t n r t × Wires s S values buffer (wiringOutcome s n r t values buffer)
+    pub wiring-leaves : HoldsBasis s (heldIn s n t) t n r t × Wires s S values buffer (wiringOutcome s n r t values buffer)
     unfolding wiringOutcome listing
     wiring-leaves =
         let names = wiringOf (s .variables) S vs in

@@ -1,23 +1,26 @@
 -- `adding::add_accepted` meets its contract: the fronts of the lent tables are those of all points.
 use mathlib.Core.Path.{ap, _∙_, sym}
-use mathlib.Core.List.{List}
+use mathlib.Core.List.{List, [], _∷_, _++_}
 use Prim.Native.Nat.{ℕ}
 use native.Mathlib.Omega.{arith}
-use lib.ListN.{length}
+use lib.ListN.{length, length-set}
 use lib.Seq.{length-take-le, length-front}
+use Rattle.residue.specs.Layout.{fill}
+use Rattle.residue.proofs.Tests.{of-true}
 use Rattle.residue.proofs.Layouts.{answered, length-fill}
-use Rattle.specification.specs.Tables.{Tables, fourTables, tablesOf}
-use Rattle.specification.proofs.agreement.Refusals.{Large, large-of}
+use Rattle.specification.specs.Tables.{Tables, fiveTables, statesTable}
+use Rattle.specification.proofs.agreement.Refusals.{Large, large-of, over-begins}
+use Rattle.specification.proofs.Replicates.{count-put}
 use Rattle.growth.specs.Growing.{allPoints}
 use Rattle.construction.proofs.drawing.Grounds.{points-long}
-use Rattle.basis.proofs.drawing.Outcomes.{fronts-written}
 use Rattle.growth.proofs.Added.{all-count, all-few, states-more}
+use Rattle.basis.proofs.settings.Written.{both-written}
 use Rattle.basis.proofs.adding.add_accepted.Statement.{statement}
 use Rattle.basis.proofs.adding.add_accepted.Tie as tie
 
 module _ (s : tie.Start) where
   abbrev tables : Tables
-  tables = fourTables (s .args .states .now) (s .args .standard .now) (s .args .leads .now) (s .args .coefficients .now)
+  tables = fiveTables (s .args .states .now) (s .args .standard .now) (s .args .leads .now) (s .args .coefficients .now) (s .args .counts .now)
 
   large : Large tables
   large = large-of tables (s .pre .1 .0)
@@ -26,13 +29,13 @@ module _ (s : tie.Start) where
   all = allPoints (s .args .settings) (s .args .n) (s .args .points .now) (s .args .point .now)
 
 -- the places, one from the next: the tables are lent, the states are written
-abbrev opened : tie.After-slice-known4 → tie.Start
-opened c = c .before .before .before .before .before .before .before .before
+abbrev opened : tie.After-slice-known5 → tie.Start
+opened c = c .before .before .before .before .before .before .before .before .before
 
 abbrev start : tie.After-add-state → tie.Start
 start k = opened (k .before .before)
 
-abbrev lent : tie.After-slice-known5 → tie.After-add-state
+abbrev lent : tie.After-slice-known6 → tie.After-add-state
 lent c = c .before .before
 
 slice-relend-prefix-add-state : tie.Need-slice-relend-prefix-add-state
@@ -44,7 +47,7 @@ slice-aggregate-add-state c = let s = opened (c .before) in sym (length-take-le 
 add-state-requires : tie.Need-add-state-requires
 add-state-requires c κs =
     let s = opened (c .before) in
-    (s .pre .1 .1 .1 .0, (points-long (s .pre .0), (ap length (s .pre .1 .1 .1 .1 .filled) ∙ length-fill 8 _, length-take-le 512 (s .args .states .now) (large s .states))))
+    (s .pre .1 .1 .1 .0 .0, (points-long (s .pre .0), (ap length (s .pre .1 .1 .1 .1 .filled) ∙ length-fill 8 _, length-take-le 512 (s .args .states .now) (large s .states))))
 
 slice-relend-prefix-add-tables : tie.Need-slice-relend-prefix-add-tables
 slice-relend-prefix-add-tables c = large (start (lent c)) .standard
@@ -67,7 +70,7 @@ slice-aggregate-add-tables-3 c = let s = start (lent (c .before .before .before)
 add-tables-requires : tie.Need-add-tables-requires
 add-tables-requires c κs =
     let s = start (lent (c .before .before .before)) in
-    (s .pre .0, (s .pre .1 .1 .0, (s .pre .1 .1 .1 .0, s .pre .1 .1 .1 .1)))
+    (s .pre .0, (s .pre .1 .1 .0, (s .pre .1 .1 .1 .0 .0, s .pre .1 .1 .1 .1)))
 
 -- the other tables are written
 module _ (d : tie.After-add-tables) where
@@ -89,20 +92,23 @@ module _ (d : tie.After-add-tables) where
   abbrev coefficients : List ℕ
   coefficients = d .add-tables .last .1 .1 .1 .1 .1 .1 .1 .1 .1 .0
 
-abbrev writing : tie.After-slice-known8 → tie.After-add-tables
+abbrev writing : tie.After-slice-known9 → tie.After-add-tables
 writing c = c .before .before .before .before .before .before
 
-cast-t22 : tie.Need-cast-t22
-cast-t22 c = omega (arith, o (writing c) .pre .1 .1 .1 .0)
-
-add-t23 : tie.Need-add-t23
-add-t23 c = omega (arith, o (writing c) .pre .1 .1 .1 .0)
+slice-write-counts : tie.Need-slice-write-counts
+slice-write-counts c = let s = o (writing c) in omega (arith, s .pre .1 .1 .1 .0 .0, large s .counts)
 
 cast-t24 : tie.Need-cast-t24
-cast-t24 c =
+cast-t24 c = omega (arith, o (writing c) .pre .1 .1 .1 .0 .0)
+
+add-t25 : tie.Need-add-t25
+add-t25 c = omega (arith, o (writing c) .pre .1 .1 .1 .0 .0)
+
+cast-t26 : tie.Need-cast-t26
+cast-t26 c =
     let d = writing c in
     let s = o d in
-    omega (arith, d .add-tables .ensures .row-count, all-few (s .pre .0) (s .pre .1 .1 .0) (s .pre .1 .1 .1 .0) (s .pre .1 .1 .1 .1))
+    omega (arith, d .add-tables .ensures .row-count, all-few (s .pre .0) (s .pre .1 .1 .0) (s .pre .1 .1 .1 .0 .0) (s .pre .1 .1 .1 .1))
 
 same-length : tie.Need-same-length
 same-length c = let d = writing c in length-front (o d .args .states .now) (states d) 512 (put d .add-state .kept .1 .1 .1 .0)
@@ -116,15 +122,19 @@ same-length-3 c = let d = writing c in length-front (o d .args .leads .now) (lea
 same-length-4 : tie.Need-same-length-4
 same-length-4 c = let d = writing c in length-front (o d .args .coefficients .now) (coefficients d) 28736 (d .add-tables .kept .1 .1 .1 .1 .1 .1 .1 .1 .1 .0)
 
+same-length-5 : tie.Need-same-length-5
+same-length-5 c = let s = o (writing c) in length-set (s .args .counts .now) (s .args .n) 1
+
 returns : tie.Need-returns
-unfolding tablesOf
+unfolding statesTable
 returns c =
     let d = writing c in
     let s = o d in
-    fronts-written (s .args .settings) (all s) (tables s) _ (d .add-tables .result) _ (standard d) (leads d) (coefficients d)
-    (all-count (s .pre .0) (s .pre .1 .1 .0) (s .pre .1 .1 .1 .0) (s .pre .1 .1 .1 .1))
-    (answered 512 _ (s .args .states .now) (states d) (put d .add-state .ensures ∙ states-more (s .args .settings) (s .args .n) (s .pre .0) (s .pre .1 .1 .1 .0) (s .pre .1 .1 .1 .1)))
+    both-written (s .args .settings) (all s) (fill (s .args .n) (s .args .counts .now) ++ (1 ∷ [])) (tables s) _ (d .add-tables .result) _ (standard d) (leads d) (coefficients d) _
+    (all-count (s .pre .0) (s .pre .1 .1 .0) (s .pre .1 .1 .1 .0 .0) (s .pre .1 .1 .1 .1))
+    (answered 512 _ (s .args .states .now) (states d) (put d .add-state .ensures ∙ states-more (s .args .settings) (s .args .n) (s .pre .0) (s .pre .1 .1 .1 .0 .0) (s .pre .1 .1 .1 .1)))
     (d .add-tables .ensures)
+    (sym (count-put 64 (s .args .n) (s .args .counts .now) (s .pre .1 .1 .1 .0 .0) (over-begins _ (s .args .counts .now) (of-true (s .pre .1 .1 .1 .0 .1)))))
 
 pub add-accepted-spec : {M : Type 1} → statement M
 add-accepted-spec =
@@ -140,11 +150,13 @@ add-accepted-spec =
     slice-relend-prefix-add-tables-3
     slice-aggregate-add-tables-3
     add-tables-requires
-    cast-t22
-    add-t23
+    slice-write-counts
     cast-t24
+    add-t25
+    cast-t26
     same-length
     same-length-2
     same-length-3
     same-length-4
+    same-length-5
     returns)

@@ -1,21 +1,22 @@
--- `adding::add_point` meets its contract: it is refused with the number of its refusal, or the tables are written.
+-- `adding::add_point` meets its contract: it is refused with the number of its refusal, or a count is raised, or the tables are written.
 use borrow.Author.Needs.{needs}
 use mathlib.Core.Path.{_≡_, sym, _∙_, refl}
 use mathlib.Core.List.{List}
 use Prim.Native.Nat.{ℕ}
-use Rattle.specification.specs.Tables.{Tables, fourTables}
+use native.Mathlib.Omega.{arith}
+use Rattle.specification.specs.Tables.{Tables, fiveTables}
 use Rattle.specification.specs.Adding.{addRefusal, addOutcome}
 use Rattle.basis.proofs.settings.ByNumber.{alone, when-refused}
-use Rattle.basis.proofs.adding.Addition.{Ready, ready, added}
+use Rattle.basis.proofs.adding.Addition.{place, Raised, raised, Ready, ready}
 use Rattle.basis.proofs.adding.add_point.Statement.{statement}
 use Rattle.basis.proofs.adding.add_point.Tie as tie
 
 -- the lent tables
 abbrev tables : tie.Start → Tables
-tables s = fourTables (s .args .states .now) (s .args .standard .now) (s .args .leads .now) (s .args .coefficients .now)
+tables s = fiveTables (s .args .states .now) (s .args .standard .now) (s .args .leads .now) (s .args .coefficients .now) (s .args .counts .now)
 
 abbrev start : tie.After-add-refusal → tie.Start
-start d = d .before .before .before .before .before .before .before .before .before .before .before .before .before
+start d = d .before .before .before .before .before .before .before .before .before .before .before .before .before .before .before
 
 abbrev asked : tie.After-point2 → tie.After-add-refusal
 asked c = c .before .before .before .before
@@ -23,7 +24,7 @@ asked c = c .before .before .before .before
 -- nothing refuses
 module _ (e : tie.Else1) where
   abbrev d : tie.After-add-refusal
-  d = asked (e .before)
+  d = asked (e .before .before)
 
   abbrev s : tie.Start
   s = start d
@@ -31,30 +32,41 @@ module _ (e : tie.Else1) where
   none : addRefusal (s .args .settings) (s .args .n) (s .args .r) (tables s) (s .args .levels .now) ≡ 0
   none = sym (d .add-refusal .ensures .0) ∙ e .if1 .left
 
+  placed : d .add-refusal .result .place ≡ place (s .args .settings) (s .args .n) (s .args .r) (tables s) (s .args .levels .now)
+  placed = d .add-refusal .ensures .1 .0 (e .if1 .left)
+
   abbrev points : List ℕ
-  points = d .add-refusal .last .1 .1 .1 .1 .1 .1 .1 .1 .0
+  points = d .add-refusal .last .1 .1 .1 .1 .1 .1 .1 .1 .1 .0
 
   abbrev rows : List ℕ
-  rows = d .add-refusal .last .1 .1 .1 .1 .1 .1 .1 .1 .1 .0
+  rows = d .add-refusal .last .1 .1 .1 .1 .1 .1 .1 .1 .1 .1 .0
 
   abbrev pivots : List ℕ
-  pivots = d .add-refusal .last .1 .1 .1 .1 .1 .1 .1 .1 .1 .1 .0
+  pivots = d .add-refusal .last .1 .1 .1 .1 .1 .1 .1 .1 .1 .1 .1 .0
 
   abbrev point : List ℕ
-  point = d .add-refusal .last .1 .1 .1 .1 .1 .1 .1 .1 .1 .1 .1 .0
+  point = d .add-refusal .last .1 .1 .1 .1 .1 .1 .1 .1 .1 .1 .1 .1 .0
 
-  handed : Ready (s .args .settings) (s .args .n) (s .args .r) (tables s) (s .args .levels .now) points rows pivots point
-  handed =
-      let f = d .add-refusal .ensures .1 in
-      let z = e .if1 .left in
-      ready (s .args .settings) (s .args .n) (s .args .r) (tables s) (s .args .levels .now) none points rows pivots point (f .0 z) (f .1 .0 z) (f .1 .1 z)
+-- the point is there
+raise : (f : tie.Then2) → let x = f .before .before in Raised (s x .args .settings) (s x .args .n) (s x .args .r) (tables (s x)) (s x .args .levels .now) (d x .add-refusal .result .place)
+raise f = let x = f .before .before in
+    raised (s x .args .settings) (s x .args .n) (s x .args .r) (tables (s x)) (s x .args .levels .now) (none x) (d x .add-refusal .result .place) (placed x) (f .if2 .taken)
+
+-- the point is new
+handed : (f : tie.Else2) → let x = f .before .before in Ready (s x .args .settings) (s x .args .n) (s x .args .r) (tables (s x)) (s x .args .levels .now) (points x) (rows x) (pivots x) (point x)
+handed f =
+    let x = f .before .before in
+    let y = d x .add-refusal .ensures .1 .1 in
+    let z = x .if1 .left in
+    ready (s x .args .settings) (s x .args .n) (s x .args .r) (tables (s x)) (s x .args .levels .now) (none x) (omega (arith, placed x, f .if2 .left)) (points x) (rows x) (pivots x) (point x)
+    (y .0 z) (y .1 .0 z) (y .1 .1 z)
 
 -- the tables are lent, and written
-abbrev lent : tie.After-add-accepted-arg4 → tie.Else1
-lent c = c .before .before .before .before .before .before .before .before
+abbrev lent : tie.After-add-accepted-arg5 → tie.Else2
+lent c = c .before .before .before .before .before .before .before .before .before
 
-abbrev written : tie.After-slice-known8 → tie.After-add-accepted
-written c = c .before .before .before .before .before .before .before .before
+abbrev written : tie.After-slice-known11 → tie.After-add-accepted
+written c = c .before .before .before .before .before .before .before .before .before .before
 
 slice-aggregate-add-refusal : tie.Need-slice-aggregate-add-refusal
 slice-aggregate-add-refusal c = refl
@@ -86,47 +98,70 @@ same-length-3 c = refl
 same-length-4 : tie.Need-same-length-4
 same-length-4 c = refl
 
+same-length-5 : tie.Need-same-length-5
+same-length-5 c = refl
+
 returns : tie.Need-returns
 unfolding addOutcome
 returns c =
-    let d = asked (c .before .before) in
-    alone (c .refused .ensures) (tables (start d)) ∙ when-refused (tables (start d)) _ _ (d .add-refusal .result) (d .add-refusal .ensures .0) (c .before .if1 .taken)
+    let d = asked (c .before .before .before) in
+    alone (c .refused .ensures) (tables (start d)) ∙ when-refused (tables (start d)) _ _ (d .add-refusal .result .refusal) (d .add-refusal .ensures .0) (c .before .if1 .taken)
+
+raise-requires : tie.Need-raise-requires
+raise-requires c κs = let y = raise (c .before) in ((y .few-points, y .few-rows), (y .inside, y .room))
+
+same-length-6 : tie.Need-same-length-6
+same-length-6 c = refl
+
+same-length-7 : tie.Need-same-length-7
+same-length-7 c = refl
+
+same-length-8 : tie.Need-same-length-8
+same-length-8 c = refl
+
+same-length-9 : tie.Need-same-length-9
+same-length-9 c = refl
+
+same-length-10 : tie.Need-same-length-10
+same-length-10 c = c .before .before .raise .kept .1 .1 .1 .0
+
+returns-2 : tie.Need-returns-2
+returns-2 c = let q = c .before .before in raise (q .before .before) .outcome (q .raise .result) (q .raise .last .1 .1 .1 .0) (q .raise .ensures .0) (q .raise .ensures .1)
 
 slice-aggregate-add-accepted : tie.Need-slice-aggregate-add-accepted
-slice-aggregate-add-accepted c = sym (d (c .before) .add-refusal .kept .1 .1 .1 .1 .1 .1 .1 .1 .0)
+slice-aggregate-add-accepted c = sym (d (c .before .before .before) .add-refusal .kept .1 .1 .1 .1 .1 .1 .1 .1 .1 .0)
 
 slice-aggregate-add-accepted-2 : tie.Need-slice-aggregate-add-accepted-2
-slice-aggregate-add-accepted-2 c = sym (d (c .before .before) .add-refusal .kept .1 .1 .1 .1 .1 .1 .1 .1 .1 .0)
+slice-aggregate-add-accepted-2 c = sym (d (c .before .before .before .before) .add-refusal .kept .1 .1 .1 .1 .1 .1 .1 .1 .1 .1 .0)
 
 slice-aggregate-add-accepted-3 : tie.Need-slice-aggregate-add-accepted-3
-slice-aggregate-add-accepted-3 c = sym (d (c .before .before .before) .add-refusal .kept .1 .1 .1 .1 .1 .1 .1 .1 .1 .1 .0)
+slice-aggregate-add-accepted-3 c = sym (d (c .before .before .before .before .before) .add-refusal .kept .1 .1 .1 .1 .1 .1 .1 .1 .1 .1 .1 .0)
 
 slice-aggregate-add-accepted-4 : tie.Need-slice-aggregate-add-accepted-4
-slice-aggregate-add-accepted-4 c = sym (d (c .before .before .before .before) .add-refusal .kept .1 .1 .1 .1 .1 .1 .1 .1 .1 .1 .1 .0)
+slice-aggregate-add-accepted-4 c = sym (d (c .before .before .before .before .before .before) .add-refusal .kept .1 .1 .1 .1 .1 .1 .1 .1 .1 .1 .1 .1 .0)
 
 add-accepted-requires : tie.Need-add-accepted-requires
 add-accepted-requires c κs =
     let y = handed (lent c) in
-    (y .given, (y .long, (y .drawn, (y .room, y .point))))
+    (y .given, (y .long, (y .drawn, ((y .room, y .counts), y .new-point))))
 
-same-length-5 : tie.Need-same-length-5
-same-length-5 c = written c .add-accepted .kept .1 .1 .1 .1 .1 .1 .1 .0
+same-length-11 : tie.Need-same-length-11
+same-length-11 c = written c .add-accepted .kept .1 .1 .1 .1 .1 .1 .1 .0
 
-same-length-6 : tie.Need-same-length-6
-same-length-6 c = written c .add-accepted .kept .1 .1 .1 .1 .1 .1 .1 .1 .0
+same-length-12 : tie.Need-same-length-12
+same-length-12 c = written c .add-accepted .kept .1 .1 .1 .1 .1 .1 .1 .1 .0
 
-same-length-7 : tie.Need-same-length-7
-same-length-7 c = written c .add-accepted .kept .1 .1 .1 .1 .1 .1 .1 .1 .1 .0
+same-length-13 : tie.Need-same-length-13
+same-length-13 c = written c .add-accepted .kept .1 .1 .1 .1 .1 .1 .1 .1 .1 .0
 
-same-length-8 : tie.Need-same-length-8
-same-length-8 c = search needs
+same-length-14 : tie.Need-same-length-14
+same-length-14 c = written c .add-accepted .kept .1 .1 .1 .1 .1 .1 .1 .1 .1 .1 .0
 
-returns-2 : tie.Need-returns-2
-returns-2 c =
-    let e = lent (written c .before) in
-    let z = s e in
-    written c .add-accepted .ensures
-    ∙ added (z .args .settings) (z .args .n) (z .args .r) (tables z) (z .args .levels .now) (points e) (rows e) (pivots e) (point e) (none e) (handed e)
+same-length-15 : tie.Need-same-length-15
+same-length-15 c = written c .add-accepted .kept .1 .1 .1 .1 .1 .1 .1 .1 .1 .1 .1 .0
+
+returns-3 : tie.Need-returns-3
+returns-3 c = written c .add-accepted .ensures ∙ handed (lent (written c .before)) .outcome
 
 pub add-point-spec : {M : Type 1} → statement M
 add-point-spec =
@@ -142,14 +177,23 @@ add-point-spec =
     same-length-2
     same-length-3
     same-length-4
+    same-length-5
     returns
+    raise-requires
+    same-length-6
+    same-length-7
+    same-length-8
+    same-length-9
+    same-length-10
+    returns-2
     slice-aggregate-add-accepted
     slice-aggregate-add-accepted-2
     slice-aggregate-add-accepted-3
     slice-aggregate-add-accepted-4
     add-accepted-requires
-    same-length-5
-    same-length-6
-    same-length-7
-    same-length-8
-    returns-2)
+    same-length-11
+    same-length-12
+    same-length-13
+    same-length-14
+    same-length-15
+    returns-3)

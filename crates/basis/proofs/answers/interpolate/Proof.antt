@@ -9,7 +9,7 @@ use Rattle.residue.specs.Layout.{fill, over}
 use Rattle.residue.proofs.level.Moduli.{modulus-range}
 use Rattle.specification.specs.Refusal.{firstOf}
 use Rattle.specification.specs.Levels.{inRange}
-use Rattle.specification.specs.Tables.{Tables, fourTables, pointsIn, recognised}
+use Rattle.specification.specs.Tables.{Tables, fiveTables, pointsIn, recognised}
 use Rattle.specification.specs.Solving.{valuesCases, interpolateOutcome}
 use Rattle.construction.specs.Drawing.{Solves}
 use Rattle.basis.proofs.settings.ByNumber.{fill-refused, fill-accepted}
@@ -21,10 +21,10 @@ use Rattle.basis.proofs.answers.interpolate.Tie as tie
 
 -- the lent tables
 abbrev tables : tie.Start → Tables
-tables s = fourTables (s .args .states .now) (s .args .standard .now) (s .args .leads .now) (s .args .coefficients .now)
+tables s = fiveTables (s .args .states .now) (s .args .standard .now) (s .args .leads .now) (s .args .coefficients .now) (s .args .counts .now)
 
 abbrev start : tie.After-values-refusal → tie.Start
-start d = d .before .before .before .before .before .before .before .before .before .before
+start d = d .before .before .before .before .before .before .before .before .before .before .before
 
 -- nothing refuses
 module _ (e : tie.Else1) where
@@ -48,10 +48,10 @@ module _ (e : tie.Else1) where
   many = values-count 64 (s .args .settings) (s .args .n) (s .args .r) (tables s) (s .args .values .now) (s .args .out .now) (fine .0)
 
   abbrev rows : List ℕ
-  rows = d .values-refusal .last .1 .1 .1 .1 .1 .1 .1 .1 .1 .1 .1 .0
+  rows = d .values-refusal .last .1 .1 .1 .1 .1 .1 .1 .1 .1 .1 .1 .1 .0
 
   abbrev pivots : List ℕ
-  pivots = d .values-refusal .last .1 .1 .1 .1 .1 .1 .1 .1 .1 .1 .1 .1 .0
+  pivots = d .values-refusal .last .1 .1 .1 .1 .1 .1 .1 .1 .1 .1 .1 .1 .1 .0
 
   solves : Solves (s .args .settings) (pointsIn (s .args .settings) (s .args .n) (s .args .states .now)) rows pivots
   solves = d .values-refusal .ensures .1 .1 (e .if1 .left)
@@ -81,10 +81,10 @@ cast-solve-values : tie.Need-cast-solve-values
 cast-solve-values c = let e = c .before in omega (arith, modulus-range (s e .args .settings .modulus) (sized e .settings .modulus))
 
 slice-aggregate-solve-values : tie.Need-slice-aggregate-solve-values
-slice-aggregate-solve-values c = sym (d (c .before .before) .values-refusal .kept .1 .1 .1 .1 .1 .1 .1 .1 .1 .1 .1 .0)
+slice-aggregate-solve-values c = sym (d (c .before .before) .values-refusal .kept .1 .1 .1 .1 .1 .1 .1 .1 .1 .1 .1 .1 .0)
 
 slice-aggregate-solve-values-2 : tie.Need-slice-aggregate-solve-values-2
-slice-aggregate-solve-values-2 c = sym (d (c .before .before .before) .values-refusal .kept .1 .1 .1 .1 .1 .1 .1 .1 .1 .1 .1 .1 .0)
+slice-aggregate-solve-values-2 c = sym (d (c .before .before .before) .values-refusal .kept .1 .1 .1 .1 .1 .1 .1 .1 .1 .1 .1 .1 .1 .0)
 
 solve-values-requires : tie.Need-solve-values-requires
 solve-values-requires c κs =

@@ -11,7 +11,7 @@ use Rattle.residue.proofs.Layouts.{length-fill}
 use Rattle.monomial.specs.Terms.{termValues}
 use Rattle.specification.specs.Refusal.{firstOf}
 use Rattle.specification.specs.Levels.{residues}
-use Rattle.specification.specs.Tables.{Tables, fourTables, pointsIn}
+use Rattle.specification.specs.Tables.{Tables, fiveTables, pointsIn}
 use Rattle.specification.specs.Solving.{remainderCases, remainderOutcome}
 use Rattle.interpolation.specs.Solving.{solution}
 use Rattle.construction.specs.Drawing.{Solves}
@@ -24,10 +24,10 @@ use Rattle.basis.proofs.answers.remainder.Tie as tie
 
 -- the lent tables
 abbrev tables : tie.Start → Tables
-tables s = fourTables (s .args .states .now) (s .args .standard .now) (s .args .leads .now) (s .args .coefficients .now)
+tables s = fiveTables (s .args .states .now) (s .args .standard .now) (s .args .leads .now) (s .args .coefficients .now) (s .args .counts .now)
 
 abbrev start : tie.After-remainder-refusal → tie.Start
-start d = d .before .before .before .before .before .before .before .before .before .before .before
+start d = d .before .before .before .before .before .before .before .before .before .before .before .before
 
 -- nothing refuses
 module _ (e : tie.Else1) where
@@ -43,14 +43,14 @@ module _ (e : tie.Else1) where
   sized : Sized 64 (s .args .settings) (s .args .n) (tables s) (s .args .out .now)
   sized = terms-sized (s .args .settings) (s .args .n) (s .args .r) (tables s) (s .args .term-coefficients .now) (s .args .exponents .now) (s .args .out .now) (remainder-none (s .args .settings) (s .args .n) (s .args .r) (tables s) (s .args .term-coefficients .now) (s .args .exponents .now) (s .args .out .now) none .0)
 
-  table : d .remainder-refusal .last .1 .1 .1 .1 .1 .1 .1 .1 .1 .1 .0 ≡ fill 512 (inPlaces 8 (pointsIn (s .args .settings) (s .args .n) (s .args .states .now)))
+  table : d .remainder-refusal .last .1 .1 .1 .1 .1 .1 .1 .1 .1 .1 .1 .0 ≡ fill 512 (inPlaces 8 (pointsIn (s .args .settings) (s .args .n) (s .args .states .now)))
   table = d .remainder-refusal .ensures .1 .0 (e .if1 .left)
 
   abbrev rows : List ℕ
-  rows = d .remainder-refusal .last .1 .1 .1 .1 .1 .1 .1 .1 .1 .1 .1 .0
+  rows = d .remainder-refusal .last .1 .1 .1 .1 .1 .1 .1 .1 .1 .1 .1 .1 .0
 
   abbrev pivots : List ℕ
-  pivots = d .remainder-refusal .last .1 .1 .1 .1 .1 .1 .1 .1 .1 .1 .1 .1 .0
+  pivots = d .remainder-refusal .last .1 .1 .1 .1 .1 .1 .1 .1 .1 .1 .1 .1 .1 .0
 
   solves : Solves (s .args .settings) (pointsIn (s .args .settings) (s .args .n) (s .args .states .now)) rows pivots
   solves = d .remainder-refusal .ensures .1 .1 (e .if1 .left)
@@ -80,13 +80,13 @@ cast-solve-terms : tie.Need-cast-solve-terms
 cast-solve-terms c = let e = c .before in omega (arith, modulus-range (s e .args .settings .modulus) (sized e .settings .modulus))
 
 slice-aggregate-solve-terms : tie.Need-slice-aggregate-solve-terms
-slice-aggregate-solve-terms c = sym (d (c .before .before) .remainder-refusal .kept .1 .1 .1 .1 .1 .1 .1 .1 .1 .1 .0)
+slice-aggregate-solve-terms c = sym (d (c .before .before) .remainder-refusal .kept .1 .1 .1 .1 .1 .1 .1 .1 .1 .1 .1 .0)
 
 slice-aggregate-solve-terms-2 : tie.Need-slice-aggregate-solve-terms-2
-slice-aggregate-solve-terms-2 c = sym (d (c .before .before .before) .remainder-refusal .kept .1 .1 .1 .1 .1 .1 .1 .1 .1 .1 .1 .0)
+slice-aggregate-solve-terms-2 c = sym (d (c .before .before .before) .remainder-refusal .kept .1 .1 .1 .1 .1 .1 .1 .1 .1 .1 .1 .1 .0)
 
 slice-aggregate-solve-terms-3 : tie.Need-slice-aggregate-solve-terms-3
-slice-aggregate-solve-terms-3 c = sym (d (c .before .before .before .before) .remainder-refusal .kept .1 .1 .1 .1 .1 .1 .1 .1 .1 .1 .1 .1 .0)
+slice-aggregate-solve-terms-3 c = sym (d (c .before .before .before .before) .remainder-refusal .kept .1 .1 .1 .1 .1 .1 .1 .1 .1 .1 .1 .1 .1 .0)
 
 solve-terms-requires : tie.Need-solve-terms-requires
 solve-terms-requires c κs =

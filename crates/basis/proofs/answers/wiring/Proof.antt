@@ -10,7 +10,7 @@ use Rattle.residue.proofs.level.Moduli.{modulus-range}
 use Rattle.residue.proofs.Layouts.{length-fill}
 use Rattle.specification.specs.Refusal.{firstOf}
 use Rattle.specification.specs.Levels.{inRange, residues}
-use Rattle.specification.specs.Tables.{Tables, fourTables, pointsIn, recognised}
+use Rattle.specification.specs.Tables.{Tables, fiveTables, pointsIn, recognised}
 use Rattle.specification.specs.Needed.{wiringOf}
 use Rattle.specification.specs.Solving.{valuesCases, wiringOutcome}
 use Rattle.specification.proofs.Wiring.{list-refused, list-accepted}
@@ -21,10 +21,10 @@ use Rattle.basis.proofs.answers.wiring.Tie as tie
 
 -- the lent tables
 abbrev tables : tie.Start → Tables
-tables s = fourTables (s .args .states .now) (s .args .standard .now) (s .args .leads .now) (s .args .coefficients .now)
+tables s = fiveTables (s .args .states .now) (s .args .standard .now) (s .args .leads .now) (s .args .coefficients .now) (s .args .counts .now)
 
 abbrev start : tie.After-values-refusal → tie.Start
-start d = d .before .before .before .before .before .before .before .before .before .before
+start d = d .before .before .before .before .before .before .before .before .before .before .before
 
 -- nothing refuses
 module _ (e : tie.Else1) where
@@ -48,7 +48,7 @@ module _ (e : tie.Else1) where
   many = values-count 8 (s .args .settings) (s .args .n) (s .args .r) (tables s) (s .args .values .now) (s .args .out .now) (fine .0)
 
   abbrev table : List ℕ
-  table = d .values-refusal .last .1 .1 .1 .1 .1 .1 .1 .1 .1 .1 .0
+  table = d .values-refusal .last .1 .1 .1 .1 .1 .1 .1 .1 .1 .1 .1 .0
 
   tabled : table ≡ fill 512 (inPlaces 8 (pointsIn (s .args .settings) (s .args .n) (s .args .states .now)))
   tabled = d .values-refusal .ensures .1 .0 (e .if1 .left)
@@ -84,7 +84,7 @@ put-residues-requires : tie.Need-put-residues-requires
 put-residues-requires c κs = let e = c .before .before in omega (arith, many e, sized e .few)
 
 slice-aggregate-put-names : tie.Need-slice-aggregate-put-names
-slice-aggregate-put-names c = sym (d (c .before .before .before .before .before) .values-refusal .kept .1 .1 .1 .1 .1 .1 .1 .1 .1 .1 .0)
+slice-aggregate-put-names c = sym (d (c .before .before .before .before .before) .values-refusal .kept .1 .1 .1 .1 .1 .1 .1 .1 .1 .1 .1 .0)
 
 slice-aggregate-put-names-2 : tie.Need-slice-aggregate-put-names-2
 slice-aggregate-put-names-2 c = sym (c .before .before .before .put-residues .kept .1 .1 .0)

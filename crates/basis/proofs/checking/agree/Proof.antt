@@ -2,21 +2,21 @@
 use native.Mathlib.Omega.{arith}
 use borrow.Author.Tests.{not-true, not-false}
 use mathlib.Core.Path.{sym, _∙_}
-use Rattle.specification.specs.Tables.{Tables, fourTables}
+use Rattle.specification.specs.Tables.{Tables, fiveTables}
 use Rattle.specification.proofs.agreement.Refusals.{Large, large-of}
 use Rattle.basis.proofs.checking.agree.Statement.{statement}
 use Rattle.basis.proofs.checking.agree.Tie as tie
 
 -- the lent tables
-module _ (k : tie.After-shared-slice-known8) where
+module _ (k : tie.After-shared-slice-known9) where
   abbrev start : tie.Start
-  start = k .before .before .before .before .before .before .before .before
+  start = k .before .before .before .before .before .before .before .before .before
 
   abbrev tables : Tables
-  tables = fourTables (start .args .states .now) (start .args .standard .now) (start .args .leads .now) (start .args .coefficients .now)
+  tables = fiveTables (start .args .states .now) (start .args .standard .now) (start .args .leads .now) (start .args .coefficients .now) (start .args .counts .now)
 
   large : Large tables
-  large = large-of tables (start .pre .1)
+  large = large-of tables (start .pre .1 .1)
 
 begins-requires : tie.Need-begins-requires
 begins-requires c κs = omega (arith, large c .states)
@@ -50,14 +50,33 @@ begins-requires-4 c κs = omega (arith, large (c .before .before .before .before
 
 returns-4 : tie.Need-returns-4
 returns-4 c =
-    let d = c .before in
+    let d = c .before .before in
     let b = d .before .before in
     let a = b .before .before in
-    c .begins4 .ensures
+    simp (
+      sym (a .before .begins .ensures) ∙ not-false _ (a .if1 .left),
+      sym (b .before .begins2 .ensures) ∙ not-false _ (b .if2 .left),
+      sym (d .before .begins3 .ensures) ∙ not-false _ (d .if3 .left),
+      sym (c .before .begins4 .ensures) ∙ not-true _ (c .if4 .taken),
+    )
+
+counts-fit-requires : tie.Need-counts-fit-requires
+counts-fit-requires c κs =
+    let k = c .before .before .before .before .before .before .before .before in
+    (start k .pre .0, large k .counts)
+
+returns-5 : tie.Need-returns-5
+returns-5 c =
+    let e = c .before in
+    let d = e .before .before in
+    let b = d .before .before in
+    let a = b .before .before in
+    c .counts-fit .ensures
     ∙ simp (
       sym (a .before .begins .ensures) ∙ not-false _ (a .if1 .left),
       sym (b .before .begins2 .ensures) ∙ not-false _ (b .if2 .left),
       sym (d .before .begins3 .ensures) ∙ not-false _ (d .if3 .left),
+      sym (e .before .begins4 .ensures) ∙ not-false _ (e .if4 .left),
     )
 
 pub agree-spec : {M : Type 1} → statement M
@@ -71,4 +90,6 @@ agree-spec =
     begins-requires-3
     returns-3
     begins-requires-4
-    returns-4)
+    returns-4
+    counts-fit-requires
+    returns-5)

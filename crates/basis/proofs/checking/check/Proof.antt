@@ -5,7 +5,7 @@ use mathlib.Core.Bool.{false}
 use lib.Dec.{ltb}
 use Rattle.specification.specs.Refusal.{firstOf}
 use Rattle.specification.specs.Settings.{settingsCases}
-use Rattle.specification.specs.Tables.{Tables, fourTables, tooShort}
+use Rattle.specification.specs.Tables.{Tables, fiveTables, tooShort}
 use Rattle.specification.proofs.Cases.{sizes-are}
 use Rattle.basis.proofs.settings.BySize.{Passed, passed}
 use Rattle.basis.proofs.checking.Tests.{checkSizes, check-size, check-told}
@@ -14,11 +14,11 @@ use Rattle.basis.proofs.checking.check.Tie as tie
 
 -- the lent tables
 abbrev tables : tie.Start → Tables
-tables s = fourTables (s .args .states .now) (s .args .standard .now) (s .args .leads .now) (s .args .coefficients .now)
+tables s = fiveTables (s .args .states .now) (s .args .standard .now) (s .args .leads .now) (s .args .coefficients .now) (s .args .counts .now)
 
 -- the refusals on numbers
 abbrev start : tie.After-check-sizes → tie.Start
-start d = d .before .before .before .before .before .before
+start d = d .before .before .before .before .before .before .before
 
 sized : (d : tie.After-check-sizes) → d .check-sizes .result ≡ checkSizes (start d .args .settings) (start d .args .n) (start d .args .r) (tables (start d))
 unfolding tooShort

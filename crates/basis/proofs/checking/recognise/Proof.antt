@@ -11,7 +11,7 @@ use Rattle.residue.proofs.level.Moduli.{modulus-range}
 use Rattle.residue.proofs.Tests.{of-true}
 use Rattle.residue.proofs.Layouts.{length-fill}
 use Rattle.specification.specs.Levels.{noRepeat}
-use Rattle.specification.specs.Tables.{Tables, fourTables, tablesOf, pointsIn}
+use Rattle.specification.specs.Tables.{Tables, fiveTables, statesTable, standardTable, leadsTable, coefficientsTable, pointsIn}
 use Rattle.specification.proofs.agreement.Points.{Points}
 use Rattle.specification.proofs.agreement.Refusals.{Accepted, accepted, large-of}
 use Rattle.construction.specs.Drawing.{PointsGiven, DrawnUp}
@@ -24,12 +24,12 @@ use Rattle.basis.proofs.checking.recognise.Tie as tie
 
 -- the lent tables
 abbrev tables : tie.Start → Tables
-tables s = fourTables (s .args .states .now) (s .args .standard .now) (s .args .leads .now) (s .args .coefficients .now)
+tables s = fiveTables (s .args .states .now) (s .args .standard .now) (s .args .leads .now) (s .args .coefficients .now) (s .args .counts .now)
 
 -- the points are in their table
 module _ (w : tie.After-read-points) where
   abbrev start : tie.Start
-  start = w .before .before .before .before .before .before .before .before .before
+  start = w .before .before .before .before .before .before .before .before .before .before
 
   abbrev S : List (List ℕ)
   S = pointsIn (start .args .settings) (start .args .n) (start .args .states .now)
@@ -93,7 +93,7 @@ module _ (d : tie.After-draw) where
 
 read-points-requires : tie.Need-read-points-requires
 read-points-requires c κs =
-    let s = c .before .before .before .before .before .before .before .before in
+    let s = c .before .before .before .before .before .before .before .before .before in
     let ok = accepted (s .args .settings) (s .pre .0 .0) in
     let p = modulus-range (s .args .settings .modulus) (ok .modulus) in
     ((p .0, p .1, ok .few), ((s .pre .0 .1, large-of (tables s) (s .pre .1 .0) .states), s .pre .1 .1 .0))
@@ -152,7 +152,7 @@ agree-requires : tie.Need-agree-requires
 agree-requires c κs =
     let d = c .before .before .before .before .before .before .before .before .before .before .before .before in
     let t = drawn-long _ _ _ _ _ _ _ _ (drawn d) in
-    ((long (w (g d)), t), s (g d) .pre .1 .0)
+    (s (g d) .pre .0 .1, ((long (w (g d)), t), s (g d) .pre .1 .0))
 
 same-length-5 : tie.Need-same-length-5
 same-length-5 c = w (g (c .before .before .before .before .before .before .before .before .before .before .before .before .before)) .read-points .kept .1 .1 .1 .0
@@ -164,7 +164,7 @@ same-length-7 : tie.Need-same-length-7
 same-length-7 c = c .before .before .before .before .before .before .before .before .before .before .before .before .before .draw .kept .1 .1 .1 .1 .1 .1 .1 .0
 
 returns-3 : tie.Need-returns-3
-unfolding tablesOf
+unfolding statesTable standardTable leadsTable coefficientsTable
 returns-3 c =
     let d = c .before .before .before .before .before .before .before .before .before .before .before .before .before in
     let y = s (g d) in (

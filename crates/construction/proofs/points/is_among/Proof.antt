@@ -5,7 +5,7 @@ use Prim.Native.Nat.{ℕ}
 use lib.Dec.{ltb}
 use Rattle.residue.specs.Layout.{groups}
 use Rattle.residue.proofs.Places.{length-groups}
-use Rattle.construction.specs.Points.{placeIn}
+use Rattle.specification.specs.Counted.{placeIn}
 use Rattle.construction.proofs.points.PointPlaces.{among-place}
 use Rattle.construction.proofs.points.is_among.Statement.{statement}
 use Rattle.construction.proofs.points.is_among.Tie as tie

@@ -1,19 +1,15 @@
 -- `points::place_of` meets its contract: i places are passed, and the point's place among the others follows.
-use mathlib.Core.Path.{_≡_, refl, sym, ap, ap₂, _∙_}
-use mathlib.Core.List.{List}
-use Prim.Native.Nat.{ℕ, _+_, _*_, _-_, _≤_}
+use mathlib.Core.Path.{_≡_, _∙_}
+use Prim.Native.Nat.{_+_, _*_, _-_, _≤_}
 use native.Mathlib.Omega.{arith}
 use lib.ListN.{take, drop}
 use lib.Dec.{eqb}
 use borrow.Author.Tests.{eq-eqb, ne-eqb}
-use Rattle.residue.specs.Vector.{Below}
 use Rattle.residue.specs.Layout.{groups}
-use Rattle.residue.specs.Lists.{sameList, keyOf}
-use Rattle.residue.proofs.vector.Vectors.{below-take, below-drop}
-use Rattle.residue.proofs.bytes.Keys.{key-same}
+use Rattle.residue.specs.Lists.{sameList}
 use Rattle.residue.proofs.Replaced.{part-long}
-use Rattle.construction.specs.Points.{placeIn}
-use Rattle.construction.proofs.points.PointPlaces.{place-start, place-on, place-hit, place-end}
+use Rattle.specification.specs.Counted.{placeIn}
+use Rattle.construction.proofs.points.PointPlaces.{keys-told, place-start, place-on, place-hit, place-end}
 use Rattle.construction.proofs.points.place_of.Statement.{statement}
 use Rattle.construction.proofs.points.place_of.Tie as tie
 
@@ -33,14 +29,8 @@ module _ (c : tie.After-key2 Inv-loop μ-loop) where
 
   compared : sameList (start .args .point .now) (take 8 (drop (8 * head .loop .i) (start .args .states .now))) ≡ eqb (head .before .key .result) (c .key2 .result)
   compared =
-      let P : List ℕ = start .args .point .now in
-      let t : List ℕ = start .args .states .now in
-      let i : ℕ = head .loop .i in
-      let e : 8 * i + 8 - 8 * i ≡ 8 = omega arith in
-      let f : Below 256 t = λ j h. head .before .before .before .shared-slice-known .given j .fits in
-      let g : Below 256 P = λ j h. head .before .before .shared-slice-known2 .given j .fits in
-      sym (ap₂ eqb (head .before .key .ensures) (c .key2 .ensures ∙ ap (λ (k : ℕ). keyOf 8 (take k (drop (8 * i) t))) e)
-      ∙ key-same P (take 8 (drop (8 * i) t)) g (below-take 256 8 (drop (8 * i) t) (below-drop 256 (8 * i) t f)) (omega arith) (part-long (8 * i) 8 8 t refl (omega arith)))
+      keys-told (start .args .point .now) (start .args .states .now) (head .loop .i) (λ j h. head .before .before .shared-slice-known2 .given j .fits)
+      (λ j h. head .before .before .before .shared-slice-known .given j .fits) (omega arith) (omega arith) (head .before .key .ensures) (c .key2 .ensures)
 
 key-requires : tie.Need-key-requires Inv-loop μ-loop
 key-requires c κs = omega arith

@@ -23,7 +23,7 @@ abbrev K : Type 0
 K = tie.After-known-told
 
 abbrev start : K → tie.Start
-start c = c .before .before .before .before .before .before .before .before
+start c = c .before .before .before .before .before .before .before .before .before
 
 abbrev next : K → ℕ
 next c = c .before .modulus .given .0 .1 .1 .1 .0
@@ -44,8 +44,8 @@ refused-requires c κs = search needs
 returns : tie.Need-returns
 unfolding textRefused
 returns c =
-    let s = c .before .before .before .before .before in
-    ap (λ (x : Read). textEnded x (s .args .states .now) (s .args .values .now)) (c .refused .ensures) ∙ too-long (text s) (s .args .states .now) (s .args .values .now) (c .before .if1 .taken)
+    let s = c .before .before .before .before .before .before in
+    ap (λ (x : Read). textEnded x (s .args .states .now) (s .args .values .now) (s .args .counts .now)) (c .refused .ensures) ∙ too-long (text s) (s .args .states .now) (s .args .values .now) (s .args .counts .now) (c .before .if1 .taken)
 
 read-header-requires : tie.Need-read-header-requires
 read-header-requires c κs = search needs
@@ -62,9 +62,9 @@ refused-requires-2 c κs = search needs
 returns-2 : tie.Need-returns-2
 unfolding textRefused headerSaid
 returns-2 c =
-    let s = c .before .before .before .before .before .before .before .before in
-    ap (λ (x : Read). textEnded x (s .args .states .now) (s .args .values .now)) (c .refused2 .ensures)
-    ∙ header-broken (text s) (s .args .states .now) (s .args .values .now) (c .before .before .before .before .if1 .left)
+    let s = c .before .before .before .before .before .before .before .before .before in
+    ap (λ (x : Read). textEnded x (s .args .states .now) (s .args .values .now) (s .args .counts .now)) (c .refused2 .ensures)
+    ∙ header-broken (text s) (s .args .states .now) (s .args .values .now) (s .args .counts .now) (c .before .before .before .before .if1 .left)
     (sym (ap (headerSaid (text s)) (sym (c .before .enum-told .given .1)) ∙ c .before .before .before .read-header .ensures .said))
 
 check-entries-requires : tie.Need-check-entries-requires
@@ -90,32 +90,39 @@ enum-known-n : tie.Need-enum-known-n
 enum-known-n c = search needs
 
 read-entries-requires : tie.Need-read-entries-requires
-read-entries-requires c κs = (within (c .before .before .before .before .before .before), sym (c .before .before .before .before .before .check-entries .ensures) ∙ c .before .before .before .n .given .1)
+read-entries-requires c κs =
+    let e = c .before .before .before .before .before .before in
+    ((within (e .before), e .before .before .before .before .before .if1 .left), sym (e .check-entries .ensures) ∙ c .before .before .before .before .n .given .1)
 
 returns-3 : tie.Need-returns-3
 unfolding textRefused
 returns-3 c =
     let d = c .before .before .before .before .before in
     let s = start d in
-    ap (λ (x : Read). textEnded x (s .args .states .now) (s .args .values .now)) (c .refused3 .ensures)
-    ∙ entry-broken (text s) (s .args .states .now) (s .args .values .now) (d .before .before .before .before .if1 .left) (header d) (drop (next d) (text s)) (said d) _ _
+    ap (λ (x : Read). textEnded x (s .args .states .now) (s .args .values .now) (s .args .counts .now)) (c .refused3 .ensures)
+    ∙ entry-broken (text s) (s .args .states .now) (s .args .values .now) (s .args .counts .now) (d .before .before .before .before .if1 .left) (header d) (drop (next d) (text s)) (said d) _ _
     (sym (c .before .before .refusal .given .1) ∙ c .before .before .before .before .check-entries .ensures)
 
 same-length : tie.Need-same-length
-same-length c = search needs
+same-length c = c .before .before .before .before .before .before .read-entries .kept .1 .1 .1 .1 .1 .1 .0
 
 same-length-2 : tie.Need-same-length-2
-same-length-2 c = search needs
+same-length-2 c = c .before .before .before .before .before .before .read-entries .kept .1 .1 .1 .1 .1 .1 .1 .0
+
+same-length-3 : tie.Need-same-length-3
+same-length-3 c = c .before .before .before .before .before .before .read-entries .kept .1 .1 .1 .1 .1 .1 .1 .1 .0
 
 returns-4 : tie.Need-returns-4
 returns-4 c =
-    let d = c .before .before .before .before .before .before .before .before .before .before .before in
+    let r = c .before .before .before .before .before .before in
+    let e = r .before .before .before .before .before .before .before in
+    let d = e .before in
     let s = start d in
-    let n = c .before .before .before .before .before .before .before .before .n .given .0 .0 in
-    _∙_ {b = entriesOutcome (header d .modulus) (header d .variables) (header d .order) n (drop (next d) (text s)) (s .args .states .now) (s .args .values .now)}
-    (c .before .before .before .before .read-entries .ensures)
-    (form-right (text s) (s .args .states .now) (s .args .values .now) (d .before .before .before .before .if1 .left) (header d) (drop (next d) (text s)) (said d) n
-    (sym (c .before .before .before .before .before .before .before .before .n .given .1) ∙ c .before .before .before .before .before .before .before .before .before .before .check-entries .ensures))
+    let n = r .before .before .before .before .before .n in
+    _∙_ {b = entriesOutcome (header d .modulus) (header d .variables) (header d .order) (drop (next d) (text s)) (s .args .states .now) (s .args .values .now) (s .args .counts .now)}
+    (r .read-entries .ensures)
+    (form-right (text s) (s .args .states .now) (s .args .values .now) (s .args .counts .now) (d .before .before .before .before .if1 .left) (header d) (drop (next d) (text s)) (said d) (n .given .0 .0)
+    (sym (n .given .1) ∙ e .check-entries .ensures))
 
 pub read-text-spec : {M : Type 1} → statement M
 read-text-spec =
@@ -137,4 +144,5 @@ read-text-spec =
     returns-3
     same-length
     same-length-2
+    same-length-3
     returns-4)

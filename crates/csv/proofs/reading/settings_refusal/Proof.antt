@@ -4,7 +4,7 @@ use mathlib.Core.Path.{_≡_, sym, _∙_}
 use mathlib.Core.Bool.{true}
 use borrow.Author.Tests.{not-true, not-false}
 use Rattle.residue.specs.Modulus.{isModulus}
-use Rattle.csv.proofs.reading.TextCases.{refuse-3, refuse-4-low, refuse-4-high, refuse-6-states, refuse-6-values, refuse-8, settings-pass}
+use Rattle.csv.proofs.reading.TextCases.{refuse-3, refuse-4-low, refuse-4-high, refuse-6-states, refuse-6-values, refuse-6-counts, settings-pass}
 use Rattle.csv.proofs.reading.settings_refusal.Statement.{statement}
 use Rattle.csv.proofs.reading.settings_refusal.Tie as tie
 
@@ -49,7 +49,7 @@ returns-6 c =
     let e₃ = e₄ .before in
     let e₂ = e₃ .before in
     let e₁ = e₂ .before in
-    refuse-8 _ _ _ _ _ (good e₁) (e₂ .if2 .left) (e₃ .if3 .left) (e₄ .if4 .left) (e₅ .if5 .left) (c .if6 .taken)
+    refuse-6-counts _ _ _ _ _ (good e₁) (e₂ .if2 .left) (e₃ .if3 .left) (e₄ .if4 .left) (e₅ .if5 .left) (c .if6 .taken)
 
 returns-7 : tie.Need-returns-7
 returns-7 c =

@@ -22,8 +22,11 @@ same-length-3 c = search needs
 same-length-4 : tie.Need-same-length-4
 same-length-4 c = search needs
 
+same-length-5 : tie.Need-same-length-5
+same-length-5 c = search needs
+
 returns : tie.Need-returns
-returns c = packs-drawn (c .before .before .before .before .before .before .before .before .before .draw-up .ensures) (c .pack-drawn .ensures)
+returns c = packs-drawn (c .before .before .before .before .before .before .before .before .before .before .before .draw-up .ensures) (c .pack-drawn .ensures)
 
 pub misqafur-draw-up-spec : {M : Type 1} → statement M
 misqafur-draw-up-spec =
@@ -35,4 +38,5 @@ misqafur-draw-up-spec =
     same-length-2
     same-length-3
     same-length-4
+    same-length-5
     returns)

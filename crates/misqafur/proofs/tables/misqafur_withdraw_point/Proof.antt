@@ -22,8 +22,11 @@ same-length-3 c = search needs
 same-length-4 : tie.Need-same-length-4
 same-length-4 c = search needs
 
+same-length-5 : tie.Need-same-length-5
+same-length-5 c = search needs
+
 returns : tie.Need-returns
-returns c = packs (c .before .before .before .before .before .before .before .before .before .withdraw-point .ensures) (c .pack-answer .ensures)
+returns c = packs (c .before .before .before .before .before .before .before .before .before .before .before .withdraw-point .ensures) (c .pack-answer .ensures)
 
 pub misqafur-withdraw-point-spec : {M : Type 1} → statement M
 misqafur-withdraw-point-spec =
@@ -35,4 +38,5 @@ misqafur-withdraw-point-spec =
     same-length-2
     same-length-3
     same-length-4
+    same-length-5
     returns)

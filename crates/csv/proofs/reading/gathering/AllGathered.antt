@@ -1,0 +1,129 @@
+-- All entries gathered: the turn of the next one, the 65th point, and what is decided at the end.
+use mathlib.Core.Path.{_≡_, refl, sym, ap, ap₂, _∙_, subst}
+use mathlib.Core.Bool.{Bool, not, cond, _||_}
+use mathlib.Core.List.{List, [], _∷_, _++_, map, map-append}
+use Prim.Native.Nat.{ℕ, suc, _+_, _<_, _≤_}
+use native.Mathlib.Omega.{arith}
+use lib.IntN.{ℤ}
+use lib.ListN.{length, getD, set, take, drop, replicate, length-map, length-take, take-append-drop}
+use lib.Seq.{length-take-le}
+use lib.Dec.{eqb}
+use borrow.Author.Tests.{eq-eqb, ne-eqb, eqb-true, not-false}
+use Rattle.residue.specs.Layout.{fill, over}
+use Rattle.residue.proofs.Places.{over-zeros}
+use Rattle.specification.specs.Refusal.{firstOf}
+use Rattle.specification.specs.Counted.{countsOf}
+use Rattle.specification.proofs.counted.Saturated.{none-capped}
+use Rattle.construction.proofs.points.Gathering.{Enters}
+use Rattle.csv.specs.reading.Text.{Valued, firstAfter, tooMany, tooOften, otherValue, entryPoint, entryValue, valuedPoint, refusalAt, notRefused, entryCase, pointsCases}
+use Rattle.csv.specs.reading.Records.{entryPart}
+use Rattle.csv.specs.reading.Points.{levelsIn, FilledAs, firstPlace, GatheredAs}
+use Rattle.csv.specs.declared.reading.Refusal.{Refusal}
+use Rattle.csv.specs.declared.reading.points.Filled.{Filled}
+use Rattle.csv.specs.declared.reading.gathering.Gathered.{Gathered}
+use Rattle.csv.proofs.reading.FirstPlaces.{after-le}
+use Rattle.csv.proofs.reading.TextCases.{passed}
+use Rattle.csv.proofs.reading.points.EntryLengths.{point-long}
+use Rattle.csv.proofs.reading.points.EntriesRead.{ReadOn, next, next-long, here, levels, one-more, all-read}
+use Rattle.csv.proofs.reading.gathering.FirstValues.{counted, never-many}
+use Rattle.csv.proofs.reading.gathering.EntriesGathered.{Gathering, at-most, full, turn}
+
+module _ (p m : ℕ) (S : List (List ℤ)) where
+  -- the first i entries as points with values
+  abbrev pub first : ℕ → List Valued
+  first i = map (valuedPoint p m) (take i S)
+
+  module _ {entries : ℕ} {t : List ℕ} {from i : ℕ} (r : ReadOn m entries t S from i) where
+    count : length (first i) ≡ i
+    count = length-map (take i S) (valuedPoint p m) ∙ length-take-le i S (omega (arith, r .bound, r .count))
+
+    -- the next one, its point in 8 bytes of zeros
+    module _ (fits : m ≤ 8) (h : i < entries) {n often other : ℕ} {points counts values : List ℕ} (g : Gathering m (first i) n often other points counts values)
+        {f : Filled} (w : FilledAs p m t (entryPart m (drop from t)) f) {point : List ℕ} (ep : point ≡ over (entryPoint p m (levelsIn (entryPart m (drop from t)))) (replicate 8 0))
+        {at : ℕ} {hit : Bool} {table bytes : List ℕ} (e : Enters n point points counts at hit table bytes) where
+      P : List ℕ
+      P = entryPoint p m (next S r h)
+
+      lp : length P ≡ m
+      unfolding P
+      lp = point-long p m (next S r h) (next-long S r h)
+
+      filled : point ≡ fill 8 P
+      unfolding P
+      filled = ep ∙ ap (λ (l : List ℤ). over (entryPoint p m l) (replicate 8 0)) (levels S r h) ∙ over-zeros (entryPoint p m (next S r h)) 8 (omega (arith, lp, fits))
+
+      entering : Enters n (fill 8 P) points counts at hit table bytes
+      entering = subst (λ (x : List ℕ). Enters n x points counts at hit table bytes) filled e
+
+      value : f .value ≡ entryValue p m (next S r h)
+      value = w .value ∙ ap (entryValue p m) (levels S r h)
+
+      all : map (valuedPoint p m) S ≡ first i ++ ((P, entryValue p m (next S r h)) ∷ map (valuedPoint p m) (drop (suc i) S))
+      unfolding P valuedPoint
+      all =
+          ap (map (valuedPoint p m)) (sym (take-append-drop i S) ∙ ap (λ (l : List (List ℤ)). take i S ++ l) (here S r h))
+          ∙ map-append (valuedPoint p m) (take i S) (next S r h ∷ drop (suc i) S)
+
+      more : first (i + 1) ≡ first i ++ ((P, entryValue p m (next S r h)) ∷ [])
+      unfolding P valuedPoint
+      more = ap (map (valuedPoint p m)) (one-more S r h) ∙ map-append (valuedPoint p m) (take i S) (next S r h ∷ [])
+
+      pub full-here : at ≡ 64 → (points₂ counts₂ values₂ : List ℕ) → GatheredAs (map (valuedPoint p m) S) (record { refusal = 8; at = i + 2; n = 64 }) points₂ counts₂ values₂
+      unfolding pointsCases firstOf
+      full-here z points₂ counts₂ values₂ =
+          let place : suc i ≡ firstAfter tooMany [] (map (valuedPoint p m) S) =
+          ap suc (sym count) ∙ full fits (first i) g P (entryValue p m (next S r h)) lp entering (map (valuedPoint p m) (drop (suc i) S)) z ∙ ap (firstAfter tooMany []) (sym all) in
+          let at-record : i + 2 ≡ suc (firstAfter tooMany [] (map (valuedPoint p m) S)) = omega (arith, place) in
+          record {
+            decided = sym (rw (ne-eqb (firstAfter tooMany [] (map (valuedPoint p m) S)) 0 (λ y. omega (arith, y, place))) (ap (refusalAt 8) (sym at-record)));
+            tabled = λ y. absurd (omega (arith, y));
+          }
+
+      pub place-below : (at ≡ 64 → ⊥) → at < 64
+      place-below room = omega (arith, at-most fits (first i) g P (entryValue p m (next S r h)) lp entering, g .holds .few, room)
+
+      -- what the calls of its turn leave
+      module _ (room : at ≡ 64 → ⊥) {n₂ often₂ other₂ : ℕ} {values₂ : List ℕ} {same : Bool}
+          (fn : n₂ ≡ cond (eqb at n) (suc n) n) (fs : same ≡ (eqb at n || eqb (getD values at 0) (f .value)))
+          (fv : values₂ ≡ cond (eqb at n) (set values at (f .value)) values)
+          (fo : often₂ ≡ firstPlace often (not hit) (i + 1)) (ft : other₂ ≡ firstPlace other same (i + 1)) where
+        pub next-turn : Gathering m (first (i + 1)) n₂ often₂ other₂ table bytes values₂
+        next-turn =
+            subst (λ (E : List Valued). Gathering m E n₂ often₂ other₂ table bytes values₂) (sym more)
+            (turn fits (first i) g P v lp entering room fn
+            (fs ∙ ap (λ (x : ℕ). eqb at n || eqb (getD values at 0) x) value) (fv ∙ ap (λ (x : ℕ). cond (eqb at n) (set values at x) values) value)
+            (fo ∙ ap (firstPlace often (not hit)) place) (ft ∙ ap (firstPlace other same) place))
+          where
+            v : ℕ
+            v = entryValue p m (next S r h)
+
+            place : i + 1 ≡ suc (length (first i))
+            place = omega (arith, count)
+
+  -- All of them: 13 and 14 as they were met first, or the tables.
+  module _ {entries : ℕ} {t : List ℕ} {from i : ℕ} (r : ReadOn m entries t S from i) (h : entries ≤ i)
+      {n often other : ℕ} {points counts values : List ℕ} (g : Gathering m (first i) n often other points counts values) where
+    abbrev valued : List Valued
+    valued = map (valuedPoint p m) S
+
+    held : Gathering m valued n often other points counts values
+    held = subst (λ (E : List Valued). Gathering m E n often other points counts values) (ap (map (valuedPoint p m)) (all-read S r h)) g
+
+    many : firstAfter tooMany [] valued ≡ 0
+    many = never-many [] valued (omega (arith, held .holds .count, held .holds .few))
+
+    pub all-gathered : (a : Gathered) → refusalAt (a .refusal) (a .at) ≡ firstOf notRefused (entryCase 13 often ∷ entryCase 14 other ∷ []) → a .n ≡ n → GatheredAs valued a points counts values
+    unfolding pointsCases firstOf
+    all-gathered a d e = record {
+      decided = d ∙ ap₂ (λ (j k : ℕ). firstOf notRefused (entryCase 13 j ∷ entryCase 14 k ∷ [])) (held .most) (held .others) ∙ sym (rw (eq-eqb (firstAfter tooMany [] valued) 0 many) refl);
+      tabled = λ z.
+          let first-13 = passed (not (eqb often 0)) 12 (suc often) (entryCase 14 other ∷ []) (sym (ap (λ (x : Refusal). x .refusal) d) ∙ z) in
+          let low = held .within (eqb-true often 0 (not-false (eqb often 0) (first-13 .0))) in
+          record { number = e ∙ held .holds .count; states = held .holds .table; times = held .holds .bytes ∙ ap (fill 64) (none-capped (countsOf (counted valued)) low); firsts = held .firsts };
+    }
+
+  -- places within the number of entries
+  pub most-within : {n often other : ℕ} {points counts values : List ℕ} (i : ℕ) → Gathering m (first i) n often other points counts values → (often ≤ length S) × (other ≤ length S)
+  most-within i g =
+      let l : length (first i) ≤ length S = omega (arith, length-map (take i S) (valuedPoint p m), length-take i S) in
+      (omega (arith, g .most, after-le tooOften [] (first i)), omega (arith, g .others, after-le otherValue [] (first i)))

@@ -1,2 +1,0 @@
--- Points that repeat, by the rows of a table.
-pub mod RepeatedRows

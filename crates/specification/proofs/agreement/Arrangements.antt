@@ -1,0 +1,161 @@
+-- Drawing up the points of a list in any order, with replicates or without, gives the same basis, the same remainders and the same wiring lists; and for
+-- equal multisets it is not refused, and gives the same counts.
+use mathlib.Core.Path.{_≡_, refl, sym, _∙_, ap, ap₂, subst}
+use mathlib.Core.Bool.{Bool, true, false, cond}
+use mathlib.Core.List.{List, [], _∷_}
+use Prim.Native.Nat.{ℕ, _%_, _≤_}
+use native.Mathlib.Decide.{decLe}
+use native.Mathlib.Omega.{arith}
+use lib.IntN.{ℤ}
+use lib.ListN.{length, take, length-map}
+use lib.Dec.{T, ltb}
+use borrow.Author.Tests.{eq-eqb, le-ltb}
+use Rattle.residue.specs.Lists.{Among, some, sameList}
+use Rattle.residue.specs.Layout.{over}
+use Rattle.residue.proofs.Tests.{true-of, of-true}
+use Rattle.residue.proofs.bytes.Equality.{same-is, same-self}
+use Rattle.residue.proofs.Layouts.{take-over, length-fill}
+use Rattle.specification.specs.declared.settings.Settings.{Settings}
+use Rattle.specification.specs.Refusal.{firstOf}
+use Rattle.specification.specs.Settings.{settingsCases}
+use Rattle.specification.specs.Levels.{inRange, residues, noRepeat}
+use Rattle.specification.specs.Polynomial.{Distinct}
+use Rattle.specification.specs.Counted.{Counted, pointsOf, countsOf, gathered, overfull, countOf}
+use Rattle.specification.specs.Tables.{Tables, spaceUnder, pointsUnder, rowCount, standardTable, leadsTable, coefficientsTable, tablesOf, written, tooShort}
+use Rattle.specification.specs.Tables.{standardSize, leadsSize, coefficientsSize}
+use Rattle.specification.specs.Adding.{holding, byRefusal, pointsOffered, drawCases, drawRefusal, drawOutcome}
+use Rattle.specification.specs.Solving.{polynomialUnder}
+use Rattle.specification.specs.Needed.{wiringOf}
+use Rattle.specification.specs.Reference.{Held}
+use Rattle.specification.specs.Agreement.{SameSet, Arranges, SameAs, SameCounts}
+use Rattle.specification.proofs.agreement.Points.{IsPoint, once-of}
+use Rattle.specification.proofs.counted.Gathered.{Entries, of-parts, positive-of, positive-gathered, once-gathered, among-gathered, count-gathered, count-some, some-count, count-few}
+use Rattle.specification.proofs.agreement.Refusals.{Accepted, settings-pass, Large, large-of, written-held, written-points}
+use Rattle.specification.proofs.agreement.Values.{same-range}
+use Rattle.specification.proofs.agreement.Drawings.{distinct-under, distinct-points, same-rows, same-length, same-remainder, same-standard, same-leads, same-coefficients, told, remainder-told, wired, wiring-told, same-wired}
+use Rattle.specification.proofs.needed.Arranged.{wiring-arranged}
+
+-- no count is above 255 where each point's is not
+few-counts : (G : Counted) → T (noRepeat (pointsOf G)) → ((P : List ℕ) → countOf P G ≤ 255) → some (ltb 255) (countsOf G) ≡ false
+unfolding countOf
+few-counts [] t h = refl
+few-counts (q ∷ G) t h = rw (le-ltb 255 (q .1) here) (few-counts G (once .1) below)
+  where
+    once : ((Q : List ℕ) → Among Q (pointsOf G) → q .0 ≡ Q → ⊥) × T (noRepeat (pointsOf G))
+    once = once-of (pointsOf G) (q .0) t
+
+    here : q .1 ≤ 255
+    here = rw (true-of (sameList (q .0) (q .0)) (same-self (q .0))) at (h (q .0))
+
+    below : (P : List ℕ) → countOf P G ≤ 255
+    below P = go (sameList P (q .0)) refl (h P)
+      where
+        go : (b : Bool) → sameList P (q .0) ≡ b → cond b (q .1) (countOf P G) ≤ 255 → countOf P G ≤ 255
+        go false e k = k
+        go true e k = absent (decLe 1 (countOf P G))
+          where
+            absent : Dec (1 ≤ countOf P G) → countOf P G ≤ 255
+            absent (yes z) = absurd (once .0 P (some-count P G z) (sym (same-is P (q .0) (of-true e))))
+            absent (no z) = omega (arith, z)
+
+-- the sizes of the three tables
+standard-size : (s : Settings) (A : List (List ℕ)) → length (standardTable s A) ≡ standardSize
+unfolding standardTable
+standard-size s A = length-fill standardSize _
+
+leads-size : (s : Settings) (A : List (List ℕ)) → length (leadsTable s A) ≡ leadsSize
+unfolding leadsTable
+leads-size s A = length-fill leadsSize _
+
+coefficients-size : (s : Settings) (A : List (List ℕ)) → length (coefficientsTable s A) ≡ coefficientsSize
+unfolding coefficientsTable
+coefficients-size s A = length-fill coefficientsSize _
+
+module _ (s : Settings) (ok : Accepted s) (fine : firstOf 0 (settingsCases s) ≡ 0) (L : Counted) (hL : Entries s L) (levels : List ℤ) where
+  -- the distinct points offered, with their counts
+  abbrev G : Counted
+  G = gathered (pointsOffered s levels)
+
+  abbrev K : List (List ℕ)
+  K = pointsOf G
+
+  module _ (same : SameSet s L levels) where
+    to : (P : List ℕ) → Among P K → Among P (pointsOf L)
+    to P q = same P .0 (among-gathered (pointsOffered s levels) P .0 q)
+
+    from : (P : List ℕ) → Among P (pointsOf L) → Among P K
+    from P q = among-gathered (pointsOffered s levels) P .1 (same P .1 q)
+
+    is-point : (P : List ℕ) → Among P K → IsPoint s P
+    is-point P q = hL .points .points P (to P q)
+
+    dK : Distinct (spaceUnder s) (pointsUnder s K)
+    dK = distinct-under s ok K is-point (once-gathered (pointsOffered s levels))
+
+    dL : Distinct (spaceUnder s) (pointsUnder s (pointsOf L))
+    dL = distinct-points s ok (pointsOf L) (hL .points)
+
+    as-many : length G ≡ length L
+    as-many = sym (length-map G (λ q. q .0)) ∙ same-length s ok (pointsOf L) K dL dK to from ∙ length-map L (λ q. q .0)
+
+    few : length G ≤ 64
+    few = omega (arith, as-many, length-map L (λ q. q .0), hL .points .few)
+
+    module _ (small : some (ltb 255) (countsOf G) ≡ false) where
+      hG : Entries s G
+      hG = record {
+        points = record { points = is-point; once = once-gathered (pointsOffered s levels); few = omega (arith, few, length-map G (λ q. q .0)) };
+        counts = of-parts (countsOf G) (positive-gathered (pointsOffered s levels)) small;
+      }
+
+      -- what is drawn up is what is held, with the same remainders and wiring lists
+      pub drawn-same : (start : Tables) → Large start → (h : Held) → h .n ≡ length L → h .r ≡ rowCount s (pointsOf L) → h .tables ≡ written (tablesOf s L) start
+          → (t : Tables) → Large t → drawRefusal s t levels ≡ 0 → SameAs s h (drawOutcome s t levels)
+      unfolding drawOutcome byRefusal holding written tablesOf
+      drawn-same start large h en er et t big zero = rw zero (record {
+        count = as-many ∙ sym en;
+        rows = same-rows s ok (pointsOf L) K dL dK to from ∙ sym er;
+        standard = sized standardSize (standardTable s K) (standardTable s (pointsOf L)) (same-standard s ok (pointsOf L) K dL dK to from) (t .standard) (start .standard) (standard-size s K) ∙ ap (λ (u : Tables). take standardSize (u .standard)) (sym et);
+        leads = sized leadsSize (leadsTable s K) (leadsTable s (pointsOf L)) (same-leads s ok (pointsOf L) K dL dK to from) (t .leads) (start .leads) (leads-size s K) ∙ ap (λ (u : Tables). take leadsSize (u .leads)) (sym et);
+        coefficients = sized coefficientsSize (coefficientsTable s K) (coefficientsTable s (pointsOf L)) (same-coefficients s ok (pointsOf L) K dL dK to from) (t .coefficients) (start .coefficients) (coefficients-size s K) ∙ ap (λ (u : Tables). take coefficientsSize (u .coefficients)) (sym et);
+        remainder = λ terms exponents buffer. remainder-told s ok terms exponents buffer G hG t big
+            ∙ ap₂ (told s ok terms exponents buffer) as-many (same-remainder s ok (pointsOf L) K dL dK to from (polynomialUnder s terms exponents))
+            ∙ sym (rw (en, er, et) (remainder-told s ok terms exponents buffer L hL start large));
+        wiring = λ v w buffer same. let e = rw (written-points s ok G hG t, en, et, written-points s ok L hL start) at same in
+            wiring-told s ok fine buffer v G hG t big
+            ∙ ap₂ (λ (n k : ℕ). wired s ok fine buffer n k (inRange (s .modulus) v) (wiringOf (s .variables) K (residues (s .modulus) v))) as-many (e .count)
+            ∙ same-wired s ok fine buffer (length L) (length w) _ _ _ _ (λ l. let k : length v ≡ length K = e .count ∙ l ∙ sym as-many ∙ sym (length-map G (λ q. q .0)) in let m : length w ≡ length (pointsOf L) = l ∙ sym (length-map L (λ q. q .0)) in (same-range s K (pointsOf L) v w k m to from e, wiring-arranged s K (pointsOf L) v w k m to from e (s .variables)))
+            ∙ sym (rw (en, er, et) (wiring-told s ok fine buffer w L hL start large));
+      })
+        where
+          -- two tables of one layout agree in each byte of its size
+          sized : (k : ℕ) (a b : List ℕ) → a ≡ b → (u v : List ℕ) → length a ≡ k → take k (over a u) ≡ take k (over b v)
+          sized k a b e u v l = ap (λ (j : ℕ). take j (over a u)) (sym l) ∙ take-over a u ∙ e ∙ sym (ap (λ (j : ℕ). take j (over b v)) (sym (ap length (sym e) ∙ l)) ∙ take-over b v)
+
+  -- Equal multisets.
+  module _ (a : Arranges s L levels) where
+    counted : (P : List ℕ) → countOf P G ≡ countOf P L
+    counted P = count-gathered P (pointsOffered s levels) ∙ a .times P
+
+    arranged-set : SameSet s L levels
+    arranged-set P = (
+      (λ q. some-count P L (subst (λ (k : ℕ). 1 ≤ k) (counted P) (count-some P G (positive-gathered (pointsOffered s levels)) (among-gathered (pointsOffered s levels) P .1 q)))),
+      λ q. among-gathered (pointsOffered s levels) P .0 (some-count P G (subst (λ (k : ℕ). 1 ≤ k) (sym (counted P)) (count-some P L (positive-of (countsOf L) (hL .counts)) q))),
+    )
+
+    small : some (ltb 255) (countsOf G) ≡ false
+    small = few-counts G (once-gathered (pointsOffered s levels)) (λ P. rw (counted P) (count-few P L (hL .counts)))
+
+    -- nothing refuses
+    draws : (t : Tables) → tooShort t ≡ false → drawRefusal s t levels ≡ 0
+    unfolding drawRefusal drawCases overfull firstOf
+    draws t large = rw (settings-pass s fine _, large, eq-eqb (length levels % s .variables) 0 (a .whole), true-of (inRange (s .modulus) levels) (a .range), le-ltb 64 (length G) (few arranged-set), small)
+
+    pub arranged-same : (start : Tables) → Large start → (h : Held) → h .n ≡ length L → h .r ≡ rowCount s (pointsOf L) → h .tables ≡ written (tablesOf s L) start
+        → (t : Tables) → tooShort t ≡ false → SameCounts s h (drawOutcome s t levels)
+    unfolding drawOutcome byRefusal holding
+    arranged-same start large h en er et t short = record {
+      number = rw (draws t short) refl;
+      agrees = drawn-same arranged-set small start large h en er et t (large-of t short) (draws t short);
+      counts = λ P. rw (draws t short) (ap (countOf P) (written-held s ok G (hG arranged-set small) t) ∙ counted P ∙ sym (ap (countOf P) (rw (en, et) (written-held s ok L hL start))));
+    }
