@@ -12,7 +12,7 @@ import re
 import sys
 
 ROOT = pathlib.Path(__file__).resolve().parent.parent
-CRATES = ("residue", "monomial", "construction", "growth", "interpolation", "basis")
+CRATES = ("residue", "monomial", "construction", "growth", "interpolation", "recognition", "basis", "queries")
 COUNTS = {"usize", "u32", "u64"}
 HALVED = {("power", "left"), ("multiply_powers", "left")}
 TOKEN = re.compile(r"[A-Za-z_]\w*|\d\w*|'\w+|[-+*/%=<>!&|]=|->|=>|::|\.\.=?|<<|>>|&&|\|\||[^\s\w]")

@@ -1,10 +1,10 @@
 // Adding a point to tables. Every refusal is decided before a lent byte is written.
-use crate::checking::recognise;
-use crate::settings::point_sizes;
-use crate::settings::refused;
-use crate::settings::too_short;
 use construction::points;
 use growth::growing::add_tables;
+use recognition::recognising::recognise;
+use recognition::settings::point_sizes;
+use recognition::settings::refused;
+use recognition::settings::too_short;
 use residue::bytes;
 use specification::settings::Answer;
 use specification::settings::Settings;

@@ -1,13 +1,13 @@
 // Drawing up from all points at once.
-use crate::settings::COEFFICIENTS;
-use crate::settings::LEADS;
-use crate::settings::STANDARD;
-use crate::settings::draw_sizes;
-use crate::settings::refused_drawing;
-use crate::settings::too_short;
 use construction::drawing::draw_anew;
 use construction::points;
 use construction::points::Gathered;
+use recognition::settings::COEFFICIENTS;
+use recognition::settings::LEADS;
+use recognition::settings::STANDARD;
+use recognition::settings::draw_sizes;
+use recognition::settings::refused_drawing;
+use recognition::settings::too_short;
 use residue::bytes;
 use specification::settings::Drawn;
 use specification::settings::Settings;

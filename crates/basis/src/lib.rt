@@ -1,7 +1,4 @@
-// The reduced Gröbner basis, with its standard monomials, of the ideal of all polynomials that vanish at a list of points.
+// The calls that write lent tables: the reduced Gröbner basis, with its standard monomials, of the ideal of all polynomials that vanish at a list of points.
 pub mod adding;
-pub mod answers;
-pub mod checking;
 pub mod drawing;
-pub mod settings;
 pub mod withdrawing;

@@ -1,12 +1,12 @@
 // Withdrawing a point from tables. Every refusal is decided before a lent byte is written; then its count is lowered, or, where that was 1, the points that are
 // left are drawn up anew, over the pivot rows with which the tables were recognised: two sets of them would take more stack than the header promises.
-use crate::checking::recognise;
 use crate::drawing::draw_points;
-use crate::settings::point_sizes;
-use crate::settings::refused;
-use crate::settings::too_short;
 use construction::points;
 use monomial::insert::take_out;
+use recognition::recognising::recognise;
+use recognition::settings::point_sizes;
+use recognition::settings::refused;
+use recognition::settings::too_short;
 use specification::settings::Answer;
 use specification::settings::Settings;
 ghost use mathlib.Core.Path.{_≡_};

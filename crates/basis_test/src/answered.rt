@@ -1,7 +1,9 @@
 // One stored case against each call that answers from tables: the refusal and every byte that is left.
 use crate::buffers;
 use crate::stored::Head;
-use basis::answers;
+use queries::remainders::remainder;
+use queries::values::interpolate;
+use queries::values::wiring;
 
 // The interpolant: the next bytes of the case.
 pub fn interpolated(
@@ -18,7 +20,7 @@ pub fn interpolated(
     buffers::read_front(fd, &mut want, head.n as usize);
     let mut out = [170u8; 72];
     let settings = head.settings;
-    let refusal = answers::interpolate(
+    let refusal = interpolate(
         settings,
         head.n as u64,
         head.r as u64,
@@ -79,7 +81,7 @@ fn lists(
 ) -> bool {
     let mut out = [170u8; 16];
     let settings = head.settings;
-    let got = answers::wiring(
+    let got = wiring(
         settings,
         head.n as u64,
         head.r as u64,
@@ -148,7 +150,7 @@ pub fn reduced(
     buffers::read_front(fd, &mut want, head.n as usize);
     let mut out = [170u8; 72];
     let settings = head.settings;
-    let refusal = answers::remainder(
+    let refusal = remainder(
         settings,
         head.n as u64,
         head.r as u64,

@@ -1,6 +1,8 @@
 // The calls that answer from the basis of lent tables: interpolant, remainder, wiring list.
 use crate::packing::pack_wired;
-use basis::answers;
+use queries::remainders::remainder;
+use queries::values::interpolate;
+use queries::values::wiring;
 use specification::settings::Settings;
 ghost use mathlib.Core.Path.{_≡_};
 ghost use Rattle.specification.specs.Tables.{fiveTables};
@@ -33,7 +35,7 @@ pub extern "C" fn misqafur_interpolate(
         variables,
         order,
     };
-    answers::interpolate(
+    interpolate(
         settings,
         n,
         r,
@@ -74,7 +76,7 @@ pub extern "C" fn misqafur_remainder(
         variables,
         order,
     };
-    answers::remainder(
+    remainder(
         settings,
         n,
         r,
@@ -115,7 +117,7 @@ pub extern "C" fn misqafur_wiring(
         variables,
         order,
     };
-    pack_wired(answers::wiring(
+    pack_wired(wiring(
         settings,
         n,
         r,

@@ -2,9 +2,9 @@
 use crate::packing::pack_answer;
 use crate::packing::pack_drawn;
 use basis::adding;
-use basis::checking;
 use basis::drawing;
 use basis::withdrawing;
+use queries::checking;
 use specification::settings::Settings;
 ghost use mathlib.Core.Path.{_≡_};
 ghost use Rattle.specification.specs.Tables.{fiveTables};

@@ -35,10 +35,10 @@ use Rattle.construction.specs.Drawing.{PointsGiven, Solves, DrawnUp}
 use Rattle.growth.specs.Growing.{allPoints, NewPoint}
 use Rattle.construction.proofs.drawing.Given.{table-points, given, drawn-of}
 use Rattle.construction.proofs.points.LevelLists.{residues-below}
-use Rattle.basis.proofs.settings.BySize.{sizes, by-size, by-rest, passed, none-behind}
-use Rattle.basis.proofs.checking.Named.{named-among}
-use Rattle.basis.proofs.checking.Recognised as Recognised
-use Rattle.basis.proofs.checking.Recognised.{parts, points, standard-there, leads-there, coefficients-there}
+use Rattle.recognition.proofs.settings.BySize.{sizes, by-size, by-rest, passed, none-behind}
+use Rattle.recognition.proofs.recognising.Named.{named-among}
+use Rattle.recognition.proofs.recognising.Recognised as Recognised
+use Rattle.recognition.proofs.recognising.Recognised.{parts, points, standard-there, leads-there, coefficients-there}
 
 -- what refuses a point by its place among n others: there too often, or new beside 64 others
 abbrev pub roomAt : ℕ → ℕ → List ℕ → ℕ

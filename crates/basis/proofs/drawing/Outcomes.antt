@@ -20,8 +20,8 @@ use Rattle.specification.proofs.Replicates.{holdingBoth, holding-told}
 use Rattle.specification.proofs.CallByCall.{Offered, drawn-points}
 use Rattle.construction.specs.Drawing.{PointsGiven}
 use Rattle.construction.proofs.drawing.Given.{table-points, given}
-use Rattle.basis.proofs.settings.BySize.{sizes, by-size, by-rest}
-use Rattle.basis.proofs.settings.ByNumber.{cost-refused, cost-accepted}
+use Rattle.recognition.proofs.settings.BySize.{sizes, by-size, by-rest}
+use Rattle.recognition.proofs.settings.ByNumber.{cost-refused, cost-accepted}
 
 -- The number, where `short` is whether a lent table is too short.
 module _ (s : Settings) (short : Bool) (levels : List ℤ) where

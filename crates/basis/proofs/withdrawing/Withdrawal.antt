@@ -36,9 +36,9 @@ use Rattle.specification.proofs.agreement.Drawings.{few-rows}
 use Rattle.construction.specs.Drawing.{PointsGiven}
 use Rattle.construction.proofs.drawing.Given.{given, given-count, table-points}
 use Rattle.construction.proofs.points.PointPlaces.{place-le}
-use Rattle.basis.proofs.settings.ByNumber.{when-refused}
-use Rattle.basis.proofs.settings.BySize.{sizes, by-size, by-rest, two, two-first, two-second, two-none}
-use Rattle.basis.proofs.checking.Named.{named-among}
+use Rattle.recognition.proofs.settings.ByNumber.{when-refused}
+use Rattle.recognition.proofs.settings.BySize.{sizes, by-size, by-rest, two, two-first, two-second, two-none}
+use Rattle.recognition.proofs.recognising.Named.{named-among}
 
 -- What is left without the point at a place.
 -- bytes are rows of width 1

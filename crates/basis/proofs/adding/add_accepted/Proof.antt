@@ -14,7 +14,7 @@ use Rattle.specification.proofs.Replicates.{count-put}
 use Rattle.growth.specs.Growing.{allPoints}
 use Rattle.construction.proofs.drawing.Grounds.{points-long}
 use Rattle.growth.proofs.Added.{all-count, all-few, states-more}
-use Rattle.basis.proofs.settings.Written.{both-written}
+use Rattle.recognition.proofs.settings.Written.{both-written}
 use Rattle.basis.proofs.adding.add_accepted.Statement.{statement}
 use Rattle.basis.proofs.adding.add_accepted.Tie as tie
 

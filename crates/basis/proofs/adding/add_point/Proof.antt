@@ -6,7 +6,7 @@ use Prim.Native.Nat.{ℕ}
 use native.Mathlib.Omega.{arith}
 use Rattle.specification.specs.Tables.{Tables, fiveTables}
 use Rattle.specification.specs.Adding.{addRefusal, addOutcome}
-use Rattle.basis.proofs.settings.ByNumber.{alone, when-refused}
+use Rattle.recognition.proofs.settings.ByNumber.{alone, when-refused}
 use Rattle.basis.proofs.adding.Addition.{place, Raised, raised, Ready, ready}
 use Rattle.basis.proofs.adding.add_point.Statement.{statement}
 use Rattle.basis.proofs.adding.add_point.Tie as tie

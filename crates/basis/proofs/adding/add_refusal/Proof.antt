@@ -18,8 +18,8 @@ use Rattle.specification.proofs.agreement.Points.{length-residues}
 use Rattle.specification.proofs.agreement.Refusals.{large-of}
 use Rattle.specification.proofs.Cases.{sizes-are}
 use Rattle.construction.specs.Drawing.{Solves}
-use Rattle.basis.proofs.settings.BySize.{Passed, passed}
-use Rattle.basis.proofs.checking.Named.{place-is}
+use Rattle.recognition.proofs.settings.BySize.{Passed, passed}
+use Rattle.recognition.proofs.recognising.Named.{place-is}
 use Rattle.basis.proofs.adding.Addition.{refusing, old, new, place, roomAt, addSizes, add-size, add-range, add-unknown, add-told}
 use Rattle.basis.proofs.adding.add_refusal.Statement.{statement}
 use Rattle.basis.proofs.adding.add_refusal.Tie as tie

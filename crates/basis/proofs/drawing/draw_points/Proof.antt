@@ -11,7 +11,7 @@ use Rattle.specification.specs.Adding.{Outcome, costing}
 use Rattle.specification.proofs.agreement.Refusals.{Large, large-of}
 use Rattle.construction.proofs.drawing.Given.{given-count, few-drawn, few-cost}
 use Rattle.construction.proofs.drawing.Grounds.{points-long}
-use Rattle.basis.proofs.settings.Written.{both-written}
+use Rattle.recognition.proofs.settings.Written.{both-written}
 use Rattle.basis.proofs.drawing.draw_points.Statement.{statement}
 use Rattle.basis.proofs.drawing.draw_points.Tie as tie
 

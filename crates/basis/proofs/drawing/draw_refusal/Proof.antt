@@ -13,7 +13,7 @@ use Rattle.residue.proofs.Tests.{of-true}
 use Rattle.specification.specs.Levels.{inRange}
 use Rattle.specification.specs.Adding.{pointsOffered}
 use Rattle.specification.proofs.Recognised.{whole-levels}
-use Rattle.basis.proofs.settings.BySize.{Passed, passed}
+use Rattle.recognition.proofs.settings.BySize.{Passed, passed}
 use Rattle.basis.proofs.drawing.Outcomes.{drawSizes, draw-size, draw-range, draw-gathered}
 use Rattle.basis.proofs.drawing.draw_refusal.Statement.{statement}
 use Rattle.basis.proofs.drawing.draw_refusal.Tie as tie

@@ -5,7 +5,7 @@ use mathlib.Core.List.{List}
 use Prim.Native.Nat.{ℕ}
 use lib.ListN.{length}
 use Rattle.specification.specs.Tables.{Tables, fiveTables, tooShort}
-use Rattle.basis.proofs.settings.ByNumber.{drawn-alone}
+use Rattle.recognition.proofs.settings.ByNumber.{drawn-alone}
 use Rattle.basis.proofs.drawing.Outcomes.{drawNumber, draw-refused, enough, draw-given, draw-done}
 use Rattle.basis.proofs.drawing.draw_up.Statement.{statement}
 use Rattle.basis.proofs.drawing.draw_up.Tie as tie

@@ -11,7 +11,7 @@ use Rattle.residue.proofs.Places.{over-zeros}
 use Rattle.specification.specs.Levels.{residues}
 use Rattle.specification.proofs.agreement.Points.{length-residues}
 use Rattle.specification.proofs.agreement.Refusals.{Accepted, accepted}
-use Rattle.basis.proofs.checking.Named.{place-is}
+use Rattle.recognition.proofs.recognising.Named.{place-is}
 use Rattle.basis.proofs.withdrawing.place_named.Statement.{statement}
 use Rattle.basis.proofs.withdrawing.place_named.Tie as tie
 

@@ -14,7 +14,7 @@ use Rattle.specification.specs.CallByCall.{recounted}
 use Rattle.specification.proofs.Replicates.{holdingBoth}
 use Rattle.specification.proofs.agreement.Points.{Points}
 use Rattle.construction.specs.Drawing.{PointsGiven}
-use Rattle.basis.proofs.settings.ByNumber.{alone}
+use Rattle.recognition.proofs.settings.ByNumber.{alone}
 use Rattle.basis.proofs.withdrawing.Withdrawal.{withdrawTests, named, old, Open, open-of, few-rows-held, read-again, table-given, withdraw-refused, withdraw-absent, before-end, points-left, withdraw-done}
 use Rattle.basis.proofs.withdrawing.withdraw_point.Statement.{statement}
 use Rattle.basis.proofs.withdrawing.withdraw_point.Tie as tie

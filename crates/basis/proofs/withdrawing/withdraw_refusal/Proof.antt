@@ -10,7 +10,7 @@ use Rattle.specification.specs.Levels.{inRange}
 use Rattle.specification.specs.Settings.{settingsCases}
 use Rattle.specification.specs.Tables.{Tables, fiveTables, tooShort}
 use Rattle.specification.proofs.Cases.{sizes-are}
-use Rattle.basis.proofs.settings.BySize.{Passed, passed}
+use Rattle.recognition.proofs.settings.BySize.{Passed, passed}
 use Rattle.basis.proofs.withdrawing.Withdrawal.{withdrawSizes, withdraw-size, withdraw-range, withdraw-unknown, withdraw-known}
 use Rattle.basis.proofs.withdrawing.withdraw_refusal.Statement.{statement}
 use Rattle.basis.proofs.withdrawing.withdraw_refusal.Tie as tie

@@ -1,0 +1,185 @@
+// The refusals that look at the settings and at lengths and counts alone, 3 to 8, and the answer of a refused call.
+use residue::level;
+use specification::settings::Answer;
+use specification::settings::Drawn;
+use specification::settings::Settings;
+ghost use mathlib.Core.Path.{_≡_};
+ghost use mathlib.Core.Bool.{not, false, _||_};
+ghost use mathlib.Core.List.{[], _∷_, _++_};
+ghost use Prim.Native.Nat.{_*_, _%_};
+ghost use lib.Dec.{eqb, ltb};
+ghost use Rattle.specification.specs.Refusal.{firstOf};
+ghost use Rattle.specification.specs.Settings.{settingsCases};
+ghost use Rattle.specification.specs.Tables.{shortLengths};
+
+// The answer of a refused call.
+pub fn refused(refusal: u8) -> Answer
+    ensures { λ a. ⌜ a ≡ record { refusal = refusal; n = 0; r = 0 } ⌝ }
+{
+    Answer {
+        refusal,
+        n: 0,
+        r: 0,
+    }
+}
+
+// And of a drawing up that is refused.
+pub fn refused_drawing(refusal: u8) -> Drawn
+    ensures { λ a. ⌜ a ≡ record { refusal = refusal; n = 0; r = 0; cancellations = 0 } ⌝ }
+{
+    Drawn {
+        refusal,
+        n: 0,
+        r: 0,
+        cancellations: 0,
+    }
+}
+
+// The refusals that look at the settings alone.
+pub fn settings_refusal(settings: Settings) -> u8
+    ensures { λ k. ⌜ k ≡ firstOf 0 (settingsCases settings) ⌝ }
+{
+    if level::is_modulus(settings.modulus) {
+        if settings.variables < 1 {
+            return 4;
+        }
+        if 8 < settings.variables {
+            return 4;
+        }
+        if 2 < settings.order {
+            return 5;
+        }
+        return 0;
+    }
+    3
+}
+
+// The sizes of the lent tables in bytes.
+pub const STATES: usize = 512;
+
+pub const STANDARD: usize = 512;
+
+pub const LEADS: usize = 3592;
+
+pub const COEFFICIENTS: usize = 28736;
+
+pub const COUNTS: usize = 64;
+
+// Whether one of the lent tables, of these lengths, is shorter than its size.
+pub fn too_short(
+    states: usize,
+    standard: usize,
+    leads: usize,
+    coefficients: usize,
+    counts: usize,
+) -> bool
+    ensures { λ b. ⌜ b ≡ shortLengths states standard leads coefficients counts ⌝ }
+{
+    if states < STATES {
+        return true;
+    }
+    if standard < STANDARD {
+        return true;
+    }
+    if leads < LEADS {
+        return true;
+    }
+    if coefficients < COEFFICIENTS {
+        return true;
+    }
+    counts < COUNTS
+}
+
+// A table or buffer is too short, a length is wrong, there are too many points or terms.
+fn by_sizes(settings: Settings, short: bool, wrong: bool, many: bool) -> u8
+    ensures { λ k. ⌜ k ≡ firstOf 0 (settingsCases settings ++ ((short, 6) ∷ (wrong, 7) ∷ (many, 8) ∷ [])) ⌝ }
+{
+    let k = settings_refusal(settings);
+    if k != 0 {
+        return k;
+    }
+    if short {
+        return 6;
+    }
+    if wrong {
+        return 7;
+    }
+    if many {
+        return 8;
+    }
+    0
+}
+
+// The remainder of a division as the definitions have it, by 0 too: lengths are judged before the settings are known to be good.
+fn rest(k: usize, m: u64) -> usize
+    ensures { λ r. ⌜ r ≡ k % m ⌝ }
+{
+    if m == 0 {
+        return k;
+    }
+    k % m as usize
+}
+
+// Adding a point of this many levels to n points, or withdrawing it; `short` is whether a lent table is too short, here and below.
+pub fn point_sizes(settings: Settings, short: bool, levels: usize, n: u64) -> u8
+    ensures { λ k. ⌜ k ≡ firstOf 0 (settingsCases settings
+        ++ ((short, 6) ∷ (not (eqb levels (settings .variables)), 7) ∷ (ltb 64 n, 8) ∷ [])) ⌝ }
+{
+    by_sizes(settings, short, levels as u64 != settings.variables, 64 < n)
+}
+
+// Drawing up from this many levels, of any number of points: 8 counts the distinct ones, and comes later.
+pub fn draw_sizes(settings: Settings, short: bool, levels: usize) -> u8
+    ensures { λ k. ⌜ k ≡ firstOf 0 (settingsCases settings
+        ++ ((short, 6) ∷ (not (eqb (levels % settings .variables) 0), 7) ∷ (false, 8) ∷ [])) ⌝ }
+{
+    by_sizes(
+        settings,
+        short,
+        rest(levels, settings.variables) != 0,
+        false,
+    )
+}
+
+// Checking the tables of n points.
+pub fn check_sizes(settings: Settings, short: bool, n: u64) -> u8
+    ensures { λ k. ⌜ k ≡ firstOf 0 (settingsCases settings ++ ((short, 6) ∷ (false, 7) ∷ (ltb 64 n, 8) ∷ [])) ⌝ }
+{
+    by_sizes(settings, short, false, 64 < n)
+}
+
+// An answer of the given size, from this many values at n points.
+pub fn values_sizes(
+    settings: Settings,
+    short: bool,
+    buffer: usize,
+    size: usize,
+    values: usize,
+    n: u64,
+) -> u8
+    ensures { λ k. ⌜ k ≡ firstOf 0 (settingsCases settings
+        ++ ((short || ltb buffer size, 6) ∷ (not (eqb values n), 7) ∷ (ltb 64 n, 8) ∷ [])) ⌝ }
+{
+    by_sizes(settings, short || buffer < size, values as u64 != n, 64 < n)
+}
+
+// The remainder of a polynomial of so many terms and exponents.
+pub fn remainder_sizes(
+    settings: Settings,
+    short: bool,
+    buffer: usize,
+    terms: usize,
+    exponents: usize,
+    n: u64,
+) -> u8
+    ensures { λ k. ⌜ k ≡ firstOf 0 (settingsCases settings
+        ++ ((short || ltb buffer 64, 6) ∷ (not (eqb exponents (8 * terms)), 7) ∷ (ltb 64 n || ltb 256 terms, 8) ∷ [])) ⌝ }
+{
+    let whole = exponents / 8 == terms && exponents % 8 == 0;
+    by_sizes(
+        settings,
+        short || buffer < 64,
+        !whole,
+        64 < n || 256 < terms,
+    )
+}
