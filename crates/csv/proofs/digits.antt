@@ -1,3 +1,2 @@
 -- Numbers in decimal, read and written.
 pub mod NumberDigits
-pub mod DecimalDigits

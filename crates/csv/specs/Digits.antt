@@ -1,10 +1,10 @@
--- Numbers in decimal: one to three digits as a text has them (docs/SCOPE.md, 'Reading text'), and as many as a printed number takes.
+-- Numbers in decimal, of one to three digits, as a text has them (docs/SCOPE.md, 'Reading text').
 use mathlib.Core.Bool.{Bool, cond, _&&_}
-use mathlib.Core.List.{List, [], _∷_, _++_}
+use mathlib.Core.List.{List, [], _∷_}
 use mathlib.Core.Option.{Option, some, none}
-use Prim.Native.Nat.{ℕ, zero, suc, _+_, _*_, _-_, _/_, _%_}
+use Prim.Native.Nat.{ℕ, _+_, _*_, _-_}
 use lib.ListN.{length}
-use lib.Dec.{leb, ltb}
+use lib.Dec.{leb}
 use Rattle.csv.specs.declared.digits.Number.{Number}
 use Rattle.csv.specs.declared.digits.Number.the-variants as N
 
@@ -24,11 +24,3 @@ numberOf l = cond (leb 1 (length l) && leb (length l) 3) (digitsFrom 0 l) none
 unfoldable pub numberSaid : Number → Option ℕ
 numberSaid (N.Size k) = some k
 numberSaid N.Broken = none
-
--- a number in decimal, with more turns than it has digits
-unfoldable pub digitsOf : ℕ → ℕ → List ℕ
-digitsOf zero n = []
-digitsOf (suc turns) n = cond (ltb n 10) ((48 + n) ∷ []) (digitsOf turns (n / 10) ++ ((48 + n % 10) ∷ []))
-
-unfoldable pub decimal : ℕ → List ℕ
-decimal n = digitsOf (suc n) n

@@ -1,8 +1,6 @@
-// Numbers in decimal, read and written.
-use crate::appending::put_byte;
+// Numbers in decimal, read.
 ghost use mathlib.Core.Path.{_≡_};
-ghost use Rattle.csv.specs.Appending.{Room, Put};
-ghost use Rattle.csv.specs.Digits.{isDigit, numberOf, numberSaid, decimal};
+ghost use Rattle.csv.specs.Digits.{isDigit, numberOf, numberSaid};
 
 pub fn is_digit(b: u8) -> bool
     ensures { λ r. ⌜ r ≡ isDigit b ⌝ }
@@ -38,16 +36,4 @@ pub fn read_number(content: &[u8]) -> Number
         value = 10 * value + (b - 48) as u16;
     }
     Number::Size(value)
-}
-
-// A number in decimal.
-pub fn put_digits(out: &mut [u8], at: usize, n: u16) -> usize
-    requires { ⌜ Room at (decimal n) (now out) ⌝ }
-    ensures { λ r. ⌜ Put at (decimal n) (now (out .entry)) (now (out .exit)) r ⌝ }
-{
-    if n < 10 {
-        return put_byte(out, at, 48 + n as u8);
-    }
-    let next = put_digits(out, at, n / 10);
-    put_byte(out, next, 48 + (n % 10) as u8)
 }

@@ -1,5 +1,3 @@
-// Comma-separated text: the reader and the printer, over numbers in decimal and bytes that are appended.
-mod appending;
+// Comma-separated text: the reader, over numbers in decimal.
 mod digits;
-pub mod printing;
 pub mod reading;

@@ -12,6 +12,6 @@ fn main() {
     let Moved::Bytes(got) = input::read_text(&mut text) else {
         return;
     };
-    let n = csv::printing::print_text(&text[..got], &mut out);
+    let n = printing::text::print_text(&text[..got], &mut out);
     output::write_sheet(&out[..n]);
 }

@@ -18,7 +18,7 @@ use Rattle.csv.specs.Digits.{isDigit, numberOf}
 use Rattle.csv.specs.reading.Forms.{lex-word, grlex-word, grevlex-word, mod-word, defaultOrder, orderWord, Header, header, modulusAndOrder, lastField, headerFrom, headerOf}
 use Rattle.csv.specs.reading.Text.{firstFault, isNone, headerIn, entryIn, entriesIn, formFault, isOutside}
 use Rattle.csv.proofs.reading.FirstPlaces.{fault-step}
-use Rattle.csv.proofs.reading.points.EntryLengths.{AllLong, entries-long}
+use Rattle.csv.proofs.reading.EntryLengths.{AllLong, entries-long}
 
 -- The order's number is at most 2.
 abbrev Small : Option ℕ → Type 0

@@ -1,4 +1,3 @@
 -- The distinct points of a text, with their counts and first values.
-pub mod FirstValues
 pub mod EntriesGathered
 pub mod AllGathered

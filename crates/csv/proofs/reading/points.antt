@@ -2,6 +2,5 @@
 pub mod LevelResidues
 pub mod OneMore
 pub mod EntryFilled
-pub mod EntryLengths
 pub mod EntriesRead
 pub mod EntriesInside

@@ -23,9 +23,9 @@ use Rattle.csv.specs.declared.reading.points.Filled.{Filled}
 use Rattle.csv.specs.declared.reading.gathering.Gathered.{Gathered}
 use Rattle.csv.proofs.reading.FirstPlaces.{after-le}
 use Rattle.csv.proofs.reading.TextCases.{passed}
-use Rattle.csv.proofs.reading.points.EntryLengths.{point-long}
+use Rattle.csv.proofs.reading.EntryLengths.{point-long}
 use Rattle.csv.proofs.reading.points.EntriesRead.{ReadOn, next, next-long, here, levels, one-more, all-read}
-use Rattle.csv.proofs.reading.gathering.FirstValues.{counted, never-many}
+use Rattle.csv.proofs.reading.FirstValues.{counted, never-many}
 use Rattle.csv.proofs.reading.gathering.EntriesGathered.{Gathering, at-most, full, turn}
 
 module _ (p m : ℕ) (S : List (List ℤ)) where

@@ -24,7 +24,7 @@ use Rattle.construction.proofs.points.Gathering.{Holds, Enters, holds-none, pla
 use Rattle.csv.specs.reading.Text.{Valued, firstAfter, tooMany, tooOften, firstValue, otherValue, firstValues}
 use Rattle.csv.specs.reading.Points.{firstPlace}
 use Rattle.csv.proofs.reading.FirstPlaces.{after-more, after-found, none-found}
-use Rattle.csv.proofs.reading.gathering.FirstValues.{counted, counted-more, never-many, among-counted, value-there, value-new, value-at, values-kept}
+use Rattle.csv.proofs.reading.FirstValues.{counted, counted-more, never-many, among-counted, value-there, value-new, value-at, values-kept}
 
 -- After these entries: their points in the tables with their counts, the values of their first entries, and the places of 13 and 14.
 pub record Gathering (m : ℕ) (E : List Valued) (n often other : ℕ) (points counts values : List ℕ) : Type 0 where

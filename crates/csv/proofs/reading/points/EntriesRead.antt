@@ -15,7 +15,7 @@ use Rattle.csv.specs.reading.Points.{levelsIn, behindEntry, FilledAs, le
 use Rattle.csv.specs.declared.reading.points.Filled.{Filled}
 use Rattle.csv.specs.declared.reading.records.Entries.the-variants as N
 use Rattle.csv.proofs.reading.records.EntriesChecked.{entries-more, entries-none}
-use Rattle.csv.proofs.reading.points.EntryLengths.{AllLong, entries-long}
+use Rattle.csv.proofs.reading.EntryLengths.{AllLong, entries-long}
 
 -- where the count was taken, every record is an entry
 pub all-entries : (k n : ℕ) (es : List (Option (List ℤ))) → counted k es ≡ N.Count n → (es ≡ map some (map (λ e. Option·getD e []) es)) × (n ≡ k + length es)

@@ -1,0 +1,5 @@
+-- The definitions of the crate printing.
+pub mod Decimal
+pub mod Appending
+pub mod Lines
+pub mod Text
