@@ -1,7 +1,7 @@
 #!/usr/bin/env python3
-"""Looks for a multiplication, division or remainder of residues in the code of the crates below: products of residues are
-worked out by doubling and adding (docs/changes/M-102.md). Residues and exponents are u8, numbers that count or index
-are wider, so an operand's type decides; the exponents that are halved are listed.
+"""Looks for a multiplication, division or remainder of residues in the code of the crates below: products of residues
+are worked out by doubling and adding (docs/changes/M-102.md). Residues and exponents are u8, numbers that count or
+index are wider, so an operand's type decides; the exponents that are halved are listed.
 Comments and contracts are not code. Says `products: N multiplications and divisions, none of residues`, or each one
 that is of residues or that this script cannot read, and then ends with status 1.
 
@@ -12,7 +12,8 @@ import re
 import sys
 
 ROOT = pathlib.Path(__file__).resolve().parent.parent
-CRATES = ("residue", "monomial", "construction", "growth", "interpolation", "recognition", "basis", "queries")
+CRATES = ("residue", "elimination", "monomial", "construction", "growth", "interpolation", "recognition", "basis",
+          "queries")
 COUNTS = {"usize", "u32", "u64"}
 HALVED = {("power", "left"), ("multiply_powers", "left")}
 TOKEN = re.compile(r"[A-Za-z_]\w*|\d\w*|'\w+|[-+*/%=<>!&|]=|->|=>|::|\.\.=?|<<|>>|&&|\|\||[^\s\w]")

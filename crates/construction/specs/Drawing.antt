@@ -6,7 +6,7 @@ use Prim.Native.Nat.{ℕ, _+_, _-_, _%_, _<_, _≤_}
 use lib.ListN.{length, getD, take, replicate}
 use lib.Dec.{T}
 use Rattle.residue.specs.Vector.{Below, pointwise}
-use Rattle.residue.specs.Elimination.{eliminated, Multiplied}
+use Rattle.elimination.specs.Elimination.{eliminated, Multiplied}
 use Rattle.residue.specs.Layout.{fill, inPlaces, over}
 use Rattle.specification.specs.declared.settings.Settings.{Settings}
 use Rattle.specification.specs.Levels.{noRepeat}

@@ -12,7 +12,7 @@ use lib.Dec.{T}
 use lib.Seq.{length-take-le}
 use Rattle.residue.specs.Lists.{Among}
 use Rattle.residue.specs.Vector.{Below}
-use Rattle.residue.specs.Elimination.{eliminated, Multiplied}
+use Rattle.elimination.specs.Elimination.{eliminated, Multiplied}
 use Rattle.residue.specs.Layout.{groups, fill, inPlaces, over, withPlace, rowAt}
 use Rattle.residue.proofs.vector.Vectors.{below-take, map-same}
 use Rattle.residue.proofs.Tests.{true-of}

@@ -9,7 +9,7 @@ use lib.Seq.{take-all}
 use Rattle.residue.specs.Congruence.{Mod}
 use Rattle.residue.specs.Lists.{Among}
 use Rattle.residue.specs.Vector.{Below, dotOf}
-use Rattle.residue.specs.Elimination.{eliminated}
+use Rattle.elimination.specs.Elimination.{eliminated}
 use Rattle.residue.specs.Layout.{groups, fill, inPlaces, over}
 use Rattle.residue.proofs.Congruence.{of, _then_, reduce, negative, ring}
 use Rattle.residue.proofs.vector.Vectors.{map-at, map-same}

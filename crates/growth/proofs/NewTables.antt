@@ -10,7 +10,7 @@ use lib.Seq.{take-suc, take-all, getD-set-same, getD-set-other}
 use Rattle.residue.specs.Lists.{Among}
 use Rattle.residue.specs.Inverse.{inverseOf}
 use Rattle.residue.specs.Vector.{Below}
-use Rattle.residue.specs.Elimination.{eliminated}
+use Rattle.elimination.specs.Elimination.{eliminated}
 use Rattle.residue.specs.Layout.{groups, fill, inPlaces, over, rowAt}
 use Rattle.residue.proofs.vector.Vectors.{map-at}
 use Rattle.residue.proofs.Places.{table-groups, place-at, rows-filled, over-table}

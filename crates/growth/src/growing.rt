@@ -10,7 +10,7 @@ ghost use mathlib.Core.Path.{_≡_};
 ghost use Prim.Native.Nat.{ℕ, _+_, _<_, _≤_};
 ghost use lib.ListN.{length, getD, replicate};
 ghost use Rattle.residue.specs.Vector.{Below};
-ghost use Rattle.residue.specs.Elimination.{Multiplied};
+ghost use Rattle.elimination.specs.Elimination.{Multiplied};
 ghost use Rattle.residue.specs.Layout.{rowAt};
 ghost use Rattle.specification.specs.Tables.{pointsIn};
 ghost use Rattle.specification.proofs.agreement.Refusals.{Accepted};

@@ -1,15 +1,15 @@
 // The new leads when a point is added, the products of the lost lead with the variables, and their rows.
 use crate::correcting;
+use elimination::reducing::eliminate;
 use monomial::insert;
 use monomial::terms::put_term_values;
 use residue::bytes;
-use residue::elimination::eliminate;
 use specification::settings::Settings;
 ghost use mathlib.Core.Path.{_≡_};
 ghost use Prim.Native.Nat.{ℕ, _+_, _*_, _<_, _≤_};
 ghost use lib.ListN.{length, getD};
 ghost use Rattle.residue.specs.Vector.{Below};
-ghost use Rattle.residue.specs.Elimination.{Multiplied};
+ghost use Rattle.elimination.specs.Elimination.{Multiplied};
 ghost use Rattle.monomial.specs.Insert.{withRowAt};
 ghost use Rattle.specification.proofs.agreement.Refusals.{Accepted};
 ghost use Rattle.growth.specs.Growing.{correctedRow, reducedRow, grown, productPut, productsPut};

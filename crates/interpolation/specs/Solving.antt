@@ -2,7 +2,7 @@
 use mathlib.Core.List.{List, map}
 use Prim.Native.Nat.{ℕ, _-_, _%_}
 use lib.ListN.{take, drop}
-use Rattle.residue.specs.Elimination.{eliminated}
+use Rattle.elimination.specs.Elimination.{eliminated}
 
 -- minus the coefficients of a working row, after it met the pivot rows of all n points
 unfoldable pub solution : ℕ → ℕ → List ℕ → List ℕ → List ℕ → List ℕ

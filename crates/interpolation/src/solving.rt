@@ -1,15 +1,15 @@
 // What elimination of the values at all points gives: the interpolant.
 use construction::points;
+use elimination::reducing::eliminate;
 use monomial::terms::put_term_values;
 use residue::arithmetic;
 use residue::bytes;
-use residue::elimination::eliminate;
 ghost use mathlib.Core.Path.{_≡_};
 ghost use mathlib.Core.List.{map};
 ghost use Prim.Native.Nat.{ℕ, _+_, _-_, _*_, _%_, _<_, _≤_};
 ghost use lib.ListN.{length, getD};
 ghost use Rattle.residue.specs.Vector.{Below};
-ghost use Rattle.residue.specs.Elimination.{eliminated, Multiplied};
+ghost use Rattle.elimination.specs.Elimination.{eliminated, Multiplied};
 ghost use Rattle.residue.specs.Layout.{fill, over};
 ghost use Rattle.monomial.specs.Terms.{termValues};
 ghost use Rattle.specification.specs.Levels.{residues};

@@ -2,3 +2,4 @@
 pub mod Copies
 pub mod Equality
 pub mod Keys
+pub mod AllZero

@@ -6,5 +6,3 @@ pub mod Modulus
 pub mod Level
 pub mod Inverse
 pub mod Vector
-pub mod Elimination
-pub mod Rows

@@ -5,9 +5,9 @@ use Prim.Native.Nat.{ℕ, suc, _+_, _<_}
 use native.Mathlib.Omega.{arith}
 use lib.ListN.{length, getD, set, take}
 use Rattle.residue.specs.Inverse.{inverseOf}
-use Rattle.residue.specs.Elimination.{eliminated, cancellations, multiplesOf}
+use Rattle.elimination.specs.Elimination.{eliminated, cancellations, multiplesOf}
 use Rattle.residue.specs.Layout.{fill, withPlace}
-use Rattle.residue.specs.Rows.{firstNonzero, pivotRow}
+use Rattle.elimination.specs.Rows.{firstNonzero, pivotRow}
 use Rattle.residue.proofs.level.Moduli.{modulus-range}
 use Rattle.monomial.specs.Order.{Order}
 use Rattle.specification.specs.Space.{Space}

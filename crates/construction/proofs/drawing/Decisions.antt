@@ -11,19 +11,19 @@ use Rattle.residue.specs.Congruence.{Mod}
 use Rattle.residue.specs.Inverse.{inverseOf}
 use Rattle.residue.specs.Lists.{Among}
 use Rattle.residue.specs.Vector.{Below}
-use Rattle.residue.specs.Elimination.{eliminated, multiplesOf}
+use Rattle.elimination.specs.Elimination.{eliminated, multiplesOf}
 use Rattle.residue.specs.Layout.{fill, inPlaces, withPlace}
-use Rattle.residue.specs.Rows.{firstNonzero, pivotRow}
+use Rattle.elimination.specs.Rows.{firstNonzero, pivotRow}
 use Rattle.residue.proofs.Congruence.{of, _then_}
 use Rattle.residue.proofs.inverse.Inverses.{inverse-mod}
 use Rattle.residue.proofs.level.Moduli.{modulus-range}
 use Rattle.residue.proofs.vector.Vectors.{below-take, below-set}
 use Rattle.residue.proofs.Places.{places-filled}
 use Rattle.residue.proofs.Layouts.{length-fill}
-use Rattle.residue.proofs.rows.Zeros.{zero-before, not-zero-there}
+use Rattle.elimination.proofs.rows.Zeros.{zero-before, not-zero-there}
 use Rattle.residue.proofs.Replaced.{table-more, place-length, place-below, place-before, place-here}
-use Rattle.residue.proofs.elimination.PivotRows.{PivotRows, Working, ZeroAt, vanishes, eliminated-works, eliminated-zero}
-use Rattle.residue.proofs.elimination.NextPivot.{next-pivot}
+use Rattle.elimination.proofs.reducing.PivotRows.{PivotRows, Working, ZeroAt, vanishes, eliminated-works, eliminated-zero}
+use Rattle.elimination.proofs.reducing.NextPivot.{next-pivot}
 use Rattle.monomial.specs.Order.{Order}
 use Rattle.monomial.specs.Rank.{rankBound}
 use Rattle.monomial.proofs.candidate.Exponents.{rank-small}

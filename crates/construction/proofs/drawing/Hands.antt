@@ -14,7 +14,7 @@ use Rattle.residue.proofs.vector.Vectors.{below-take, below-drop, below-zeros}
 use Rattle.residue.proofs.Layouts.{fill-at, fill-zeros}
 use Rattle.residue.proofs.Places.{place-at, no-places}
 use Rattle.residue.proofs.Replaced.{part-long}
-use Rattle.residue.proofs.elimination.NextPivot.{no-rows}
+use Rattle.elimination.proofs.reducing.NextPivot.{no-rows}
 use Rattle.monomial.specs.Monomial.{timesVariable}
 use Rattle.monomial.specs.Order.{Order, lex, grlex, grevlex}
 use Rattle.monomial.specs.Rank.{key, rankOf, stepsOf}

@@ -7,11 +7,11 @@ use native.Mathlib.Omega.{arith}
 use lib.ListN.{length, getD, set, take, drop, replicate, length-append}
 use Rattle.residue.specs.Inverse.{inverseOf}
 use Rattle.residue.specs.Vector.{Below}
-use Rattle.residue.specs.Elimination.{eliminated, cancellations, multiplesOf, Multiplied, ZeroBehind}
+use Rattle.elimination.specs.Elimination.{eliminated, cancellations, multiplesOf, Multiplied, ZeroBehind}
 use Rattle.residue.specs.Layout.{fill, withPlace}
-use Rattle.residue.specs.Rows.{firstNonzero, pivotRow}
+use Rattle.elimination.specs.Rows.{firstNonzero, pivotRow}
 use Rattle.residue.proofs.Layouts.{length-fill}
-use Rattle.residue.proofs.elimination.Eliminated.{cancellations-most}
+use Rattle.elimination.proofs.reducing.Eliminated.{cancellations-most}
 use Rattle.monomial.specs.Monomial.{timesVariable}
 use Rattle.monomial.specs.Order.{Order, orderOf}
 use Rattle.monomial.specs.declared.candidate.Candidate.{Candidate}

@@ -12,8 +12,8 @@ use Rattle.residue.proofs.Congruence.{of, flip, _then_, _plus_, scale, lin}
 use Rattle.residue.proofs.Sums.{sum-zero}
 use Rattle.residue.proofs.vector.Vectors.{below-take, below-drop}
 use Rattle.residue.proofs.Replaced.{part-long}
-use Rattle.residue.proofs.elimination.Combinations.{sumTo, sumTo-front, sumTo-cong, combination}
-use Rattle.residue.proofs.elimination.PivotRows.{PivotRows, Working, ZeroAt}
+use Rattle.elimination.proofs.reducing.Combinations.{sumTo, sumTo-front, sumTo-cong, combination}
+use Rattle.elimination.proofs.reducing.PivotRows.{PivotRows, Working, ZeroAt}
 use Rattle.monomial.specs.Increasing.{Increasing}
 use Rattle.specification.specs.Space.{Space}
 use Rattle.specification.specs.Polynomial.{eval, coefficient, terms}

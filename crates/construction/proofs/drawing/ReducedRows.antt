@@ -9,13 +9,13 @@ use lib.ListN.{length, getD, replicate, length-replicate, getD-replicate, length
 use lib.Seq.{ext-getD, getD-append-add}
 use Rattle.residue.specs.Congruence.{Mod}
 use Rattle.residue.specs.Vector.{Below}
-use Rattle.residue.specs.Elimination.{eliminated}
+use Rattle.elimination.specs.Elimination.{eliminated}
 use Rattle.residue.specs.Layout.{fill}
 use Rattle.residue.proofs.Congruence.{of, flip, reduce, negative, _then_, _plus_, lin, small}
 use Rattle.residue.proofs.vector.Vectors.{map-at}
 use Rattle.residue.proofs.Layouts.{fill-at, length-fill}
-use Rattle.residue.proofs.elimination.Combinations.{combination, combination-add, combination-zero}
-use Rattle.residue.proofs.elimination.PivotRows.{PivotRows, Working, ZeroAt, vanishes, eliminated-works, eliminated-zero}
+use Rattle.elimination.proofs.reducing.Combinations.{combination, combination-add, combination-zero}
+use Rattle.elimination.proofs.reducing.PivotRows.{PivotRows, Working, ZeroAt, vanishes, eliminated-works, eliminated-zero}
 
 -- the negative of each residue
 abbrev pub negatives : ℕ → List ℕ → List ℕ

@@ -10,7 +10,7 @@ use Rattle.residue.specs.Lists.{Among}
 use Rattle.residue.specs.Modulus.{isModulus}
 use Rattle.residue.specs.Vector.{Below}
 use Rattle.residue.specs.Layout.{fill, inPlaces}
-use Rattle.residue.proofs.elimination.PivotRows.{PivotRows}
+use Rattle.elimination.proofs.reducing.PivotRows.{PivotRows}
 use Rattle.monomial.specs.Order.{Order}
 use Rattle.monomial.specs.Rank.{rankOf, rankBound}
 use Rattle.specification.specs.Space.{Space}

@@ -1,13 +1,13 @@
 // A turn of drawing up: the working row of the monomial in hand, its place among the leads or the standard monomials, and the next one's exponents and values.
+use elimination::reducing::eliminate;
+use elimination::rows;
 use residue::bytes;
-use residue::elimination::eliminate;
-use residue::rows;
 use residue::vector::multiply;
 ghost use mathlib.Core.Path.{_≡_};
 ghost use Prim.Native.Nat.{ℕ, _+_, _*_, _<_, _≤_};
 ghost use lib.ListN.{length, getD, take, drop};
 ghost use Rattle.residue.specs.Vector.{Below};
-ghost use Rattle.residue.specs.Elimination.{eliminated, cancellations, Multiplied, ZeroBehind};
+ghost use Rattle.elimination.specs.Elimination.{eliminated, cancellations, Multiplied, ZeroBehind};
 ghost use Rattle.residue.specs.Layout.{withPlace};
 ghost use Rattle.monomial.specs.Monomial.{timesVariable};
 ghost use Rattle.specification.specs.Tables.{standardSize, leadsSize, coefficientsSize};

@@ -6,7 +6,7 @@ use Prim.Native.Nat.{ℕ, suc, _*_, _-_, _<_, _≤_}
 use native.Mathlib.Omega.{arith}
 use lib.ListN.{length, take, getD}
 use Rattle.residue.specs.Vector.{Below}
-use Rattle.residue.specs.Elimination.{Multiplied}
+use Rattle.elimination.specs.Elimination.{Multiplied}
 use Rattle.residue.specs.Layout.{fill, inPlaces, begins}
 use Rattle.residue.proofs.level.Moduli.{modulus-range}
 use Rattle.residue.proofs.Tests.{of-true}

@@ -9,9 +9,9 @@ use lib.Seq.{take-take, take-append-le, take-set-le, length-take-le}
 use lib.Dec.{eqb}
 use Rattle.residue.specs.Lists.{allZero}
 use Rattle.residue.specs.Vector.{scaled}
-use Rattle.residue.specs.Rows.{firstNonzero, pivotRow}
+use Rattle.elimination.specs.Rows.{firstNonzero, pivotRow}
 use Rattle.residue.proofs.vector.Vectors.{scaled-length}
-use Rattle.residue.proofs.rows.Zeros.{zero-first}
+use Rattle.elimination.proofs.rows.Zeros.{zero-first}
 use Rattle.specification.specs.Cancellations.{firstPlace}
 use Rattle.specification.proofs.Recognised.{map-take}
 

@@ -6,13 +6,13 @@ use Prim.Native.Nat.{ℕ, suc, _+_, _*_, _<_, _≤_}
 use native.Mathlib.Omega.{arith}
 use lib.ListN.{length, getD, set, take, length-append}
 use Rattle.residue.specs.Inverse.{inverseOf}
-use Rattle.residue.specs.Elimination.{eliminated, cancellations, multiplesOf}
+use Rattle.elimination.specs.Elimination.{eliminated, cancellations, multiplesOf}
 use Rattle.residue.specs.Lists.{Among}
 use Rattle.specification.specs.Space.{Space, Less, Divides}
 use Rattle.specification.specs.Polynomial.{Distinct}
 use Rattle.specification.specs.BasisOf.{standardOf, leadsOf}
 use Rattle.residue.specs.Layout.{fill, withPlace}
-use Rattle.residue.specs.Rows.{firstNonzero, pivotRow}
+use Rattle.elimination.specs.Rows.{firstNonzero, pivotRow}
 use Rattle.specification.proofs.ideal.Laws.{Laws, trans, less-ne}
 use Rattle.specification.proofs.ideal.Lists.{snoc-of, snoc-in}
 use Rattle.specification.proofs.drawing.UpTo.{Drawn, Next, Bordered}
@@ -20,7 +20,7 @@ use Rattle.specification.specs.Cancellations.{Pivot, Found, found, value
 use Rattle.specification.specs.Examination.{Follows, Examines, done, more, Examination}
 use Rattle.specification.proofs.cancellations.Walk.{follows, divided-above}
 use Rattle.specification.proofs.cancellations.Counted.{cancellations-only}
-use Rattle.residue.proofs.elimination.Eliminated.{cancellations-most}
+use Rattle.elimination.proofs.reducing.Eliminated.{cancellations-most}
 use Rattle.specification.proofs.cancellations.Tables.{Tabled}
 use Rattle.specification.proofs.cancellations.Turns.{lead-turn, standard-turn, table-turn, table-none}
 

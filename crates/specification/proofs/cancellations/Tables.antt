@@ -11,9 +11,9 @@ use lib.Seq.{getD-take, take-suc}
 use lib.Dec.{eqb}
 use borrow.Author.Tests.{eqb-true, eqb-false}
 use Rattle.residue.specs.Vector.{Below, addScaled}
-use Rattle.residue.specs.Elimination.{cancelled, eliminated, counted, cancellations}
+use Rattle.elimination.specs.Elimination.{cancelled, eliminated, counted, cancellations}
 use Rattle.residue.proofs.Congruence.{rfl, of, negative, _then_, _plus_, _times_}
-use Rattle.residue.proofs.elimination.Eliminated.{cancel-none, cancel-some, eliminated-length, eliminated-below}
+use Rattle.elimination.proofs.reducing.Eliminated.{cancel-none, cancel-some, eliminated-length, eliminated-below}
 use Rattle.specification.specs.Cancellations.{Pivot, Meeting, meeting, lessTimes, meets, meetsAll}
 
 -- the pivots met, one more at the end

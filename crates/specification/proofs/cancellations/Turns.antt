@@ -11,16 +11,16 @@ use lib.Seq.{getD-take, getD-at, getD-set-same, getD-set-other, take-all, length
 use Rattle.residue.specs.Congruence.{Mod}
 use Rattle.residue.specs.Vector.{Below, scaled}
 use Rattle.residue.specs.Inverse.{inverseOf}
-use Rattle.residue.specs.Elimination.{eliminated, cancellations, multiplesOf}
+use Rattle.elimination.specs.Elimination.{eliminated, cancellations, multiplesOf}
 use Rattle.residue.proofs.vector.Vectors.{map-at}
-use Rattle.residue.proofs.elimination.Eliminated.{eliminated-length, eliminated-below}
+use Rattle.elimination.proofs.reducing.Eliminated.{eliminated-length, eliminated-below}
 use Rattle.specification.specs.Space.{Space}
 use Rattle.residue.specs.Layout.{fill, withPlace}
 use Rattle.residue.proofs.Layouts.{length-fill, fill-at, take-fill}
-use Rattle.residue.specs.Rows.{firstNonzero, pivotRow}
-use Rattle.residue.proofs.rows.Kept.{pivotRow-length, pivotRow-below}
+use Rattle.elimination.specs.Rows.{firstNonzero, pivotRow}
+use Rattle.elimination.proofs.rows.Kept.{pivotRow-length, pivotRow-below}
 use Rattle.residue.proofs.Replaced.{place-length, place-apart}
-use Rattle.residue.proofs.elimination.Multiples.{block-length, block-row}
+use Rattle.elimination.proofs.reducing.Multiples.{block-length, block-row}
 use Rattle.specification.specs.Cancellations.{Pivot, meeting, meetsAll, Found, found, valueColumn, pivotOf, settled, examined}
 use Rattle.specification.proofs.cancellations.Fronts.{first-same, zero-same, other-same, pivot-front}
 use Rattle.specification.proofs.cancellations.Tables.{Tabled, elimination-meets}

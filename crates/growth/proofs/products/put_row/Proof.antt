@@ -6,10 +6,10 @@ use native.Mathlib.Omega.{arith}
 use native.Mathlib.Nat.{mul-le-mul-left}
 use lib.ListN.{length, getD, take, drop, replicate}
 use Rattle.residue.specs.Vector.{Below}
-use Rattle.residue.specs.Elimination.{eliminated}
+use Rattle.elimination.specs.Elimination.{eliminated}
 use Rattle.residue.specs.Layout.{groups, over}
 use Rattle.residue.proofs.vector.Vectors.{below-take, below-drop}
-use Rattle.residue.proofs.elimination.Eliminated.{eliminated-below}
+use Rattle.elimination.proofs.reducing.Eliminated.{eliminated-below}
 use Rattle.residue.proofs.Layouts.{remainders-below}
 use Rattle.residue.proofs.Replaced.{part-long}
 use Rattle.monomial.specs.Monomial.{monomialAt}

@@ -9,7 +9,7 @@ use lib.Seq.{length-take-le}
 use Rattle.residue.specs.Vector.{Below}
 use Rattle.residue.specs.Layout.{fill}
 use Rattle.residue.proofs.vector.Vectors.{below-take, below-drop}
-use Rattle.residue.proofs.elimination.Eliminated.{eliminated-below}
+use Rattle.elimination.proofs.reducing.Eliminated.{eliminated-below}
 use Rattle.residue.proofs.Layouts.{answered}
 use Rattle.interpolation.specs.Solving.{solution}
 use Rattle.interpolation.proofs.solving.solve.Statement.{statement}

@@ -7,7 +7,7 @@ use lib.ListN.{length, take}
 use lib.Seq.{take-all}
 use lib.Dec.{eqb}
 use Rattle.residue.specs.Lists.{allZero}
-use Rattle.residue.proofs.rows.Zeros.{zero-none, zero-larger, zero-kept}
+use Rattle.residue.proofs.bytes.AllZero.{zero-none, zero-larger, zero-kept}
 use Rattle.residue.proofs.bytes.all_zero.Statement.{statement}
 use Rattle.residue.proofs.bytes.all_zero.Tie as tie
 

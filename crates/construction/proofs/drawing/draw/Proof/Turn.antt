@@ -8,7 +8,7 @@ use lib.ListN.{length, take, drop}
 use Rattle.residue.specs.Vector.{Below}
 use Rattle.residue.proofs.level.Moduli.{modulus-range}
 use Rattle.residue.proofs.Layouts.{length-fill}
-use Rattle.residue.proofs.rows.Zeros.{first-most}
+use Rattle.elimination.proofs.rows.Zeros.{first-most}
 use Rattle.monomial.specs.Order.{orderOf}
 use Rattle.monomial.specs.Columns.{columnOf}
 use Rattle.monomial.specs.Rank.{rankBound}

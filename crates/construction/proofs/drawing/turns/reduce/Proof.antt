@@ -6,7 +6,7 @@ use borrow.Author.Needs.{needs}
 use lib.ListN.{length, take, drop}
 use lib.Seq.{length-take-le}
 use Rattle.residue.specs.Vector.{Below}
-use Rattle.residue.specs.Elimination.{eliminated, cancellations}
+use Rattle.elimination.specs.Elimination.{eliminated, cancellations}
 use Rattle.residue.specs.Layout.{fill}
 use Rattle.residue.proofs.vector.Vectors.{below-take}
 use Rattle.residue.proofs.Layouts.{below-fill, length-fill}

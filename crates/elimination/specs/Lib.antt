@@ -1,0 +1,3 @@
+-- The definitions of the crate elimination.
+pub mod Elimination
+pub mod Rows

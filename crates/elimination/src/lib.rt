@@ -1,0 +1,3 @@
+// Elimination over working rows of residues.
+pub mod reducing;
+pub mod rows;
