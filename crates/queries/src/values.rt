@@ -9,7 +9,7 @@ use residue::bytes;
 use specification::settings::Settings;
 use specification::settings::Wired;
 ghost use mathlib.Core.Path.{_≡_};
-ghost use lib.ListN.{length, replicate};
+ghost use lib.ListN.{replicate};
 ghost use Rattle.residue.specs.Layout.{fill, inPlaces};
 ghost use Rattle.specification.specs.Refusal.{firstOf};
 ghost use Rattle.specification.specs.Tables.{fiveTables, pointsIn, statesSize};

@@ -5,8 +5,8 @@ use Prim.Native.Nat.{ℕ, zero, suc, _<_, _≤_, _+_, _*_, _-_, _%_}
 use native.Mathlib.Nat.{not-suc-le-zero, le-of-suc-le-suc, zero-add, mod-lt}
 use native.Mathlib.Omega.{arith}
 use native.Mathlib.Decide.{decLt}
-use lib.ListN.{length, getD, take, replicate, length-append, drop, length-drop, drop-of-length-le, length-replicate, set, List·getD-eq-default}
-use lib.Seq.{take-at, drop-at, length-take-le}
+use lib.ListN.{length, getD, take, replicate, length-append, drop, length-drop, drop-of-length-le, set, List·getD-eq-default}
+use lib.Seq.{take-at, drop-at}
 use lib.Dec.{T}
 use Rattle.residue.specs.Layout.{fill, inPlaces, groups, over, begins}
 use Rattle.residue.specs.Vector.{Below}
@@ -105,23 +105,6 @@ over-all a t e = ap (λ (z : List ℕ). a ++ z) (drop-of-length-le t {i = length
 pub answered : (k : ℕ) (l t new : List ℕ) → new ≡ fill k l → new ++ drop k t ≡ over (fill k l) t
 unfolding over
 answered k l t new e = ap₂ (λ (z : List ℕ) (n : ℕ). z ++ drop n t) e (sym (length-fill k l))
-
--- a front that was cleared, and then lent and came back
-module _ (k : ℕ) (t zeros : List ℕ) (h : k ≤ length t) (e : zeros ≡ replicate (length (take k t)) 0) where
-  are : zeros ≡ replicate k 0
-  are = e ∙ ap (λ (n : ℕ). replicate n 0) (length-take-le k t h)
-
-  long : length zeros ≡ k
-  long = ap length are ∙ length-replicate k 0
-
-  pub cleared-front : take k (zeros ++ drop k t) ≡ replicate k 0
-  cleared-front = take-at zeros (drop k t) k long ∙ are
-
-  pub cleared-long : k ≡ length (take k (zeros ++ drop k t))
-  cleared-long = sym (ap length cleared-front ∙ length-replicate k 0)
-
-  pub answered-anew : (l new : List ℕ) → new ≡ fill k l → new ++ drop k (zeros ++ drop k t) ≡ over (fill k l) t
-  answered-anew l new f = ap (λ (z : List ℕ). new ++ z) (drop-at zeros (drop k t) k long) ∙ answered k l t new f
 
 pub take-over : (a t : List ℕ) → take (length a) (over a t) ≡ a
 unfolding over

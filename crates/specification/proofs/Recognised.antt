@@ -27,7 +27,6 @@ use Rattle.specification.specs.Adding.{pointsOffered}
 use Rattle.specification.proofs.Cases.{numbered, None, none-holds, first-stop}
 use Rattle.specification.proofs.Instance.{point-of}
 use Rattle.residue.proofs.Layouts.{fill-exact}
-use Rattle.residue.proofs.Places.{length-groups}
 use Rattle.specification.proofs.ideal.Lists.{among-map}
 use Rattle.specification.proofs.agreement.Points.{IsPoint, Points, read-count, residues-same, length-residues}
 use Rattle.specification.proofs.counted.Gathered.{Entries, entries-gathered}
@@ -69,10 +68,6 @@ module _ (s : Settings) (ok : Accepted s) where
   module _ (levels : List ℤ) (whole : length levels % s .variables ≡ 0) (range : T (inRange (s .modulus) levels)) where
     pub whole-levels : length levels ≡ s .variables * (length levels / s .variables)
     whole-levels = sym (div-add-mod' (length levels) (s .variables)) ∙ omega (arith, mul-comm (length levels / s .variables) (s .variables))
-
-    pub length-offered : length (pointsOffered s levels) ≡ length levels / s .variables
-    unfolding pointsOffered
-    length-offered = length-groups (s .variables) (length levels / s .variables) (residues (s .modulus) levels)
 
     pub offered-each : (P : List ℕ) → Among P (pointsOffered s levels) → IsPoint s P
     unfolding pointsOffered

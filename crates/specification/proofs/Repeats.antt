@@ -22,20 +22,6 @@ pub is-among : (P : List ℕ) (S : List (List ℕ)) → Among P S → T (isAmong
 unfolding isAmong
 is-among P S q = of-one (sameList P) S P q (same-self P)
 
--- A search for a point along the places.
-module _ (P t : List ℕ) (n i : ℕ) (h : i < n) where
-  pub among-on : sameList P (take 8 (drop (8 * i) t)) ≡ false → isAmong P (groups 8 (n - (i + 1)) (drop (8 * (i + 1)) t)) ≡ isAmong P (groups 8 (n - i) (drop (8 * i) t))
-  unfolding isAmong
-  among-on e = rw (groups-step 8 n i t h) (simp e)
-
-  pub among-hit : sameList P (take 8 (drop (8 * i) t)) ≡ true → true ≡ isAmong P (groups 8 (n - i) (drop (8 * i) t))
-  unfolding isAmong
-  among-hit e = rw (groups-step 8 n i t h) (simp e)
-
-pub among-end : (P t : List ℕ) (n i : ℕ) → n ≤ i → false ≡ isAmong P (groups 8 (n - i) t)
-unfolding isAmong
-among-end P t n i h = rw (groups-end 8 n i t h)
-
 -- A search for a repeat.
 module _ (t : List ℕ) (n i : ℕ) (h : i < n) where
   abbrev pub again : Bool

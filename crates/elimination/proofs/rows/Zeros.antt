@@ -1,13 +1,12 @@
 -- The search for the first number that is not 0.
 use mathlib.Core.Path.{_≡_, _∙_, sym, ap, refl}
-use mathlib.Core.Bool.{cond, Bool, _&&_, and-true, and-assoc, true, false, and-false, true≢false}
+use mathlib.Core.Bool.{cond, Bool, _&&_, true, false, true≢false}
 use mathlib.Core.List.{List, [], _∷_}
 use Prim.Native.Nat.{ℕ, suc, _+_, _-_, _<_, _≤_, zero}
 use native.Mathlib.Omega.{arith}
 use native.Mathlib.Nat.{not-suc-le-zero, le-of-suc-le-suc}
-use native.Mathlib.Numerals.{add-one}
-use lib.ListN.{getD, drop, length, take, drop-of-length-le}
-use lib.Seq.{getD-drop, drop-drop, drop-cons}
+use lib.ListN.{getD, drop, length, take}
+use lib.Seq.{getD-drop, drop-drop}
 use lib.Dec.{eqb}
 use borrow.Author.Tests.{eq-eqb, ne-eqb, eqb-true, eqb-false}
 use Rattle.elimination.specs.Rows.{firstNonzero}

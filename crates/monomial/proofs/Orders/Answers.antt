@@ -1,24 +1,7 @@
 -- What the native comparison of numbers says, and what becomes of two answers, the second asked where the first finds no difference.
 use mathlib.Core.Path.{_≡_, refl, sym, ap}
 use mathlib.Core.Logic.{_⊎_, inl, inr}
-use Prim.Native.Nat.{
-  ℕ,
-  zero,
-  suc,
-  _+_,
-  _<_,
-  zero-le,
-  suc-le-suc,
-  compare,
-  Ordering,
-  Ordering·lt,
-  Ordering·eq,
-  Ordering·gt,
-  compare·zero-zero,
-  compare·zero-suc,
-  compare·suc-zero,
-  compare·suc-suc,
-}
+use Prim.Native.Nat.{ℕ, zero, suc, _+_, _<_, zero-le, suc-le-suc, compare, Ordering, Ordering·lt, Ordering·eq, Ordering·gt, compare·zero-zero, compare·zero-suc, compare·suc-zero, compare·suc-suc}
 use native.Mathlib.Omega.{arith}
 use Rattle.monomial.specs.Order.{andThen}
 

@@ -9,22 +9,7 @@ use Rattle.monomial.specs.Monomial.{degree, product}
 use Rattle.monomial.specs.Order.{Order, lex, grlex, grevlex, andThen, byFirst, byLast, cmp}
 use Rattle.monomial.specs.Rank.{sumsDown, key}
 use Rattle.monomial.proofs.Algebra.Products.{Aligned, nil, cons, aligned, degree-product, product-aligned, grow-aligned}
-use Rattle.monomial.proofs.Orders.Answers.{
-  Says,
-  less,
-  same,
-  more,
-  says,
-  same-answer,
-  compare-shift,
-  compare-self,
-  compare-eq,
-  then-assoc,
-  then-end,
-  then-cong,
-  gt≢lt,
-  gt≢eq,
-}
+use Rattle.monomial.proofs.Orders.Answers.{Says, less, same, more, says, same-answer, compare-shift, compare-self, compare-eq, then-assoc, then-end, then-cong, gt≢lt, gt≢eq}
 use Rattle.monomial.proofs.Orders.Lawful.{first-lawful, last-lawful}
 
 -- keys of one length

@@ -9,20 +9,7 @@ use Rattle.monomial.specs.Order.{orderOf, cmp}
 use Rattle.specification.specs.Extension.{divided}
 use Rattle.specification.specs.Counted.{entered, enteredAll, gathered}
 use Rattle.specification.specs.Instance.{pointOf}
-use Rattle.specification.specs.Cancellations.{
-  lessTimes,
-  meets,
-  meetsAll,
-  firstPlace,
-  pivotOf,
-  settled,
-  examined,
-  leastDue,
-  productsOf,
-  nextAfter,
-  examinedFrom,
-  examinedAll,
-}
+use Rattle.specification.specs.Cancellations.{lessTimes, meets, meetsAll, firstPlace, pivotOf, settled, examined, leastDue, productsOf, nextAfter, examinedFrom, examinedAll}
 use Rattle.specification.specs.Adding.{cancellationsUnder}
 use Rattle.specification.specs.Examples.{ExaminedExamples}
 

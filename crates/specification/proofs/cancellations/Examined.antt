@@ -12,16 +12,7 @@ use Rattle.specification.specs.BasisOf.{standardOf, leadsOf}
 use Rattle.specification.proofs.ideal.Laws.{Laws}
 use Rattle.residue.proofs.Tests.{Decides, so, not-so}
 use Rattle.specification.proofs.drawing.UpTo.{Drawn, Bordered, Front, is-lead, is-standard}
-use Rattle.specification.specs.Cancellations.{
-  meeting,
-  meetsAll,
-  Found,
-  found,
-  valueColumn,
-  pivotOf,
-  settled,
-  examined,
-}
+use Rattle.specification.specs.Cancellations.{meeting, meetsAll, Found, found, valueColumn, pivotOf, settled, examined}
 use Rattle.specification.proofs.cancellations.Shown.{shown, Vanishing, vanishing-told}
 use Rattle.specification.proofs.cancellations.Meetings.{meets-all-count}
 use Rattle.specification.proofs.cancellations.Decisions.{Holds, rest, column-left, zero-spanned, other-unspanned, holds-more}

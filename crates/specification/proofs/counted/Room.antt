@@ -3,7 +3,7 @@
 use mathlib.Core.Path.{_≡_, refl, sym, _∙_, ap}
 use mathlib.Core.Bool.{Bool, true, false, not, cond, or-false}
 use mathlib.Core.List.{List, [], _∷_, _++_, map-append}
-use Prim.Native.Nat.{ℕ, zero, suc, _+_, _<_, _≤_}
+use Prim.Native.Nat.{ℕ, zero, suc, _<_, _≤_}
 use native.Mathlib.Nat.{le-of-suc-le-suc}
 use native.Mathlib.Decide.{ℕ-discrete}
 use native.Mathlib.Omega.{arith}
@@ -15,9 +15,9 @@ use Rattle.residue.proofs.Tests.{true-of, and-left, and-right, neither}
 use Rattle.specification.specs.declared.settings.Settings.{Settings}
 use Rattle.specification.specs.Refusal.{firstOf}
 use Rattle.specification.specs.Levels.{isAmong}
-use Rattle.specification.specs.Counted.{Counted, pointsOf, countsOf, isCount, entered, enteredAll, gathered, overfull, countOf, timesIn, placeIn}
+use Rattle.specification.specs.Counted.{Counted, pointsOf, countsOf, isCount, entered, enteredAll, overfull, countOf, placeIn}
 use Rattle.specification.proofs.counted.Entered.{entered-there, entered-new, place-within}
-use Rattle.specification.proofs.counted.Gathered.{Entries, count-few, count-gathered}
+use Rattle.specification.proofs.counted.Gathered.{Entries, count-few}
 
 -- no count is above 255
 low : (k : ℕ) → T (isCount k) → ltb 255 k ≡ false
@@ -99,16 +99,3 @@ pub all-grow : (S : List (List ℕ)) (L : Counted) → length L ≤ length (ente
 unfolding enteredAll
 all-grow [] L = omega arith
 all-grow (P ∷ S) L = omega (arith, all-grow S (entered P L), entered-grows P L)
-
--- no count is above the number of points
-pub count-most : (P : List ℕ) (S : List (List ℕ)) → countOf P (gathered S) ≤ length S
-unfolding timesIn
-count-most P S = rw (count-gathered P S) (times S)
-  where
-    times : (S : List (List ℕ)) → timesIn P S ≤ length S
-    times [] = omega arith
-    times (Q ∷ S) = go (sameList P Q) (times S)
-      where
-        go : (b : Bool) → timesIn P S ≤ length S → cond b 1 0 + timesIn P S ≤ suc (length S)
-        go true f = omega arith
-        go false f = omega arith

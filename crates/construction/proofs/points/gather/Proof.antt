@@ -14,18 +14,7 @@ use Rattle.residue.proofs.Replaced.{zeros-long}
 use Rattle.specification.specs.Levels.{residues}
 use Rattle.specification.proofs.agreement.Points.{length-residues}
 use Rattle.construction.proofs.points.PointPlaces.{place-le}
-use Rattle.construction.proofs.points.Gathering.{
-  Before,
-  Enters,
-  holds-sizes,
-  once-held,
-  before-first,
-  refused-full,
-  before-next,
-  all-in,
-  all-told,
-  all-held,
-}
+use Rattle.construction.proofs.points.Gathering.{Before, Enters, holds-sizes, once-held, before-first, refused-full, before-next, all-in, all-told, all-held}
 use Rattle.construction.proofs.points.gather.Statement.{statement}
 use Rattle.construction.proofs.points.gather.Tie as tie
 

@@ -1,11 +1,9 @@
 -- `points::is_among` meets its contract: a point is among others exactly where its place is before their end.
 use borrow.Author.Needs.{needs}
-use mathlib.Core.Path.{_≡_, ap, ap₂, sym, _∙_}
-use Prim.Native.Nat.{ℕ}
+use mathlib.Core.Path.{ap₂, sym, _∙_}
 use lib.Dec.{ltb}
 use Rattle.residue.specs.Layout.{groups}
 use Rattle.residue.proofs.Places.{length-groups}
-use Rattle.specification.specs.Counted.{placeIn}
 use Rattle.construction.proofs.points.PointPlaces.{among-place}
 use Rattle.construction.proofs.points.is_among.Statement.{statement}
 use Rattle.construction.proofs.points.is_among.Tie as tie
