@@ -48,6 +48,16 @@ module _ (s : Settings) (short wrong many : Bool) where
         go (yes z) = (z, none-holds rest t (by-rest z ∙ e))
         go (no z) = absurd (z (by-size (firstOf 0 (settingsCases s ++ sizes)) refl z ∙ e))
 
+-- one test after the sizes
+module _ (i : ℕ) {a : Bool} where
+  pub one-fails : a ≡ false → i ≡ firstOf 0 ((not a, i) ∷ [])
+  unfolding firstOf
+  one-fails e = rw e
+
+  pub one-holds : a ≡ true → 0 ≡ firstOf 0 ((not a, i) ∷ [])
+  unfolding firstOf
+  one-holds e = rw e
+
 -- two tests after the sizes: the first that fails decides
 unfoldable pub two : ℕ → Bool → ℕ → Bool → List Case
 two i a j b = (not a, i) ∷ (not b, j) ∷ []
