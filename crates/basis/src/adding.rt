@@ -1,10 +1,7 @@
 // Adding a point to tables. Every refusal is decided before a lent byte is written.
-use construction::points;
 use growth::growing::add_tables;
-use recognition::recognising::recognise;
-use recognition::settings::point_sizes;
+use recognition::naming::locate;
 use recognition::settings::refused;
-use recognition::settings::too_short;
 use residue::bytes;
 use specification::settings::Answer;
 use specification::settings::Settings;
@@ -13,21 +10,24 @@ ghost use mathlib.Core.Bool.{true, false, cond};
 ghost use mathlib.Core.List.{[], _∷_, _++_};
 ghost use Prim.Native.Nat.{_+_, _<_, _≤_};
 ghost use lib.Dec.{eqb, ltb};
-ghost use lib.ListN.{length, take, replicate, getD, set};
-ghost use Rattle.residue.specs.Layout.{fill, inPlaces, withPlace, begins};
-ghost use Rattle.specification.specs.Levels.{residues};
-ghost use Rattle.specification.specs.Counted.{placeIn};
-ghost use Rattle.specification.specs.Tables.{fiveTables, tooShort, pointsIn, statesSize, countsSize};
-ghost use Rattle.specification.specs.Adding.{ended, addRefusal, addOutcome};
+ghost use lib.ListN.{length, take, getD, set};
+ghost use Rattle.residue.specs.Layout.{fill, withPlace, begins};
+ghost use Rattle.specification.specs.Tables.{fiveTables, tooShort, pointsIn, countsSize};
+ghost use Rattle.specification.specs.Adding.{ended, addOutcome};
 ghost use Rattle.specification.proofs.Replicates.{holdingBoth};
-ghost use Rattle.construction.specs.Drawing.{RowsLong, PointsGiven, DrawnUp, Solves};
+ghost use Rattle.construction.specs.Drawing.{PointsGiven, DrawnUp};
 ghost use Rattle.growth.specs.Growing.{allPoints, NewPoint};
 
-// Whether a point that would stand at this place among n others has room: 13 where it is there and counted 255 times, 8 where it is new beside 64 others, or 0.
-fn room(n: usize, place: usize, counts: &[u8]) -> u8
-    requires { ⌜ n ≤ length (now counts) ⌝ }
-    ensures { λ k. ⌜ k ≡ cond (ltb place n) (cond (eqb (getD (now (counts .entry)) place 0) 255) 13 0) (cond (eqb n 64) 8 0) ⌝ }
+// The refusal of an addition: the one before the point was looked for, where there is one; then 13 for a point that is there, at its place among the n, and counted
+// 255 times, and 8 for a new one beside 64 others; or 0.
+fn add_refusal(before: u8, n: usize, place: usize, counts: &[u8]) -> u8
+    requires { ⌜ (before ≡ 0 → n ≤ length (now counts)) ⌝ }
+    ensures { λ k. ⌜ k ≡ cond (eqb before 0)
+        (cond (ltb place n) (cond (eqb (getD (now (counts .entry)) place 0) 255) 13 0) (cond (eqb n 64) 8 0)) before ⌝ }
 {
+    if before != 0 {
+        return before;
+    }
     if place < n {
         if counts[place] == 255 {
             return 13;
@@ -38,84 +38,6 @@ fn room(n: usize, place: usize, counts: &[u8]) -> u8
         return 8;
     }
     0
-}
-
-// The refusal of an addition, or 0 with the place of the point, which is n where it is new.
-struct Placed {
-    refusal: u8,
-    place: usize,
-}
-
-// A refusal, whose place says nothing.
-fn unplaced(refusal: u8) -> Placed
-    ensures { λ a. ⌜ a .refusal ≡ refusal ⌝ }
-{
-    Placed { refusal, place: 0 }
-}
-
-// The refusal of an addition, or the place of the point; then the points, their pivot rows and the point are left in working arrays.
-fn add_refusal(
-    settings: Settings,
-    n: u64,
-    r: u64,
-    states: &[u8],
-    standard: &[u8],
-    leads: &[u8],
-    coefficients: &[u8],
-    counts: &[u8],
-    levels: &[i8],
-    points: &mut [u8],
-    rows: &mut [u8],
-    pivots: &mut [u8],
-    point: &mut [u8],
-) -> Placed
-    requires { ⌜ (now points ≡ replicate statesSize 0) × (RowsLong (now rows) (now pivots) × (now point ≡ replicate 8 0)) ⌝ }
-    ensures { λ a. ⌜ a .refusal ≡ addRefusal settings n r
-        (fiveTables (now (states .entry)) (now (standard .entry)) (now (leads .entry)) (now (coefficients .entry)) (now (counts .entry)))
-        (now (levels .entry)) ⌝ }
-    ensures { λ a. ⌜ (a .refusal ≡ 0 → a .place
-        ≡ placeIn (residues (settings .modulus) (now (levels .entry))) (pointsIn settings n (now (states .entry)))) ⌝ }
-    ensures { λ a. ⌜ (a .refusal ≡ 0 → now (points .exit) ≡ fill statesSize (inPlaces 8 (pointsIn settings n (now (states .entry))))) ⌝ }
-    ensures { λ a. ⌜ (a .refusal ≡ 0 → Solves settings (pointsIn settings n (now (states .entry))) (now (rows .exit)) (now (pivots .exit))) ⌝ }
-    ensures { λ a. ⌜ (a .refusal ≡ 0 → now (point .exit) ≡ fill 8 (residues (settings .modulus) (now (levels .entry)))) ⌝ }
-{
-    let short = too_short(
-        states.len(),
-        standard.len(),
-        leads.len(),
-        coefficients.len(),
-        counts.len(),
-    );
-    let refusal = point_sizes(settings, short, levels.len(), n);
-    if refusal != 0 {
-        return unplaced(refusal);
-    }
-    let p = settings.modulus as u8;
-    if !points::in_range(p, levels) {
-        return unplaced(9);
-    }
-    let count = n as usize;
-    if !recognise(
-        settings,
-        count,
-        r,
-        states,
-        standard,
-        leads,
-        coefficients,
-        counts,
-        points,
-        rows,
-        pivots,
-    ) {
-        return unplaced(10);
-    }
-    points::put_residues(p, levels, point);
-    let place = points::place_of(count, points, point);
-    Placed {
-        refusal: room(count, place, counts),
-        place,
-    }
 }
 
 // A point that is there, counted once more: one byte is written.
@@ -210,7 +132,7 @@ pub fn add_point(
     let mut rows = [0u8; 73728];
     let mut pivots = [0u8; 64];
     let mut point = [0u8; 8];
-    let asked = add_refusal(
+    let named = locate(
         settings,
         n,
         r,
@@ -225,11 +147,12 @@ pub fn add_point(
         &mut pivots,
         &mut point,
     );
-    if asked.refusal != 0 {
-        return refused(asked.refusal);
+    let refusal = add_refusal(named.refusal, n as usize, named.place, counts);
+    if refusal != 0 {
+        return refused(refusal);
     }
-    if asked.place < n as usize {
-        return raise(n as usize, r as usize, asked.place, counts);
+    if named.place < n as usize {
+        return raise(n as usize, r as usize, named.place, counts);
     }
     add_accepted(
         settings,

@@ -1,105 +1,25 @@
 // Withdrawing a point from tables. Every refusal is decided before a lent byte is written; then its count is lowered, or, where that was 1, the points that are
 // left are drawn up anew, over the pivot rows with which the tables were recognised: two sets of them would take more stack than the header promises.
 use crate::drawing::draw_points;
-use construction::points;
 use monomial::insert::take_out;
-use recognition::recognising::recognise;
-use recognition::settings::point_sizes;
+use recognition::naming::locate;
 use recognition::settings::refused;
-use recognition::settings::too_short;
 use specification::settings::Answer;
 use specification::settings::Settings;
 ghost use mathlib.Core.Path.{_≡_};
-ghost use mathlib.Core.Bool.{not, false, cond};
-ghost use mathlib.Core.List.{[], _∷_, _++_};
+ghost use mathlib.Core.Bool.{false, cond};
 ghost use Prim.Native.Nat.{_-_, _<_, _≤_};
-ghost use lib.ListN.{length, getD, replicate};
-ghost use lib.Dec.{eqb, ltb};
-ghost use Rattle.residue.specs.Layout.{fill, inPlaces};
+ghost use lib.ListN.{getD};
+ghost use lib.Dec.{ltb};
+ghost use Rattle.residue.specs.Layout.{fill};
 ghost use Rattle.monomial.specs.Insert.{removedAt};
-ghost use Rattle.specification.specs.Refusal.{firstOf};
-ghost use Rattle.specification.specs.Settings.{settingsCases};
-ghost use Rattle.specification.specs.Levels.{inRange, residues};
-ghost use Rattle.specification.specs.Counted.{placeIn};
-ghost use Rattle.specification.specs.Tables.{fiveTables, pointsIn, statesSize, tooShort, recognised};
+ghost use Rattle.specification.specs.Tables.{fiveTables, pointsIn, tooShort};
 ghost use Rattle.specification.specs.Adding.{ended};
 ghost use Rattle.specification.specs.Withdrawing.{withdrawOutcome};
 ghost use Rattle.specification.specs.CallByCall.{recounted};
 ghost use Rattle.specification.proofs.Replicates.{holdingBoth};
 ghost use Rattle.specification.proofs.agreement.Points.{Points};
 ghost use Rattle.construction.specs.Drawing.{RowsLong, PointsGiven};
-
-// The refusal of a withdrawal up to 10, or 0; then the points of the tables are left in a table.
-fn withdraw_refusal(
-    settings: Settings,
-    n: u64,
-    r: u64,
-    states: &[u8],
-    standard: &[u8],
-    leads: &[u8],
-    coefficients: &[u8],
-    counts: &[u8],
-    levels: &[i8],
-    points: &mut [u8],
-    rows: &mut [u8],
-    pivots: &mut [u8],
-) -> u8
-    requires { ⌜ (now points ≡ replicate statesSize 0) × RowsLong (now rows) (now pivots) ⌝ }
-    ensures { λ k. ⌜ k ≡ firstOf 0 (settingsCases settings
-        ++ ((tooShort (fiveTables (now (states .entry)) (now (standard .entry)) (now (leads .entry)) (now (coefficients .entry)) (now (counts .entry))), 6)
-        ∷ (not (eqb (length (now (levels .entry))) (settings .variables)), 7)
-        ∷ (ltb 64 n, 8)
-        ∷ (not (inRange (settings .modulus) (now (levels .entry))), 9)
-        ∷ (
-          not (recognised settings n r
-              (fiveTables (now (states .entry)) (now (standard .entry)) (now (leads .entry)) (now (coefficients .entry)) (now (counts .entry)))),
-          10,
-        ) ∷ [])) ⌝ }
-    ensures { λ k. ⌜ (k ≡ 0 → now (points .exit) ≡ fill statesSize (inPlaces 8 (pointsIn settings n (now (states .entry))))) ⌝ }
-{
-    let short = too_short(
-        states.len(),
-        standard.len(),
-        leads.len(),
-        coefficients.len(),
-        counts.len(),
-    );
-    let refusal = point_sizes(settings, short, levels.len(), n);
-    if refusal != 0 {
-        return refusal;
-    }
-    if !points::in_range(settings.modulus as u8, levels) {
-        return 9;
-    }
-    if !recognise(
-        settings,
-        n as usize,
-        r,
-        states,
-        standard,
-        leads,
-        coefficients,
-        counts,
-        points,
-        rows,
-        pivots,
-    ) {
-        return 10;
-    }
-    0
-}
-
-// Where the point of these levels stands among the n of a table, or n.
-fn place_named(settings: Settings, n: usize, points: &[u8], levels: &[i8]) -> usize
-    requires { ⌜ (firstOf 0 (settingsCases settings) ≡ 0) × (n ≤ 64) ⌝ }
-    requires { ⌜ now points ≡ fill statesSize (inPlaces 8 (pointsIn settings n (now points))) ⌝ }
-    requires { ⌜ length (now levels) ≡ settings .variables ⌝ }
-    ensures { λ i. ⌜ i ≡ placeIn (residues (settings .modulus) (now (levels .entry))) (pointsIn settings n (now (points .entry))) ⌝ }
-{
-    let mut point = [0u8; 8];
-    points::put_residues(settings.modulus as u8, levels, &mut point);
-    points::place_of(n, points, &point)
-}
 
 // One occurrence fewer of the point at a place among the n of a table: its count is lowered, or, where that was 1, the points and counts behind move up and the
 // points that are left are drawn up.
@@ -182,7 +102,8 @@ pub fn withdraw_point(
     let mut points = [0u8; 512];
     let mut rows = [0u8; 73728];
     let mut pivots = [0u8; 64];
-    let refusal = withdraw_refusal(
+    let mut point = [0u8; 8];
+    let named = locate(
         settings,
         n,
         r,
@@ -195,20 +116,20 @@ pub fn withdraw_point(
         &mut points,
         &mut rows,
         &mut pivots,
+        &mut point,
     );
-    if refusal != 0 {
-        return refused(refusal);
+    if named.refusal != 0 {
+        return refused(named.refusal);
     }
     let count = n as usize;
-    let place = place_named(settings, count, &points, levels);
-    if place == count {
+    if named.place == count {
         return refused(12);
     }
     withdraw_accepted(
         settings,
         count,
         r as u16,
-        place,
+        named.place,
         &points,
         states,
         standard,

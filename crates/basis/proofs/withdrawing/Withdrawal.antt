@@ -1,14 +1,14 @@
 -- What a withdrawal stands on: the number by the tests that led to it, the points and counts that are left, and the outcome.
 use mathlib.Core.Path.{_≡_, refl, sym, ap, ap₂, subst, _∙_}
 use mathlib.Core.Bool.{Bool, true, false, not, cond}
-use mathlib.Core.List.{List, [], _∷_, _++_, append-assoc}
+use mathlib.Core.List.{List, [], _∷_, _++_}
 use Prim.Native.Nat.{ℕ, zero, suc, _+_, _*_, _-_, _<_, _≤_}
 use native.Mathlib.Nat.{le-of-suc-le-suc}
 use native.Mathlib.Omega.{arith}
 use lib.IntN.{ℤ}
 use lib.ListN.{length, take, drop, replicate, getD}
 use lib.Dec.{eqb, ltb}
-use borrow.Author.Tests.{le-ltb, lt-ltb, eq-eqb, eqb-true, ltb-true, ltb-false, not-false}
+use borrow.Author.Tests.{le-ltb, lt-ltb, eq-eqb, ltb-true, ltb-false}
 use Rattle.residue.specs.Layout.{fill, inPlaces, over}
 use Rattle.residue.proofs.Layouts.{fill-cut, fill-twice, length-fill}
 use Rattle.residue.proofs.Places.{over-zeros}
@@ -16,29 +16,26 @@ use Rattle.monomial.specs.Insert.{takenOut, removedAt}
 use Rattle.monomial.proofs.insert.Tables.{table-out, removed-long}
 use Rattle.specification.specs.declared.settings.Settings.{Settings}
 use Rattle.specification.specs.Refusal.{Case, firstOf}
-use Rattle.specification.specs.Settings.{settingsCases}
-use Rattle.specification.specs.Levels.{inRange, residues, isAmong}
+use Rattle.specification.specs.Levels.{residues, isAmong}
 use Rattle.specification.specs.Counted.{pointsOf, countOf, placeIn}
-use Rattle.specification.specs.Tables.{Tables, tooShort, pointsIn, heldIn, recognised}
+use Rattle.specification.specs.Tables.{Tables, pointsIn, heldIn}
 use Rattle.specification.specs.Adding.{Outcome, refused}
 use Rattle.specification.specs.Withdrawing.{withdrawCases, withdrawRefusal, withdrawOutcome}
 use Rattle.specification.specs.CallByCall.{recounted}
-use Rattle.specification.proofs.Cases.{None, first-stop, first-on}
-use Rattle.specification.proofs.Recognised.{none-of, length-read}
+use Rattle.specification.proofs.Recognised.{length-read}
 use Rattle.specification.proofs.Replicates.{holdingBoth, same-count, withdraw-lowers, withdraw-last}
-use Rattle.specification.proofs.CallByCall.{known-points, known-entries, known-rows}
+use Rattle.specification.proofs.CallByCall.{known-entries}
 use Rattle.specification.proofs.counted.Entered.{lowered-last}
 use Rattle.specification.proofs.counted.Held.{points-held}
 use Rattle.specification.proofs.counted.Lowered.{entries-lowered}
 use Rattle.specification.proofs.agreement.Points.{Points}
-use Rattle.specification.proofs.agreement.Refusals.{Accepted, accepted, settings-pass}
-use Rattle.specification.proofs.agreement.Drawings.{few-rows}
 use Rattle.construction.specs.Drawing.{PointsGiven}
 use Rattle.construction.proofs.drawing.Given.{given, given-count, table-points}
 use Rattle.construction.proofs.points.PointPlaces.{place-le}
 use Rattle.recognition.proofs.settings.ByNumber.{when-refused}
-use Rattle.recognition.proofs.settings.BySize.{sizes, by-size, by-rest, two, two-first, two-second, two-none}
-use Rattle.recognition.proofs.recognising.Named.{named-among}
+use Rattle.recognition.specs.Naming.{namingRefusal}
+use Rattle.recognition.proofs.naming.NamingTests.{Open, open-of, naming-first, naming-then}
+use Rattle.recognition.proofs.naming.PointAtHand.{among-old}
 
 -- What is left without the point at a place.
 -- bytes are rows of width 1
@@ -89,46 +86,14 @@ module _ (s : Settings) (n j : ℕ) (table : List ℕ) (g : PointsGiven s n tabl
         let is : times ≡ fill 64 (removedAt j (fill n (t .counts))) = f ∙ counts-out n j (t .counts) low (g .most) l in
         rw (left-points, is, le-ltb 1 (getD (t .counts) j 0) one, fill-twice 64 64 (removedAt j (fill n (t .counts))) (omega arith)) refl
 
--- The number: the refusals up to 10.
+-- The number: 12 comes behind the cases of a named point, and is told by the place.
 module _ (s : Settings) (n r : ℕ) (t : Tables) (levels : List ℤ) where
-  abbrev wrong : Bool
-  wrong = not (eqb (length levels) (s .variables))
-
-  abbrev pub withdrawSizes : ℕ
-  withdrawSizes = firstOf 0 (settingsCases s ++ sizes s (tooShort t) wrong (ltb 64 n))
-
-  abbrev tests : List Case
-  tests = (not (inRange (s .modulus) levels), 9) ∷ (not (recognised s n r t), 10) ∷ []
-
-  abbrev pub withdrawTests : ℕ
-  withdrawTests = firstOf 0 (settingsCases s ++ (sizes s (tooShort t) wrong (ltb 64 n) ++ tests))
-
-  behind : withdrawSizes ≡ 0 → firstOf 0 tests ≡ withdrawTests
-  behind e = by-rest s (tooShort t) wrong (ltb 64 n) tests e
-
-  pub withdraw-size : (k : ℕ) → k ≡ withdrawSizes → (k ≡ 0 → ⊥) → k ≡ withdrawTests
-  withdraw-size k e z = by-size s (tooShort t) wrong (ltb 64 n) tests k e z
-
-  pub withdraw-range : withdrawSizes ≡ 0 → inRange (s .modulus) levels ≡ false → 9 ≡ withdrawTests
-  unfolding two
-  withdraw-range e f = two-first 9 10 (recognised s n r t) f ∙ behind e
-
-  pub withdraw-unknown : withdrawSizes ≡ 0 → inRange (s .modulus) levels ≡ true → recognised s n r t ≡ false → 10 ≡ withdrawTests
-  unfolding two
-  withdraw-unknown e f g = two-second 9 10 f g ∙ behind e
-
-  pub withdraw-known : withdrawSizes ≡ 0 → inRange (s .modulus) levels ≡ true → recognised s n r t ≡ true → 0 ≡ withdrawTests
-  unfolding two
-  withdraw-known e f g = two-none 9 10 f g ∙ behind e
-
-  -- the named point, and its place among the points of the tables
   abbrev pub named : List ℕ
   named = residues (s .modulus) levels
 
   abbrev pub old : List (List ℕ)
   old = pointsIn s n (t .states)
 
-  -- 12 by the place
   abbrev last : List Case
   last = (not (isAmong named (pointsOf (heldIn s n t))), 12) ∷ []
 
@@ -140,76 +105,31 @@ module _ (s : Settings) (n r : ℕ) (t : Tables) (levels : List ℤ) where
   unfolding firstOf
   on f = rw (points-held s n t, f) refl
 
-  -- it comes behind the others
-  whole : (settingsCases s ++ (sizes s (tooShort t) wrong (ltb 64 n) ++ tests)) ++ last ≡ withdrawCases s n r t levels
-  unfolding withdrawCases
-  whole = append-assoc (settingsCases s) (sizes s (tooShort t) wrong (ltb 64 n) ++ tests) last
+  pub withdraw-refused : (k : ℕ) → k ≡ namingRefusal s n r t levels → (k ≡ 0 → ⊥) → refused k t ≡ withdrawOutcome s n r t levels
+  unfolding withdrawOutcome withdrawRefusal withdrawCases
+  withdraw-refused k e z = when-refused t _ _ k (naming-first s n r t levels last k e z) z
 
-  pub withdraw-refused : (k : ℕ) → k ≡ withdrawTests → (k ≡ 0 → ⊥) → refused k t ≡ withdrawOutcome s n r t levels
-  unfolding withdrawOutcome withdrawRefusal
-  withdraw-refused k e z =
-      when-refused t _ _ k (e ∙ first-stop (settingsCases s ++ (sizes s (tooShort t) wrong (ltb 64 n) ++ tests)) last (λ y. z (e ∙ y)) ∙ ap (firstOf 0) whole) z
+  -- None of those holds.
+  module _ (e : namingRefusal s n r t levels ≡ 0) where
+    o : Open s n r t levels
+    o = open-of s n r t levels e
 
-  -- None of them holds.
-  pub record Open : Type 0 where
-    pub fine : firstOf 0 (settingsCases s) ≡ 0
-    pub settings : Accepted s
-    pub long : tooShort t ≡ false
-    pub right : length levels ≡ s .variables
-    pub few : n ≤ 64
-    pub known : recognised s n r t ≡ true
-
-  module _ (e : withdrawTests ≡ 0) where
-    none : (firstOf 0 (settingsCases s) ≡ 0) × None (sizes s (tooShort t) wrong (ltb 64 n) ++ tests)
-    none = none-of s (sizes s (tooShort t) wrong (ltb 64 n) ++ tests) tt e
-
-    pub open-of : Open
-    open-of = record {
-      fine = none .0;
-      settings = accepted s (none .0);
-      long = none .1 .0;
-      right = eqb-true (length levels) (s .variables) (not-false _ (none .1 .1 .0));
-      few = ltb-false 64 n (none .1 .1 .1 .0);
-      known = not-false _ (none .1 .1 .1 .1 .1 .0);
-    }
-
-    pub few-rows-held : r ≤ 449
-    few-rows-held = let o = open-of in
-        omega (arith, known-rows s (o .settings) n r t (o .few) (o .known), few-rows s (o .settings) (pointsOf (heldIn s n t)) (known-entries s (o .settings) n r t (o .few) (o .known) .points))
-
-    -- the table of the points that recognising leaves
-    module _ (table : List ℕ) (et : table ≡ fill 512 (inPlaces 8 old)) where
-      pub read-again : pointsIn s n table ≡ old
-      read-again = let o = open-of in
-          ap₂ (pointsIn s) (sym (length-read s (o .settings) n (t .states))) et ∙ table-points s (o .settings) old (known-points s (o .settings) n r t (o .few) (o .known))
-
-      pub table-given : PointsGiven s n table
-      table-given = let o = open-of in
-          subst (λ (k : ℕ). PointsGiven s k table) (length-read s (o .settings) n (t .states))
-          (subst (PointsGiven s (length old)) (sym et) (given s (o .settings) old (known-points s (o .settings) n r t (o .few) (o .known))))
-
-    -- 12 decides
     decides : firstOf 0 last ≡ withdrawRefusal s n r t levels
-    unfolding withdrawRefusal
-    decides =
-        first-on (sizes s (tooShort t) wrong (ltb 64 n) ++ tests) last (none .1)
-        ∙ sym (settings-pass s (none .0) ((sizes s (tooShort t) wrong (ltb 64 n) ++ tests) ++ last)) ∙ ap (firstOf 0) (sym (append-assoc (settingsCases s) (sizes s (tooShort t) wrong (ltb 64 n) ++ tests) last) ∙ whole)
-
-    among : isAmong named old ≡ ltb (placeIn named old) n
-    among = let o = open-of in named-among s (o .settings) n (o .few) (t .states) levels (o .right)
+    unfolding withdrawRefusal withdrawCases
+    decides = naming-then s n r t levels e last
 
     module _ (place : ℕ) (ep : place ≡ placeIn named old) where
       pub withdraw-absent : place ≡ n → refused 12 t ≡ withdrawOutcome s n r t levels
       unfolding withdrawOutcome
-      withdraw-absent z = when-refused t _ _ 12 (stop (among ∙ le-ltb (placeIn named old) n (omega (arith, ep, z))) ∙ decides) (λ y. omega arith)
+      withdraw-absent z = when-refused t _ _ 12 (stop (among-old s n r t levels e ∙ le-ltb (placeIn named old) n (omega (arith, ep, z))) ∙ decides) (λ y. omega arith)
 
       pub before-end : (place ≡ n → ⊥) → place < n
-      before-end z = omega (arith, ep, z, place-le named old, length-read s (open-of .settings) n (t .states))
+      before-end z = omega (arith, ep, z, place-le named old, length-read s (o .settings) n (t .states))
 
       -- The point is there.
       module _ (low : place < n) where
         there : isAmong named old ≡ true
-        there = among ∙ lt-ltb (placeIn named old) n (omega (arith, ep, low))
+        there = among-old s n r t levels e ∙ lt-ltb (placeIn named old) n (omega (arith, ep, low))
 
         taken : withdrawRefusal s n r t levels ≡ 0
         taken = sym decides ∙ on there
@@ -220,7 +140,6 @@ module _ (s : Settings) (n r : ℕ) (t : Tables) (levels : List ℤ) where
         -- the points that are left where it goes
         pub points-left : times ≤ 1 → Points s (removedAt place old)
         points-left one =
-            let o = open-of in
             let held : isAmong named (pointsOf (heldIn s n t)) ≡ true = ap (isAmong named) (points-held s n t) ∙ there in
             let z : eqb (countOf named (heldIn s n t) - 1) 0 ≡ true = eq-eqb (countOf named (heldIn s n t) - 1) 0 (omega (arith, same-count s n r t levels there, ap (λ (i : ℕ). getD (t .counts) i 0) ep, one)) in
             subst (Points s) (lowered-last named (heldIn s n t) held z .0 ∙ ap₂ removedAt (ap (placeIn named) (points-held s n t) ∙ sym ep) (points-held s n t))

@@ -3,6 +3,7 @@ use mathlib.Core.Path.{_≡_, sym, ap, _∙_}
 use mathlib.Core.Bool.{Bool, true, false, not, cond}
 use mathlib.Core.List.{List, [], _∷_, _++_, append-assoc}
 use Prim.Native.Nat.{ℕ, _≤_}
+use native.Mathlib.Decide.{ℕ-discrete}
 use native.Mathlib.Omega.{arith}
 use lib.IntN.{ℤ}
 use lib.ListN.{length}
@@ -112,6 +113,14 @@ module _ (s : Settings) (n r : ℕ) (t : Tables) (levels : List ℤ) where
     naming-then l =
         first-on (sizes s (tooShort t) wrong (ltb 64 n) ++ (range ++ known)) l (none .1)
         ∙ sym (settings-pass s (none .0) ((sizes s (tooShort t) wrong (ltb 64 n) ++ (range ++ known)) ++ l))
+
+    pub looked-at : looksAt s n t levels ≡ true
+    unfolding looksAt namingRefusal
+    looked-at = eq-eqb _ 0 (go (ℕ-discrete (firstOf 0 (levelsCases s n t levels)) 0))
+      where
+        go : Dec (firstOf 0 (levelsCases s n t levels) ≡ 0) → firstOf 0 (levelsCases s n t levels) ≡ 0
+        go (yes z) = z
+        go (no z) = absurd (z (first-stop (levelsCases s n t levels) known z ∙ e))
 
     pub open-of : Open
     open-of = record {

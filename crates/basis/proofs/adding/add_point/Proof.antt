@@ -6,8 +6,11 @@ use Prim.Native.Nat.{ℕ}
 use native.Mathlib.Omega.{arith}
 use Rattle.specification.specs.Tables.{Tables, fiveTables}
 use Rattle.specification.specs.Adding.{addRefusal, addOutcome}
+use Rattle.specification.proofs.agreement.Refusals.{large-of}
 use Rattle.recognition.proofs.settings.ByNumber.{alone, when-refused}
-use Rattle.basis.proofs.adding.Addition.{place, Raised, raised, Ready, ready}
+use Rattle.recognition.proofs.naming.NamingTests.{open-of}
+use Rattle.recognition.proofs.naming.PointAtHand.{AtHand, at-hand}
+use Rattle.basis.proofs.adding.Addition.{add-told, none-before, Raised, raised, Ready, ready}
 use Rattle.basis.proofs.adding.add_point.Statement.{statement}
 use Rattle.basis.proofs.adding.add_point.Tie as tie
 
@@ -15,51 +18,70 @@ use Rattle.basis.proofs.adding.add_point.Tie as tie
 abbrev tables : tie.Start → Tables
 tables s = fiveTables (s .args .states .now) (s .args .standard .now) (s .args .leads .now) (s .args .coefficients .now) (s .args .counts .now)
 
-abbrev start : tie.After-add-refusal → tie.Start
+-- the point is looked for, and its place judged
+abbrev start : tie.After-locate → tie.Start
 start d = d .before .before .before .before .before .before .before .before .before .before .before .before .before .before .before
 
-abbrev asked : tie.After-point2 → tie.After-add-refusal
-asked c = c .before .before .before .before
+abbrev sought : tie.After-add-refusal → tie.After-locate
+sought a = a .before .before .before .before .before .before
 
--- nothing refuses
-module _ (e : tie.Else1) where
-  abbrev d : tie.After-add-refusal
-  d = asked (e .before .before)
+module _ (a : tie.After-add-refusal) where
+  abbrev d : tie.After-locate
+  d = sought a
 
   abbrev s : tie.Start
   s = start d
 
-  none : addRefusal (s .args .settings) (s .args .n) (s .args .r) (tables s) (s .args .levels .now) ≡ 0
-  none = sym (d .add-refusal .ensures .0) ∙ e .if1 .left
+  told : a .add-refusal .result ≡ addRefusal (s .args .settings) (s .args .n) (s .args .r) (tables s) (s .args .levels .now)
+  told =
+      add-told (s .args .settings) (s .args .n) (s .args .r) (tables s) (s .args .levels .now) (d .locate .result .refusal) (d .locate .result .place) (a .add-refusal .result)
+      (d .locate .ensures .refusal)
+      (λ z. at-hand (s .args .settings) (s .args .n) (s .args .r) (tables s) (s .args .levels .now) (sym (d .locate .ensures .refusal) ∙ z) (d .locate .ensures) .placed)
+      (a .add-refusal .ensures)
 
-  placed : d .add-refusal .result .place ≡ place (s .args .settings) (s .args .n) (s .args .r) (tables s) (s .args .levels .now)
-  placed = d .add-refusal .ensures .1 .0 (e .if1 .left)
+-- nothing refuses
+module _ (e : tie.Else1) where
+  abbrev a : tie.After-add-refusal
+  a = e .before
 
+  abbrev y : tie.Start
+  y = s a
+
+  none : addRefusal (y .args .settings) (y .args .n) (y .args .r) (tables y) (y .args .levels .now) ≡ 0
+  none = sym (told a) ∙ e .if1 .left
+
+  -- the working arrays
   abbrev points : List ℕ
-  points = d .add-refusal .last .1 .1 .1 .1 .1 .1 .1 .1 .1 .0
+  points = d a .locate .last .1 .1 .1 .1 .1 .1 .1 .1 .1 .0
 
   abbrev rows : List ℕ
-  rows = d .add-refusal .last .1 .1 .1 .1 .1 .1 .1 .1 .1 .1 .0
+  rows = d a .locate .last .1 .1 .1 .1 .1 .1 .1 .1 .1 .1 .0
 
   abbrev pivots : List ℕ
-  pivots = d .add-refusal .last .1 .1 .1 .1 .1 .1 .1 .1 .1 .1 .1 .0
+  pivots = d a .locate .last .1 .1 .1 .1 .1 .1 .1 .1 .1 .1 .1 .0
 
   abbrev point : List ℕ
-  point = d .add-refusal .last .1 .1 .1 .1 .1 .1 .1 .1 .1 .1 .1 .1 .0
+  point = d a .locate .last .1 .1 .1 .1 .1 .1 .1 .1 .1 .1 .1 .1 .0
+
+  hand : AtHand (y .args .settings) (y .args .n) (y .args .r) (tables y) (y .args .levels .now)
+      (none-before (y .args .settings) (y .args .n) (y .args .r) (tables y) (y .args .levels .now) none) (d a .locate .result .place) points rows pivots point
+  hand =
+      at-hand (y .args .settings) (y .args .n) (y .args .r) (tables y) (y .args .levels .now)
+      (none-before (y .args .settings) (y .args .n) (y .args .r) (tables y) (y .args .levels .now) none) (d a .locate .ensures)
 
 -- the point is there
-raise : (f : tie.Then2) → let x = f .before .before in Raised (s x .args .settings) (s x .args .n) (s x .args .r) (tables (s x)) (s x .args .levels .now) (d x .add-refusal .result .place)
-raise f = let x = f .before .before in
-    raised (s x .args .settings) (s x .args .n) (s x .args .r) (tables (s x)) (s x .args .levels .now) (none x) (d x .add-refusal .result .place) (placed x) (f .if2 .taken)
+raise : (f : tie.Then2) → let x = f .before .before in let y = y x in Raised (y .args .settings) (y .args .n) (y .args .r) (tables y) (y .args .levels .now) (d (a x) .locate .result .place)
+raise f =
+    let x = f .before .before in
+    let y = y x in
+    raised (y .args .settings) (y .args .n) (y .args .r) (tables y) (y .args .levels .now) (none x) (d (a x) .locate .result .place) (hand x .placed) (f .if2 .taken)
 
 -- the point is new
-handed : (f : tie.Else2) → let x = f .before .before in Ready (s x .args .settings) (s x .args .n) (s x .args .r) (tables (s x)) (s x .args .levels .now) (points x) (rows x) (pivots x) (point x)
+handed : (f : tie.Else2) → let x = f .before .before in let y = y x in Ready (y .args .settings) (y .args .n) (y .args .r) (tables y) (y .args .levels .now) (points x) (rows x) (pivots x) (point x)
 handed f =
     let x = f .before .before in
-    let y = d x .add-refusal .ensures .1 .1 in
-    let z = x .if1 .left in
-    ready (s x .args .settings) (s x .args .n) (s x .args .r) (tables (s x)) (s x .args .levels .now) (none x) (omega (arith, placed x, f .if2 .left)) (points x) (rows x) (pivots x) (point x)
-    (y .0 z) (y .1 .0 z) (y .1 .1 z)
+    let y = y x in
+    ready (y .args .settings) (y .args .n) (y .args .r) (tables y) (y .args .levels .now) (none x) (f .if2 .left) (hand x)
 
 -- the tables are lent, and written
 abbrev lent : tie.After-add-accepted-arg5 → tie.Else2
@@ -68,20 +90,27 @@ lent c = c .before .before .before .before .before .before .before .before .befo
 abbrev written : tie.After-slice-known11 → tie.After-add-accepted
 written c = c .before .before .before .before .before .before .before .before .before .before
 
-slice-aggregate-add-refusal : tie.Need-slice-aggregate-add-refusal
-slice-aggregate-add-refusal c = refl
+slice-aggregate-locate : tie.Need-slice-aggregate-locate
+slice-aggregate-locate c = refl
 
-slice-aggregate-add-refusal-2 : tie.Need-slice-aggregate-add-refusal-2
-slice-aggregate-add-refusal-2 c = refl
+slice-aggregate-locate-2 : tie.Need-slice-aggregate-locate-2
+slice-aggregate-locate-2 c = refl
 
-slice-aggregate-add-refusal-3 : tie.Need-slice-aggregate-add-refusal-3
-slice-aggregate-add-refusal-3 c = refl
+slice-aggregate-locate-3 : tie.Need-slice-aggregate-locate-3
+slice-aggregate-locate-3 c = refl
 
-slice-aggregate-add-refusal-4 : tie.Need-slice-aggregate-add-refusal-4
-slice-aggregate-add-refusal-4 c = refl
+slice-aggregate-locate-4 : tie.Need-slice-aggregate-locate-4
+slice-aggregate-locate-4 c = refl
+
+locate-requires : tie.Need-locate-requires
+locate-requires c κs = search needs
 
 add-refusal-requires : tie.Need-add-refusal-requires
-add-refusal-requires c κs = search needs
+add-refusal-requires c κs z =
+    let d = c .before .before .before .before .before in
+    let s = start d in
+    let o = open-of (s .args .settings) (s .args .n) (s .args .r) (tables s) (s .args .levels .now) (sym (d .locate .ensures .refusal) ∙ z) in
+    omega (arith, o .few, large-of (tables s) (o .long-tables) .counts)
 
 refused-requires : tie.Need-refused-requires
 refused-requires c κs = tt
@@ -104,8 +133,8 @@ same-length-5 c = refl
 returns : tie.Need-returns
 unfolding addOutcome
 returns c =
-    let d = asked (c .before .before .before) in
-    alone (c .refused .ensures) (tables (start d)) ∙ when-refused (tables (start d)) _ _ (d .add-refusal .result .refusal) (d .add-refusal .ensures .0) (c .before .if1 .taken)
+    let a = c .before .before in
+    alone (c .refused .ensures) (tables (s a)) ∙ when-refused (tables (s a)) _ _ (a .add-refusal .result) (told a) (c .before .if1 .taken)
 
 raise-requires : tie.Need-raise-requires
 raise-requires c κs = let y = raise (c .before) in ((y .few-points, y .few-rows), (y .inside, y .room))
@@ -129,16 +158,16 @@ returns-2 : tie.Need-returns-2
 returns-2 c = let q = c .before .before in raise (q .before .before) .outcome (q .raise .result) (q .raise .last .1 .1 .1 .0) (q .raise .ensures .0) (q .raise .ensures .1)
 
 slice-aggregate-add-accepted : tie.Need-slice-aggregate-add-accepted
-slice-aggregate-add-accepted c = sym (d (c .before .before .before) .add-refusal .kept .1 .1 .1 .1 .1 .1 .1 .1 .1 .0)
+slice-aggregate-add-accepted c = sym (sought (a (c .before .before .before)) .locate .kept .1 .1 .1 .1 .1 .1 .1 .1 .1 .0)
 
 slice-aggregate-add-accepted-2 : tie.Need-slice-aggregate-add-accepted-2
-slice-aggregate-add-accepted-2 c = sym (d (c .before .before .before .before) .add-refusal .kept .1 .1 .1 .1 .1 .1 .1 .1 .1 .1 .0)
+slice-aggregate-add-accepted-2 c = sym (sought (a (c .before .before .before .before)) .locate .kept .1 .1 .1 .1 .1 .1 .1 .1 .1 .1 .0)
 
 slice-aggregate-add-accepted-3 : tie.Need-slice-aggregate-add-accepted-3
-slice-aggregate-add-accepted-3 c = sym (d (c .before .before .before .before .before) .add-refusal .kept .1 .1 .1 .1 .1 .1 .1 .1 .1 .1 .1 .0)
+slice-aggregate-add-accepted-3 c = sym (sought (a (c .before .before .before .before .before)) .locate .kept .1 .1 .1 .1 .1 .1 .1 .1 .1 .1 .1 .0)
 
 slice-aggregate-add-accepted-4 : tie.Need-slice-aggregate-add-accepted-4
-slice-aggregate-add-accepted-4 c = sym (d (c .before .before .before .before .before .before) .add-refusal .kept .1 .1 .1 .1 .1 .1 .1 .1 .1 .1 .1 .1 .0)
+slice-aggregate-add-accepted-4 c = sym (sought (a (c .before .before .before .before .before .before)) .locate .kept .1 .1 .1 .1 .1 .1 .1 .1 .1 .1 .1 .1 .0)
 
 add-accepted-requires : tie.Need-add-accepted-requires
 add-accepted-requires c κs =
@@ -167,10 +196,11 @@ pub add-point-spec : {M : Type 1} → statement M
 add-point-spec =
     tie.close
     (tie.spec
-    slice-aggregate-add-refusal
-    slice-aggregate-add-refusal-2
-    slice-aggregate-add-refusal-3
-    slice-aggregate-add-refusal-4
+    slice-aggregate-locate
+    slice-aggregate-locate-2
+    slice-aggregate-locate-3
+    slice-aggregate-locate-4
+    locate-requires
     add-refusal-requires
     refused-requires
     same-length

@@ -1,237 +1,31 @@
 -- `adding::add_refusal` meets its contract: at each return the tests that led there decide the number.
-use borrow.Author.Tests.{ltb-false, eqb-true, not-true, not-false}
-use mathlib.Core.Path.{_≡_, refl, sym, ap, _∙_}
-use mathlib.Core.Bool.{true, not}
-use mathlib.Core.List.{List}
-use Prim.Native.Nat.{ℕ, _≤_}
 use native.Mathlib.Omega.{arith}
-use lib.ListN.{length}
-use lib.Dec.{eqb, ltb}
-use Rattle.residue.specs.Layout.{fill, inPlaces, over}
-use Rattle.residue.proofs.level.Moduli.{modulus-range}
-use Rattle.residue.proofs.Places.{over-zeros}
-use Rattle.residue.proofs.Layouts.{length-fill}
-use Rattle.specification.specs.Levels.{inRange}
-use Rattle.specification.specs.Settings.{settingsCases}
-use Rattle.specification.specs.Tables.{Tables, fiveTables, tooShort, recognised}
-use Rattle.specification.proofs.agreement.Points.{length-residues}
-use Rattle.specification.proofs.agreement.Refusals.{large-of}
-use Rattle.specification.proofs.Cases.{sizes-are}
-use Rattle.construction.specs.Drawing.{Solves}
-use Rattle.recognition.proofs.settings.BySize.{Passed, passed}
-use Rattle.recognition.proofs.recognising.Named.{place-is}
-use Rattle.basis.proofs.adding.Addition.{refusing, old, new, place, roomAt, addSizes, add-size, add-range, add-unknown, add-told}
+use borrow.Author.Tests.{lt-ltb, le-ltb, eq-eqb, ne-eqb}
 use Rattle.basis.proofs.adding.add_refusal.Statement.{statement}
 use Rattle.basis.proofs.adding.add_refusal.Tie as tie
 
--- the lent tables
-abbrev tables : tie.Start → Tables
-tables s = fiveTables (s .args .states .now) (s .args .standard .now) (s .args .leads .now) (s .args .coefficients .now) (s .args .counts .now)
-
--- the points of the tables, and the new one
-abbrev olds : tie.Start → List (List ℕ)
-olds s = old (s .args .settings) (s .args .n) (s .args .r) (tables s) (s .args .levels .now)
-
-abbrev newOne : tie.Start → List ℕ
-newOne s = new (s .args .settings) (s .args .n) (s .args .r) (tables s) (s .args .levels .now)
-
--- the refusals on numbers
-abbrev start : tie.After-point-sizes → tie.Start
-start d = d .before .before .before .before .before .before .before .before .before .before .before
-
-abbrev Fine : tie.Start → ℕ
-Fine s = addSizes (s .args .settings) (s .args .n) (s .args .r) (tables s) (s .args .levels .now)
-
-sized : (d : tie.After-point-sizes) → d .point-sizes .result ≡ Fine (start d)
-unfolding tooShort
-sized d = d .point-sizes .ensures ∙ sizes-are (settingsCases (start d .args .settings)) (d .before .too-short .ensures) refl refl
-
--- none of them holds
-module _ (e : tie.Else1) where
-  abbrev s : tie.Start
-  s = start (e .before)
-
-  fine : Fine s ≡ 0
-  fine = sym (sized (e .before)) ∙ e .if1 .left
-
-  room : Passed (s .args .settings) (tooShort (tables s)) (not (eqb (length (s .args .levels .now)) (s .args .settings .variables))) (ltb 64 (s .args .n))
-  room = passed _ _ _ _ fine
-
-  long : length (s .args .levels .now) ≡ s .args .settings .variables
-  long = eqb-true _ _ (not-false _ (room .right))
-
-  few : s .args .n ≤ 64
-  few = ltb-false 64 _ (room .few)
-
--- the levels are in range
-module _ (f : tie.Else2) where
-  abbrev e : tie.Else1
-  e = f .before .before .before
-
-  range : inRange (s e .args .settings .modulus) (s e .args .levels .now) ≡ true
-  range = sym (f .before .in-range .ensures) ∙ not-false _ (f .if2 .left)
-
--- the tables are recognised
-module _ (g : tie.Else3) where
-  abbrev k : tie.After-recognise
-  k = g .before .before .before .before .before .before .before
-
-  abbrev f : tie.Else2
-  f = k .before .before .before .before
-
-  abbrev o : tie.Start
-  o = s (e f)
-
-  known : recognised (o .args .settings) (o .args .n) (o .args .r) (tables o) ≡ true
-  known = sym (k .recognise .ensures .0) ∙ not-false _ (g .if3 .left)
-
-  table : k .recognise .last .1 .1 .1 .1 .1 .1 .1 .1 .0 ≡ fill 512 (inPlaces 8 (olds o))
-  table = k .recognise .ensures .1 .0
-
-  solves : Solves (o .args .settings) (olds o) (k .recognise .last .1 .1 .1 .1 .1 .1 .1 .1 .1 .0) (k .recognise .last .1 .1 .1 .1 .1 .1 .1 .1 .1 .1 .0)
-  solves = k .recognise .ensures .1 .1 (not-false _ (g .if3 .left))
-
--- the new point is in its place
-module _ (w : tie.After-put-residues) where
-  abbrev g : tie.Else3
-  g = w .before .before
-
-  put : w .put-residues .last .1 .1 .0 ≡ fill 8 (newOne (o g))
-  put =
-      w .put-residues .ensures ∙ ap (over (newOne (o g))) (o g .pre .1 .1)
-      ∙ over-zeros (newOne (o g)) 8 (omega (arith, length-residues (o g .args .settings .modulus) (o g .args .levels .now), long (e (f g)), room (e (f g)) .settings .few))
-
--- where the new point stands
-module _ (a : tie.After-place-of) where
-  abbrev w : tie.After-put-residues
-  w = a .before .before .before .before .before
-
-  abbrev h : tie.Else3
-  h = g w
-
-  abbrev x : tie.Else1
-  x = e (f h)
-
-  placed : a .place-of .result ≡ place (o h .args .settings) (o h .args .n) (o h .args .r) (tables (o h)) (o h .args .levels .now)
-  placed =
-      a .place-of .ensures
-      ∙ place-is (o h .args .settings) (room x .settings) (o h .args .n) (few x) (o h .args .states .now) (o h .args .levels .now) (long x) _ _ (table h) (put w)
-
-too-short-requires : tie.Need-too-short-requires
-too-short-requires c κs = tt
-
-point-sizes-requires : tie.Need-point-sizes-requires
-point-sizes-requires c κs = tt
-
-unplaced-requires : tie.Need-unplaced-requires
-unplaced-requires c κs = tt
+-- the place is looked at
+abbrev first : tie.Else1 → tie.Start
+first e = e .before
 
 returns : tie.Need-returns
-returns c =
-    let d = c .before .before in
-    let s = start d in
-    refusing (c .unplaced .ensures) (add-size (s .args .settings) (s .args .n) (s .args .r) (tables s) (s .args .levels .now) (d .point-sizes .result) (sized d) (c .before .if1 .taken)) (c .before .if1 .taken)
+returns c = simp (ne-eqb _ _ (c .if1 .taken))
 
-cast-p : tie.Need-cast-p
-cast-p c = omega (arith, modulus-range (s (c .before) .args .settings .modulus) (room (c .before) .settings .modulus))
-
-in-range-requires : tie.Need-in-range-requires
-in-range-requires c κs = tt
-
-unplaced-requires-2 : tie.Need-unplaced-requires-2
-unplaced-requires-2 c κs = tt
+shared-slice-read-if3 : tie.Need-shared-slice-read-if3
+shared-slice-read-if3 c = let e = c .before .before in omega (arith, first e .pre (e .if1 .left))
 
 returns-2 : tie.Need-returns-2
-returns-2 c =
-    let q = c .before .before in
-    let x = q .before .before in
-    refusing (c .unplaced2 .ensures) (add-range (s x .args .settings) (s x .args .n) (s x .args .r) (tables (s x)) (s x .args .levels .now) (fine x) (sym (q .in-range .ensures) ∙ not-true _ (c .before .if2 .taken))) (λ z. omega arith)
-
-recognise-requires : tie.Need-recognise-requires
-recognise-requires c κs =
-    let x = e (c .before .before .before) in
-    ((room x .none, few x), (room x .long, (s x .pre .0, s x .pre .1 .0)))
-
-unplaced-requires-3 : tie.Need-unplaced-requires-3
-unplaced-requires-3 c κs = tt
-
--- the tables are not recognised
-abbrev unknown : tie.After-unplaced3 → tie.After-recognise
-unknown c = c .before .before .before .before .before .before .before .before
-
-same-length : tie.Need-same-length
-same-length c = unknown c .recognise .kept .1 .1 .1 .1 .1 .1 .1 .1 .0
-
-same-length-2 : tie.Need-same-length-2
-same-length-2 c = unknown c .recognise .kept .1 .1 .1 .1 .1 .1 .1 .1 .1 .0
-
-same-length-3 : tie.Need-same-length-3
-same-length-3 c = unknown c .recognise .kept .1 .1 .1 .1 .1 .1 .1 .1 .1 .1 .0
+returns-2 c = let f = c .before .before in simp (eq-eqb _ _ (f .before .if1 .left), lt-ltb _ _ (f .if2 .taken), eq-eqb _ _ (c .if3 .taken))
 
 returns-3 : tie.Need-returns-3
-returns-3 c =
-    let k = unknown c in
-    let h = k .before .before .before .before in
-    let x = e h in
-    refusing (c .unplaced3 .ensures)
-    (add-unknown (s x .args .settings) (s x .args .n) (s x .args .r) (tables (s x)) (s x .args .levels .now) (fine x) (range h) (sym (k .recognise .ensures .0) ∙ not-true _ (c .before .if3 .taken))) (λ z. omega arith)
-
-put-residues-requires : tie.Need-put-residues-requires
-put-residues-requires c κs = let x = e (f (c .before)) in omega (arith, long x, room x .settings .few, ap length (s x .pre .1 .1))
-
-place-of-requires : tie.Need-place-of-requires
-place-of-requires c κs =
-    let w = c .before .before .before .before in
-    let h = g w in
-    (omega (arith, few (e (f h)), ap length (table h) ∙ length-fill 512 _), ap length (put w) ∙ length-fill 8 _)
-
-room-requires : tie.Need-room-requires
-room-requires c κs = omega (arith, few (x c), large-of (tables (o (h c))) (room (x c) .long) .counts)
-
-same-length-4 : tie.Need-same-length-4
-same-length-4 c = k (h (c .before)) .recognise .kept .1 .1 .1 .1 .1 .1 .1 .1 .0
-
-same-length-5 : tie.Need-same-length-5
-same-length-5 c = k (h (c .before)) .recognise .kept .1 .1 .1 .1 .1 .1 .1 .1 .1 .0
-
-same-length-6 : tie.Need-same-length-6
-same-length-6 c = k (h (c .before)) .recognise .kept .1 .1 .1 .1 .1 .1 .1 .1 .1 .1 .0
-
-same-length-7 : tie.Need-same-length-7
-same-length-7 c = w (c .before) .put-residues .kept .1 .1 .0
+returns-3 c = let f = c .before .before in simp (eq-eqb _ _ (f .before .if1 .left), lt-ltb _ _ (f .if2 .taken), ne-eqb _ _ (c .if3 .left))
 
 returns-4 : tie.Need-returns-4
-returns-4 c =
-    let a = c .before in
-    let y = o (h a) in
-    let told =
-    ap (λ (i : ℕ). roomAt (y .args .n) i (y .args .counts .now)) (placed a)
-    ∙ add-told (y .args .settings) (y .args .n) (y .args .r) (tables y) (y .args .levels .now) (room (x a) .settings) (few (x a)) (long (x a)) (known (h a)) (fine (x a)) (range (f (h a))) in
-    (c .room .ensures ∙ told, ((λ z. placed a), ((λ z. table (h a)), ((λ z. solves (h a)), (λ z. put (w a))))))
+returns-4 c = let f = c .before in simp (eq-eqb _ _ (f .before .if1 .left), le-ltb _ _ (f .if2 .left), eq-eqb _ _ (c .if4 .taken))
+
+returns-5 : tie.Need-returns-5
+returns-5 c = let f = c .before in simp (eq-eqb _ _ (f .before .if1 .left), le-ltb _ _ (f .if2 .left), ne-eqb _ _ (c .if4 .left))
 
 pub add-refusal-spec : {M : Type 1} → statement M
 add-refusal-spec =
-    tie.close
-    (tie.spec
-    too-short-requires
-    point-sizes-requires
-    unplaced-requires
-    returns
-    cast-p
-    in-range-requires
-    unplaced-requires-2
-    returns-2
-    recognise-requires
-    unplaced-requires-3
-    same-length
-    same-length-2
-    same-length-3
-    returns-3
-    put-residues-requires
-    place-of-requires
-    room-requires
-    same-length-4
-    same-length-5
-    same-length-6
-    same-length-7
-    returns-4)
+    tie.close (tie.spec returns shared-slice-read-if3 returns-2 returns-3 returns-4 returns-5)
