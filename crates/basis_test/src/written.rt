@@ -2,7 +2,7 @@
 use crate::buffers;
 use crate::refused;
 use crate::stored::Head;
-use basis::adding;
+use addition::adding;
 use basis::drawing;
 use specification::settings::Answer;
 use specification::settings::Drawn;

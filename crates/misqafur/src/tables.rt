@@ -1,7 +1,7 @@
 // Adding to, withdrawing from, drawing up and checking the five lent tables. Levels are bytes that are read as signed ones, 255 as -1.
 use crate::packing::pack_answer;
 use crate::packing::pack_drawn;
-use basis::adding;
+use addition::adding;
 use basis::drawing;
 use basis::withdrawing;
 use queries::checking;

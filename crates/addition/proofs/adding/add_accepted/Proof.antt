@@ -15,8 +15,8 @@ use Rattle.growth.specs.Growing.{allPoints}
 use Rattle.construction.proofs.drawing.Grounds.{points-long}
 use Rattle.growth.proofs.Added.{all-count, all-few, states-more}
 use Rattle.recognition.proofs.settings.Written.{both-written}
-use Rattle.basis.proofs.adding.add_accepted.Statement.{statement}
-use Rattle.basis.proofs.adding.add_accepted.Tie as tie
+use Rattle.addition.proofs.adding.add_accepted.Statement.{statement}
+use Rattle.addition.proofs.adding.add_accepted.Tie as tie
 
 module _ (s : tie.Start) where
   abbrev tables : Tables

@@ -1,8 +1,8 @@
 -- `adding::add_refusal` meets its contract: at each return the tests that led there decide the number.
 use native.Mathlib.Omega.{arith}
 use borrow.Author.Tests.{lt-ltb, le-ltb, eq-eqb, ne-eqb}
-use Rattle.basis.proofs.adding.add_refusal.Statement.{statement}
-use Rattle.basis.proofs.adding.add_refusal.Tie as tie
+use Rattle.addition.proofs.adding.add_refusal.Statement.{statement}
+use Rattle.addition.proofs.adding.add_refusal.Tie as tie
 
 -- the place is looked at
 abbrev first : tie.Else1 → tie.Start

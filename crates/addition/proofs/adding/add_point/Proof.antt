@@ -10,9 +10,9 @@ use Rattle.specification.proofs.agreement.Refusals.{large-of}
 use Rattle.recognition.proofs.settings.ByNumber.{alone, when-refused}
 use Rattle.recognition.proofs.naming.NamingTests.{open-of}
 use Rattle.recognition.proofs.naming.PointAtHand.{AtHand, at-hand}
-use Rattle.basis.proofs.adding.Addition.{add-told, none-before, Raised, raised, Ready, ready}
-use Rattle.basis.proofs.adding.add_point.Statement.{statement}
-use Rattle.basis.proofs.adding.add_point.Tie as tie
+use Rattle.addition.proofs.adding.Addition.{add-told, none-before, Raised, raised, Ready, ready}
+use Rattle.addition.proofs.adding.add_point.Statement.{statement}
+use Rattle.addition.proofs.adding.add_point.Tie as tie
 
 -- the lent tables
 abbrev tables : tie.Start → Tables

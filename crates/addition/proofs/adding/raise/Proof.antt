@@ -2,8 +2,8 @@
 use mathlib.Core.Path.{refl}
 use native.Mathlib.Omega.{arith}
 use lib.ListN.{length-set}
-use Rattle.basis.proofs.adding.raise.Statement.{statement}
-use Rattle.basis.proofs.adding.raise.Tie as tie
+use Rattle.addition.proofs.adding.raise.Statement.{statement}
+use Rattle.addition.proofs.adding.raise.Tie as tie
 
 slice-read-counts : tie.Need-slice-read-counts
 slice-read-counts c = omega arith

@@ -7,8 +7,8 @@ use borrow.Author.Needs.{needs}
 use Rattle.residue.specs.Layout.{withPlace}
 use Rattle.residue.proofs.Layouts.{over-all}
 use Rattle.residue.proofs.Replaced.{put-place}
-use Rattle.basis.proofs.adding.add_state.Statement.{statement}
-use Rattle.basis.proofs.adding.add_state.Tie as tie
+use Rattle.addition.proofs.adding.add_state.Statement.{statement}
+use Rattle.addition.proofs.adding.add_state.Tie as tie
 
 copy-requires : tie.Need-copy-requires
 copy-requires c κs = omega arith

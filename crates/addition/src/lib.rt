@@ -1,0 +1,2 @@
+// The call that adds a point to lent tables.
+pub mod adding;
