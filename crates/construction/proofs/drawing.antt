@@ -10,5 +10,7 @@ pub mod Decisions
 pub mod Hands
 pub mod Grounds
 pub mod Costs
+pub mod KeptRows
+pub mod LoopState
 pub mod Loop
 pub mod Given

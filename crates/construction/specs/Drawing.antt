@@ -1,17 +1,20 @@
 -- What drawing up from all points is handed, and what it leaves. The public calls stand on it. Of these definitions a public promise names `settingsOf`
 -- alone (csv, Printing).
 use mathlib.Core.Path.{_≡_}
-use mathlib.Core.List.{List, _++_, map}
-use Prim.Native.Nat.{ℕ, _+_, _-_, _%_, _<_, _≤_}
-use lib.ListN.{length, getD, take, replicate}
+use mathlib.Core.List.{List, [], _∷_, _++_, map}
+use Prim.Native.Nat.{ℕ, suc, _+_, _-_, _%_, _<_, _≤_}
+use lib.ListN.{length, getD, set, take, replicate}
 use lib.Dec.{T}
+use Rattle.residue.specs.Inverse.{inverseOf}
 use Rattle.residue.specs.Vector.{Below, pointwise}
-use Rattle.elimination.specs.Elimination.{eliminated, Multiplied}
-use Rattle.residue.specs.Layout.{fill, inPlaces, over}
+use Rattle.elimination.specs.Elimination.{eliminated, multiplesOf, Multiplied}
+use Rattle.elimination.specs.Rows.{firstNonzero, pivotRow}
+use Rattle.residue.specs.Layout.{fill, inPlaces, over, withPlace}
 use Rattle.specification.specs.declared.settings.Settings.{Settings}
 use Rattle.specification.specs.Levels.{noRepeat}
 use Rattle.specification.specs.BasisOf.{interpolantOf}
-use Rattle.specification.specs.Tables.{spaceUnder, pointsUnder, rowCount, standardTable, leadsTable, coefficientsTable, pointsIn, statesSize}
+use Rattle.specification.specs.Cancellations.{valueColumn}
+use Rattle.specification.specs.Tables.{spaceUnder, pointsUnder, standardUnder, rowCount, standardTable, leadsTable, coefficientsTable, pointsIn, statesSize}
 use Rattle.specification.proofs.agreement.Refusals.{Accepted}
 
 -- A working row: empty, and with values at its front.
@@ -60,3 +63,30 @@ pub record Tabled (s : Settings) (S : List (List ℕ)) (r : ℕ) (standard leads
 pub record DrawnUp (s : Settings) (S : List (List ℕ)) (r : ℕ) (standard leads coefficients rows pivots : List ℕ) : Type 0 where
   pub tabled : Tabled s S r standard leads coefficients
   pub pivot-rows : Solves s S rows pivots
+
+-- The lent bytes of the pivot rows: the blocks of their multiples, and their pivots.
+pub record PivotBytes : Type 0 where
+  pub rows : List ℕ
+  pub pivots : List ℕ
+
+abbrev pub pivotBytes : List ℕ → List ℕ → PivotBytes
+pivotBytes rows pivots = record { rows = rows; pivots = pivots }
+
+-- with a working row kept as pivot row t, with its multiples: its pivot is the place of its first value that is not 0, which becomes 1
+unfoldable pub withRow : ℕ → ℕ → ℕ → List ℕ → PivotBytes → PivotBytes
+withRow p n t work kept = let at = firstNonzero n work in
+    pivotBytes (withPlace 1152 t (multiplesOf p (pivotRow p (n + t) (inverseOf p (getD work at 0)) work)) (kept .rows)) (set (kept .pivots) t at)
+
+-- with n values kept: the working row is what elimination by the t rows before leaves of them
+unfoldable pub withColumn : ℕ → ℕ → ℕ → List ℕ → PivotBytes → PivotBytes
+withColumn p n t values kept = withRow p n t (eliminated p (kept .rows) (kept .pivots) t (rowWith values)) kept
+
+-- with columns of n values kept behind the t rows before, first to last
+unfoldable pub withColumns : ℕ → ℕ → ℕ → List (List ℕ) → PivotBytes → PivotBytes
+withColumns p n t [] kept = kept
+withColumns p n t (values ∷ columns) kept = withColumns p n (suc t) columns (withColumn p n t values kept)
+
+-- The pivot rows of the points, over lent bytes: one for each standard monomial, of its values at the points. What lies behind the last is as it was lent.
+unfoldable pub pivotRowsUnder : Settings → List (List ℕ) → List ℕ → List ℕ → PivotBytes
+pivotRowsUnder s S rows pivots =
+    withColumns (s .modulus) (length S) 0 (map (valueColumn (spaceUnder s) (pointsUnder s S)) (standardUnder s S)) (pivotBytes rows pivots)

@@ -18,7 +18,7 @@ ghost use mathlib.Core.Path.{_≡_};
 ghost use lib.ListN.{length, replicate};
 ghost use Rattle.specification.specs.Tables.{pointsIn, standardSize, leadsSize, coefficientsSize};
 ghost use Rattle.specification.specs.Adding.{cancellationsUnder};
-ghost use Rattle.construction.specs.Drawing.{RowsLong, PointsGiven, Tabled, DrawnUp};
+ghost use Rattle.construction.specs.Drawing.{RowsLong, PointsGiven, Tabled, DrawnUp, pivotBytes, pivotRowsUnder};
 
 // How many rows a basis has, and how many cancellations drawing it up took.
 pub struct Counts {
@@ -43,6 +43,8 @@ pub fn draw(
     ensures { λ d. ⌜ DrawnUp settings (pointsIn settings n (now (points .entry))) (d .r) (now (standard .exit)) (now (leads .exit))
         (now (coefficients .exit)) (now (rows .exit)) (now (pivots .exit)) ⌝ }
     ensures { λ d. ⌜ d .cancellations ≡ cancellationsUnder settings (pointsIn settings n (now (points .entry))) ⌝ }
+    ensures { λ _. ⌜ pivotBytes (now (rows .exit)) (now (pivots .exit))
+        ≡ pivotRowsUnder settings (pointsIn settings n (now (points .entry))) (now (rows .entry)) (now (pivots .entry)) ⌝ }
 {
     let p = settings.modulus as u8;
     let mut steps = [0u64; 8];
@@ -98,6 +100,8 @@ pub fn draw_anew(
     ensures { λ d. ⌜ Tabled settings (pointsIn settings n (now (points .entry))) (d .r)
         (now (standard .exit)) (now (leads .exit)) (now (coefficients .exit)) ⌝ }
     ensures { λ d. ⌜ d .cancellations ≡ cancellationsUnder settings (pointsIn settings n (now (points .entry))) ⌝ }
+    ensures { λ _. ⌜ pivotBytes (now (rows .exit)) (now (pivots .exit))
+        ≡ pivotRowsUnder settings (pointsIn settings n (now (points .entry))) (now (rows .entry)) (now (pivots .entry)) ⌝ }
 {
     bytes::clear(standard);
     bytes::clear(leads);

@@ -11,14 +11,14 @@ use Rattle.elimination.specs.Rows.{firstNonzero, pivotRow}
 use Rattle.residue.proofs.level.Moduli.{modulus-range}
 use Rattle.monomial.specs.Order.{Order}
 use Rattle.specification.specs.Space.{Space}
-use Rattle.specification.specs.Instance.{Monomial, Point, spaceOf, pointOf}
+use Rattle.specification.specs.Instance.{Monomial, Point, spaceOf}
 use Rattle.specification.specs.Cancellations.{valueColumn}
 use Rattle.specification.proofs.Instance.{laws}
 use Rattle.specification.proofs.cancellations.Under.{inverse-at}
-use Rattle.specification.proofs.cancellations.Turns.{own-column}
 use Rattle.specification.proofs.cancellations.Progress.{Ready, Passed, pass-lead, pass-standard}
 use Rattle.construction.proofs.drawing.TablesHold.{Ground, TablesHold, InHand}
 use Rattle.construction.proofs.drawing.Decisions.{work-long, work-below, standard-more}
+use Rattle.construction.proofs.drawing.Hands.{hand-column}
 
 module _ {q m n : ℕ} {order : Order} {S : List (Point (suc q) m)} {p : ℕ} (G : Ground q m n order S p) {std lds : List (Monomial m)} {css : List (List ℕ)}
     {standard leads coefficients rows pivots values ranks steps : List ℕ} (H : TablesHold q m n order S std lds css standard leads coefficients rows pivots values ranks steps) {b : Monomial m}
@@ -28,14 +28,11 @@ module _ {q m n : ℕ} {order : Order} {S : List (Point (suc q) m)} {p : ℕ} (G
   abbrev D : Space
   D = spaceOf q m order
 
-  column : take n own ≡ valueColumn D S b
-  column = own-column D S (pointOf q m []) n (G .count) b own (omega (arith, B .own-long, G .most)) (B .own-below) (B .own-at)
-
   is-left : work ≡ eliminated (suc q) rows pivots (length std) (fill 128 (valueColumn D S b))
-  is-left = left ∙ ap₂ (λ (z : ℕ) (c : List ℕ). eliminated z rows pivots (length std) (fill 128 c)) (G .modulus) column
+  is-left = left ∙ ap₂ (λ (z : ℕ) (c : List ℕ). eliminated z rows pivots (length std) (fill 128 c)) (G .modulus) (hand-column G B)
 
   is-cost : k ≡ cancellations (suc q) rows pivots (length std) (fill 128 (valueColumn D S b))
-  is-cost = cost ∙ ap₂ (λ (z : ℕ) (c : List ℕ). cancellations z rows pivots (length std) (fill 128 c)) (G .modulus) column
+  is-cost = cost ∙ ap₂ (λ (z : ℕ) (c : List ℕ). cancellations z rows pivots (length std) (fill 128 c)) (G .modulus) (hand-column G B)
 
   pub lead-passed : firstNonzero n work ≡ n → Passed D S n std (lds ++ (b ∷ [])) (total + k) rows pivots b
   lead-passed z =

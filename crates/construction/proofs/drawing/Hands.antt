@@ -23,8 +23,10 @@ use Rattle.monomial.proofs.rank.Steps.{steps-at}
 use Rattle.monomial.proofs.columns.Entries.{column-long, column-at}
 use Rattle.monomial.proofs.Padding.{fill-timesVariable}
 use Rattle.specification.specs.Space.{Space}
-use Rattle.specification.specs.Instance.{Monomial, Point, spaceOf}
+use Rattle.specification.specs.Instance.{Monomial, Point, spaceOf, pointOf}
+use Rattle.specification.specs.Cancellations.{valueColumn}
 use Rattle.specification.proofs.Instance.{laws, standard-exponent}
+use Rattle.specification.proofs.cancellations.Turns.{own-column}
 use Rattle.specification.proofs.ideal.Laws.{Laws}
 use Rattle.specification.proofs.ideal.Lists.{getD-among}
 use Rattle.construction.specs.Drawing.{productValues}
@@ -87,6 +89,12 @@ module _ {q m n : ℕ} {order : Order} {S : List (Point (suc q) m)} {p : ℕ} (G
         omega (arith, modulus-range (suc q) (G .prime) .0);
     own-at = λ i h. of (getD-replicate {A = ℕ} 64 i 1 0 (omega (arith, G .most)) ∙ sym (L .val-one (pointAt q m n order S i)));
   }
+
+  -- its values at the points are its column
+  pub hand-column : {std lds : List (Monomial m)} {b : Monomial m} {at exponents : List ℕ} {rank : ℕ} {own : List ℕ} → InHand q m n order S std lds b at exponents rank own
+      → take n own ≡ valueColumn D S b
+  hand-column {b = b} {own = own} B =
+      own-column D S (pointOf q m []) n (G .count) b own (omega (arith, B .own-long, G .most)) (B .own-below) (B .own-at)
 
   module _ {std lds : List (Monomial m)} {css : List (List ℕ)} {standard leads coefficients rows pivots values ranks steps : List ℕ}
       (H : TablesHold q m n order S std lds css standard leads coefficients rows pivots values ranks steps) {k t r : ℕ} {at : List ℕ}

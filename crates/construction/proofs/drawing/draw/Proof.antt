@@ -5,7 +5,7 @@ use borrow.Author.Needs.{needs}
 use Rattle.residue.proofs.level.Moduli.{modulus-range}
 use Rattle.residue.proofs.Replaced.{zeros-long}
 use Rattle.construction.proofs.drawing.Grounds.{points-long}
-use Rattle.construction.proofs.drawing.Loop.{head-start, own-below, cost-fits, kept-few, ends, costs, next-small, next-exponent, goes-on}
+use Rattle.construction.proofs.drawing.Loop.{head-start, own-below, cost-fits, kept-few, ends, ends-rows, costs, next-small, next-exponent, goes-on}
 use Rattle.construction.proofs.drawing.draw.Proof.Turn.{Inv-loop, μ-loop, opened, stepped, start, given, head-sizes, exponents-8, range, row-room, pivot-room, within-64, top, work-128, work-residues, reduced, head, lead-fits, inside, standard-fits, as-lead, as-standard, found-64, with-values, above, kept, one-more, sizes, steps-8, steps-small, columns-512, column-small, values-are, joined, sought, onward, chosen}
 use Rattle.construction.proofs.drawing.draw.Statement.{statement}
 use Rattle.construction.proofs.drawing.draw.Tie as tie
@@ -187,7 +187,7 @@ returns c =
     let g = given (above (joined s)) in
     let k = kept (joined s) in
     let z = c .enum-told .given .1 in
-    (ends g k z (s .next .ensures), costs g k z (s .next .ensures))
+    (ends g k z (s .next .ensures), (costs g k z (s .next .ensures), ends-rows g k z (s .next .ensures)))
 
 slice-aggregate-put-exponents : tie.Need-slice-aggregate-put-exponents Inv-loop μ-loop
 slice-aggregate-put-exponents c = sym (exponents-8 (above (onward (c .before .before .before))))

@@ -16,12 +16,13 @@ use Rattle.monomial.proofs.rank.Steps.{steps-long, steps-below}
 use Rattle.monomial.proofs.columns.Entries.{column-below, column-in}
 use Rattle.construction.specs.Drawing.{productValues, PointsGiven}
 use Rattle.construction.proofs.drawing.Grounds.{points-long, points-below}
-use Rattle.construction.proofs.drawing.Loop.{Head, Kept, DrawingSized, head-sized, exponents-long, worked-long, worked-below, room-lead, keeps-lead, room-standard, keeps-standard, kept-as, kept-sized}
+use Rattle.construction.proofs.drawing.Loop.{head-sized, exponents-long, worked-long, worked-below, room-lead, keeps-lead, room-standard, keeps-standard, kept-sized}
+use Rattle.construction.proofs.drawing.LoopState.{DrawingSized, Head, Kept, kept-as}
 use Rattle.construction.proofs.drawing.draw.Tie as tie
 
 abbrev pub Inv-loop : tie.InvT-loop
 Inv-loop settings n points standard₀ leads₀ coefficients₀ rows₀ pivots₀ p steps columns values₀ ranks₀ at₀ found₀ r₀ cancellations₀ exponents₀ rank₀ own₀ standard leads coefficients rows pivots values ranks at found r cancellations exponents rank own =
-    Head settings n points found r cancellations standard leads coefficients rows pivots values ranks steps at exponents rank own
+    Head settings n points rows₀ pivots₀ found r cancellations standard leads coefficients rows pivots values ranks steps at exponents rank own
 
 abbrev pub μ-loop : tie.MeasureT-loop
 μ-loop settings n points standard₀ leads₀ coefficients₀ rows₀ pivots₀ p steps columns values₀ ranks₀ at₀ found₀ r₀ cancellations₀ exponents₀ rank₀ own₀ standard leads coefficients rows pivots values ranks at found r cancellations exponents rank own =
@@ -124,7 +125,7 @@ module _ (j : tie.Joined1 Inv-loop μ-loop) where
   abbrev pub columns : List ℕ
   columns = gathered .put-columns .last .1 .1 .0
 
-  pub kept : Kept (start above .args .settings) (start above .args .n) (start above .args .points .now) (j .if1 .found) (j .if1 .r) (above .loop .cancellations + reduced (j .before) .reduce .result)
+  pub kept : Kept (start above .args .settings) (start above .args .n) (start above .args .points .now) (start above .args .rows .now) (start above .args .pivots .now) (j .if1 .found) (j .if1 .r) (above .loop .cancellations + reduced (j .before) .reduce .result)
       (j .if1 .standard) (j .if1 .leads) (j .if1 .coefficients) (j .if1 .rows) (j .if1 .pivots) (j .if1 .values) (j .if1 .ranks) steps (above .loop .at)
   kept =
       let q = j .before .first-nonzero .ensures in
