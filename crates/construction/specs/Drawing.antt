@@ -1,6 +1,7 @@
 -- What drawing up from all points is handed, and what it leaves. The public calls stand on it. Of these definitions a public promise names `settingsOf`
 -- alone (csv, Printing).
 use mathlib.Core.Path.{_≡_}
+use mathlib.Core.Bool.{cond}
 use mathlib.Core.List.{List, [], _∷_, _++_, map}
 use Prim.Native.Nat.{ℕ, suc, _+_, _-_, _%_, _<_, _≤_}
 use lib.ListN.{length, getD, set, take, replicate}
@@ -90,3 +91,7 @@ withColumns p n t (values ∷ columns) kept = withColumns p n (suc t) columns (w
 unfoldable pub pivotRowsUnder : Settings → List (List ℕ) → List ℕ → List ℕ → PivotBytes
 pivotRowsUnder s S rows pivots =
     withColumns (s .modulus) (length S) 0 (map (valueColumn (spaceUnder s) (pointsUnder s S)) (standardUnder s S)) (pivotBytes rows pivots)
+
+-- What recognition leaves of lent bytes: points of which one repeats are not drawn up.
+unfoldable pub pivotRowsLeft : Settings → List (List ℕ) → List ℕ → List ℕ → PivotBytes
+pivotRowsLeft s S rows pivots = cond (noRepeat S) (pivotRowsUnder s S rows pivots) (pivotBytes rows pivots)

@@ -14,7 +14,7 @@ ghost use Rattle.specification.specs.Settings.{settingsCases};
 ghost use Rattle.specification.specs.Counted.{isCount};
 ghost use Rattle.specification.specs.Tables.{fiveTables, pointsIn, recognised, tooShort};
 ghost use Rattle.specification.specs.Tables.{statesSize, standardSize, leadsSize, coefficientsSize, countsSize};
-ghost use Rattle.construction.specs.Drawing.{RowsLong, Solves};
+ghost use Rattle.construction.specs.Drawing.{RowsLong, Solves, pivotBytes, pivotRowsLeft};
 
 // Whether each of the first n bytes is a count, which of bytes 0 alone is not.
 fn are_counts(n: usize, counts: &[u8]) -> bool
@@ -80,7 +80,7 @@ fn agree(
     counts_fit(n, counts)
 }
 
-// Whether lent tables are the basis of their points. The points are left as a table, and where the tables are recognised the pivot rows of the points.
+// Whether lent tables are the basis of their points. The points are left as a table, and where none repeats their pivot rows.
 pub fn recognise(
     settings: Settings,
     n: usize,
@@ -101,6 +101,8 @@ pub fn recognise(
         (fiveTables (now (states .entry)) (now (standard .entry)) (now (leads .entry)) (now (coefficients .entry)) (now (counts .entry))) ⌝ }
     ensures { λ b. ⌜ now (points .exit) ≡ fill statesSize (inPlaces 8 (pointsIn settings n (now (states .entry)))) ⌝ }
     ensures { λ b. ⌜ (b ≡ true → Solves settings (pointsIn settings n (now (states .entry))) (now (rows .exit)) (now (pivots .exit))) ⌝ }
+    ensures { λ _. ⌜ pivotBytes (now (rows .exit)) (now (pivots .exit))
+        ≡ pivotRowsLeft settings (pointsIn settings n (now (states .entry))) (now (rows .entry)) (now (pivots .entry)) ⌝ }
 {
     points::read_points(settings, n, states, points);
     if !points::no_repeat(n, points) {

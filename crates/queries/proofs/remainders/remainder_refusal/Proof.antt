@@ -132,7 +132,7 @@ returns-5 c =
     let g = k .before .before .before .before in
     let o = o (e (f g)) in
     let known = not-false _ (c .if4 .left) in
-    (remainder-good (o .args .settings) (o .args .n) (o .args .r) (tables o) (o .args .term-coefficients .now) (o .args .exponents .now) (o .args .out .now) (fine (e (f g))) (range (f g)) (within g) (sym (k .recognise .ensures .0) ∙ known), ((λ z. k .recognise .ensures .1 .0), (λ z. k .recognise .ensures .1 .1 known)))
+    (remainder-good (o .args .settings) (o .args .n) (o .args .r) (tables o) (o .args .term-coefficients .now) (o .args .exponents .now) (o .args .out .now) (fine (e (f g))) (range (f g)) (within g) (sym (k .recognise .ensures .0) ∙ known), ((λ z. k .recognise .ensures .1 .0), (λ z. k .recognise .ensures .1 .1 .0 known)))
 
 pub remainder-refusal-spec : {M : Type 1} → statement M
 remainder-refusal-spec =

@@ -110,7 +110,7 @@ returns-4 c =
     let f = k .before .before .before .before in
     let o = o (e f) in
     let known = not-false _ (c .if3 .left) in
-    (values-good (o .args .size) (o .args .settings) (o .args .n) (o .args .r) (tables o) (o .args .values .now) (o .args .out .now) (fine (e f)) (range f) (sym (k .recognise .ensures .0) ∙ known), ((λ z. k .recognise .ensures .1 .0), (λ z. k .recognise .ensures .1 .1 known)))
+    (values-good (o .args .size) (o .args .settings) (o .args .n) (o .args .r) (tables o) (o .args .values .now) (o .args .out .now) (fine (e f)) (range f) (sym (k .recognise .ensures .0) ∙ known), ((λ z. k .recognise .ensures .1 .0), (λ z. k .recognise .ensures .1 .1 .0 known)))
 
 pub values-refusal-spec : {M : Type 1} → statement M
 values-refusal-spec =

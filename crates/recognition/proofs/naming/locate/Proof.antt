@@ -89,7 +89,7 @@ module _ (g : tie.Else3) where
   table = k .recognise .ensures .1 .0
 
   solves : Solves (o .args .settings) (olds o) (k .recognise .last .1 .1 .1 .1 .1 .1 .1 .1 .1 .0) (k .recognise .last .1 .1 .1 .1 .1 .1 .1 .1 .1 .1 .0)
-  solves = k .recognise .ensures .1 .1 (not-false _ (g .if3 .left))
+  solves = k .recognise .ensures .1 .1 .0 (not-false _ (g .if3 .left))
 
 -- the new point is in its place
 module _ (w : tie.After-put-residues) where

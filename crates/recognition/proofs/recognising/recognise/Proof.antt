@@ -1,7 +1,7 @@
 -- `recognising::recognise` meets its contract: at each return the tests that led there decide whether the tables are recognised.
 use borrow.Author.Tests.{not-true, not-false}
 use mathlib.Core.Path.{_≡_, refl, sym, ap, ap₂, subst, _∙_}
-use mathlib.Core.Bool.{true, true≢false}
+use mathlib.Core.Bool.{true, false, true≢false}
 use mathlib.Core.List.{List}
 use Prim.Native.Nat.{ℕ}
 use native.Mathlib.Omega.{arith}
@@ -10,17 +10,28 @@ use Rattle.residue.specs.Layout.{groups, fill, inPlaces}
 use Rattle.residue.proofs.level.Moduli.{modulus-range}
 use Rattle.residue.proofs.Tests.{of-true}
 use Rattle.residue.proofs.Layouts.{length-fill}
+use Rattle.specification.specs.declared.settings.Settings.{Settings}
 use Rattle.specification.specs.Levels.{noRepeat}
 use Rattle.specification.specs.Tables.{Tables, fiveTables, statesTable, standardTable, leadsTable, coefficientsTable, pointsIn}
 use Rattle.specification.proofs.agreement.Points.{Points}
 use Rattle.specification.proofs.agreement.Refusals.{Accepted, accepted, large-of}
-use Rattle.construction.specs.Drawing.{PointsGiven, DrawnUp}
+use Rattle.construction.specs.Drawing.{PointsGiven, DrawnUp, pivotBytes, pivotRowsUnder, pivotRowsLeft}
 use Rattle.construction.proofs.points.PointTables.{length-points, points-in}
 use Rattle.specification.proofs.Recognised.{read-each, read}
 use Rattle.construction.proofs.drawing.Given.{table-repeat, table-points, given, drawn-long, drawn-of}
 use Rattle.recognition.proofs.recognising.Tests.{not-once, not-count, by-tables}
 use Rattle.recognition.proofs.recognising.recognise.Statement.{statement}
 use Rattle.recognition.proofs.recognising.recognise.Tie as tie
+
+-- the pivot rows at exit, where a point repeats and where none does
+module _ (s : Settings) (S : List (List ℕ)) (rows pivots : List ℕ) where
+  left-as-lent : noRepeat S ≡ false → pivotBytes rows pivots ≡ pivotRowsLeft s S rows pivots
+  unfolding pivotRowsLeft
+  left-as-lent e = sym (simp e)
+
+  left-drawn : noRepeat S ≡ true → pivotRowsUnder s S rows pivots ≡ pivotRowsLeft s S rows pivots
+  unfolding pivotRowsLeft
+  left-drawn e = sym (simp e)
 
 -- the lent tables
 abbrev tables : tie.Start → Tables
@@ -87,9 +98,20 @@ module _ (d : tie.After-draw) where
   abbrev g : tie.Else1
   g = d .before .before .before .before .before .before .before
 
-  drawn : DrawnUp (s g .args .settings) (S (w g)) (d .draw .result .r) (d .draw .last .1 .1 .1 .0) (d .draw .last .1 .1 .1 .1 .0) (d .draw .last .1 .1 .1 .1 .1 .0)
-      (d .draw .last .1 .1 .1 .1 .1 .1 .0) (d .draw .last .1 .1 .1 .1 .1 .1 .1 .0)
+  abbrev rows : List ℕ
+  rows = d .draw .last .1 .1 .1 .1 .1 .1 .0
+
+  abbrev pivots : List ℕ
+  pivots = d .draw .last .1 .1 .1 .1 .1 .1 .1 .0
+
+  drawn : DrawnUp (s g .args .settings) (S (w g)) (d .draw .result .r) (d .draw .last .1 .1 .1 .0) (d .draw .last .1 .1 .1 .1 .0) (d .draw .last .1 .1 .1 .1 .1 .0) rows pivots
   drawn = drawn-of (back g) (d .draw .ensures .0)
+
+  rows-left : pivotBytes rows pivots ≡ pivotRowsLeft (s g .args .settings) (S (w g)) (s g .args .rows .now) (s g .args .pivots .now)
+  rows-left =
+      d .draw .ensures .1 .1
+      ∙ ap (λ (K : List (List ℕ)). pivotRowsUnder (s g .args .settings) K (s g .args .rows .now) (s g .args .pivots .now)) (back g)
+      ∙ left-drawn (s g .args .settings) (S (w g)) (s g .args .rows .now) (s g .args .pivots .now) (once g)
 
 read-points-requires : tie.Need-read-points-requires
 read-points-requires c κs =
@@ -108,7 +130,10 @@ returns : tie.Need-returns
 returns c =
     let w = c .before .before .before .before .before in
     let s = start w in
-    (not-once (s .args .settings) (s .args .n) (s .args .r) (tables s) (sym (asked (c .before)) ∙ not-true _ (c .if1 .taken)), (is-table w, λ e. absurd (true≢false (sym e))))
+    let twice = sym (asked (c .before)) ∙ not-true _ (c .if1 .taken) in (
+      not-once (s .args .settings) (s .args .n) (s .args .r) (tables s) twice,
+      (is-table w, ((λ e. absurd (true≢false (sym e))), left-as-lent (s .args .settings) (S w) (s .args .rows .now) (s .args .pivots .now) twice)),
+    )
 
 slice-aggregate-draw : tie.Need-slice-aggregate-draw
 slice-aggregate-draw c = refl
@@ -137,7 +162,7 @@ returns-2 : tie.Need-returns-2
 returns-2 c =
     let d = c .before .before .before .before .before .before .before .before in
     let y = s (g d) in
-    (not-count (y .args .settings) (y .args .n) (y .args .r) (tables y) (once (g d)) (λ e. c .if2 .taken (drawn d .tabled .row-count ∙ sym e)), (is-table (w (g d)), λ e. absurd (true≢false (sym e))))
+    (not-count (y .args .settings) (y .args .n) (y .args .r) (tables y) (once (g d)) (λ e. c .if2 .taken (drawn d .tabled .row-count ∙ sym e)), (is-table (w (g d)), ((λ e. absurd (true≢false (sym e))), rows-left d)))
 
 slice-aggregate-agree : tie.Need-slice-aggregate-agree
 slice-aggregate-agree c = sym (c .before .before .before .before .before .before .before .before .before .before .draw .kept .1 .1 .1 .0)
@@ -169,7 +194,7 @@ returns-3 c =
     let d = c .before .before .before .before .before .before .before .before .before .before .before .before .before in
     let y = s (g d) in (
       c .agree .ensures ∙ by-tables (y .args .settings) (y .args .n) (y .args .r) (tables y) (once (g d)) (sym (c .before .before .before .before .before .if2 .left) ∙ drawn d .tabled .row-count) _ _ _ _ (is-table (w (g d))) (drawn d .tabled .standard-table) (drawn d .tabled .leads-table) (drawn d .tabled .coefficients-table),
-      (is-table (w (g d)), λ e. drawn d .pivot-rows),
+      (is-table (w (g d)), ((λ e. drawn d .pivot-rows), rows-left d)),
     )
 
 pub recognise-spec : {M : Type 1} → statement M
