@@ -25,7 +25,7 @@ ghost use Rattle.specification.specs.Counted.{pointsOf, countsOf, gathered, ove
 ghost use Rattle.specification.specs.Tables.{pointsIn, fiveTables, tooShort, statesTable, statesSize, countsSize};
 ghost use Rattle.specification.specs.Adding.{drawEnded, costing, cancellationsUnder, pointsOffered, drawOutcome};
 ghost use Rattle.specification.proofs.Replicates.{holdingBoth};
-ghost use Rattle.construction.specs.Drawing.{RowsLong, PointsGiven};
+ghost use Rattle.construction.specs.Drawing.{RowsLong, PointsGiven, pivotBytes, pivotRowsUnder};
 
 // The basis of the n points of a table, with the counts in `times`, written to lent tables over lent pivot rows, and the answer that says so.
 pub(crate) fn draw_points(
@@ -49,6 +49,8 @@ pub(crate) fn draw_points(
         ≡ costing (cancellationsUnder settings (pointsIn settings n (now (points .entry))))
         (holdingBoth settings (pointsIn settings n (now (points .entry))) (now (times .entry))
         (fiveTables (now (states .entry)) (now (standard .entry)) (now (leads .entry)) (now (coefficients .entry)) (now (counts .entry)))) ⌝ }
+    ensures { λ _. ⌜ pivotBytes (now (rows .exit)) (now (pivots .exit))
+        ≡ pivotRowsUnder settings (pointsIn settings n (now (points .entry))) (now (rows .entry)) (now (pivots .entry)) ⌝ }
 {
     bytes::copy(points, states);
     bytes::copy(times, counts);

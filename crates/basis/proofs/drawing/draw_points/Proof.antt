@@ -127,11 +127,13 @@ returns c =
     let d = counted c in
     let s = o d in
     let e = d .draw-anew .ensures in
-    let k = copied d in
-    ap₂ (λ (k : ℕ) (w : Outcome). costing k w) (e .1 .0)
-    (both-written (s .args .settings) (S d) (s .args .times .now) (tables s) (s .args .n) (d .draw-anew .result .r) _ (standard d) (leads d) (coefficients d) _ (sym (given-count (s .pre .0)))
-    (points-in (k .before) .copy .ensures ∙ ap (λ (t : List ℕ). over t (s .args .states .now)) (s .pre .0 .table)) (e .0)
-    (k .copy2 .ensures ∙ ap (λ (t : List ℕ). over t (s .args .counts .now)) (sym (fill-exact 64 (s .args .times .now) (s .pre .1 .0)))))
+    let k = copied d in (
+      ap₂ (λ (k : ℕ) (w : Outcome). costing k w) (e .1 .0)
+          (both-written (s .args .settings) (S d) (s .args .times .now) (tables s) (s .args .n) (d .draw-anew .result .r) _ (standard d) (leads d) (coefficients d) _ (sym (given-count (s .pre .0)))
+          (points-in (k .before) .copy .ensures ∙ ap (λ (t : List ℕ). over t (s .args .states .now)) (s .pre .0 .table)) (e .0)
+          (k .copy2 .ensures ∙ ap (λ (t : List ℕ). over t (s .args .counts .now)) (sym (fill-exact 64 (s .args .times .now) (s .pre .1 .0))))),
+      e .1 .1,
+    )
 
 pub draw-points-spec : {M : Type 1} → statement M
 draw-points-spec =

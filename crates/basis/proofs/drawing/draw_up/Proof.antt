@@ -113,7 +113,7 @@ returns-2 c =
     let d = asked (e .before) in
     let s = s d in
     let w = d .draw-refusal .ensures .1 (e .if1 .left) in
-    r .draw-points .ensures
+    r .draw-points .ensures .0
     ∙ draw-done (s .args .settings) (tables s) (s .args .levels .now) (d .draw-refusal .result .refusal) (number d) (e .if1 .left) (d .draw-refusal .result .n) (points d) (w .0) (w .1 .0) (times d) (w .1 .1)
 
 pub draw-up-spec : {M : Type 1} → statement M

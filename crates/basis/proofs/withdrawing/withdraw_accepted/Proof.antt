@@ -134,7 +134,7 @@ returns-2 c =
     let d = drawing c in
     let o = first (taken (d .before)) in
     let s = s o in
-    ap uncosted (d .draw-points .ensures)
+    ap uncosted (d .draw-points .ensures .0)
     ∙ left-done (s .args .settings) (s .args .n) (s .args .place) (s .args .points .now) (s .pre .0 .0) (s .pre .0 .1) (s .pre .1 .0 (one o)) _ (o .take-out .ensures) (tables s) _
     (taken (d .before) .take-out2 .ensures) (omega (arith, large s .counts, s .pre .0 .0 .most)) (one o) (recounted (s .args .n) (s .args .r) (tables s) (s .args .place) (count s - 1))
 
