@@ -101,10 +101,6 @@ fn read_entries(
         return refused(refusal, first.at);
     }
     let p = modulus as u8;
-    let outside = points::first_outside(text, from, p, variables, entries);
-    if outside != 0 {
-        return refused(9, outside as u16 + 1);
-    }
     let mut rows = [0u8; 512];
     let mut times = [0u8; 64];
     let mut residues = [0u8; 64];

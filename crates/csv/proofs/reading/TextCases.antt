@@ -2,13 +2,13 @@
 use mathlib.Core.Path.{_≡_, refl, sym, ap, _∙_}
 use mathlib.Core.Bool.{Bool, true, false, cond}
 use mathlib.Core.List.{List, [], _∷_, _++_, map}
-use Prim.Native.Nat.{ℕ, suc, _+_, _<_, _≤_}
+use Prim.Native.Nat.{ℕ, suc, _<_, _≤_}
 use native.Mathlib.Omega.{arith}
 use borrow.Author.Tests.{lt-ltb, le-ltb, lt-leb, le-leb, eq-eqb, ne-eqb}
 use Rattle.residue.specs.Modulus.{isModulus}
 use Rattle.residue.specs.Layout.{over}
 use Rattle.specification.specs.Refusal.{firstOf}
-use Rattle.csv.specs.reading.Text.{Contents, TextCase, TextOutcome, valuedPoint, valuedPoints, firstOutside, headerCases, pointsCases, entriesCases, notRefused, textEnded, textAccepted, textRefused, textDecided, refusalAt}
+use Rattle.csv.specs.reading.Text.{TextCase, TextOutcome, valuedPoint, valuedPoints, headerCases, entryCase, notRefused, textEnded, textAccepted, textRefused, textDecided, refusalAt}
 use Rattle.csv.specs.reading.Points.{levelsAt, saying, Tabled}
 use Rattle.csv.specs.declared.reading.Refusal.{Refusal}
 
@@ -97,17 +97,14 @@ unfolding firstOf
 passed true k at l h = absurd (omega arith)
 passed false k at l h = (refl, h)
 
--- what the entries decide: 9, and behind it what their points and values do
-module _ (e : Contents) where
-  pub refuse-9 : (k : ℕ) → k ≡ firstOutside e → (k ≡ 0 → ⊥) → refusalAt 9 (k + 1) ≡ (firstOf notRefused (entriesCases e))
-  unfolding firstOf entriesCases
-  refuse-9 k f n =
-      let i : suc (firstOutside e) ≡ k + 1 = omega arith in
-      sym (simp (ne-eqb (firstOutside e) 0 (λ z. n (f ∙ z))) (ap (λ (a : ℕ). refusalAt 9 a) i))
+-- an entry at a place is refused, and at no place
+pub place-refuses : (refusal k : ℕ) (l : List TextCase) → (k ≡ 0 → ⊥) → refusalAt refusal (suc k) ≡ firstOf notRefused (entryCase refusal k ∷ l)
+unfolding firstOf
+place-refuses refusal k l n = simp (ne-eqb k 0 n)
 
-  pub inside-pass : firstOutside e ≡ 0 → firstOf notRefused (entriesCases e) ≡ firstOf notRefused (pointsCases (valuedPoints e))
-  unfolding firstOf entriesCases
-  inside-pass z = simp (eq-eqb (firstOutside e) 0 z)
+pub place-passes : (refusal k : ℕ) (l : List TextCase) → k ≡ 0 → firstOf notRefused (entryCase refusal k ∷ l) ≡ firstOf notRefused l
+unfolding firstOf
+place-passes refusal k l z = simp (eq-eqb k 0 z)
 
 -- a refusal, and an accepted text
 module _ (l : List TextCase) (done : TextOutcome) (states values counts : List ℕ) where

@@ -3,7 +3,7 @@ use mathlib.Core.Path.{_≡_}
 use mathlib.Core.Bool.{Bool, cond}
 use mathlib.Core.List.{List, [], _++_, map}
 use mathlib.Core.Option.{Option·getD}
-use Prim.Native.Nat.{ℕ, _≤_}
+use Prim.Native.Nat.{ℕ, _+_, _≤_}
 use lib.IntN.{ℤ, pos}
 use lib.ListN.{length, drop}
 use lib.Dec.{eqb}
@@ -14,8 +14,8 @@ use Rattle.specification.specs.Counted.{pointsOf, countsOf, gathered}
 use Rattle.specification.specs.Tables.{statesTable, countsSize}
 use Rattle.csv.specs.reading.Fields.{Field, field, broken, Part, part, faulty}
 use Rattle.specification.specs.Refusal.{firstOf}
-use Rattle.csv.specs.reading.Text.{Contents, Valued, TextOutcome, entryValue, firstValues, textAccepted, textDecided}
-use Rattle.csv.specs.reading.Text.{refusalAt, notRefused, headerCases, pointsCases, entriesCases}
+use Rattle.csv.specs.reading.Text.{Contents, Valued, TextOutcome, entryValue, valuedPoint, firstValues, textAccepted, textDecided}
+use Rattle.csv.specs.reading.Text.{refusalAt, notRefused, headerCases, entriesCases}
 use Rattle.csv.specs.reading.Records.{entriesAt}
 use Rattle.csv.specs.declared.reading.points.Placed.{Placed}
 use Rattle.csv.specs.declared.reading.points.Filled.{Filled}
@@ -57,9 +57,13 @@ pub record FilledAs (p m : ℕ) (text : List ℕ) (e : Part (List ℤ)) (r : Fil
 unfoldable pub levelsAt : ℕ → List ℕ → List (List ℤ)
 levelsAt m l = map (λ e. Option·getD e []) (entriesAt m l)
 
+-- what is said by these settings and these levels of the entries
+abbrev pub contents : ℕ → ℕ → ℕ → List (List ℤ) → Contents
+contents p m order S = record { header = record { variables = m; modulus = p; order = order }; entries = S }
+
 -- what a text says with these settings in its header and these entries behind it
 unfoldable pub saying : ℕ → ℕ → ℕ → List ℕ → Contents
-saying p m order l = record { header = record { variables = m; modulus = p; order = order }; entries = levelsAt m l }
+saying p m order l = contents p m order (levelsAt m l)
 
 -- what is left of a text of right form, by its settings and its entries
 abbrev pub entriesOutcome : (p m order : ℕ) → List ℕ → List ℕ → List ℕ → List ℕ → TextOutcome
@@ -71,6 +75,10 @@ entriesOutcome p m order l states values counts = let said = saying p m order l 
 unfoldable pub firstPlace : ℕ → Bool → ℕ → ℕ
 firstPlace found inside place = cond (eqb found 0) (cond inside 0 place) found
 
+-- a place, from 1, behind n others; 0, for no place, stays
+unfoldable pub placeAfter : ℕ → ℕ → ℕ
+placeAfter n k = cond (eqb k 0) 0 (n + k)
+
 -- the distinct points of entries in three tables, with their counts and their first values
 pub record Tabled (l : List Valued) (n : ℕ) (points counts values : List ℕ) : Type 0 where
   pub number : n ≡ length (gathered (pointsOf l))
@@ -78,7 +86,7 @@ pub record Tabled (l : List Valued) (n : ℕ) (points counts values : List ℕ) 
   pub times : counts ≡ fill countsSize (countsOf (gathered (pointsOf l)))
   pub firsts : values ≡ fill 64 (firstValues (pointsOf (gathered (pointsOf l))) l)
 
--- `gather_entries`: the refusal of these entries, or their tables
-pub record GatheredAs (l : List Valued) (r : Gathered) (points counts values : List ℕ) : Type 0 where
-  pub decided : refusalAt (r .refusal) (r .at) ≡ firstOf notRefused (pointsCases l)
-  pub tabled : r .refusal ≡ 0 → Tabled l (r .n) points counts values
+-- `gather_entries`: the refusal of entries with these levels, in which the order has no part, or their tables
+pub record GatheredAs (p m : ℕ) (S : List (List ℤ)) (r : Gathered) (points counts values : List ℕ) : Type 0 where
+  pub decided : (order : ℕ) → refusalAt (r .refusal) (r .at) ≡ firstOf notRefused (entriesCases (contents p m order S))
+  pub tabled : r .refusal ≡ 0 → Tabled (map (valuedPoint p m) S) (r .n) points counts values

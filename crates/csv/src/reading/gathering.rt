@@ -1,17 +1,18 @@
 // The distinct points of a text, with their counts and the values of their first records.
 use crate::reading::points::fill_entry;
+use crate::reading::points::first_outside;
 use construction::points::enter;
 ghost use mathlib.Core.Path.{_≡_};
 ghost use mathlib.Core.Bool.{cond, _||_};
-ghost use mathlib.Core.List.{[], _∷_, map};
-ghost use Prim.Native.Nat.{suc, _<_, _≤_};
+ghost use mathlib.Core.List.{[], _∷_};
+ghost use Prim.Native.Nat.{suc, _+_, _<_, _≤_};
 ghost use lib.Dec.{eqb};
 ghost use lib.ListN.{length, getD, set, drop};
 ghost use Rattle.residue.specs.Layout.{fill};
 ghost use Rattle.specification.specs.Refusal.{firstOf};
-ghost use Rattle.csv.specs.reading.Text.{valuedPoint, refusalAt, notRefused, entryCase};
+ghost use Rattle.csv.specs.reading.Text.{refusalAt, notRefused, entryCase};
 ghost use Rattle.csv.specs.reading.Records.{entriesAt, counted};
-ghost use Rattle.csv.specs.reading.Points.{levelsAt, firstPlace, GatheredAs};
+ghost use Rattle.csv.specs.reading.Points.{levelsAt, firstPlace, placeAfter, GatheredAs};
 ghost use Rattle.csv.specs.declared.reading.records.Entries.the-variants.{Count};
 
 // The number of points, and whether the value is the one that is kept with its point.
@@ -60,24 +61,40 @@ pub struct Gathered {
     pub n: u8,
 }
 
+// A refusal at the entry of this place, from 1; the header is record 1.
+fn refused_at(refusal: u8, place: usize) -> Gathered
+    requires { ⌜ place ≤ 16384 ⌝ }
+    ensures { λ r. ⌜ refusalAt (r .refusal) (r .at) ≡ refusalAt refusal (suc place) ⌝ }
+{
+    Gathered {
+        refusal,
+        at: place as u16 + 1,
+        n: 0,
+    }
+}
+
+// A point at this place has no room: 9 at the first entry out of range behind it, by its place there, before 8 at its own record.
+fn no_room(place: usize, behind: usize) -> Gathered
+    requires { ⌜ (0 < place) × (place + behind ≤ 16384) ⌝ }
+    ensures { λ r. ⌜ refusalAt (r .refusal) (r .at) ≡ firstOf notRefused (entryCase 9 (placeAfter place behind) ∷ entryCase 8 place ∷ []) ⌝ }
+{
+    if behind != 0 {
+        return refused_at(9, place + behind);
+    }
+    refused_at(8, place)
+}
+
 // 13 before 14, by the places from 1 at which they were met; 0 where one was not.
 fn decided(n: usize, often: usize, other: usize) -> Gathered
     requires { ⌜ (n ≤ 64) × (often ≤ 16384) × (other ≤ 16384) ⌝ }
-    ensures { λ r. ⌜ refusalAt (r .refusal) (r .at) ≡ firstOf notRefused (entryCase 13 often ∷ entryCase 14 other ∷ []) ⌝ ∗ ⌜ r .n ≡ n ⌝ }
+    ensures { λ r. ⌜ refusalAt (r .refusal) (r .at) ≡ firstOf notRefused (entryCase 13 often ∷ entryCase 14 other ∷ []) ⌝
+        ∗ ⌜ (r .refusal ≡ 0 → r .n ≡ n) ⌝ }
 {
     if often != 0 {
-        return Gathered {
-            refusal: 13,
-            at: often as u16 + 1,
-            n: n as u8,
-        };
+        return refused_at(13, often);
     }
     if other != 0 {
-        return Gathered {
-            refusal: 14,
-            at: other as u16 + 1,
-            n: n as u8,
-        };
+        return refused_at(14, other);
     }
     Gathered {
         refusal: 0,
@@ -86,7 +103,8 @@ fn decided(n: usize, often: usize, other: usize) -> Gathered
     }
 }
 
-// The distinct points of the entries from `at` on, in tables of zeros, with their counts and first values; 8 as soon as a point meets 64 others.
+// The distinct points of the entries from `at` on, in tables of zeros, with their counts and first values, or the refusal that comes first.
+// The entries are read once: 9 anywhere in them comes before 8, 13 and 14, so those wait until all have been seen to be in range.
 pub fn gather_entries(
     text: &[u8],
     at: usize,
@@ -100,7 +118,7 @@ pub fn gather_entries(
     requires { ⌜ (at ≤ length (now text)) × (variables ≤ 8) × (entries ≤ 16384) × (p ≤ 128) ⌝ }
     requires { ⌜ counted 0 (entriesAt variables (drop at (now text))) ≡ Count entries ⌝ }
     requires { ⌜ (now points ≡ fill 512 []) × (now counts ≡ fill 64 []) × (now values ≡ fill 64 []) ⌝ }
-    ensures { λ r. ⌜ GatheredAs (map (valuedPoint p variables) (levelsAt variables (drop at (now (text .entry))))) r
+    ensures { λ r. ⌜ GatheredAs p variables (levelsAt variables (drop at (now (text .entry)))) r
         (now (points .exit)) (now (counts .exit)) (now (values .exit)) ⌝ }
 {
     let mut from = at;
@@ -110,13 +128,13 @@ pub fn gather_entries(
     for i in 0..entries {
         let mut point = [0u8; 8];
         let entry = fill_entry(text, from, p, variables, &mut point);
+        if !entry.inside {
+            return refused_at(9, i + 1);
+        }
         let met = enter(n, points, counts, &point);
         if met.at == 64 {
-            return Gathered {
-                refusal: 8,
-                at: i as u16 + 2,
-                n: 64,
-            };
+            let behind = first_outside(text, entry.next, p, variables, entries - i - 1);
+            return no_room(i + 1, behind);
         }
         let kept = keep_value(n, met.at, values, entry.value);
         often = first_place(often, !met.over, i + 1);

@@ -1,5 +1,5 @@
--- All entries gathered: the turn of the next one, the 65th point, and what is decided at the end.
-use mathlib.Core.Path.{_≡_, refl, sym, ap, ap₂, _∙_, subst}
+-- All entries gathered: one out of range, the turn of the next one, the 65th point, and what is decided at the end.
+use mathlib.Core.Path.{_≡_, sym, ap, ap₂, _∙_, subst}
 use mathlib.Core.Bool.{Bool, not, cond, _||_}
 use mathlib.Core.List.{List, [], _∷_, _++_, map, map-append}
 use Prim.Native.Nat.{ℕ, suc, _+_, _<_, _≤_}
@@ -8,21 +8,21 @@ use lib.IntN.{ℤ}
 use lib.ListN.{length, getD, set, take, drop, replicate, length-map, length-take, take-append-drop}
 use lib.Seq.{length-take-le}
 use lib.Dec.{eqb}
-use borrow.Author.Tests.{eq-eqb, ne-eqb, eqb-true, not-false}
+use borrow.Author.Tests.{eqb-true, not-false}
 use Rattle.residue.specs.Layout.{fill, over}
 use Rattle.residue.proofs.Places.{over-zeros}
 use Rattle.specification.specs.Refusal.{firstOf}
 use Rattle.specification.specs.Counted.{countsOf}
 use Rattle.specification.proofs.counted.Saturated.{none-capped}
 use Rattle.construction.proofs.points.Gathering.{Enters}
-use Rattle.csv.specs.reading.Text.{Valued, firstAfter, tooMany, tooOften, otherValue, entryPoint, entryValue, valuedPoint, refusalAt, notRefused, entryCase, pointsCases}
+use Rattle.csv.specs.reading.Text.{Valued, firstFault, isOutside, firstAfter, tooMany, tooOften, otherValue, entryPoint, entryValue, valuedPoint, valuedPoints, firstOutside, refusalAt, notRefused, entryCase, pointsCases, entriesCases}
 use Rattle.csv.specs.reading.Records.{entryPart}
 use Rattle.csv.specs.reading.Points.{levelsIn, FilledAs, firstPlace, GatheredAs}
 use Rattle.csv.specs.declared.reading.Refusal.{Refusal}
 use Rattle.csv.specs.declared.reading.points.Filled.{Filled}
 use Rattle.csv.specs.declared.reading.gathering.Gathered.{Gathered}
 use Rattle.csv.proofs.reading.FirstPlaces.{after-le}
-use Rattle.csv.proofs.reading.TextCases.{passed}
+use Rattle.csv.proofs.reading.TextCases.{first-of-both, passed, place-refuses, place-passes}
 use Rattle.csv.proofs.reading.EntryLengths.{point-long}
 use Rattle.csv.proofs.reading.points.EntriesRead.{ReadOn, next, next-long, here, levels, one-more, all-read}
 use Rattle.csv.proofs.reading.FirstValues.{counted, never-many}
@@ -32,6 +32,18 @@ module _ (p m : ℕ) (S : List (List ℤ)) where
   -- the first i entries as points with values
   abbrev pub first : ℕ → List Valued
   first i = map (valuedPoint p m) (take i S)
+
+  abbrev valued : List Valued
+  valued = map (valuedPoint p m) S
+
+  -- An entry out of range: 9.
+  pub outside-refused : {k : ℕ} → 0 < k → k ≡ firstFault (isOutside p) S → (a : Gathered) → refusalAt (a .refusal) (a .at) ≡ refusalAt 9 (suc k)
+      → (points counts values : List ℕ) → GatheredAs p m S a points counts values
+  unfolding entriesCases firstOutside
+  outside-refused {k} h e a d points counts values = record {
+    decided = λ order. d ∙ ap (λ (j : ℕ). refusalAt 9 (suc j)) e ∙ place-refuses 9 (firstFault (isOutside p) S) _ (λ z. omega (arith, z, e, h));
+    tabled = λ y. absurd (omega (arith, y, ap (λ (x : Refusal). x .refusal) d));
+  }
 
   module _ {entries : ℕ} {t : List ℕ} {from i : ℕ} (r : ReadOn m entries t S from i) where
     count : length (first i) ≡ i
@@ -68,16 +80,27 @@ module _ (p m : ℕ) (S : List (List ℤ)) where
       unfolding P valuedPoint
       more = ap (map (valuedPoint p m)) (one-more S r h) ∙ map-append (valuedPoint p m) (take i S) (next S r h ∷ [])
 
-      pub full-here : at ≡ 64 → (points₂ counts₂ values₂ : List ℕ) → GatheredAs (map (valuedPoint p m) S) (record { refusal = 8; at = i + 2; n = 64 }) points₂ counts₂ values₂
-      unfolding pointsCases firstOf
-      full-here z points₂ counts₂ values₂ =
-          let place : suc i ≡ firstAfter tooMany [] (map (valuedPoint p m) S) =
-          ap suc (sym count) ∙ full fits (first i) g P (entryValue p m (next S r h)) lp entering (map (valuedPoint p m) (drop (suc i) S)) z ∙ ap (firstAfter tooMany []) (sym all) in
-          let at-record : i + 2 ≡ suc (firstAfter tooMany [] (map (valuedPoint p m) S)) = omega (arith, place) in
-          record {
-            decided = sym (rw (ne-eqb (firstAfter tooMany [] (map (valuedPoint p m) S)) 0 (λ y. omega (arith, y, place))) (ap (refusalAt 8) (sym at-record)));
-            tabled = λ y. absurd (omega (arith, y));
-          }
+      -- The 65th point: 9 where an entry is out of range, behind this one then, or 8.
+      module _ (z : at ≡ 64) {k : ℕ} (o : k ≡ firstFault (isOutside p) S) (a : Gathered)
+          (d : refusalAt (a .refusal) (a .at) ≡ firstOf notRefused (entryCase 9 k ∷ entryCase 8 (i + 1) ∷ [])) where
+        place-8 : i + 1 ≡ firstAfter tooMany [] valued
+        place-8 =
+            omega (arith, count) ∙ full fits (first i) g P (entryValue p m (next S r h)) lp entering (map (valuedPoint p m) (drop (suc i) S)) z ∙ ap (firstAfter tooMany []) (sym all)
+
+        is-refused : a .refusal ≡ 0 → ⊥
+        is-refused y =
+            let past-9 = passed (not (eqb k 0)) 8 (suc k) (entryCase 8 (i + 1) ∷ []) (sym (ap (λ (x : Refusal). x .refusal) d) ∙ y) in
+            let past-8 = passed (not (eqb (i + 1) 0)) 7 (suc (i + 1)) [] (past-9 .1) in
+            omega (arith, eqb-true (i + 1) 0 (not-false (eqb (i + 1) 0) (past-8 .0)))
+
+        pub full-here : (points₂ counts₂ values₂ : List ℕ) → GatheredAs p m S a points₂ counts₂ values₂
+        unfolding entriesCases pointsCases firstOutside valuedPoints
+        full-here points₂ counts₂ values₂ = record {
+          decided = λ order.
+              first-of-both (entryCase 9 (firstFault (isOutside p) S) ∷ entryCase 8 (firstAfter tooMany [] valued) ∷ []) _ _ is-refused
+              (d ∙ ap₂ (λ (j k : ℕ). firstOf notRefused (entryCase 9 j ∷ entryCase 8 k ∷ [])) o place-8);
+          tabled = λ y. absurd (is-refused y);
+        }
 
       pub place-below : (at ≡ 64 → ⊥) → at < 64
       place-below room = omega (arith, at-most fits (first i) g P (entryValue p m (next S r h)) lp entering, g .holds .few, room)
@@ -103,23 +126,23 @@ module _ (p m : ℕ) (S : List (List ℤ)) where
   -- All of them: 13 and 14 as they were met first, or the tables.
   module _ {entries : ℕ} {t : List ℕ} {from i : ℕ} (r : ReadOn m entries t S from i) (h : entries ≤ i)
       {n often other : ℕ} {points counts values : List ℕ} (g : Gathering m (first i) n often other points counts values) where
-    abbrev valued : List Valued
-    valued = map (valuedPoint p m) S
-
     held : Gathering m valued n often other points counts values
     held = subst (λ (E : List Valued). Gathering m E n often other points counts values) (ap (map (valuedPoint p m)) (all-read S r h)) g
 
     many : firstAfter tooMany [] valued ≡ 0
     many = never-many [] valued (omega (arith, held .holds .count, held .holds .few))
 
-    pub all-gathered : (a : Gathered) → refusalAt (a .refusal) (a .at) ≡ firstOf notRefused (entryCase 13 often ∷ entryCase 14 other ∷ []) → a .n ≡ n → GatheredAs valued a points counts values
-    unfolding pointsCases firstOf
-    all-gathered a d e = record {
-      decided = d ∙ ap₂ (λ (j k : ℕ). firstOf notRefused (entryCase 13 j ∷ entryCase 14 k ∷ [])) (held .most) (held .others) ∙ sym (rw (eq-eqb (firstAfter tooMany [] valued) 0 many) refl);
+    pub all-gathered : 0 ≡ firstFault (isOutside p) S → (a : Gathered) → refusalAt (a .refusal) (a .at) ≡ firstOf notRefused (entryCase 13 often ∷ entryCase 14 other ∷ [])
+        → (a .refusal ≡ 0 → a .n ≡ n) → GatheredAs p m S a points counts values
+    unfolding entriesCases pointsCases firstOutside valuedPoints
+    all-gathered o a d e = record {
+      decided = λ order.
+          d ∙ ap₂ (λ (j k : ℕ). firstOf notRefused (entryCase 13 j ∷ entryCase 14 k ∷ [])) (held .most) (held .others)
+          ∙ sym (place-passes 9 (firstFault (isOutside p) S) (pointsCases valued) (sym o) ∙ place-passes 8 (firstAfter tooMany [] valued) _ many);
       tabled = λ z.
           let first-13 = passed (not (eqb often 0)) 12 (suc often) (entryCase 14 other ∷ []) (sym (ap (λ (x : Refusal). x .refusal) d) ∙ z) in
           let low = held .within (eqb-true often 0 (not-false (eqb often 0) (first-13 .0))) in
-          record { number = e ∙ held .holds .count; states = held .holds .table; times = held .holds .bytes ∙ ap (fill 64) (none-capped (countsOf (counted valued)) low); firsts = held .firsts };
+          record { number = e z ∙ held .holds .count; states = held .holds .table; times = held .holds .bytes ∙ ap (fill 64) (none-capped (countsOf (counted valued)) low); firsts = held .firsts };
     }
 
   -- places within the number of entries

@@ -1,21 +1,17 @@
 -- `reading::read_entries` meets its contract: each refusal is the first case that holds, and an accepted text leaves the gathered tables.
 use mathlib.Core.Path.{_≡_, refl, sym, ap, _∙_}
-use mathlib.Core.List.{List, _++_, map}
+use mathlib.Core.List.{List, _++_}
 use Prim.Native.Nat.{ℕ, _^_, _<_, _≤_}
 use native.Mathlib.Omega.{arith}
-use lib.IntN.{ℤ}
 use lib.ListN.{length, drop, length-drop}
-use Rattle.residue.specs.Layout.{over}
 use Rattle.residue.proofs.level.Moduli.{modulus-range}
 use Rattle.residue.proofs.Layouts.{fill-zeros}
 use Rattle.specification.specs.Refusal.{firstOf}
-use Rattle.csv.specs.reading.Text.{Valued, TextCase, Contents, valuedPoint, valuedPoints, isOutside, firstOutside, entriesCases, headerCases, notRefused, refusalAt, textEnded, textRefused}
-use Rattle.csv.specs.reading.Points.{levelsAt, saying}
+use Rattle.csv.specs.reading.Text.{TextCase, Contents, entriesCases, headerCases, notRefused, refusalAt, textEnded, textRefused}
+use Rattle.csv.specs.reading.Points.{saying}
 use Rattle.csv.specs.declared.reading.Read.{Read}
-use Rattle.csv.proofs.reading.FirstPlaces.{fault-le}
-use Rattle.csv.proofs.reading.TextCases.{Allowed, room, first-of-both, refuse-9, inside-pass, settings-over, text-refused, text-accepted, assembled}
+use Rattle.csv.proofs.reading.TextCases.{Allowed, room, first-of-both, settings-over, text-refused, text-accepted, assembled}
 use Rattle.csv.proofs.reading.WholeText.{count-small}
-use Rattle.csv.proofs.reading.points.EntriesRead.{entries-count}
 use Rattle.csv.proofs.reading.read_entries.Statement.{statement}
 use Rattle.csv.proofs.reading.read_entries.Tie as tie
 
@@ -39,33 +35,23 @@ module _ (s : tie.Start) where
   abbrev cases : List TextCase
   cases = headerCases (s .args .modulus) (s .args .variables) (length (s .args .states .now)) (length (s .args .values .now)) (length (s .args .counts .now))
 
-  abbrev entries : List (List ℤ)
-  entries = levelsAt (s .args .variables) text
-
-  abbrev valued : List Valued
-  valued = map (valuedPoint (s .args .modulus) (s .args .variables)) entries
-
   few : s .args .entries ≤ 16384
   few = count-small (s .args .variables) (s .args .entries) text (omega (arith, length-drop (s .args .from) (s .args .text .now), s .pre .0 .1)) (s .pre .1)
 
--- The places: the settings and lengths are allowed, the entries have been looked over for their ranges, they are gathered, nothing is refused. Each names
--- the one before it.
+-- The places: the settings and lengths are allowed, the entries are gathered, nothing is refused. Each names the one before it.
 abbrev start : tie.Else1 → tie.Start
 start c = c .before .before .before .before .before .before
-
-abbrev O : Type 0
-O = tie.After-first-outside
 
 abbrev G : Type 0
 G = tie.After-gather-entries
 
-abbrev looked : G → O
-looked g = g .before .before .before .before .before
+abbrev allowed : G → tie.Else1
+allowed g = g .before .before .before .before
 
 abbrev start-of : G → tie.Start
-start-of g = start (looked g .before)
+start-of g = start (allowed g)
 
-abbrev gathered : tie.Else3 → G
+abbrev gathered : tie.Else2 → G
 gathered c = c .before .before .before .before
 
 -- settings and lengths
@@ -77,18 +63,7 @@ past c l =
     let h = space c in
     settings-over _ _ _ _ _ (h .modulus) (h .some) (h .few) (h .states) (h .values) (h .counts) l
 
--- the ranges
-module _ (o : O) where
-  outside-is : o .first-outside .result ≡ firstOutside (says (start (o .before)))
-  unfolding firstOutside saying
-  outside-is = o .first-outside .ensures
-
-  outside-small : o .first-outside .result ≤ 16384
-  outside-small =
-      let s = start (o .before) in
-      omega (arith, o .first-outside .ensures, fault-le (isOutside (s .args .modulus)) (entries s), entries-count (s .args .variables) (s .args .entries) (text s) (s .pre .1), few s)
-
--- what the points and their values decide
+-- what the entries decide
 module _ (g : G) where
   abbrev rows : List ℕ
   rows = g .gather-entries .last .1 .1 .1 .1 .1 .0
@@ -99,11 +74,9 @@ module _ (g : G) where
   abbrev residues : List ℕ
   residues = g .gather-entries .last .1 .1 .1 .1 .1 .1 .1 .0
 
-  decided : looked g .first-outside .result ≡ 0
-      → refusalAt (g .gather-entries .result .refusal) (g .gather-entries .result .at) ≡ firstOf notRefused (cases (start-of g) ++ entriesCases (says (start-of g)))
-  unfolding valuedPoints saying
-  decided z =
-      g .gather-entries .ensures .decided ∙ sym (past (looked g .before) (entriesCases (says (start-of g))) ∙ inside-pass (says (start-of g)) (sym (outside-is (looked g)) ∙ z))
+  decided : refusalAt (g .gather-entries .result .refusal) (g .gather-entries .result .at) ≡ firstOf notRefused (cases (start-of g) ++ entriesCases (says (start-of g)))
+  unfolding saying
+  decided = g .gather-entries .ensures .decided (start-of g .args .order) ∙ sym (past (allowed g) (entriesCases (says (start-of g))))
 
 settings-refusal-requires : tie.Need-settings-refusal-requires
 settings-refusal-requires c κs = tt
@@ -122,30 +95,6 @@ returns c =
 cast-p : tie.Need-cast-p
 cast-p c = let h = modulus-range _ (space c .modulus) in omega arith
 
-first-outside-requires : tie.Need-first-outside-requires
-first-outside-requires c κs =
-    let h = space c in
-    let k = modulus-range _ (h .modulus) in
-    ((start c .pre .0 .0, h .few, omega arith), start c .pre .1)
-
-cast-refused : tie.Need-cast-refused
-cast-refused c = let h = outside-small (c .before) in omega arith
-
-add-refused : tie.Need-add-refused
-add-refused c = let h = outside-small (c .before) in omega arith
-
-refused-requires-2 : tie.Need-refused-requires-2
-refused-requires-2 c κs = tt
-
-returns-2 : tie.Need-returns-2
-unfolding textRefused
-returns-2 c =
-    let o = c .before .before in
-    let s = start (o .before) in
-    ap (λ (x : Read). textEnded x (s .args .states .now) (s .args .values .now) (s .args .counts .now)) (c .refused2 .ensures)
-    ∙ text-refused _ _ _ _ _ _ (refuse-9 (says s) (o .first-outside .result) (outside-is o) (c .before .if2 .taken) ∙ sym (past (o .before) (entriesCases (says s))))
-    (λ e. omega (arith, e))
-
 slice-aggregate-gather-entries : tie.Need-slice-aggregate-gather-entries
 slice-aggregate-gather-entries c = refl
 
@@ -157,24 +106,24 @@ slice-aggregate-gather-entries-3 c = refl
 
 gather-entries-requires : tie.Need-gather-entries-requires
 gather-entries-requires c κs =
-    let e = c .before .before .before .before .before in
+    let e = c .before .before .before in
     let h = space e in
     let k = modulus-range _ (h .modulus) in
     ((start e .pre .0 .0, h .few, few (start e), omega arith), (start e .pre .1, (sym (fill-zeros 512), sym (fill-zeros 64), sym (fill-zeros 64))))
 
-refused-requires-3 : tie.Need-refused-requires-3
-refused-requires-3 c κs = tt
+refused-requires-2 : tie.Need-refused-requires-2
+refused-requires-2 c κs = tt
 
-returns-3 : tie.Need-returns-3
+returns-2 : tie.Need-returns-2
 unfolding textRefused
-returns-3 c =
+returns-2 c =
     let g = c .before .before .before .before .before in
     let s = start-of g in
-    ap (λ (x : Read). textEnded x (s .args .states .now) (s .args .values .now) (s .args .counts .now)) (c .refused3 .ensures)
-    ∙ text-refused _ _ _ _ _ _ (decided g (g .before .before .before .before .if2 .left)) (c .before .if3 .taken)
+    ap (λ (x : Read). textEnded x (s .args .states .now) (s .args .values .now) (s .args .counts .now)) (c .refused2 .ensures)
+    ∙ text-refused _ _ _ _ _ _ (decided g) (c .before .if2 .taken)
 
 -- The places behind: the points, the values and the counts are copied.
-abbrev first : tie.After-residues3 → tie.Else3
+abbrev first : tie.After-residues3 → tie.Else2
 first c = c .before .before .before .before .before .before
 
 abbrev second : tie.After-times3 → tie.After-residues3
@@ -184,7 +133,7 @@ abbrev third : tie.After-slice-known6 → tie.After-times3
 third c = c .before .before .before .before
 
 -- the lengths of what is copied
-module _ (c : tie.Else3) where
+module _ (c : tie.Else2) where
   rows-long : length (rows (gathered c)) ≡ 512
   rows-long = gathered c .gather-entries .kept .1 .1 .1 .1 .1 .0
 
@@ -195,7 +144,7 @@ module _ (c : tie.Else3) where
   residues-long = gathered c .gather-entries .kept .1 .1 .1 .1 .1 .1 .1 .0
 
   lent : Fits (start-of (gathered c))
-  lent = space (looked (gathered c) .before)
+  lent = space (allowed (gathered c))
 
 slice-aggregate-copy : tie.Need-slice-aggregate-copy
 slice-aggregate-copy c = sym (rows-long (c .before))
@@ -215,8 +164,8 @@ slice-aggregate-copy-3 c = sym (times-long (first (second c)))
 copy-requires-3 : tie.Need-copy-requires-3
 copy-requires-3 c κs = at-most (times-long (first (second (c .before)))) (lent (first (second (c .before))) .counts)
 
-cast-t44 : tie.Need-cast-t44
-cast-t44 c = record { fits = byte (lent (first (second (third c))) .few) }
+cast-t41 : tie.Need-cast-t41
+cast-t41 c = record { fits = byte (lent (first (second (third c))) .few) }
 
 same-length : tie.Need-same-length
 same-length c = second (third c) .before .before .before .copy .kept .1 .0
@@ -227,14 +176,14 @@ same-length-2 c = third c .before .before .before .copy2 .kept .1 .0
 same-length-3 : tie.Need-same-length-3
 same-length-3 c = c .before .before .copy3 .kept .1 .0
 
-returns-4 : tie.Need-returns-4
-returns-4 c =
+returns-3 : tie.Need-returns-3
+returns-3 c =
     let e = first (second (third c)) in
     let g = gathered e in
     let s = start-of g in
     assembled (s .args .modulus) (s .args .variables) (s .args .order) (text s) (s .args .states .now) (s .args .values .now) (s .args .counts .now)
-    (g .gather-entries .ensures .tabled (e .if3 .left)) (second (third c) .before .before .before .copy .ensures) (third c .before .before .before .copy2 .ensures) (c .before .before .copy3 .ensures)
-    ∙ text-accepted _ _ _ _ _ _ (decided g (g .before .before .before .before .if2 .left)) (e .if3 .left)
+    (g .gather-entries .ensures .tabled (e .if2 .left)) (second (third c) .before .before .before .copy .ensures) (third c .before .before .before .copy2 .ensures) (c .before .before .copy3 .ensures)
+    ∙ text-accepted _ _ _ _ _ _ (decided g) (e .if2 .left)
 
 pub read-entries-spec : {M : Type 1} → statement M
 read-entries-spec =
@@ -244,25 +193,20 @@ read-entries-spec =
     refused-requires
     returns
     cast-p
-    first-outside-requires
-    cast-refused
-    add-refused
-    refused-requires-2
-    returns-2
     slice-aggregate-gather-entries
     slice-aggregate-gather-entries-2
     slice-aggregate-gather-entries-3
     gather-entries-requires
-    refused-requires-3
-    returns-3
+    refused-requires-2
+    returns-2
     slice-aggregate-copy
     copy-requires
     slice-aggregate-copy-2
     copy-requires-2
     slice-aggregate-copy-3
     copy-requires-3
-    cast-t44
+    cast-t41
     same-length
     same-length-2
     same-length-3
-    returns-4)
+    returns-3)

@@ -1,45 +1,33 @@
 -- `gathering::decided` meets its contract.
-use mathlib.Core.Path.{refl, ap}
-use native.Mathlib.Numerals.{add-one}
+use mathlib.Core.Path.{refl, sym, ap, _∙_}
 use native.Mathlib.Omega.{arith}
-use borrow.Author.Tests.{eq-eqb, ne-eqb}
+use borrow.Author.Tests.{eq-eqb}
+use borrow.Author.Needs.{needs}
 use Rattle.specification.specs.Refusal.{firstOf}
-use Rattle.csv.specs.reading.Text.{refusalAt}
+use Rattle.csv.specs.declared.reading.Refusal.{Refusal}
+use Rattle.csv.proofs.reading.TextCases.{place-refuses, place-passes}
 use Rattle.csv.proofs.reading.gathering.decided.Statement.{statement}
 use Rattle.csv.proofs.reading.gathering.decided.Tie as tie
 
-cast-t5 : tie.Need-cast-t5
-cast-t5 c = omega arith
-
-add-t6 : tie.Need-add-t6
-add-t6 c = omega arith
-
-cast-t7 : tie.Need-cast-t7
-cast-t7 c = omega arith
+refused-at-requires : tie.Need-refused-at-requires
+refused-at-requires c κs = search needs
 
 returns : tie.Need-returns
-unfolding firstOf
-returns c = (simp (ne-eqb _ 0 (c .if1 .taken)) (ap (refusalAt 13) (add-one _)), refl)
+returns c = (c .refused-at .ensures ∙ place-refuses 13 _ _ (c .before .if1 .taken), λ z. absurd (omega (arith, z, ap (λ (x : Refusal). x .refusal) (c .refused-at .ensures))))
 
-cast-t8 : tie.Need-cast-t8
-cast-t8 c = omega arith
-
-add-t9 : tie.Need-add-t9
-add-t9 c = omega arith
-
-cast-t10 : tie.Need-cast-t10
-cast-t10 c = omega arith
+refused-at-requires-2 : tie.Need-refused-at-requires-2
+refused-at-requires-2 c κs = search needs
 
 returns-2 : tie.Need-returns-2
-unfolding firstOf
-returns-2 c = (simp (eq-eqb _ 0 (c .before .if1 .left), ne-eqb _ 0 (c .if2 .taken)) (ap (refusalAt 14) (add-one _)), refl)
+returns-2 c =
+    (c .refused-at2 .ensures ∙ place-refuses 14 _ _ (c .before .if2 .taken) ∙ sym (place-passes 13 _ _ (c .before .before .if1 .left)), λ z. absurd (omega (arith, z, ap (λ (x : Refusal). x .refusal) (c .refused-at2 .ensures))))
 
-cast-t11 : tie.Need-cast-t11
-cast-t11 c = omega arith
+cast-t5 : tie.Need-cast-t5
+cast-t5 c = search needs
 
 returns-3 : tie.Need-returns-3
 unfolding firstOf
-returns-3 c = (simp (eq-eqb _ 0 (c .before .if1 .left), eq-eqb _ 0 (c .if2 .left)), refl)
+returns-3 c = (simp (eq-eqb _ 0 (c .before .if1 .left), eq-eqb _ 0 (c .if2 .left)), λ z. refl)
 
 pub decided-spec : {M : Type 1} → statement M
-decided-spec = tie.close (tie.spec cast-t5 add-t6 cast-t7 returns cast-t8 add-t9 cast-t10 returns-2 cast-t11 returns-3)
+decided-spec = tie.close (tie.spec refused-at-requires returns refused-at-requires-2 returns-2 cast-t5 returns-3)

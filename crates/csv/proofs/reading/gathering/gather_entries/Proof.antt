@@ -1,16 +1,19 @@
--- `gathering::gather_entries` meets its contract. The first i entries are gathered; those behind them are to be read from `from` on.
+-- `gathering::gather_entries` meets its contract. The first i entries are in range and gathered; those behind them are to be read from `from` on.
 use mathlib.Core.Path.{_≡_, refl, sym, ap, _∙_}
 use mathlib.Core.List.{List, []}
 use Prim.Native.Nat.{ℕ, _+_, _-_, _^_, _<_, _≤_}
 use native.Mathlib.Omega.{arith}
 use lib.IntN.{ℤ}
-use lib.ListN.{length, drop}
+use lib.ListN.{length, take, drop}
+use borrow.Author.Tests.{not-true, not-false}
 use Rattle.residue.proofs.Layouts.{length-fill}
 use Rattle.construction.proofs.points.Gathering.{holds-sizes}
+use Rattle.csv.specs.reading.Text.{firstFault, isOutside}
 use Rattle.csv.specs.reading.Points.{levelsAt}
-use Rattle.csv.proofs.reading.points.EntriesRead.{ReadOn, begun, entry-there, read-on}
+use Rattle.csv.proofs.reading.points.EntriesRead.{ReadOn, begun, entry-there, read-on, count-left}
+use Rattle.csv.proofs.reading.points.EntriesInside.{inside-on, outside-here, all-inside, outside-left, left-within}
 use Rattle.csv.proofs.reading.gathering.EntriesGathered.{Gathering, no-entries, values-long}
-use Rattle.csv.proofs.reading.gathering.AllGathered.{first, full-here, place-below, next-turn, all-gathered, most-within}
+use Rattle.csv.proofs.reading.gathering.AllGathered.{first, outside-refused, full-here, place-below, next-turn, all-gathered, most-within}
 use Rattle.csv.proofs.reading.gathering.gather_entries.Statement.{statement}
 use Rattle.csv.proofs.reading.gathering.gather_entries.Tie as tie
 
@@ -18,8 +21,14 @@ use Rattle.csv.proofs.reading.gathering.gather_entries.Tie as tie
 lt-le : {a b c : ℕ} → a < b → b ≤ c → a < c
 lt-le h k = omega (arith, h, k)
 
-fits-16 : {a : ℕ} → a < 16384 → (a < 2 ^ 16) × (a + 2 < 2 ^ 16)
-fits-16 h = (omega (arith, h), omega (arith, h))
+next-le : {a b : ℕ} → a < b → a + 1 ≤ b
+next-le h = omega (arith, h)
+
+le-le : {a b c : ℕ} → a ≤ b → b ≤ c → a ≤ c
+le-le h k = omega (arith, h, k)
+
+left-number : {i n : ℕ} → i < n → n ≡ (i + 1) + (n - i - 1)
+left-number h = omega (arith, h)
 
 fits-64 : {a : ℕ} → a < 16384 → a + 1 < 2 ^ 64
 fits-64 h = omega (arith, h)
@@ -27,35 +36,65 @@ fits-64 h = omega (arith, h)
 abbrev Inv-loop : tie.InvT-loop
 Inv-loop text at p variables entries points₀ counts₀ values₀ from₀ n₀ often₀ other₀ i₀ points counts values from n often other i =
     let S = levelsAt variables (drop at text) in
-    ReadOn variables entries text S from i × Gathering variables (first p variables S i) n often other points counts values
+    ReadOn variables entries text S from i × Gathering variables (first p variables S i) n often other points counts values × (firstFault (isOutside p) (take i S) ≡ 0)
 
 abbrev μ-loop : tie.MeasureT-loop
 μ-loop text at p variables entries points₀ counts₀ values₀ from₀ n₀ often₀ other₀ i₀ points counts values from n often other i = entries - i
 
--- The places: the loop, an entry that was read in it, a point that was entered, and that it was no 65th. Each names the one before it.
+-- The places: the loop, an entry that was read in it, one that is in range, its point entered, and whether there was room. Each names the one before it.
 abbrev L : Type 0
 L = tie.At-loop Inv-loop μ-loop
 
 abbrev start : L → tie.Start Inv-loop μ-loop
 start l = l .before .before .before .before .before
 
-abbrev N : Type 0
-N = tie.After-enter Inv-loop μ-loop
-
-abbrev read : N → tie.After-fill-entry Inv-loop μ-loop
-read e = e .before .before .before .before .before
-
-abbrev turn : N → L
-turn e = read e .before .before .before
-
-abbrev entered : tie.Else1 Inv-loop μ-loop → N
-entered c = c .before .before .before .before .before .before
-
 abbrev entries : L → List (List ℤ)
 entries l = levelsAt (start l .args .variables) (drop (start l .args .at) (start l .args .text .now))
 
+abbrev F : Type 0
+F = tie.After-fill-entry Inv-loop μ-loop
+
+abbrev turn : F → L
+turn f = f .before .before .before
+
+abbrev looked : tie.After-struct-known Inv-loop μ-loop → F
+looked k = k .before .before
+
+abbrev N : Type 0
+N = tie.After-enter Inv-loop μ-loop
+
+abbrev within : N → tie.Else1 Inv-loop μ-loop
+within e = e .before .before .before .before
+
+abbrev read : N → F
+read e = looked (within e .before)
+
+abbrev entered : tie.After-struct-known2 Inv-loop μ-loop → N
+entered k = k .before .before .before .before .before
+
+-- an entry that was read: its place is small, and where the reading goes on
+module _ (f : F) where
+  taken : turn f .loop .i < start (turn f) .args .entries
+  taken = f .before .before .loop-test .taken
+
+  place-small : turn f .loop .i < 16384
+  place-small = lt-le taken (start (turn f) .pre .0 .2)
+
+  on : ReadOn (start (turn f) .args .variables) (start (turn f) .args .entries) (start (turn f) .args .text .now) (entries (turn f)) (f .fill-entry .result .next) (turn f .loop .i + 1)
+  on = read-on (entries (turn f)) (turn f .loop .inv .0) taken (f .fill-entry .ensures .0)
+
+-- it is in range, like those before it
+none-outside : (e : N) → firstFault (isOutside (start (turn (read e)) .args .p)) (take (turn (read e) .loop .i + 1) (entries (turn (read e)))) ≡ 0
+none-outside e =
+    let f = read e in
+    let l = turn f in
+    inside-on _ (entries l) (l .loop .inv .0) (taken f) (l .loop .inv .2) (f .fill-entry .ensures .0) (not-false _ (within e .if1 .left))
+
 loop-holds : tie.Need-loop-holds Inv-loop μ-loop
-loop-holds c = let s = c .before .before .before .before in (begun _ _ _ _ (s .pre .0 .0) (s .pre .1 .0), no-entries _ (s .pre .1 .1 .0) (s .pre .1 .1 .1) (s .pre .1 .1 .2))
+unfolding firstFault
+loop-holds c =
+    let s = c .before .before .before .before in
+    (begun _ _ _ _ (s .pre .0 .0) (s .pre .1 .0), no-entries _ (s .pre .1 .1 .0) (s .pre .1 .1 .1) (s .pre .1 .1 .2), refl)
 
 slice-aggregate-fill-entry : tie.Need-slice-aggregate-fill-entry Inv-loop μ-loop
 slice-aggregate-fill-entry c = refl
@@ -65,23 +104,11 @@ fill-entry-requires c κs =
     let l = c .before .before in
     ((l .loop .inv .0 .within, start l .pre .0 .1, start l .pre .0 .3), entry-there (entries l) (l .loop .inv .0) (c .before .loop-test .taken))
 
-slice-aggregate-enter : tie.Need-slice-aggregate-enter Inv-loop μ-loop
-slice-aggregate-enter c = sym (c .before .before .before .before .fill-entry .kept .1 .1 .1 .1 .0)
+add-refused-at : tie.Need-add-refused-at Inv-loop μ-loop
+add-refused-at c = record { fits = fits-64 (place-small (looked (c .before))) }
 
-enter-requires : tie.Need-enter-requires Inv-loop μ-loop
-enter-requires c κs =
-    let g = c .before .before .before .before .before .before .before .loop .inv .1 in
-    (g .holds .few, (holds-sizes (g .holds) .0, holds-sizes (g .holds) .1, c .before .before .before .before .fill-entry .kept .1 .1 .1 .1 .0))
-
--- the number of entries is small
-place-small : (e : N) → turn e .loop .i < 16384
-place-small e = lt-le (read e .before .before .loop-test .taken) (start (turn e) .pre .0 .2)
-
-cast-t27 : tie.Need-cast-t27 Inv-loop μ-loop
-cast-t27 c = record { fits = fits-16 (place-small (c .before .before .before .before .before .before)) .0 }
-
-add-t28 : tie.Need-add-t28 Inv-loop μ-loop
-add-t28 c = record { fits = fits-16 (place-small (c .before .before .before .before .before .before)) .1 }
+refused-at-requires : tie.Need-refused-at-requires Inv-loop μ-loop
+refused-at-requires c κs = next-le (place-small (looked (c .before)))
 
 -- The lent tables keep their lengths.
 module _ (l : L) where
@@ -95,56 +122,113 @@ module _ (l : L) where
   same-values = values-long (l .loop .inv .1) ∙ sym (ap length (start l .pre .1 .1 .2) ∙ length-fill 64 [])
 
 same-length : tie.Need-same-length Inv-loop μ-loop
-same-length c = let e = c .before .before .before .before .before .before in e .enter .kept .1 .0 ∙ same-points (turn e)
+same-length c = same-points (turn (looked (c .before .before)))
 
 same-length-2 : tie.Need-same-length-2 Inv-loop μ-loop
-same-length-2 c = let e = c .before .before .before .before .before .before in e .enter .kept .1 .1 .0 ∙ same-counts (turn e)
+same-length-2 c = same-counts (turn (looked (c .before .before)))
 
 same-length-3 : tie.Need-same-length-3 Inv-loop μ-loop
-same-length-3 c = same-values (turn (c .before .before .before .before .before .before))
+same-length-3 c = same-values (turn (looked (c .before .before)))
 
 returns : tie.Need-returns Inv-loop μ-loop
 returns c =
-    let e = c .before .before .before .before .before .before in
-    let l = turn e in
-    full-here _ _ (entries l) (l .loop .inv .0) (start l .pre .0 .1) (read e .before .before .loop-test .taken) (l .loop .inv .1) (read e .fill-entry .ensures .0) (read e .fill-entry .ensures .1)
-    (e .enter .ensures) (c .if1 .taken) _ _ _
+    let f = looked (c .before .before) in
+    let l = turn f in
+    outside-refused _ _ (entries l) (omega arith) (outside-here _ (entries l) (l .loop .inv .0) (taken f) (l .loop .inv .2) (f .fill-entry .ensures .0) (not-true _ (c .before .if1 .taken)))
+    _ (c .refused-at .ensures) _ _ _
+
+slice-aggregate-enter : tie.Need-slice-aggregate-enter Inv-loop μ-loop
+slice-aggregate-enter c = sym (looked (c .before .before .before .before) .fill-entry .kept .1 .1 .1 .1 .0)
+
+enter-requires : tie.Need-enter-requires Inv-loop μ-loop
+enter-requires c κs =
+    let f = looked (c .before .before .before .before) in
+    let g = turn f .loop .inv .1 in
+    (g .holds .few, (holds-sizes (g .holds) .0, holds-sizes (g .holds) .1, f .fill-entry .kept .1 .1 .1 .1 .0))
+
+sub-first-outside : tie.Need-sub-first-outside Inv-loop μ-loop
+sub-first-outside c = let h = taken (read (entered (c .before))) in omega arith
+
+sub-first-outside-2 : tie.Need-sub-first-outside-2 Inv-loop μ-loop
+sub-first-outside-2 c = let h = taken (read (entered (c .before))) in omega arith
+
+first-outside-requires : tie.Need-first-outside-requires Inv-loop μ-loop
+first-outside-requires c κs =
+    let f = read (entered (c .before)) in
+    let s = start (turn f) in
+    ((on f .within, s .pre .0 .1, s .pre .0 .3), count-left (entries (turn f)) (on f) _ (left-number (taken f)))
+
+add-no-room : tie.Need-add-no-room Inv-loop μ-loop
+add-no-room c = record { fits = fits-64 (place-small (read (entered (c .before .before)))) }
+
+no-room-requires : tie.Need-no-room-requires Inv-loop μ-loop
+no-room-requires c κs =
+    let f = read (entered (c .before .before)) in
+    (omega arith, le-le (left-within _ (entries (turn f)) (on f) (c .first-outside .ensures)) (start (turn f) .pre .0 .2))
+
+same-length-4 : tie.Need-same-length-4 Inv-loop μ-loop
+same-length-4 c = let e = entered (c .before .before .before) in e .enter .kept .1 .0 ∙ same-points (turn (read e))
+
+same-length-5 : tie.Need-same-length-5 Inv-loop μ-loop
+same-length-5 c = let e = entered (c .before .before .before) in e .enter .kept .1 .1 .0 ∙ same-counts (turn (read e))
+
+same-length-6 : tie.Need-same-length-6 Inv-loop μ-loop
+same-length-6 c = same-values (turn (read (entered (c .before .before .before))))
+
+returns-2 : tie.Need-returns-2 Inv-loop μ-loop
+returns-2 c =
+    let e = entered (c .before .before .before) in
+    let f = read e in
+    let l = turn f in
+    full-here _ _ (entries l) (l .loop .inv .0) (start l .pre .0 .1) (taken f) (l .loop .inv .1) (f .fill-entry .ensures .0) (f .fill-entry .ensures .1) (e .enter .ensures)
+    (c .before .before .if2 .taken) (outside-left _ (entries l) (on f) (c .before .first-outside .ensures) (none-outside e)) _ (c .no-room .ensures) _ _ _
 
 keep-value-requires : tie.Need-keep-value-requires Inv-loop μ-loop
 keep-value-requires c κs =
-    let e = entered (c .before) in
-    let l = turn e in
+    let e = entered (c .before .before) in
+    let f = read e in
+    let l = turn f in
     let g = l .loop .inv .1 in
-    let f = read e .fill-entry .ensures in
-    (place-below _ _ (entries l) (l .loop .inv .0) (start l .pre .0 .1) (read e .before .before .loop-test .taken) g (f .0) (f .1) (e .enter .ensures) (c .before .if1 .left), g .holds .few, values-long g)
+    (place-below _ _ (entries l) (l .loop .inv .0) (start l .pre .0 .1) (taken f) g (f .fill-entry .ensures .0) (f .fill-entry .ensures .1) (e .enter .ensures) (c .before .if2 .left), g .holds .few, values-long g)
+
+-- the place of a point that was kept
+abbrev kept : tie.After-struct-known3 Inv-loop μ-loop → tie.After-keep-value Inv-loop μ-loop
+kept c = c .before .before .before
+
+abbrev had-room : tie.After-keep-value Inv-loop μ-loop → tie.Else2 Inv-loop μ-loop
+had-room k = k .before .before
+
+abbrev read-then : tie.After-struct-known3 Inv-loop μ-loop → F
+read-then c = read (entered (had-room (kept c) .before))
 
 add-first-place : tie.Need-add-first-place Inv-loop μ-loop
-add-first-place c = record { fits = fits-64 (place-small (entered (c .before .before .before .before .before))) }
+add-first-place c = record { fits = fits-64 (place-small (read-then c)) }
 
 first-place-requires : tie.Need-first-place-requires Inv-loop μ-loop
 first-place-requires c κs = tt
 
 add-first-place-2 : tie.Need-add-first-place-2 Inv-loop μ-loop
-add-first-place-2 c = record { fits = fits-64 (place-small (entered (c .before .before .before .before .before .before))) }
+add-first-place-2 c = record { fits = fits-64 (place-small (read-then (c .before))) }
 
 first-place-requires-2 : tie.Need-first-place-requires-2 Inv-loop μ-loop
 first-place-requires-2 c κs = tt
 
 add-i : tie.Need-add-i Inv-loop μ-loop
-add-i c = record { fits = fits-64 (place-small (entered (c .before .before .before .before .before .before .before))) }
+add-i c = record { fits = fits-64 (place-small (read-then (c .before .before))) }
 
 loop-less : tie.Need-loop-less Inv-loop μ-loop
 loop-less c = omega arith
 
 loop-again : tie.Need-loop-again Inv-loop μ-loop
 loop-again c =
-    let k = c .before .before .before .before .before in
-    let e = entered (k .before .before) in
-    let l = turn e in
-    let f = read e .fill-entry .ensures in (
-      read-on (entries l) (l .loop .inv .0) (read e .before .before .loop-test .taken) (f .0),
-      next-turn _ _ (entries l) (l .loop .inv .0) (start l .pre .0 .1) (read e .before .before .loop-test .taken) (l .loop .inv .1) (f .0) (f .1) (e .enter .ensures)
-          (k .before .before .if1 .left) (k .keep-value .ensures .0) (k .keep-value .ensures .1 .0) (k .keep-value .ensures .1 .1) (c .before .first-place .ensures) (c .first-place2 .ensures),
+    let k = kept (c .before .before) in
+    let e = entered (had-room k .before) in
+    let f = read e in
+    let l = turn f in (
+      on f,
+      next-turn _ _ (entries l) (l .loop .inv .0) (start l .pre .0 .1) (taken f) (l .loop .inv .1) (f .fill-entry .ensures .0) (f .fill-entry .ensures .1) (e .enter .ensures)
+          (had-room k .if2 .left) (k .keep-value .ensures .0) (k .keep-value .ensures .1 .0) (k .keep-value .ensures .1 .1) (c .before .first-place .ensures) (c .first-place2 .ensures),
+      none-outside e,
     )
 
 decided-requires : tie.Need-decided-requires Inv-loop μ-loop
@@ -154,19 +238,20 @@ decided-requires c κs =
     let r = l .loop .inv .0 .count in
     (l .loop .inv .1 .holds .few, omega arith, omega arith)
 
-same-length-4 : tie.Need-same-length-4 Inv-loop μ-loop
-same-length-4 c = same-points (c .before .before)
+same-length-7 : tie.Need-same-length-7 Inv-loop μ-loop
+same-length-7 c = same-points (c .before .before)
 
-same-length-5 : tie.Need-same-length-5 Inv-loop μ-loop
-same-length-5 c = same-counts (c .before .before)
+same-length-8 : tie.Need-same-length-8 Inv-loop μ-loop
+same-length-8 c = same-counts (c .before .before)
 
-same-length-6 : tie.Need-same-length-6 Inv-loop μ-loop
-same-length-6 c = same-values (c .before .before)
+same-length-9 : tie.Need-same-length-9 Inv-loop μ-loop
+same-length-9 c = same-values (c .before .before)
 
-returns-2 : tie.Need-returns-2 Inv-loop μ-loop
-returns-2 c =
+returns-3 : tie.Need-returns-3 Inv-loop μ-loop
+returns-3 c =
     let l = c .before .before in
-    all-gathered _ _ (entries l) (l .loop .inv .0) (c .before .loop-test .left) (l .loop .inv .1) (c .decided .result) (c .decided .ensures .0) (c .decided .ensures .1)
+    let h = c .before .loop-test .left in
+    all-gathered _ _ (entries l) (l .loop .inv .0) h (l .loop .inv .1) (all-inside _ (entries l) (l .loop .inv .0) h (l .loop .inv .2)) (c .decided .result) (c .decided .ensures .0) (c .decided .ensures .1)
 
 pub gather-entries-spec : {M : Type 1} → statement M
 gather-entries-spec =
@@ -177,14 +262,23 @@ gather-entries-spec =
     loop-holds
     slice-aggregate-fill-entry
     fill-entry-requires
-    slice-aggregate-enter
-    enter-requires
-    cast-t27
-    add-t28
+    add-refused-at
+    refused-at-requires
     same-length
     same-length-2
     same-length-3
     returns
+    slice-aggregate-enter
+    enter-requires
+    sub-first-outside
+    sub-first-outside-2
+    first-outside-requires
+    add-no-room
+    no-room-requires
+    same-length-4
+    same-length-5
+    same-length-6
+    returns-2
     keep-value-requires
     add-first-place
     first-place-requires
@@ -194,7 +288,7 @@ gather-entries-spec =
     loop-less
     loop-again
     decided-requires
-    same-length-4
-    same-length-5
-    same-length-6
-    returns-2)
+    same-length-7
+    same-length-8
+    same-length-9
+    returns-3)
