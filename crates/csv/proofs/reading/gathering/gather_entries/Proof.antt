@@ -17,15 +17,12 @@ use Rattle.csv.proofs.reading.gathering.AllGathered.{first, outside-ref
 use Rattle.csv.proofs.reading.gathering.gather_entries.Statement.{statement}
 use Rattle.csv.proofs.reading.gathering.gather_entries.Tie as tie
 
--- numbers that fit their types
+-- over plain numbers
 lt-le : {a b c : ℕ} → a < b → b ≤ c → a < c
 lt-le h k = omega (arith, h, k)
 
 next-le : {a b : ℕ} → a < b → a + 1 ≤ b
 next-le h = omega (arith, h)
-
-le-le : {a b c : ℕ} → a ≤ b → b ≤ c → a ≤ c
-le-le h k = omega (arith, h, k)
 
 left-number : {i n : ℕ} → i < n → n ≡ (i + 1) + (n - i - 1)
 left-number h = omega (arith, h)
@@ -41,7 +38,8 @@ Inv-loop text at p variables entries points₀ counts₀ values₀ from₀ n₀ 
 abbrev μ-loop : tie.MeasureT-loop
 μ-loop text at p variables entries points₀ counts₀ values₀ from₀ n₀ often₀ other₀ i₀ points counts values from n often other i = entries - i
 
--- The places: the loop, an entry that was read in it, one that is in range, its point entered, and whether there was room. Each names the one before it.
+-- The places: the loop, an entry that was read in it, one that is in range, its point entered, whether there was room, and its value kept.
+-- Each names the one before it.
 abbrev L : Type 0
 L = tie.At-loop Inv-loop μ-loop
 
@@ -71,6 +69,15 @@ read e = looked (within e .before)
 
 abbrev entered : tie.After-struct-known2 Inv-loop μ-loop → N
 entered k = k .before .before .before .before .before
+
+abbrev kept : tie.After-struct-known3 Inv-loop μ-loop → tie.After-keep-value Inv-loop μ-loop
+kept c = c .before .before .before
+
+abbrev had-room : tie.After-keep-value Inv-loop μ-loop → tie.Else2 Inv-loop μ-loop
+had-room k = k .before .before
+
+abbrev read-then : tie.After-struct-known3 Inv-loop μ-loop → F
+read-then c = read (entered (had-room (kept c) .before))
 
 -- an entry that was read: its place is small, and where the reading goes on
 module _ (f : F) where
@@ -164,7 +171,8 @@ add-no-room c = record { fits = fits-64 (place-small (read (entered (c .before .
 no-room-requires : tie.Need-no-room-requires Inv-loop μ-loop
 no-room-requires c κs =
     let f = read (entered (c .before .before)) in
-    (omega arith, le-le (left-within _ (entries (turn f)) (on f) (c .first-outside .ensures)) (start (turn f) .pre .0 .2))
+    let h = left-within _ (entries (turn f)) (on f) (c .first-outside .ensures) in
+    (omega arith, omega arith)
 
 same-length-4 : tie.Need-same-length-4 Inv-loop μ-loop
 same-length-4 c = let e = entered (c .before .before .before) in e .enter .kept .1 .0 ∙ same-points (turn (read e))
@@ -190,16 +198,6 @@ keep-value-requires c κs =
     let l = turn f in
     let g = l .loop .inv .1 in
     (place-below _ _ (entries l) (l .loop .inv .0) (start l .pre .0 .1) (taken f) g (f .fill-entry .ensures .0) (f .fill-entry .ensures .1) (e .enter .ensures) (c .before .if2 .left), g .holds .few, values-long g)
-
--- the place of a point that was kept
-abbrev kept : tie.After-struct-known3 Inv-loop μ-loop → tie.After-keep-value Inv-loop μ-loop
-kept c = c .before .before .before
-
-abbrev had-room : tie.After-keep-value Inv-loop μ-loop → tie.Else2 Inv-loop μ-loop
-had-room k = k .before .before
-
-abbrev read-then : tie.After-struct-known3 Inv-loop μ-loop → F
-read-then c = read (entered (had-room (kept c) .before))
 
 add-first-place : tie.Need-add-first-place Inv-loop μ-loop
 add-first-place c = record { fits = fits-64 (place-small (read-then c)) }
