@@ -18,8 +18,8 @@ ghost use Rattle.specification.proofs.Replicates.{holdingBoth};
 ghost use Rattle.construction.specs.Drawing.{PointsGiven, DrawnUp};
 ghost use Rattle.growth.specs.Growing.{allPoints, NewPoint};
 
-// The refusal of an addition: the one before the point was looked for, where there is one; then 13 for a point that is there, at its place among the n, and counted
-// 255 times, and 8 for a new one beside 64 others; or 0.
+// The refusal of an addition: the one before the point was looked for, where there is one; then 13 for a point that is there, at its place among the n, and
+// counted 255 times, and 8 for a new one beside 64 others; or 0.
 fn add_refusal(before: u8, n: usize, place: usize, counts: &[u8]) -> u8
     requires { ⌜ (before ≡ 0 → n ≤ length (now counts)) ⌝ }
     ensures { λ k. ⌜ k ≡ cond (eqb before 0)

@@ -30,7 +30,8 @@ pub extern "C" fn misqafur_add_point(
 ) -> u32
     ensures { λ a. ⌜ left a (now (states .exit)) (now (standard .exit)) (now (leads .exit)) (now (coefficients .exit)) (now (counts .exit))
         ≡ packedOutcome (addOutcome (givenSettings modulus variables order) n r
-        (fiveTables (now (states .entry)) (now (standard .entry)) (now (leads .entry)) (now (coefficients .entry)) (now (counts .entry))) (now (levels .entry))) ⌝ }
+        (fiveTables (now (states .entry)) (now (standard .entry)) (now (leads .entry)) (now (coefficients .entry)) (now (counts .entry)))
+        (now (levels .entry))) ⌝ }
 {
     let settings = Settings {
         modulus,
@@ -68,7 +69,8 @@ pub extern "C" fn misqafur_withdraw_point(
 ) -> u32
     ensures { λ a. ⌜ left a (now (states .exit)) (now (standard .exit)) (now (leads .exit)) (now (coefficients .exit)) (now (counts .exit))
         ≡ packedOutcome (withdrawOutcome (givenSettings modulus variables order) n r
-        (fiveTables (now (states .entry)) (now (standard .entry)) (now (leads .entry)) (now (coefficients .entry)) (now (counts .entry))) (now (levels .entry))) ⌝ }
+        (fiveTables (now (states .entry)) (now (standard .entry)) (now (leads .entry)) (now (coefficients .entry)) (now (counts .entry)))
+        (now (levels .entry))) ⌝ }
 {
     let settings = Settings {
         modulus,
@@ -104,7 +106,8 @@ pub extern "C" fn misqafur_draw_up(
 ) -> u64
     ensures { λ a. ⌜ left a (now (states .exit)) (now (standard .exit)) (now (leads .exit)) (now (coefficients .exit)) (now (counts .exit))
         ≡ packedDrawing (drawOutcome (givenSettings modulus variables order)
-        (fiveTables (now (states .entry)) (now (standard .entry)) (now (leads .entry)) (now (coefficients .entry)) (now (counts .entry))) (now (levels .entry))) ⌝ }
+        (fiveTables (now (states .entry)) (now (standard .entry)) (now (leads .entry)) (now (coefficients .entry)) (now (counts .entry)))
+        (now (levels .entry))) ⌝ }
 {
     let settings = Settings {
         modulus,

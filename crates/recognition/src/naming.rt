@@ -1,4 +1,5 @@
-// A point that a call names by its levels: what refuses the call up to 10, and where the point stands among those of the tables. Adding and withdrawing begin so.
+// A point that a call names by its levels: what refuses the call up to 10, and where the point stands among those of the tables. Adding and withdrawing begin
+// so.
 use crate::recognising::recognise;
 use crate::settings::point_sizes;
 use crate::settings::too_short;
