@@ -4,13 +4,16 @@ use mathlib.Core.Bool.{Bool, true, false, cond}
 use mathlib.Core.List.{List, [], _∷_, _++_, map}
 use Prim.Native.Nat.{ℕ, suc, _<_, _≤_}
 use native.Mathlib.Omega.{arith}
+use lib.ListN.{length}
 use borrow.Author.Tests.{lt-ltb, le-ltb, lt-leb, le-leb, eq-eqb, ne-eqb}
 use Rattle.residue.specs.Modulus.{isModulus}
 use Rattle.residue.specs.Layout.{over}
+use Rattle.specification.specs.Counted.{pointsOf, gathered}
 use Rattle.specification.specs.Refusal.{firstOf}
 use Rattle.csv.specs.reading.Text.{TextCase, TextOutcome, valuedPoint, valuedPoints, headerCases, entryCase, notRefused, textEnded, textAccepted, textRefused, textDecided, refusalAt}
-use Rattle.csv.specs.reading.Points.{levelsAt, saying, Tabled}
+use Rattle.csv.specs.reading.Points.{levelsAt, saying, answered, Tabled}
 use Rattle.csv.specs.declared.reading.Refusal.{Refusal}
+use Rattle.csv.specs.declared.reading.gathering.Gathered.{Gathered}
 
 module _ (p m s v k : ℕ) where
   pub refuse-3 : isModulus p ≡ false → refusalAt 3 1 ≡ (firstOf notRefused (headerCases p m s v k))
@@ -106,6 +109,20 @@ pub place-passes : (refusal k : ℕ) (l : List TextCase) → k ≡ 0 → firstOf
 unfolding firstOf
 place-passes refusal k l z = simp (eq-eqb k 0 z)
 
+-- an answer's refusal, its number of points where there is none, and no number where there is one
+module _ (r : Refusal) (n : ℕ) where
+  pub answer-refusal : {a : Gathered} → a ≡ answered r n → refusalAt (a .refusal) (a .at) ≡ r
+  unfolding answered
+  answer-refusal e = ap (λ (x : Gathered). refusalAt (x .refusal) (x .at)) e
+
+  pub answer-number : {a : Gathered} → a ≡ answered r n → a .refusal ≡ 0 → a .n ≡ n
+  unfolding answered
+  answer-number e z = ap (λ (x : Gathered). x .n) e ∙ rw (eq-eqb (r .refusal) 0 (sym (ap (λ (x : Gathered). x .refusal) e) ∙ z)) refl
+
+  pub answer-no-points : (r .refusal ≡ 0 → ⊥) → (k : ℕ) → answered r n ≡ answered r k
+  unfolding answered
+  answer-no-points h k = rw (ne-eqb (r .refusal) 0 h) refl
+
 -- a refusal, and an accepted text
 module _ (l : List TextCase) (done : TextOutcome) (states values counts : List ℕ) where
   pub text-refused : (r : Refusal) → r ≡ firstOf notRefused l → (r .refusal ≡ 0 → ⊥)
@@ -118,12 +135,11 @@ module _ (l : List TextCase) (done : TextOutcome) (states values counts : List �
   text-accepted r e z = sym (ap (λ (x : Refusal). textDecided x done states values counts) (sym e) ∙ rw (eq-eqb (r .refusal) 0 z))
 
 -- what an accepted text leaves
-pub assembled : (p m order : ℕ) (l states values counts : List ℕ) {n : ℕ} {points times firsts s v k : List ℕ} → Tabled (map (valuedPoint p m) (levelsAt m l)) n points times firsts
-    → s ≡ over points states → v ≡ over firsts values → k ≡ over times counts
+pub assembled : (p m order : ℕ) (l states values counts : List ℕ) {n : ℕ} {points times firsts s v k : List ℕ} → n ≡ length (gathered (pointsOf (valuedPoints (saying p m order l))))
+    → Tabled (map (valuedPoint p m) (levelsAt m l)) points times firsts → s ≡ over points states → v ≡ over firsts values → k ≡ over times counts
     → textEnded (record { refusal = 0; at = 0; modulus = p; variables = m; order = order; n = n }) s v k ≡ textAccepted (saying p m order l) states values counts
 unfolding textAccepted saying valuedPoints
-assembled p m order l states values counts t e f g =
-    let a = t .number in
+assembled p m order l states values counts a t e f g =
     let b = e ∙ ap (λ (z : List ℕ). over z states) (t .states) in
     let c = f ∙ ap (λ (z : List ℕ). over z values) (t .firsts) in
     let d = g ∙ ap (λ (z : List ℕ). over z counts) (t .times) in

@@ -15,8 +15,9 @@ use Rattle.specification.specs.Tables.{statesTable, countsSize}
 use Rattle.csv.specs.reading.Fields.{Field, field, broken, Part, part, faulty}
 use Rattle.specification.specs.Refusal.{firstOf}
 use Rattle.csv.specs.reading.Text.{Contents, Valued, TextOutcome, entryValue, valuedPoint, firstValues, textAccepted, textDecided}
-use Rattle.csv.specs.reading.Text.{refusalAt, notRefused, headerCases, entriesCases}
+use Rattle.csv.specs.reading.Text.{notRefused, headerCases, entriesCases}
 use Rattle.csv.specs.reading.Records.{entriesAt}
+use Rattle.csv.specs.declared.reading.Refusal.{Refusal}
 use Rattle.csv.specs.declared.reading.points.Placed.{Placed}
 use Rattle.csv.specs.declared.reading.points.Filled.{Filled}
 use Rattle.csv.specs.declared.reading.gathering.Gathered.{Gathered}
@@ -80,13 +81,17 @@ unfoldable pub placeAfter : ℕ → ℕ → ℕ
 placeAfter n k = cond (eqb k 0) 0 (n + k)
 
 -- the distinct points of entries in three tables, with their counts and their first values
-pub record Tabled (l : List Valued) (n : ℕ) (points counts values : List ℕ) : Type 0 where
-  pub number : n ≡ length (gathered (pointsOf l))
+pub record Tabled (l : List Valued) (points counts values : List ℕ) : Type 0 where
   pub states : points ≡ statesTable (pointsOf (gathered (pointsOf l)))
   pub times : counts ≡ fill countsSize (countsOf (gathered (pointsOf l)))
   pub firsts : values ≡ fill 64 (firstValues (pointsOf (gathered (pointsOf l))) l)
 
--- `gather_entries`: the refusal of entries with these levels, in which the order has no part, or their tables
+-- a refusal with its record and no points, or 0 with the number of points
+unfoldable pub answered : Refusal → ℕ → Gathered
+answered r n = record { refusal = r .refusal; at = r .at; n = cond (eqb (r .refusal) 0) n 0 }
+
+-- `gather_entries`: the answer to entries with these levels, in which the order has no part, and their tables where they are not refused
 pub record GatheredAs (p m : ℕ) (S : List (List ℤ)) (r : Gathered) (points counts values : List ℕ) : Type 0 where
-  pub decided : (order : ℕ) → refusalAt (r .refusal) (r .at) ≡ firstOf notRefused (entriesCases (contents p m order S))
-  pub tabled : r .refusal ≡ 0 → Tabled (map (valuedPoint p m) S) (r .n) points counts values
+  pub answer : (order : ℕ)
+      → r ≡ answered (firstOf notRefused (entriesCases (contents p m order S))) (length (gathered (pointsOf (map (valuedPoint p m) S))))
+  pub tabled : r .refusal ≡ 0 → Tabled (map (valuedPoint p m) S) points counts values

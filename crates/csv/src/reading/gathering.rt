@@ -10,9 +10,9 @@ ghost use lib.Dec.{eqb};
 ghost use lib.ListN.{length, getD, set, drop};
 ghost use Rattle.residue.specs.Layout.{fill};
 ghost use Rattle.specification.specs.Refusal.{firstOf};
-ghost use Rattle.csv.specs.reading.Text.{refusalAt, notRefused, entryCase};
+ghost use Rattle.csv.specs.reading.Text.{notRefused, entryCase};
 ghost use Rattle.csv.specs.reading.Records.{entriesAt, counted};
-ghost use Rattle.csv.specs.reading.Points.{levelsAt, firstPlace, placeAfter, GatheredAs};
+ghost use Rattle.csv.specs.reading.Points.{levelsAt, firstPlace, placeAfter, answered, GatheredAs};
 ghost use Rattle.csv.specs.declared.reading.records.Entries.the-variants.{Count};
 
 // The number of points, and whether the value is the one that is kept with its point.
@@ -54,7 +54,7 @@ fn first_place(found: usize, inside: bool, place: usize) -> usize
     place
 }
 
-// The refusal with the record at fault, or 0 with the number of distinct points.
+// The refusal with the record at fault and no points, or 0 with the number of distinct points.
 pub struct Gathered {
     pub refusal: u8,
     pub at: u16,
@@ -64,7 +64,7 @@ pub struct Gathered {
 // A refusal at the entry of this place, from 1; the header is record 1.
 fn refused_at(refusal: u8, place: usize) -> Gathered
     requires { ⌜ place ≤ 16384 ⌝ }
-    ensures { λ r. ⌜ refusalAt (r .refusal) (r .at) ≡ refusalAt refusal (suc place) ⌝ }
+    ensures { λ r. ⌜ r ≡ record { refusal = refusal; at = suc place; n = 0 } ⌝ }
 {
     Gathered {
         refusal,
@@ -76,7 +76,7 @@ fn refused_at(refusal: u8, place: usize) -> Gathered
 // A point at this place has no room: 9 at the first entry out of range behind it, by its place there, before 8 at its own record.
 fn no_room(place: usize, behind: usize) -> Gathered
     requires { ⌜ (0 < place) × (place + behind ≤ 16384) ⌝ }
-    ensures { λ r. ⌜ refusalAt (r .refusal) (r .at) ≡ firstOf notRefused (entryCase 9 (placeAfter place behind) ∷ entryCase 8 place ∷ []) ⌝ }
+    ensures { λ r. ⌜ r ≡ answered (firstOf notRefused (entryCase 9 (placeAfter place behind) ∷ entryCase 8 place ∷ [])) 0 ⌝ }
 {
     if behind != 0 {
         return refused_at(9, place + behind);
@@ -87,8 +87,7 @@ fn no_room(place: usize, behind: usize) -> Gathered
 // 13 before 14, by the places from 1 at which they were met; 0 where one was not.
 fn decided(n: usize, often: usize, other: usize) -> Gathered
     requires { ⌜ (n ≤ 64) × (often ≤ 16384) × (other ≤ 16384) ⌝ }
-    ensures { λ r. ⌜ refusalAt (r .refusal) (r .at) ≡ firstOf notRefused (entryCase 13 often ∷ entryCase 14 other ∷ []) ⌝
-        ∗ ⌜ (r .refusal ≡ 0 → r .n ≡ n) ⌝ }
+    ensures { λ r. ⌜ r ≡ answered (firstOf notRefused (entryCase 13 often ∷ entryCase 14 other ∷ [])) n ⌝ }
 {
     if often != 0 {
         return refused_at(13, often);

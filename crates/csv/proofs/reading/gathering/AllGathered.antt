@@ -17,12 +17,12 @@ use Rattle.specification.proofs.counted.Saturated.{none-capped}
 use Rattle.construction.proofs.points.Gathering.{Enters}
 use Rattle.csv.specs.reading.Text.{Valued, firstFault, isOutside, firstAfter, tooMany, tooOften, otherValue, entryPoint, entryValue, valuedPoint, valuedPoints, firstOutside, refusalAt, notRefused, entryCase, pointsCases, entriesCases}
 use Rattle.csv.specs.reading.Records.{entryPart}
-use Rattle.csv.specs.reading.Points.{levelsIn, FilledAs, firstPlace, GatheredAs}
+use Rattle.csv.specs.reading.Points.{levelsIn, FilledAs, firstPlace, answered, GatheredAs}
 use Rattle.csv.specs.declared.reading.Refusal.{Refusal}
 use Rattle.csv.specs.declared.reading.points.Filled.{Filled}
 use Rattle.csv.specs.declared.reading.gathering.Gathered.{Gathered}
 use Rattle.csv.proofs.reading.FirstPlaces.{after-le}
-use Rattle.csv.proofs.reading.TextCases.{first-of-both, passed, place-refuses, place-passes}
+use Rattle.csv.proofs.reading.TextCases.{first-of-both, passed, place-refuses, place-passes, answer-refusal, answer-no-points}
 use Rattle.csv.proofs.reading.EntryLengths.{point-long}
 use Rattle.csv.proofs.reading.points.EntriesRead.{ReadOn, next, next-long, here, levels, one-more, all-read}
 use Rattle.csv.proofs.reading.FirstValues.{counted, never-many}
@@ -36,13 +36,17 @@ module _ (p m : ℕ) (S : List (List ℤ)) where
   abbrev valued : List Valued
   valued = map (valuedPoint p m) S
 
+  abbrev number : ℕ
+  number = length (counted valued)
+
   -- An entry out of range: 9.
-  pub outside-refused : {k : ℕ} → 0 < k → k ≡ firstFault (isOutside p) S → (a : Gathered) → refusalAt (a .refusal) (a .at) ≡ refusalAt 9 (suc k)
+  pub outside-refused : {k : ℕ} → 0 < k → k ≡ firstFault (isOutside p) S → (a : Gathered) → a ≡ record { refusal = 9; at = suc k; n = 0 }
       → (points counts values : List ℕ) → GatheredAs p m S a points counts values
-  unfolding entriesCases firstOutside
+  unfolding entriesCases firstOutside answered
   outside-refused {k} h e a d points counts values = record {
-    decided = λ order. d ∙ ap (λ (j : ℕ). refusalAt 9 (suc j)) e ∙ place-refuses 9 (firstFault (isOutside p) S) _ (λ z. omega (arith, z, e, h));
-    tabled = λ y. absurd (omega (arith, y, ap (λ (x : Refusal). x .refusal) d));
+    answer = λ order.
+        d ∙ ap (λ (x : Refusal). answered x number) (ap (λ (j : ℕ). refusalAt 9 (suc j)) e ∙ place-refuses 9 (firstFault (isOutside p) S) _ (λ z. omega (arith, z, e, h)));
+    tabled = λ y. absurd (omega (arith, y, ap (λ (x : Gathered). x .refusal) d));
   }
 
   module _ {entries : ℕ} {t : List ℕ} {from i : ℕ} (r : ReadOn m entries t S from i) where
@@ -82,23 +86,28 @@ module _ (p m : ℕ) (S : List (List ℤ)) where
 
       -- The 65th point: 9 where an entry is out of range, behind this one then, or 8.
       module _ (z : at ≡ 64) {k : ℕ} (o : k ≡ firstFault (isOutside p) S) (a : Gathered)
-          (d : refusalAt (a .refusal) (a .at) ≡ firstOf notRefused (entryCase 9 k ∷ entryCase 8 (i + 1) ∷ [])) where
+          (d : a ≡ answered (firstOf notRefused (entryCase 9 k ∷ entryCase 8 (i + 1) ∷ [])) 0) where
+        refusal : refusalAt (a .refusal) (a .at) ≡ firstOf notRefused (entryCase 9 k ∷ entryCase 8 (i + 1) ∷ [])
+        refusal = answer-refusal _ 0 d
+
         place-8 : i + 1 ≡ firstAfter tooMany [] valued
         place-8 =
             omega (arith, count) ∙ full fits (first i) g P (entryValue p m (next S r h)) lp entering (map (valuedPoint p m) (drop (suc i) S)) z ∙ ap (firstAfter tooMany []) (sym all)
 
         is-refused : a .refusal ≡ 0 → ⊥
         is-refused y =
-            let past-9 = passed (not (eqb k 0)) 8 (suc k) (entryCase 8 (i + 1) ∷ []) (sym (ap (λ (x : Refusal). x .refusal) d) ∙ y) in
+            let past-9 = passed (not (eqb k 0)) 8 (suc k) (entryCase 8 (i + 1) ∷ []) (sym (ap (λ (x : Refusal). x .refusal) refusal) ∙ y) in
             let past-8 = passed (not (eqb (i + 1) 0)) 7 (suc (i + 1)) [] (past-9 .1) in
             omega (arith, eqb-true (i + 1) 0 (not-false (eqb (i + 1) 0) (past-8 .0)))
 
         pub full-here : (points₂ counts₂ values₂ : List ℕ) → GatheredAs p m S a points₂ counts₂ values₂
         unfolding entriesCases pointsCases firstOutside valuedPoints
         full-here points₂ counts₂ values₂ = record {
-          decided = λ order.
-              first-of-both (entryCase 9 (firstFault (isOutside p) S) ∷ entryCase 8 (firstAfter tooMany [] valued) ∷ []) _ _ is-refused
-              (d ∙ ap₂ (λ (j k : ℕ). firstOf notRefused (entryCase 9 j ∷ entryCase 8 k ∷ [])) o place-8);
+          answer = λ order.
+              d ∙ ap (λ (x : Refusal). answered x 0) (sym refusal) ∙ answer-no-points (refusalAt (a .refusal) (a .at)) 0 is-refused number
+              ∙ ap (λ (x : Refusal). answered x number)
+              (first-of-both (entryCase 9 (firstFault (isOutside p) S) ∷ entryCase 8 (firstAfter tooMany [] valued) ∷ []) _ _ is-refused
+              (refusal ∙ ap₂ (λ (j k : ℕ). firstOf notRefused (entryCase 9 j ∷ entryCase 8 k ∷ [])) o place-8));
           tabled = λ y. absurd (is-refused y);
         }
 
@@ -132,17 +141,20 @@ module _ (p m : ℕ) (S : List (List ℤ)) where
     many : firstAfter tooMany [] valued ≡ 0
     many = never-many [] valued (omega (arith, held .holds .count, held .holds .few))
 
-    pub all-gathered : 0 ≡ firstFault (isOutside p) S → (a : Gathered) → refusalAt (a .refusal) (a .at) ≡ firstOf notRefused (entryCase 13 often ∷ entryCase 14 other ∷ [])
-        → (a .refusal ≡ 0 → a .n ≡ n) → GatheredAs p m S a points counts values
+    pub all-gathered : 0 ≡ firstFault (isOutside p) S → (a : Gathered) → a ≡ answered (firstOf notRefused (entryCase 13 often ∷ entryCase 14 other ∷ [])) n
+        → GatheredAs p m S a points counts values
     unfolding entriesCases pointsCases firstOutside valuedPoints
-    all-gathered o a d e = record {
-      decided = λ order.
-          d ∙ ap₂ (λ (j k : ℕ). firstOf notRefused (entryCase 13 j ∷ entryCase 14 k ∷ [])) (held .most) (held .others)
-          ∙ sym (place-passes 9 (firstFault (isOutside p) S) (pointsCases valued) (sym o) ∙ place-passes 8 (firstAfter tooMany [] valued) _ many);
+    all-gathered o a d = record {
+      answer = λ order.
+          d
+          ∙ ap₂ answered
+          (ap₂ (λ (j k : ℕ). firstOf notRefused (entryCase 13 j ∷ entryCase 14 k ∷ [])) (held .most) (held .others)
+          ∙ sym (place-passes 9 (firstFault (isOutside p) S) (pointsCases valued) (sym o) ∙ place-passes 8 (firstAfter tooMany [] valued) _ many))
+          (held .holds .count);
       tabled = λ z.
-          let first-13 = passed (not (eqb often 0)) 12 (suc often) (entryCase 14 other ∷ []) (sym (ap (λ (x : Refusal). x .refusal) d) ∙ z) in
+          let first-13 = passed (not (eqb often 0)) 12 (suc often) (entryCase 14 other ∷ []) (sym (ap (λ (x : Refusal). x .refusal) (answer-refusal _ n d)) ∙ z) in
           let low = held .within (eqb-true often 0 (not-false (eqb often 0) (first-13 .0))) in
-          record { number = e z ∙ held .holds .count; states = held .holds .table; times = held .holds .bytes ∙ ap (fill 64) (none-capped (countsOf (counted valued)) low); firsts = held .firsts };
+          record { states = held .holds .table; times = held .holds .bytes ∙ ap (fill 64) (none-capped (countsOf (counted valued)) low); firsts = held .firsts };
     }
 
   -- places within the number of entries

@@ -7,10 +7,11 @@ use lib.ListN.{length, drop, length-drop}
 use Rattle.residue.proofs.level.Moduli.{modulus-range}
 use Rattle.residue.proofs.Layouts.{fill-zeros}
 use Rattle.specification.specs.Refusal.{firstOf}
-use Rattle.csv.specs.reading.Text.{TextCase, Contents, entriesCases, headerCases, notRefused, refusalAt, textEnded, textRefused}
-use Rattle.csv.specs.reading.Points.{saying}
+use Rattle.csv.specs.reading.Text.{TextCase, Contents, valuedPoints, entriesCases, headerCases, notRefused, refusalAt, textEnded, textRefused}
+use Rattle.csv.specs.reading.Points.{saying, answered}
 use Rattle.csv.specs.declared.reading.Read.{Read}
-use Rattle.csv.proofs.reading.TextCases.{Allowed, room, first-of-both, settings-over, text-refused, text-accepted, assembled}
+use Rattle.csv.proofs.reading.TextCases.{Allowed, room, first-of-both, settings-over, answer-refusal, answer-number, text-refused, text-accepted, assembled}
+use Rattle.csv.proofs.reading.FirstValues.{counted}
 use Rattle.csv.proofs.reading.WholeText.{count-small}
 use Rattle.csv.proofs.reading.read_entries.Statement.{statement}
 use Rattle.csv.proofs.reading.read_entries.Tie as tie
@@ -74,9 +75,15 @@ module _ (g : G) where
   abbrev residues : List ℕ
   residues = g .gather-entries .last .1 .1 .1 .1 .1 .1 .1 .0
 
+  abbrev number : ℕ
+  number = length (counted (valuedPoints (says (start-of g))))
+
+  answer : g .gather-entries .result ≡ answered (firstOf notRefused (entriesCases (says (start-of g)))) number
+  unfolding saying valuedPoints
+  answer = g .gather-entries .ensures .answer (start-of g .args .order)
+
   decided : refusalAt (g .gather-entries .result .refusal) (g .gather-entries .result .at) ≡ firstOf notRefused (cases (start-of g) ++ entriesCases (says (start-of g)))
-  unfolding saying
-  decided = g .gather-entries .ensures .decided (start-of g .args .order) ∙ sym (past (allowed g) (entriesCases (says (start-of g))))
+  decided = answer-refusal _ number answer ∙ sym (past (allowed g) (entriesCases (says (start-of g))))
 
 settings-refusal-requires : tie.Need-settings-refusal-requires
 settings-refusal-requires c κs = tt
@@ -182,7 +189,7 @@ returns-3 c =
     let g = gathered e in
     let s = start-of g in
     assembled (s .args .modulus) (s .args .variables) (s .args .order) (text s) (s .args .states .now) (s .args .values .now) (s .args .counts .now)
-    (g .gather-entries .ensures .tabled (e .if2 .left)) (second (third c) .before .before .before .copy .ensures) (third c .before .before .before .copy2 .ensures) (c .before .before .copy3 .ensures)
+    (answer-number _ (number g) (answer g) (e .if2 .left)) (g .gather-entries .ensures .tabled (e .if2 .left)) (second (third c) .before .before .before .copy .ensures) (third c .before .before .before .copy2 .ensures) (c .before .before .copy3 .ensures)
     ∙ text-accepted _ _ _ _ _ _ (decided g) (e .if2 .left)
 
 pub read-entries-spec : {M : Type 1} → statement M

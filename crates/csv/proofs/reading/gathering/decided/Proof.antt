@@ -1,9 +1,9 @@
 -- `gathering::decided` meets its contract.
-use mathlib.Core.Path.{refl, sym, ap, _∙_}
-use native.Mathlib.Omega.{arith}
+use mathlib.Core.Path.{sym, ap, _∙_}
 use borrow.Author.Tests.{eq-eqb}
 use borrow.Author.Needs.{needs}
 use Rattle.specification.specs.Refusal.{firstOf}
+use Rattle.csv.specs.reading.Points.{answered}
 use Rattle.csv.specs.declared.reading.Refusal.{Refusal}
 use Rattle.csv.proofs.reading.TextCases.{place-refuses, place-passes}
 use Rattle.csv.proofs.reading.gathering.decided.Statement.{statement}
@@ -13,21 +13,24 @@ refused-at-requires : tie.Need-refused-at-requires
 refused-at-requires c κs = search needs
 
 returns : tie.Need-returns
-returns c = (c .refused-at .ensures ∙ place-refuses 13 _ _ (c .before .if1 .taken), λ z. absurd (omega (arith, z, ap (λ (x : Refusal). x .refusal) (c .refused-at .ensures))))
+unfolding answered
+returns c = c .refused-at .ensures ∙ ap (λ (x : Refusal). answered x (c .before .before .args .n)) (place-refuses 13 _ _ (c .before .if1 .taken))
 
 refused-at-requires-2 : tie.Need-refused-at-requires-2
 refused-at-requires-2 c κs = search needs
 
 returns-2 : tie.Need-returns-2
+unfolding answered
 returns-2 c =
-    (c .refused-at2 .ensures ∙ place-refuses 14 _ _ (c .before .if2 .taken) ∙ sym (place-passes 13 _ _ (c .before .before .if1 .left)), λ z. absurd (omega (arith, z, ap (λ (x : Refusal). x .refusal) (c .refused-at2 .ensures))))
+    c .refused-at2 .ensures
+    ∙ ap (λ (x : Refusal). answered x (c .before .before .before .args .n)) (place-refuses 14 _ _ (c .before .if2 .taken) ∙ sym (place-passes 13 _ _ (c .before .before .if1 .left)))
 
 cast-t5 : tie.Need-cast-t5
 cast-t5 c = search needs
 
 returns-3 : tie.Need-returns-3
-unfolding firstOf
-returns-3 c = (simp (eq-eqb _ 0 (c .before .if1 .left), eq-eqb _ 0 (c .if2 .left)), λ z. refl)
+unfolding firstOf answered
+returns-3 c = simp (eq-eqb _ 0 (c .before .if1 .left), eq-eqb _ 0 (c .if2 .left))
 
 pub decided-spec : {M : Type 1} → statement M
 decided-spec = tie.close (tie.spec refused-at-requires returns refused-at-requires-2 returns-2 cast-t5 returns-3)

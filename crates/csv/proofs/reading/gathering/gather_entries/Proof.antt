@@ -249,7 +249,7 @@ returns-3 : tie.Need-returns-3 Inv-loop μ-loop
 returns-3 c =
     let l = c .before .before in
     let h = c .before .loop-test .left in
-    all-gathered _ _ (entries l) (l .loop .inv .0) h (l .loop .inv .1) (all-inside _ (entries l) (l .loop .inv .0) h (l .loop .inv .2)) (c .decided .result) (c .decided .ensures .0) (c .decided .ensures .1)
+    all-gathered _ _ (entries l) (l .loop .inv .0) h (l .loop .inv .1) (all-inside _ (entries l) (l .loop .inv .0) h (l .loop .inv .2)) (c .decided .result) (c .decided .ensures)
 
 pub gather-entries-spec : {M : Type 1} → statement M
 gather-entries-spec =
