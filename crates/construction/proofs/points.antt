@@ -3,4 +3,5 @@ pub mod LevelLists
 pub mod PointTables
 pub mod PointPlaces
 pub mod EnteredBytes
+pub mod Hints
 pub mod Gathering

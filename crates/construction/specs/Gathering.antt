@@ -1,11 +1,14 @@
 -- What entering one point among others leaves of their table and of their counts. No public promise names these: they serve the contracts of the functions that
 -- gather points, here and in the reader of text.
-use mathlib.Core.Bool.{cond, _&&_}
+use mathlib.Core.Path.{_≡_}
+use mathlib.Core.Bool.{Bool, cond, _&&_}
 use mathlib.Core.List.{List}
-use Prim.Native.Nat.{ℕ, suc}
-use lib.ListN.{getD, set}
+use Prim.Native.Nat.{ℕ, suc, _*_, _%_, _<_}
+use lib.ListN.{length, getD, set, take, drop}
 use lib.Dec.{eqb, ltb}
-use Rattle.residue.specs.Layout.{withPlace}
+use Rattle.residue.specs.Layout.{groups, withPlace}
+use Rattle.residue.specs.Lists.{keyOf}
+use Rattle.specification.specs.Counted.{placeIn}
 
 -- of n points, the point standing at the given place, n where it is new: a new one comes behind them, unless 64 are there
 unfoldable pub pointsEntered : ℕ → ℕ → List ℕ → List ℕ → List ℕ
@@ -16,3 +19,19 @@ unfoldable pub countsEntered : ℕ → ℕ → List ℕ → List ℕ
 countsEntered n at counts = cond (ltb at n)
     (cond (eqb (getD counts at 0) 255) counts (set counts at (suc (getD counts at 0))))
     (cond (ltb n 64) (set counts n 1) counts)
+
+-- Hints where points stand, at the remainders of their keys: where one is 0, none of the first n points of a table has that remainder.
+unfoldable pub hintOf : List ℕ → ℕ
+hintOf point = keyOf 8 point % 233
+
+pub record Hinted (n : ℕ) (points hints : List ℕ) : Type 0 where
+  pub long : length hints ≡ 233
+  pub told : (i : ℕ) → i < n → getD hints (hintOf (take 8 (drop (8 * i) points))) 0 ≡ 0 → ⊥
+
+-- What entering a point answers and leaves: its place, n where it is new; whether its count was 255 already; the table, the counts and the hints.
+pub record EnteredAs (n : ℕ) (point points₀ counts₀ hints₀ : List ℕ) (at : ℕ) (over : Bool) (points counts hints : List ℕ) : Type 0 where
+  pub place : at ≡ placeIn point (groups 8 n points₀)
+  pub full : over ≡ (ltb at n && eqb (getD counts₀ at 0) 255)
+  pub table : points ≡ pointsEntered n at point points₀
+  pub bytes : counts ≡ countsEntered n at counts₀
+  pub hinted : hints ≡ set hints₀ (hintOf point) (suc at)

@@ -7,8 +7,8 @@ use specification::settings::Settings;
 ghost use mathlib.Core.Path.{_≡_};
 ghost use mathlib.Core.Bool.{_&&_};
 ghost use mathlib.Core.List.{map};
-ghost use Prim.Native.Nat.{_+_, _*_, _%_, _≤_};
-ghost use lib.ListN.{length, getD, take, drop, replicate};
+ghost use Prim.Native.Nat.{suc, _+_, _*_, _%_, _≤_};
+ghost use lib.ListN.{length, getD, set, take, drop, replicate};
 ghost use lib.Dec.{T, eqb, ltb};
 ghost use Rattle.residue.specs.Level.{residueOf};
 ghost use Rattle.residue.specs.Layout.{groups, fill, inPlaces, over};
@@ -17,7 +17,7 @@ ghost use Rattle.specification.specs.Levels.{residueOr0, inRange, residues, isA
 ghost use Rattle.specification.specs.Tables.{pointsIn, statesSize, countsSize, statesTable};
 ghost use Rattle.specification.specs.Refusal.{firstOf};
 ghost use Rattle.specification.specs.Counted.{placeIn, pointsOf, countsOf, gathered, overfull};
-ghost use Rattle.construction.specs.Gathering.{pointsEntered, countsEntered};
+ghost use Rattle.construction.specs.Gathering.{Hinted, hintOf, pointsEntered, countsEntered, EnteredAs};
 
 // Whether each level has a residue. The loop runs to the end, so that it is compiled to packed instructions.
 pub fn in_range(p: u8, levels: &[i8]) -> bool
@@ -158,16 +158,22 @@ pub fn no_repeat(n: usize, states: &[u8]) -> bool
     true
 }
 
-// Where a point stands among the first n of a table, none of which repeats, or n. Where a point with the same remainder of its key by 2039 was found last is
-// looked at first: any place will do as a guess. The 256 points of 8 coordinates modulo 2 have different remainders.
-fn find(n: usize, points: &[u8], point: &[u8], guesses: &mut [u8]) -> usize
-    requires { ⌜ (n ≤ 64) × (8 * n ≤ length (now points)) × (length (now point) ≡ 8) × (length (now guesses) ≡ 2039) ⌝ }
-    requires { ⌜ T (noRepeat (groups 8 n (now points))) ⌝ }
+// Where a point stands among the first n of a table, none of which repeats, or n. A hint is one more than where a point with the same remainder of its key was
+// found last, or 0 where there is none: then the point is new without a search. By 233 points of small grids share fewer remainders than by chance.
+fn find(n: usize, points: &[u8], point: &[u8], hints: &mut [u8]) -> usize
+    requires { ⌜ (n ≤ 64) × (8 * n ≤ length (now points)) × (length (now point) ≡ 8) ⌝ }
+    requires { ⌜ T (noRepeat (groups 8 n (now points))) × Hinted n (now points) (now hints) ⌝ }
     ensures { λ i. ⌜ i ≡ placeIn (now (point .entry)) (groups 8 n (now (points .entry))) ⌝ }
+    ensures { λ i. ⌜ now (hints .exit) ≡ set (now (hints .entry)) (hintOf (now (point .entry))) (suc i) ⌝ }
 {
     let own = key(point);
-    let remainder = (own % 2039) as usize;
-    let guess = guesses[remainder] as usize;
+    let remainder = (own % 233) as usize;
+    let hint = hints[remainder] as usize;
+    if hint == 0 {
+        hints[remainder] = n as u8 + 1;
+        return n;
+    }
+    let guess = hint - 1;
     if guess < n {
         let place = 8 * guess;
         if own == key(&points[place..place + 8]) {
@@ -175,7 +181,7 @@ fn find(n: usize, points: &[u8], point: &[u8], guesses: &mut [u8]) -> usize
         }
     }
     let at = place_of(n, points, point);
-    guesses[remainder] = at as u8;
+    hints[remainder] = at as u8 + 1;
     at
 }
 
@@ -210,16 +216,21 @@ pub struct Entered {
     pub over: bool,
 }
 
-// Enters a point among the first n of a table.
-pub fn enter(n: usize, points: &mut [u8], counts: &mut [u8], point: &[u8]) -> Entered
+// Enters a point among the first n of a table, none of which repeats.
+pub fn enter(
+    n: usize,
+    points: &mut [u8],
+    counts: &mut [u8],
+    hints: &mut [u8],
+    point: &[u8],
+) -> Entered
     requires { ⌜ n ≤ 64 ⌝ }
     requires { ⌜ (length (now points) ≡ 512) × (length (now counts) ≡ 64) × (length (now point) ≡ 8) ⌝ }
-    ensures { λ e. ⌜ e .at ≡ placeIn (now (point .entry)) (groups 8 n (now (points .entry))) ⌝ }
-    ensures { λ e. ⌜ e .over ≡ (ltb (e .at) n && eqb (getD (now (counts .entry)) (e .at) 0) 255) ⌝ }
-    ensures { λ e. ⌜ now (points .exit) ≡ pointsEntered n (e .at) (now (point .entry)) (now (points .entry)) ⌝ }
-    ensures { λ e. ⌜ now (counts .exit) ≡ countsEntered n (e .at) (now (counts .entry)) ⌝ }
+    requires { ⌜ T (noRepeat (groups 8 n (now points))) × Hinted n (now points) (now hints) ⌝ }
+    ensures { λ e. ⌜ EnteredAs n (now (point .entry)) (now (points .entry)) (now (counts .entry)) (now (hints .entry)) (e .at) (e .over)
+        (now (points .exit)) (now (counts .exit)) (now (hints .exit)) ⌝ }
 {
-    let at = place_of(n, points, point);
+    let at = find(n, points, point, hints);
     let over = enter_at(n, at, points, counts, point);
     Entered { at, over }
 }
@@ -231,6 +242,7 @@ pub struct Gathered {
 }
 
 // The distinct points of levels, m a point, in a table of zeros, with their counts: refused with 8 at the 65th, with 13 where one occurs more than 255 times.
+// The parts of `enter` are called one by one: with two callers it would be a call of its own, for each of the points.
 pub fn gather(
     p: u8,
     m: usize,
@@ -246,13 +258,13 @@ pub fn gather(
         × ((now (points .exit) ≡ statesTable (pointsOf (gathered (groups m count (residues p (now (levels .entry)))))))
         × (now (counts .exit) ≡ fill countsSize (countsOf (gathered (groups m count (residues p (now (levels .entry))))))))) ⌝ }
 {
-    let mut guesses = [0u8; 2039];
+    let mut hints = [0u8; 233];
     let mut n = 0;
     let mut over = false;
     for i in 0..count {
         let mut point = [0u8; 8];
         put_point(p, m, m * i, levels, &mut point);
-        let at = find(n, points, &point, &mut guesses);
+        let at = find(n, points, &point, &mut hints);
         let full = enter_at(n, at, points, counts, &point);
         if at == 64 {
             return Gathered { refusal: 8, n };

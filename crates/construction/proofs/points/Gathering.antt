@@ -1,7 +1,7 @@
 -- Points gathered one after the other into a table and bytes of counts: what `enter` leaves holds the list with one point more. The list itself is nowhere in
 -- memory: its counts may be above 255, where a byte stays and a flag says so.
 use mathlib.Core.Path.{_≡_, refl, sym, _∙_, ap, ap₂, subst}
-use mathlib.Core.Bool.{Bool, true, false, cond, _&&_, _||_, or-false, or-true}
+use mathlib.Core.Bool.{Bool, true, false, cond, _||_, or-false, or-true}
 use mathlib.Core.Logic.{inl, inr, _⊎_}
 use mathlib.Core.List.{List, [], _∷_, map-append}
 use Prim.Native.Nat.{ℕ, suc, _+_, _*_, _-_, _<_, _≤_}
@@ -24,7 +24,7 @@ use Rattle.specification.proofs.counted.Entered.{entered-there, entered-new}
 use Rattle.specification.proofs.counted.Gathered.{among-entered, once-entered}
 use Rattle.specification.proofs.counted.Saturated.{saturated, beyond, there-on, there-full, new-last, all-entered, all-full, none-capped}
 use Rattle.specification.proofs.ideal.Lists.{getD-among}
-use Rattle.construction.specs.Gathering.{pointsEntered, countsEntered}
+use Rattle.construction.specs.Gathering.{pointsEntered, countsEntered, EnteredAs}
 use Rattle.construction.proofs.points.PointPlaces.{place-filled, place-le, among-place}
 
 -- The points of L, of m numbers each, stand in the table, their counts in the bytes, and the flag says whether one is above 255.
@@ -50,17 +50,12 @@ once-held {m} {n} {L} h few t =
     subst T (sym (ap₂ (λ (k : ℕ) (t : List ℕ). noRepeat (groups 8 k t)) (sym many) (h .table)
     ∙ ap noRepeat (table-groups 8 512 S (omega (arith, many, h .few))) ∙ repeat-filled 8 m few S (h .long))) t
 
--- what is promised of a point in 8 bytes that is entered
-abbrev pub Enters : ℕ → List ℕ → List ℕ → List ℕ → ℕ → Bool → List ℕ → List ℕ → Type 0
-Enters n point points counts at hit table bytes = (at ≡ placeIn point (groups 8 n points)) × ((hit ≡ (ltb at n && eqb (getD counts at 0) 255))
-    × ((table ≡ pointsEntered n at point points) × (bytes ≡ countsEntered n at counts)))
-
 -- nothing is gathered yet
 pub holds-none : (m : ℕ) (points counts : List ℕ) → points ≡ statesTable [] → counts ≡ fill 64 [] → Holds m [] 0 points counts false
 holds-none m points counts e f = record { count = refl; few = omega arith; table = e; bytes = f; flag = refl; long = λ Q q. absurd q }
 
 module _ {m n : ℕ} {L : Counted} {points counts : List ℕ} {over : Bool} (h : Holds m L n points counts over) (few : m ≤ 8) (P : List ℕ) (own : length P ≡ m)
-    {at : ℕ} {hit : Bool} {table bytes : List ℕ} (e : Enters n (fill 8 P) points counts at hit table bytes) where
+    {hints : List ℕ} {at : ℕ} {hit : Bool} {table bytes noted : List ℕ} (e : EnteredAs n (fill 8 P) points counts hints at hit table bytes noted) where
   abbrev S : List (List ℕ)
   S = pointsOf L
 
@@ -74,7 +69,7 @@ module _ {m n : ℕ} {L : Counted} {points counts : List ℕ} {over : Bool} (h :
   pub placed : at ≡ i
   unfolding statesTable
   placed =
-      e .0 ∙ ap₂ (λ (k : ℕ) (t : List ℕ). placeIn (fill 8 P) (groups 8 k t)) (sym many) (h .table)
+      e .place ∙ ap₂ (λ (k : ℕ) (t : List ℕ). placeIn (fill 8 P) (groups 8 k t)) (sym many) (h .table)
       ∙ ap (placeIn (fill 8 P)) (table-groups 8 512 S (omega (arith, many, h .few))) ∙ place-filled 8 m few P S own (h .long)
 
   pub among : ltb at n ≡ isAmong P S
@@ -96,19 +91,19 @@ module _ {m n : ℕ} {L : Counted} {points counts : List ℕ} {over : Bool} (h :
 
     same-table : table ≡ points
     unfolding pointsEntered
-    same-table = e .1 .1 .0 ∙ rw (ne-eqb at n (λ z. omega (arith, z, below))) refl
+    same-table = e .table ∙ rw (ne-eqb at n (λ z. omega (arith, z, below))) refl
 
     counted : (b : Bool) → eqb (getD counts at 0) 255 ≡ b → (bytes ≡ fill 64 (saturated (entered P L))) × ((over || hit) ≡ beyond (entered P L))
     unfolding countsEntered
     counted true f =
         let w = there-full P L there (ap (λ (k : ℕ). eqb k 255) (sym byte) ∙ f) in
-        let is : bytes ≡ counts = e .1 .1 .1 ∙ rw (lt-ltb at n below, f) refl in
-        let so : hit ≡ true = e .1 .0 ∙ rw (lt-ltb at n below, f) refl in
+        let is : bytes ≡ counts = e .bytes ∙ rw (lt-ltb at n below, f) refl in
+        let so : hit ≡ true = e .full ∙ rw (lt-ltb at n below, f) refl in
         (is ∙ h .bytes ∙ ap (fill 64) (sym (w .0)), ap (λ (b : Bool). over || b) so ∙ or-true over ∙ sym (w .1))
     counted false f =
         let w = there-on P L there (ap (λ (k : ℕ). eqb k 255) (sym byte) ∙ f) in
-        let is : bytes ≡ set counts at (suc (getD counts at 0)) = e .1 .1 .1 ∙ rw (lt-ltb at n below, f) refl in
-        let so : hit ≡ false = e .1 .0 ∙ rw (lt-ltb at n below, f) refl in (
+        let is : bytes ≡ set counts at (suc (getD counts at 0)) = e .bytes ∙ rw (lt-ltb at n below, f) refl in
+        let so : hit ≡ false = e .full ∙ rw (lt-ltb at n below, f) refl in (
           is ∙ ap₂ (λ (k j : ℕ). set counts k (suc j)) placed byte ∙ ap (λ (c : List ℕ). set c i (suc (getD (saturated L) i 0))) (h .bytes)
               ∙ sym (set-filled 64 (saturated L) i (suc (getD (saturated L) i 0)) (omega (arith, within, placed, below)) (omega (arith, within, h .few))) ∙ ap (fill 64) (sym (w .0)),
           ap (λ (b : Bool). over || b) so ∙ or-false over ∙ h .flag ∙ sym (w .1),
@@ -140,10 +135,10 @@ module _ {m n : ℕ} {L : Counted} {points counts : List ℕ} {over : Bool} (h :
         let w = entered-new P L is-new in
         let c = new-last P L is-new in
         let no : ltb at n ≡ false = le-ltb at n (omega (arith, end)) in
-        let so : hit ≡ false = e .1 .0 ∙ rw no refl in
+        let so : hit ≡ false = e .full ∙ rw no refl in
         let wide : length (saturated L) ≡ n = length-map (countsOf L) _ ∙ length-map L (λ q. q .1) ∙ sym (h .count) in
-        let put : bytes ≡ set counts n 1 = e .1 .1 .1 ∙ rw (no, lt-ltb n 64 room) refl in
-        let written : table ≡ withPlace 8 n (fill 8 P) points = e .1 .1 .0 ∙ rw (eq-eqb at n end, lt-ltb n 64 room) refl in
+        let put : bytes ≡ set counts n 1 = e .bytes ∙ rw (no, lt-ltb n 64 room) refl in
+        let written : table ≡ withPlace 8 n (fill 8 P) points = e .table ∙ rw (eq-eqb at n end, lt-ltb n 64 room) refl in
         record {
           count = ap (λ (k : ℕ). k + 1) (h .count) ∙ sym (ap length w ∙ length-append L ((P, 1) ∷ []));
           few = omega (arith, room);
@@ -183,8 +178,8 @@ module _ (m : ℕ) (R : List ℕ) (count : ℕ) where
       record { list = []; once = tt; rest = rw (z, k) refl; holds = holds-none m points counts (e ∙ no-places 8 512) (f ∙ sym (fill-zeros 64)) }
 
   module _ {i n : ℕ} {points counts : List ℕ} {over : Bool} (b : Before m R count i n points counts over) where
-    module _ (few : m ≤ 8) (more : i < count) (enough : m * count ≤ length R) {at : ℕ} {hit : Bool} {table bytes : List ℕ}
-        (e : Enters n (fill 8 (take m (drop (m * i) R))) points counts at hit table bytes) where
+    module _ (few : m ≤ 8) (more : i < count) (enough : m * count ≤ length R) {hints : List ℕ} {at : ℕ} {hit : Bool}
+        {table bytes noted : List ℕ} (e : EnteredAs n (fill 8 (take m (drop (m * i) R))) points counts hints at hit table bytes noted) where
       abbrev next : List ℕ
       next = take m (drop (m * i) R)
 

@@ -56,6 +56,17 @@ place-le P (Q ∷ S) = go (sameList P Q) (place-le P S)
     go true h = omega arith
     go false h = omega arith
 
+-- a place before the end has the point
+pub place-has : (P : List ℕ) (S : List (List ℕ)) → placeIn P S < length S → P ≡ getD S (placeIn P S) []
+unfolding placeIn
+place-has P [] h = absurd (omega arith)
+place-has P (Q ∷ S) h = go (sameList P Q) refl h (place-has P S)
+  where
+    go : (b : Bool) → sameList P Q ≡ b → cond b 0 (suc (placeIn P S)) < suc (length S) → (placeIn P S < length S → P ≡ getD S (placeIn P S) [])
+        → P ≡ getD (Q ∷ S) (cond b 0 (suc (placeIn P S))) []
+    go true e k f = same-is P Q (of-true e)
+    go false e k f = f (omega arith)
+
 -- where no point repeats, a place with this point is its place
 pub place-once : (P : List ℕ) (S : List (List ℕ)) (i : ℕ) → T (noRepeat S) → i < length S → sameList P (getD S i []) ≡ true → i ≡ placeIn P S
 unfolding placeIn

@@ -120,6 +120,7 @@ pub fn gather_entries(
     ensures { λ r. ⌜ GatheredAs p variables (levelsAt variables (drop at (now (text .entry)))) r
         (now (points .exit)) (now (counts .exit)) (now (values .exit)) ⌝ }
 {
+    let mut hints = [0u8; 233];
     let mut from = at;
     let mut n = 0;
     let mut often = 0;
@@ -130,7 +131,7 @@ pub fn gather_entries(
         if !entry.inside {
             return refused_at(9, i + 1);
         }
-        let met = enter(n, points, counts, &point);
+        let met = enter(n, points, counts, &mut hints, &point);
         if met.at == 64 {
             let behind = first_outside(text, entry.next, p, variables, entries - i - 1);
             return no_room(i + 1, behind);

@@ -1,7 +1,7 @@
 -- `points::gather` meets its contract: the points from the ith on, entered into the list that stands in the table and the bytes, give all.
 use mathlib.Core.Path.{_≡_, refl, sym, ap, _∙_, subst}
 use mathlib.Core.Bool.{Bool, cond}
-use mathlib.Core.Logic.{inl, inr}
+use mathlib.Core.Logic.{inl, inr, _⊎_}
 use mathlib.Core.List.{List}
 use Prim.Native.Nat.{ℕ, _+_, _*_, _-_, _≤_}
 use native.Mathlib.Nat.{mul-le-mul-left}
@@ -13,17 +13,19 @@ use Rattle.residue.proofs.Places.{length-groups}
 use Rattle.residue.proofs.Replaced.{zeros-long}
 use Rattle.specification.specs.Levels.{residues}
 use Rattle.specification.proofs.agreement.Points.{length-residues}
+use Rattle.construction.specs.Gathering.{Hinted, EnteredAs}
 use Rattle.construction.proofs.points.PointPlaces.{place-le}
-use Rattle.construction.proofs.points.Gathering.{Before, Enters, holds-sizes, once-held, before-first, refused-full, before-next, all-in, all-told, all-held}
+use Rattle.construction.proofs.points.Hints.{hinted-none, hinted-next}
+use Rattle.construction.proofs.points.Gathering.{Before, holds-sizes, once-held, before-first, refused-full, before-next, all-in, all-told, all-held}
 use Rattle.construction.proofs.points.gather.Statement.{statement}
 use Rattle.construction.proofs.points.gather.Tie as tie
 
 abbrev Inv-loop : tie.InvT-loop
-Inv-loop p m count levels points₀ counts₀ guesses₀ n₀ over₀ i₀ points counts guesses n over i =
-    (i ≤ count) × (length guesses ≡ 2039) × Before m (residues p levels) count i n points counts over
+Inv-loop p m count levels points₀ counts₀ hints₀ n₀ over₀ i₀ points counts hints n over i =
+    (i ≤ count) × Hinted n points hints × Before m (residues p levels) count i n points counts over
 
 abbrev μ-loop : tie.MeasureT-loop
-μ-loop p m count levels points₀ counts₀ guesses₀ n₀ over₀ i₀ points counts guesses n over i = count - i
+μ-loop p m count levels points₀ counts₀ hints₀ n₀ over₀ i₀ points counts hints n over i = count - i
 
 -- at the loop's head
 module _ (l : tie.At-loop Inv-loop μ-loop) where
@@ -75,11 +77,20 @@ module _ (c : tie.After-enter-at Inv-loop μ-loop) where
   b = s l
 
   abbrev Enters-it : List ℕ → Type 0
-  Enters-it P = Enters (l .loop .n) P (l .loop .points) (l .loop .counts) (found .find .result) (c .enter-at .result) (c .enter-at .last .1 .1 .0)
-      (c .enter-at .last .1 .1 .1 .0)
+  Enters-it P = EnteredAs (l .loop .n) P (l .loop .points) (l .loop .counts) (l .loop .hints) (found .find .result) (c .enter-at .result) (c .enter-at .last .1 .1 .0)
+      (c .enter-at .last .1 .1 .1 .0) (found .find .last .1 .1 .1 .0)
+
+  own : Enters-it (point (filled found))
+  own = record {
+    place = found .find .ensures .0;
+    full = c .enter-at .ensures .0;
+    table = c .enter-at .ensures .1 .0;
+    bytes = c .enter-at .ensures .1 .1;
+    hinted = found .find .ensures .1;
+  }
 
   enters : Enters-it (fill 8 (take (b .args .m) (drop (b .args .m * l .loop .i) (R l))))
-  enters = subst Enters-it (filled found .put-point .ensures) (found .find .ensures, c .enter-at .ensures)
+  enters = subst Enters-it (filled found .put-point .ensures) own
 
   enough : b .args .m * b .args .count ≤ length (R l)
   enough = omega (arith, b .pre .0 .1, length-residues (b .args .p) (b .args .levels .now))
@@ -87,7 +98,7 @@ module _ (c : tie.After-enter-at Inv-loop μ-loop) where
 loop-holds : tie.Need-loop-holds Inv-loop μ-loop
 loop-holds c =
     let s = c .before .before in
-    (omega arith, refl, before-first (s .args .m) (residues (s .args .p) (s .args .levels .now)) (s .args .count) (s .pre .1 .0) (s .pre .1 .1))
+    (omega arith, hinted-none (s .args .points .now), before-first (s .args .m) (residues (s .args .p) (s .args .levels .now)) (s .args .count) (s .pre .1 .0) (s .pre .1 .1))
 
 mul-put-point : tie.Need-mul-put-point Inv-loop μ-loop
 mul-put-point c = omega (arith, last c, a c .good .1 .1 .1 .0 .0)
@@ -102,14 +113,14 @@ slice-aggregate-find : tie.Need-slice-aggregate-find Inv-loop μ-loop
 slice-aggregate-find c = sym (long (c .before .before .before))
 
 slice-aggregate-find-2 : tie.Need-slice-aggregate-find-2 Inv-loop μ-loop
-slice-aggregate-find-2 c = sym (turn (c .before .before .before .before) .before .loop .inv .1)
+slice-aggregate-find-2 c = sym (turn (c .before .before .before .before) .before .loop .inv .1 .long)
 
 find-requires : tie.Need-find-requires Inv-loop μ-loop
 find-requires c κs =
     let r = c .before .before .before .before in
     let l = turn r .before in
     let b = l .loop .inv .2 in
-    ((b .holds .few, omega (arith, b .holds .few, sizes l .0), long r, l .loop .inv .1), once-held (b .holds) (s l .pre .0 .0) (b .once))
+    ((b .holds .few, omega (arith, b .holds .few, sizes l .0), long r), (once-held (b .holds) (s l .pre .0 .0) (b .once), l .loop .inv .1))
 
 slice-aggregate-enter-at : tie.Need-slice-aggregate-enter-at Inv-loop μ-loop
 slice-aggregate-enter-at c = sym (long (filled (c .before .before .before .before)))
@@ -120,7 +131,7 @@ enter-at-requires c κs =
     let r = filled f in
     let l = turn r .before in
     let at = place-le (point r) (groups 8 (l .loop .n) (l .loop .points)) in
-    ((l .loop .inv .2 .holds .few, omega (arith, f .find .ensures, at, length-groups 8 (l .loop .n) (l .loop .points))), (sizes l .0, sizes l .1, long r))
+    ((l .loop .inv .2 .holds .few, omega (arith, f .find .ensures .0, at, length-groups 8 (l .loop .n) (l .loop .points))), (sizes l .0, sizes l .1, long r))
 
 same-length : tie.Need-same-length Inv-loop μ-loop
 same-length c =
@@ -150,11 +161,14 @@ loop-less c = omega arith
 
 loop-again : tie.Need-loop-again Inv-loop μ-loop
 loop-again c =
-    let e = c .before .before .before .before .before .before in (
+    let e = c .before .before .before .before .before .before in
+    let k = found e .find .result in
+    let n = l e .loop .n in
+    let came : ((k ≡ n) × (c .if2 .n ≡ n + 1)) ⊎ ((k ≡ n → ⊥) × (c .if2 .n ≡ n)) = elim (c .if2 .came) [ inl z ↦ inl (z .0 .taken, z .1) | inr z ↦ inr (z .0 .left, z .1) ] in (
       omega arith,
-      found e .find .kept .1 .1 .1 .0 ∙ l e .loop .inv .1,
+      hinted-next (l e .loop .inv .1) (point (filled (found e))) (l e .loop .inv .2 .holds .few) (sizes (l e) .0) (long (filled (found e))) (own e) (c .before .if1 .left) _ came,
       before-next (b e .args .m) (R (l e)) (b e .args .count) (l e .loop .inv .2) (b e .pre .0 .0) (t e .loop-test .taken) (enough e) (enters e) (c .before .if1 .left) _
-          (elim (c .if2 .came) [ inl z ↦ inl (z .0 .taken, z .1) | inr z ↦ inr (z .0 .left, z .1) ]),
+          came,
     )
 
 same-length-3 : tie.Need-same-length-3 Inv-loop μ-loop

@@ -14,7 +14,7 @@ use Rattle.residue.proofs.Places.{over-zeros}
 use Rattle.specification.specs.Refusal.{firstOf}
 use Rattle.specification.specs.Counted.{countsOf}
 use Rattle.specification.proofs.counted.Saturated.{none-capped}
-use Rattle.construction.proofs.points.Gathering.{Enters}
+use Rattle.construction.specs.Gathering.{EnteredAs}
 use Rattle.csv.specs.reading.Text.{Valued, firstFault, isOutside, firstAfter, tooMany, tooOften, otherValue, entryPoint, entryValue, valuedPoint, valuedPoints, firstOutside, refusalAt, notRefused, entryCase, pointsCases, entriesCases}
 use Rattle.csv.specs.reading.Records.{entryPart}
 use Rattle.csv.specs.reading.Points.{levelsIn, FilledAs, firstPlace, answered, GatheredAs}
@@ -56,7 +56,7 @@ module _ (p m : ℕ) (S : List (List ℤ)) where
     -- the next one, its point in 8 bytes of zeros
     module _ (fits : m ≤ 8) (h : i < entries) {n often other : ℕ} {points counts values : List ℕ} (g : Gathering m (first i) n often other points counts values)
         {f : Filled} (w : FilledAs p m t (entryPart m (drop from t)) f) {point : List ℕ} (ep : point ≡ over (entryPoint p m (levelsIn (entryPart m (drop from t)))) (replicate 8 0))
-        {at : ℕ} {hit : Bool} {table bytes : List ℕ} (e : Enters n point points counts at hit table bytes) where
+        {hints : List ℕ} {at : ℕ} {hit : Bool} {table bytes noted : List ℕ} (e : EnteredAs n point points counts hints at hit table bytes noted) where
       P : List ℕ
       P = entryPoint p m (next S r h)
 
@@ -68,8 +68,8 @@ module _ (p m : ℕ) (S : List (List ℤ)) where
       unfolding P
       filled = ep ∙ ap (λ (l : List ℤ). over (entryPoint p m l) (replicate 8 0)) (levels S r h) ∙ over-zeros (entryPoint p m (next S r h)) 8 (omega (arith, lp, fits))
 
-      entering : Enters n (fill 8 P) points counts at hit table bytes
-      entering = subst (λ (x : List ℕ). Enters n x points counts at hit table bytes) filled e
+      entering : EnteredAs n (fill 8 P) points counts hints at hit table bytes noted
+      entering = subst (λ (x : List ℕ). EnteredAs n x points counts hints at hit table bytes noted) filled e
 
       value : f .value ≡ entryValue p m (next S r h)
       value = w .value ∙ ap (entryValue p m) (levels S r h)

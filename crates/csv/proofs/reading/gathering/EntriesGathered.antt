@@ -7,20 +7,22 @@ use native.Mathlib.Numerals.{add-one}
 use native.Mathlib.Decide.{ℕ-discrete}
 use native.Mathlib.Omega.{arith}
 use lib.ListN.{length, getD, set, length-map, length-append}
-use lib.Dec.{eqb, eqb·suc-zero}
+use lib.Dec.{T, eqb, eqb·suc-zero}
 use borrow.Author.Tests.{eq-eqb, ne-eqb, lt-ltb, not-true}
 use Rattle.residue.specs.Lists.{sameList}
-use Rattle.residue.specs.Layout.{fill, inPlaces}
+use Rattle.residue.specs.Layout.{groups, fill, inPlaces}
 use Rattle.residue.proofs.Tests.{true-of}
 use Rattle.residue.proofs.bytes.Equality.{same-self}
 use Rattle.residue.proofs.Layouts.{fill-at, fill-put, length-fill}
-use Rattle.specification.specs.Levels.{isAmong}
+use Rattle.specification.specs.Levels.{isAmong, noRepeat}
 use Rattle.specification.specs.Counted.{pointsOf, entered, enteredAll, gathered, placeIn}
 use Rattle.specification.specs.Tables.{statesTable}
 use Rattle.specification.proofs.counted.Entered.{entered-there, entered-new}
+use Rattle.specification.proofs.counted.Gathered.{once-gathered}
 use Rattle.specification.proofs.counted.Saturated.{beyond}
 use Rattle.construction.proofs.points.PointPlaces.{place-le}
-use Rattle.construction.proofs.points.Gathering.{Holds, Enters, holds-none, placed, among, holds-there, is-new, holds-new}
+use Rattle.construction.specs.Gathering.{EnteredAs}
+use Rattle.construction.proofs.points.Gathering.{Holds, once-held, holds-none, placed, among, holds-there, is-new, holds-new}
 use Rattle.csv.specs.reading.Text.{Valued, firstAfter, tooMany, tooOften, firstValue, otherValue, firstValues}
 use Rattle.csv.specs.reading.Points.{firstPlace}
 use Rattle.csv.proofs.reading.FirstPlaces.{after-more, after-found, none-found}
@@ -37,6 +39,11 @@ pub record Gathering (m : ℕ) (E : List Valued) (n often other : ℕ) (points c
 pub no-entries : (m : ℕ) {points counts values : List ℕ} → points ≡ fill 512 [] → counts ≡ fill 64 [] → values ≡ fill 64 [] → Gathering m [] 0 0 0 points counts values
 unfolding gathered enteredAll statesTable inPlaces firstValues firstAfter
 no-entries m e f g = record { holds = holds-none m _ _ e f; firsts = g; most = refl; within = λ z. refl; others = refl }
+
+-- no point stands twice in the table
+pub once-there : {m : ℕ} {E : List Valued} {n often other : ℕ} {points counts values : List ℕ} → Gathering m E n often other points counts values → m ≤ 8
+    → T (noRepeat (groups 8 n points))
+once-there {m} {E} g fits = once-held (g .holds) fits (once-gathered (pointsOf E))
 
 pub values-long : {m : ℕ} {E : List Valued} {n often other : ℕ} {points counts values : List ℕ} → Gathering m E n often other points counts values → length values ≡ 64
 values-long {m} {E} g = ap length (g .firsts) ∙ length-fill 64 (firstValues (pointsOf (counted E)) E)
@@ -57,7 +64,8 @@ unfolding firstValue
 none P v E e = ap (firstValue P v) (sym (append-nil E)) ∙ value-new P v E [] e
 
 module _ {m : ℕ} (fits : m ≤ 8) (E : List Valued) {n often other : ℕ} {points counts values : List ℕ} (g : Gathering m E n often other points counts values)
-    (P : List ℕ) (v : ℕ) (lp : length P ≡ m) {at : ℕ} {hit : Bool} {table bytes : List ℕ} (e : Enters n (fill 8 P) points counts at hit table bytes) where
+    (P : List ℕ) (v : ℕ) (lp : length P ≡ m) {hints : List ℕ} {at : ℕ} {hit : Bool} {table bytes noted : List ℕ}
+    (e : EnteredAs n (fill 8 P) points counts hints at hit table bytes noted) where
   abbrev q : Valued
   q = (P, v)
 

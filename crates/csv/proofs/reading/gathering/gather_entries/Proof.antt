@@ -7,12 +7,14 @@ use lib.IntN.{ℤ}
 use lib.ListN.{length, take, drop}
 use borrow.Author.Tests.{not-true, not-false}
 use Rattle.residue.proofs.Layouts.{length-fill}
+use Rattle.construction.specs.Gathering.{Hinted}
 use Rattle.construction.proofs.points.Gathering.{holds-sizes}
+use Rattle.construction.proofs.points.Hints.{hinted-none, hinted-turn}
 use Rattle.csv.specs.reading.Text.{firstFault, isOutside}
 use Rattle.csv.specs.reading.Points.{levelsAt}
 use Rattle.csv.proofs.reading.points.EntriesRead.{ReadOn, begun, entry-there, read-on, count-left}
 use Rattle.csv.proofs.reading.points.EntriesInside.{inside-on, outside-here, all-inside, outside-left, left-within}
-use Rattle.csv.proofs.reading.gathering.EntriesGathered.{Gathering, no-entries, values-long}
+use Rattle.csv.proofs.reading.gathering.EntriesGathered.{Gathering, no-entries, once-there, values-long}
 use Rattle.csv.proofs.reading.gathering.AllGathered.{first, outside-refused, full-here, place-below, next-turn, all-gathered, most-within}
 use Rattle.csv.proofs.reading.gathering.gather_entries.Statement.{statement}
 use Rattle.csv.proofs.reading.gathering.gather_entries.Tie as tie
@@ -31,12 +33,12 @@ fits-64 : {a : ℕ} → a < 16384 → a + 1 < 2 ^ 64
 fits-64 h = omega (arith, h)
 
 abbrev Inv-loop : tie.InvT-loop
-Inv-loop text at p variables entries points₀ counts₀ values₀ from₀ n₀ often₀ other₀ i₀ points counts values from n often other i =
+Inv-loop text at p variables entries points₀ counts₀ values₀ hints₀ from₀ n₀ often₀ other₀ i₀ points counts values hints from n often other i =
     let S = levelsAt variables (drop at text) in
-    ReadOn variables entries text S from i × Gathering variables (first p variables S i) n often other points counts values × (firstFault (isOutside p) (take i S) ≡ 0)
+    ReadOn variables entries text S from i × Gathering variables (first p variables S i) n often other points counts values × (firstFault (isOutside p) (take i S) ≡ 0) × Hinted n points hints
 
 abbrev μ-loop : tie.MeasureT-loop
-μ-loop text at p variables entries points₀ counts₀ values₀ from₀ n₀ often₀ other₀ i₀ points counts values from n often other i = entries - i
+μ-loop text at p variables entries points₀ counts₀ values₀ hints₀ from₀ n₀ often₀ other₀ i₀ points counts values hints from n often other i = entries - i
 
 -- The places: the loop, an entry that was read in it, one that is in range, its point entered, whether there was room, and its value kept.
 -- Each names the one before it.
@@ -62,13 +64,13 @@ abbrev N : Type 0
 N = tie.After-enter Inv-loop μ-loop
 
 abbrev within : N → tie.Else1 Inv-loop μ-loop
-within e = e .before .before .before .before
+within e = e .before .before .before .before .before
 
 abbrev read : N → F
 read e = looked (within e .before)
 
 abbrev entered : tie.After-struct-known2 Inv-loop μ-loop → N
-entered k = k .before .before .before .before .before
+entered k = k .before .before .before .before .before .before
 
 abbrev kept : tie.After-struct-known3 Inv-loop μ-loop → tie.After-keep-value Inv-loop μ-loop
 kept c = c .before .before .before
@@ -101,7 +103,7 @@ loop-holds : tie.Need-loop-holds Inv-loop μ-loop
 unfolding firstFault
 loop-holds c =
     let s = c .before .before .before .before in
-    (begun _ _ _ _ (s .pre .0 .0) (s .pre .1 .0), no-entries _ (s .pre .1 .1 .0) (s .pre .1 .1 .1) (s .pre .1 .1 .2), refl)
+    (begun _ _ _ _ (s .pre .0 .0) (s .pre .1 .0), no-entries _ (s .pre .1 .1 .0) (s .pre .1 .1 .1) (s .pre .1 .1 .2), refl, hinted-none (s .args .points .now))
 
 slice-aggregate-fill-entry : tie.Need-slice-aggregate-fill-entry Inv-loop μ-loop
 slice-aggregate-fill-entry c = refl
@@ -145,13 +147,17 @@ returns c =
     _ (c .refused-at .ensures) _ _ _
 
 slice-aggregate-enter : tie.Need-slice-aggregate-enter Inv-loop μ-loop
-slice-aggregate-enter c = sym (looked (c .before .before .before .before) .fill-entry .kept .1 .1 .1 .1 .0)
+slice-aggregate-enter c = sym (turn (looked (c .before .before .before .before)) .loop .inv .3 .long)
+
+slice-aggregate-enter-2 : tie.Need-slice-aggregate-enter-2 Inv-loop μ-loop
+slice-aggregate-enter-2 c = sym (looked (c .before .before .before .before .before) .fill-entry .kept .1 .1 .1 .1 .0)
 
 enter-requires : tie.Need-enter-requires Inv-loop μ-loop
 enter-requires c κs =
-    let f = looked (c .before .before .before .before) in
-    let g = turn f .loop .inv .1 in
-    (g .holds .few, (holds-sizes (g .holds) .0, holds-sizes (g .holds) .1, f .fill-entry .kept .1 .1 .1 .1 .0))
+    let f = looked (c .before .before .before .before .before) in
+    let l = turn f in
+    let g = l .loop .inv .1 in
+    (g .holds .few, ((holds-sizes (g .holds) .0, holds-sizes (g .holds) .1, f .fill-entry .kept .1 .1 .1 .1 .0), (once-there g (start l .pre .0 .1), l .loop .inv .3)))
 
 sub-first-outside : tie.Need-sub-first-outside Inv-loop μ-loop
 sub-first-outside c = let h = taken (read (entered (c .before))) in omega arith
@@ -227,6 +233,7 @@ loop-again c =
       next-turn _ _ (entries l) (l .loop .inv .0) (start l .pre .0 .1) (taken f) (l .loop .inv .1) (f .fill-entry .ensures .0) (f .fill-entry .ensures .1) (e .enter .ensures)
           (had-room k .if2 .left) (k .keep-value .ensures .0) (k .keep-value .ensures .1 .0) (k .keep-value .ensures .1 .1) (c .before .first-place .ensures) (c .first-place2 .ensures),
       none-outside e,
+      hinted-turn (l .loop .inv .3) _ (l .loop .inv .1 .holds .few) (holds-sizes (l .loop .inv .1 .holds) .0) (f .fill-entry .kept .1 .1 .1 .1 .0) (e .enter .ensures) (had-room k .if2 .left) (k .keep-value .ensures .0),
     )
 
 decided-requires : tie.Need-decided-requires Inv-loop μ-loop
@@ -267,6 +274,7 @@ gather-entries-spec =
     same-length-3
     returns
     slice-aggregate-enter
+    slice-aggregate-enter-2
     enter-requires
     sub-first-outside
     sub-first-outside-2
