@@ -9,11 +9,12 @@ use specification::settings::Settings;
 ghost use mathlib.Core.Path.{_≡_};
 ghost use Prim.Native.Nat.{_*_, _≤_};
 ghost use lib.ListN.{length, replicate};
-ghost use Rattle.residue.specs.Layout.{fill, inPlaces, groups};
+ghost use Rattle.residue.specs.Layout.{groups};
 ghost use Rattle.specification.specs.Refusal.{firstOf};
-ghost use Rattle.specification.specs.Tables.{fiveTables, pointsIn, statesSize};
+ghost use Rattle.specification.specs.Tables.{fiveTables, statesSize};
 ghost use Rattle.specification.specs.Solving.{answering, withinVariables, remainderCases, remainderOutcome};
-ghost use Rattle.construction.specs.Drawing.{RowsLong, Solves};
+ghost use Rattle.construction.specs.Drawing.{RowsLong};
+ghost use Rattle.recognition.specs.Looking.{Looked};
 
 // Whether no variable above m has an exponent but 0 in the first k terms of a polynomial, 8 exponents each.
 fn within_variables(m: usize, k: usize, exponents: &[u8]) -> bool
@@ -31,7 +32,7 @@ fn within_variables(m: usize, k: usize, exponents: &[u8]) -> bool
     true
 }
 
-// The refusal of a remainder, or 0; then the points and their pivot rows are left in working arrays.
+// The refusal of a remainder, or 0. Where the tables are looked at, their points and pivot rows are left in working arrays.
 fn remainder_refusal(
     settings: Settings,
     n: u64,
@@ -52,8 +53,8 @@ fn remainder_refusal(
     ensures { λ k. ⌜ k ≡ firstOf 0 (remainderCases settings n r
         (fiveTables (now (states .entry)) (now (standard .entry)) (now (leads .entry)) (now (coefficients .entry)) (now (counts .entry)))
         (now («term_coefficients» .entry)) (now (exponents .entry)) (now (out .entry))) ⌝ }
-    ensures { λ k. ⌜ (k ≡ 0 → now (points .exit) ≡ fill statesSize (inPlaces 8 (pointsIn settings n (now (states .entry))))) ⌝ }
-    ensures { λ k. ⌜ (k ≡ 0 → Solves settings (pointsIn settings n (now (states .entry))) (now (rows .exit)) (now (pivots .exit))) ⌝ }
+    ensures { λ k. ⌜ Looked settings n (now (states .entry)) k (now (points .entry)) (now (rows .entry)) (now (pivots .entry))
+        (now (points .exit)) (now (rows .exit)) (now (pivots .exit)) ⌝ }
 {
     let terms = term_coefficients.len();
     let short = too_short(

@@ -10,13 +10,14 @@ use specification::settings::Settings;
 use specification::settings::Wired;
 ghost use mathlib.Core.Path.{_≡_};
 ghost use lib.ListN.{replicate};
-ghost use Rattle.residue.specs.Layout.{fill, inPlaces};
 ghost use Rattle.specification.specs.Refusal.{firstOf};
-ghost use Rattle.specification.specs.Tables.{fiveTables, pointsIn, statesSize};
+ghost use Rattle.specification.specs.Tables.{fiveTables, statesSize};
 ghost use Rattle.specification.specs.Solving.{answering, valuesCases, interpolateOutcome, listed, wiringOutcome};
-ghost use Rattle.construction.specs.Drawing.{RowsLong, Solves};
+ghost use Rattle.construction.specs.Drawing.{RowsLong};
+ghost use Rattle.recognition.specs.Looking.{Looked};
 
-// The refusal of a call that answers n values in an output of so many bytes, or 0; then the points and their pivot rows are left in working arrays.
+// The refusal of a call that answers n values in an output of so many bytes, or 0. Where the tables are looked at, their points and pivot rows are left in
+// working arrays.
 fn values_refusal(
     settings: Settings,
     n: u64,
@@ -37,8 +38,8 @@ fn values_refusal(
     ensures { λ k. ⌜ k ≡ firstOf 0 (valuesCases size settings n r
         (fiveTables (now (states .entry)) (now (standard .entry)) (now (leads .entry)) (now (coefficients .entry)) (now (counts .entry)))
         (now (values .entry)) (now (out .entry))) ⌝ }
-    ensures { λ k. ⌜ (k ≡ 0 → now (points .exit) ≡ fill statesSize (inPlaces 8 (pointsIn settings n (now (states .entry))))) ⌝ }
-    ensures { λ k. ⌜ (k ≡ 0 → Solves settings (pointsIn settings n (now (states .entry))) (now (rows .exit)) (now (pivots .exit))) ⌝ }
+    ensures { λ k. ⌜ Looked settings n (now (states .entry)) k (now (points .entry)) (now (rows .entry)) (now (pivots .entry))
+        (now (points .exit)) (now (rows .exit)) (now (pivots .exit)) ⌝ }
 {
     let short = too_short(
         states.len(),

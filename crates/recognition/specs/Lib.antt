@@ -1,2 +1,3 @@
 -- The definitions of the crate recognition.
+pub mod Looking
 pub mod Naming

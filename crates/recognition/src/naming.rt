@@ -43,7 +43,7 @@ pub fn locate(
     requires { ⌜ (now points ≡ replicate statesSize 0) × (RowsLong (now rows) (now pivots) × (now point ≡ replicate 8 0)) ⌝ }
     ensures { λ a. ⌜ LocatedAs settings n r
         (fiveTables (now (states .entry)) (now (standard .entry)) (now (leads .entry)) (now (coefficients .entry)) (now (counts .entry)))
-        (now (levels .entry)) (now (points .entry)) (now (point .entry)) a
+        (now (levels .entry)) (now (points .entry)) (now (rows .entry)) (now (pivots .entry)) (now (point .entry)) a
         (now (points .exit)) (now (rows .exit)) (now (pivots .exit)) (now (point .exit)) ⌝ }
 {
     let short = too_short(

@@ -1,6 +1,6 @@
 -- What is at hand where nothing refuses a call that names a point: the points of the tables and their pivot rows, the point and its place.
 use mathlib.Core.Path.{_≡_, sym, ap, ap₂, subst, _∙_}
-use mathlib.Core.Bool.{Bool, cond}
+use mathlib.Core.Bool.{cond}
 use mathlib.Core.List.{List}
 use Prim.Native.Nat.{ℕ, _≤_}
 use native.Mathlib.Omega.{arith}
@@ -20,7 +20,8 @@ use Rattle.construction.specs.Drawing.{PointsGiven, Solves}
 use Rattle.construction.proofs.drawing.Given.{given, table-points}
 use Rattle.recognition.specs.Naming.{namingRefusal, LocatedAs}
 use Rattle.recognition.specs.declared.naming.Located.{Located}
-use Rattle.recognition.proofs.naming.NamingTests.{Open, open-of, looked-at}
+use Rattle.recognition.proofs.naming.NamingTests.{Open, open-of}
+use Rattle.recognition.proofs.recognising.Looks.{points-there}
 use Rattle.recognition.proofs.recognising.Named.{named-among}
 
 module _ (s : Settings) (n r : ℕ) (t : Tables) (levels : List ℤ) (e : namingRefusal s n r t levels ≡ 0) where
@@ -50,16 +51,16 @@ module _ (s : Settings) (n r : ℕ) (t : Tables) (levels : List ℤ) (e : naming
     pub solves : Solves s S rows pivots
     pub residue : point ≡ fill 8 P
 
-  pub at-hand : {points₀ point₀ : List ℕ} {a : Located} {points rows pivots point : List ℕ} → LocatedAs s n r t levels points₀ point₀ a points rows pivots point
+  pub at-hand : {points₀ rows₀ pivots₀ point₀ : List ℕ} {a : Located} {points rows pivots point : List ℕ} → LocatedAs s n r t levels points₀ rows₀ pivots₀ point₀ a points rows pivots point
       → AtHand (a .place) points rows pivots point
-  at-hand {points₀} {point₀} {a} {points} L =
+  at-hand {point₀ = point₀} {a} {points} L =
       let none : a .refusal ≡ 0 = L .refusal ∙ e in
-      let table : points ≡ fill 512 (inPlaces 8 S) = L .table ∙ ap (λ (b : Bool). cond b (fill 512 (inPlaces 8 S)) points₀) (looked-at s n r t levels e) in
+      let table : points ≡ fill 512 (inPlaces 8 S) = points-there (L .looked) none in
       let count : length S ≡ n = length-read s (o .settings) n (t .states) in
       record {
         placed = L .place ∙ ap (λ (k : ℕ). cond (eqb k 0) (placeIn P S) 0) none;
         again = ap₂ (pointsIn s) (sym count) table ∙ table-points s (o .settings) S old-points;
         given-points = subst (λ (k : ℕ). PointsGiven s k points) count (subst (PointsGiven s (length S)) (sym table) (given s (o .settings) S old-points));
-        solves = L .solves none;
+        solves = L .looked .solves none;
         residue = L .residue ∙ ap (λ (k : ℕ). cond (eqb k 0) (fill 8 P) point₀) none;
       }

@@ -1,10 +1,13 @@
 -- The number of a call: the refusals by settings and sizes first, then its own tests.
 use mathlib.Core.Path.{_≡_, refl, sym, _∙_, ap}
-use mathlib.Core.Bool.{Bool, true, false, not}
+use mathlib.Core.Bool.{Bool, true, false, _&&_}
 use mathlib.Core.List.{List, [], _∷_, _++_, append-assoc}
-use Prim.Native.Nat.{ℕ}
+use Prim.Native.Nat.{ℕ, _≤_}
 use native.Mathlib.Decide.{ℕ-discrete}
-use lib.Dec.{T}
+use native.Mathlib.Omega.{arith}
+use lib.Dec.{T, leb}
+use borrow.Author.Tests.{leb-true}
+use Rattle.residue.proofs.Tests.{true-of, and-left, and-right}
 use Rattle.specification.specs.declared.settings.Settings.{Settings}
 use Rattle.specification.specs.Refusal.{Case, firstOf}
 use Rattle.specification.specs.Settings.{settingsCases}
@@ -12,10 +15,25 @@ use Rattle.specification.proofs.Cases.{numbered, None, none-holds, first-stop, 
 use Rattle.specification.proofs.agreement.Refusals.{Accepted, accepted, settings-pass}
 use Rattle.specification.proofs.Recognised.{none-of}
 
+-- no case has a number above b
+abbrev upTo : ℕ → List Case → Bool
+upTo b [] = true
+upTo b (c ∷ l) = leb (c .1) b && upTo b l
+
+first-at-most : (b : ℕ) (l : List Case) → T (upTo b l) → firstOf 0 l ≤ b
+unfolding firstOf
+first-at-most b [] t = omega arith
+first-at-most b ((true, k) ∷ l) t = leb-true k b (true-of (leb k b) (and-left (leb k b) (upTo b l) t))
+first-at-most b ((false, k) ∷ l) t = first-at-most b l (and-right (leb k b) (upTo b l) t)
+
 module _ (s : Settings) (short wrong many : Bool) where
   -- the cases that look at numbers alone
   abbrev pub sizes : List Case
   sizes = (short, 6) ∷ (wrong, 7) ∷ (many, 8) ∷ []
+
+  pub sizes-at-most-8 : firstOf 0 (settingsCases s ++ sizes) ≤ 8
+  unfolding settingsCases
+  sizes-at-most-8 = first-at-most 8 (settingsCases s ++ sizes) tt
 
   -- what it says that none of them holds
   pub record Passed : Type 0 where
@@ -47,30 +65,3 @@ module _ (s : Settings) (short wrong many : Bool) where
         go : Dec (firstOf 0 (settingsCases s ++ sizes) ≡ 0) → (firstOf 0 (settingsCases s ++ sizes) ≡ 0) × None rest
         go (yes z) = (z, none-holds rest t (by-rest z ∙ e))
         go (no z) = absurd (z (by-size (firstOf 0 (settingsCases s ++ sizes)) refl z ∙ e))
-
--- one test after the sizes
-module _ (i : ℕ) {a : Bool} where
-  pub one-fails : a ≡ false → i ≡ firstOf 0 ((not a, i) ∷ [])
-  unfolding firstOf
-  one-fails e = rw e
-
-  pub one-holds : a ≡ true → 0 ≡ firstOf 0 ((not a, i) ∷ [])
-  unfolding firstOf
-  one-holds e = rw e
-
--- two tests after the sizes: the first that fails decides
-unfoldable pub two : ℕ → Bool → ℕ → Bool → List Case
-two i a j b = (not a, i) ∷ (not b, j) ∷ []
-
-module _ (i j : ℕ) where
-  pub two-first : {a : Bool} (b : Bool) → a ≡ false → i ≡ firstOf 0 (two i a j b)
-  unfolding firstOf two
-  two-first b e = rw e
-
-  pub two-second : {a b : Bool} → a ≡ true → b ≡ false → j ≡ firstOf 0 (two i a j b)
-  unfolding firstOf two
-  two-second e f = rw (e, f)
-
-  pub two-none : {a b : Bool} → a ≡ true → b ≡ true → 0 ≡ firstOf 0 (two i a j b)
-  unfolding firstOf two
-  two-none e f = rw (e, f)

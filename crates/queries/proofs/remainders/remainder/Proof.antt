@@ -17,6 +17,7 @@ use Rattle.interpolation.specs.Solving.{solution}
 use Rattle.construction.specs.Drawing.{Solves}
 use Rattle.recognition.proofs.settings.ByNumber.{fill-refused, fill-accepted}
 use Rattle.queries.proofs.Refusals.{remainder-none}
+use Rattle.recognition.proofs.recognising.Looks.{points-there}
 use Rattle.recognition.proofs.recognising.Recognised.{table-below, rows-long, rows-multiplied, rows-inside}
 use Rattle.queries.proofs.Answered.{Sized, terms-sized, terms-count, terms-most, coefficients-below, terms-answer}
 use Rattle.queries.proofs.remainders.remainder.Statement.{statement}
@@ -44,7 +45,7 @@ module _ (e : tie.Else1) where
   sized = terms-sized (s .args .settings) (s .args .n) (s .args .r) (tables s) (s .args .term-coefficients .now) (s .args .exponents .now) (s .args .out .now) (remainder-none (s .args .settings) (s .args .n) (s .args .r) (tables s) (s .args .term-coefficients .now) (s .args .exponents .now) (s .args .out .now) none .0)
 
   table : d .remainder-refusal .last .1 .1 .1 .1 .1 .1 .1 .1 .1 .1 .1 .0 ≡ fill 512 (inPlaces 8 (pointsIn (s .args .settings) (s .args .n) (s .args .states .now)))
-  table = d .remainder-refusal .ensures .1 .0 (e .if1 .left)
+  table = points-there (d .remainder-refusal .ensures .1) (e .if1 .left)
 
   abbrev rows : List ℕ
   rows = d .remainder-refusal .last .1 .1 .1 .1 .1 .1 .1 .1 .1 .1 .1 .1 .0
@@ -53,7 +54,7 @@ module _ (e : tie.Else1) where
   pivots = d .remainder-refusal .last .1 .1 .1 .1 .1 .1 .1 .1 .1 .1 .1 .1 .1 .0
 
   solves : Solves (s .args .settings) (pointsIn (s .args .settings) (s .args .n) (s .args .states .now)) rows pivots
-  solves = d .remainder-refusal .ensures .1 .1 (e .if1 .left)
+  solves = d .remainder-refusal .ensures .1 .solves (e .if1 .left)
 
 slice-aggregate-remainder-refusal : tie.Need-slice-aggregate-remainder-refusal
 slice-aggregate-remainder-refusal c = refl

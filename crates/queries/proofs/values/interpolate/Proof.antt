@@ -54,7 +54,7 @@ module _ (e : tie.Else1) where
   pivots = d .values-refusal .last .1 .1 .1 .1 .1 .1 .1 .1 .1 .1 .1 .1 .1 .0
 
   solves : Solves (s .args .settings) (pointsIn (s .args .settings) (s .args .n) (s .args .states .now)) rows pivots
-  solves = d .values-refusal .ensures .1 .1 (e .if1 .left)
+  solves = d .values-refusal .ensures .1 .solves (e .if1 .left)
 
 slice-aggregate-values-refusal : tie.Need-slice-aggregate-values-refusal
 slice-aggregate-values-refusal c = refl

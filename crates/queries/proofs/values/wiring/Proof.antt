@@ -14,6 +14,7 @@ use Rattle.specification.specs.Tables.{Tables, fiveTables, pointsIn, recognised
 use Rattle.specification.specs.Needed.{wiringOf}
 use Rattle.specification.specs.Solving.{valuesCases, wiringOutcome}
 use Rattle.specification.proofs.Wiring.{list-refused, list-accepted}
+use Rattle.recognition.proofs.recognising.Looks.{points-there}
 use Rattle.queries.proofs.Refusals.{valuesSizes, values-none}
 use Rattle.queries.proofs.Answered.{Sized, values-sized, values-count, values-names}
 use Rattle.queries.proofs.values.wiring.Statement.{statement}
@@ -51,7 +52,7 @@ module _ (e : tie.Else1) where
   table = d .values-refusal .last .1 .1 .1 .1 .1 .1 .1 .1 .1 .1 .1 .0
 
   tabled : table ≡ fill 512 (inPlaces 8 (pointsIn (s .args .settings) (s .args .n) (s .args .states .now)))
-  tabled = d .values-refusal .ensures .1 .0 (e .if1 .left)
+  tabled = points-there (d .values-refusal .ensures .1) (e .if1 .left)
 
 slice-aggregate-values-refusal : tie.Need-slice-aggregate-values-refusal
 slice-aggregate-values-refusal c = refl

@@ -1,8 +1,8 @@
 -- `naming::locate` meets its contract: at each return the tests that led there decide the number.
 use borrow.Author.Tests.{ltb-false, eqb-true, not-true, not-false}
 use mathlib.Core.Path.{_≡_, refl, sym, ap, _∙_}
-use mathlib.Core.Bool.{true, not}
-use mathlib.Core.List.{List}
+use mathlib.Core.Bool.{Bool, true, not}
+use mathlib.Core.List.{List, _++_}
 use Prim.Native.Nat.{ℕ, _≤_}
 use native.Mathlib.Omega.{arith}
 use lib.ListN.{length}
@@ -11,16 +11,17 @@ use Rattle.residue.specs.Layout.{fill, inPlaces, over}
 use Rattle.residue.proofs.level.Moduli.{modulus-range}
 use Rattle.residue.proofs.Places.{over-zeros}
 use Rattle.residue.proofs.Layouts.{length-fill}
+use Rattle.specification.specs.Refusal.{firstOf}
 use Rattle.specification.specs.Levels.{inRange, residues}
 use Rattle.specification.specs.Settings.{settingsCases}
 use Rattle.specification.specs.Counted.{placeIn}
-use Rattle.specification.specs.Tables.{Tables, fiveTables, pointsIn, tooShort, recognised}
+use Rattle.specification.specs.Tables.{Tables, fiveTables, pointsIn, tooShort}
 use Rattle.specification.proofs.agreement.Points.{length-residues}
 use Rattle.specification.proofs.Cases.{sizes-are}
-use Rattle.construction.specs.Drawing.{Solves}
-use Rattle.recognition.proofs.settings.BySize.{Passed, passed}
+use Rattle.recognition.proofs.settings.BySize.{sizes, Passed, passed}
+use Rattle.recognition.proofs.recognising.Looks.{told-size, told-outside, told-unknown, told-known}
 use Rattle.recognition.proofs.recognising.Named.{place-is}
-use Rattle.recognition.proofs.naming.NamingTests.{namingSizes, early-size, early-range, located-early, located-unknown, located-known}
+use Rattle.recognition.proofs.naming.NamingTests.{located, located-nowhere}
 use Rattle.recognition.proofs.naming.locate.Statement.{statement}
 use Rattle.recognition.proofs.naming.locate.Tie as tie
 
@@ -39,14 +40,21 @@ newOne s = residues (s .args .settings .modulus) (s .args .levels .now)
 abbrev start : tie.After-point-sizes → tie.Start
 start d = d .before .before .before .before .before .before .before .before .before .before .before
 
+abbrev wrong : tie.Start → Bool
+wrong s = not (eqb (length (s .args .levels .now)) (s .args .settings .variables))
+
 abbrev Fine : tie.Start → ℕ
-Fine s = namingSizes (s .args .settings) (s .args .n) (s .args .r) (tables s) (s .args .levels .now)
+Fine s = firstOf 0 (settingsCases (s .args .settings) ++ sizes (s .args .settings) (tooShort (tables s)) (wrong s) (ltb 64 (s .args .n)))
 
 sized : (d : tie.After-point-sizes) → d .point-sizes .result ≡ Fine (start d)
 unfolding tooShort
 sized d = d .point-sizes .ensures ∙ sizes-are (settingsCases (start d .args .settings)) (d .before .too-short .ensures) refl refl
 
--- none of them holds
+-- behind them: whether the levels are in range
+abbrev inside : tie.Start → Bool
+inside s = inRange (s .args .settings .modulus) (s .args .levels .now)
+
+-- none of those on numbers holds
 module _ (e : tie.Else1) where
   abbrev s : tie.Start
   s = start (e .before)
@@ -54,7 +62,7 @@ module _ (e : tie.Else1) where
   fine : Fine s ≡ 0
   fine = sym (sized (e .before)) ∙ e .if1 .left
 
-  room : Passed (s .args .settings) (tooShort (tables s)) (not (eqb (length (s .args .levels .now)) (s .args .settings .variables))) (ltb 64 (s .args .n))
+  room : Passed (s .args .settings) (tooShort (tables s)) (wrong s) (ltb 64 (s .args .n))
   room = passed _ _ _ _ fine
 
   long : length (s .args .levels .now) ≡ s .args .settings .variables
@@ -68,7 +76,7 @@ module _ (f : tie.Else2) where
   abbrev e : tie.Else1
   e = f .before .before .before
 
-  range : inRange (s e .args .settings .modulus) (s e .args .levels .now) ≡ true
+  range : inside (s e) ≡ true
   range = sym (f .before .in-range .ensures) ∙ not-false _ (f .if2 .left)
 
 -- the tables are recognised
@@ -82,14 +90,8 @@ module _ (g : tie.Else3) where
   abbrev o : tie.Start
   o = s (e f)
 
-  known : recognised (o .args .settings) (o .args .n) (o .args .r) (tables o) ≡ true
-  known = sym (k .recognise .ensures .0) ∙ not-false _ (g .if3 .left)
-
   table : k .recognise .last .1 .1 .1 .1 .1 .1 .1 .1 .0 ≡ fill 512 (inPlaces 8 (olds o))
   table = k .recognise .ensures .1 .0
-
-  solves : Solves (o .args .settings) (olds o) (k .recognise .last .1 .1 .1 .1 .1 .1 .1 .1 .1 .0) (k .recognise .last .1 .1 .1 .1 .1 .1 .1 .1 .1 .1 .0)
-  solves = k .recognise .ensures .1 .1 .0 (not-false _ (g .if3 .left))
 
 -- the new point is in its place
 module _ (w : tie.After-put-residues) where
@@ -130,9 +132,10 @@ returns : tie.Need-returns
 returns c =
     let d = c .before .before in
     let s = start d in
-    located-early (s .args .settings) (s .args .n) (s .args .r) (tables s) (s .args .levels .now) (c .unlocated .result) (c .unlocated .ensures)
-    (early-size (s .args .settings) (s .args .n) (s .args .r) (tables s) (s .args .levels .now) (d .point-sizes .result) (sized d) (c .before .if1 .taken))
-    (s .args .points .now) (s .args .rows .now) (s .args .pivots .now) (s .args .point .now)
+    located-nowhere (s .args .settings) (s .args .n) (s .args .r) (tables s) (s .args .levels .now)
+    (told-size (s .args .settings) (s .args .n) (s .args .r) (tables s) (tooShort (tables s)) (wrong s) (ltb 64 (s .args .n)) (inside s) (s .args .points .now) (s .args .rows .now) (s .args .pivots .now)
+    (d .point-sizes .result) (sized d) (c .before .if1 .taken))
+    (c .unlocated .ensures) (c .before .if1 .taken)
 
 cast-p : tie.Need-cast-p
 cast-p c = omega (arith, modulus-range (s (c .before) .args .settings .modulus) (room (c .before) .settings .modulus))
@@ -148,9 +151,10 @@ returns-2 c =
     let q = c .before .before in
     let x = q .before .before in
     let s = s x in
-    located-early (s .args .settings) (s .args .n) (s .args .r) (tables s) (s .args .levels .now) (c .unlocated2 .result) (c .unlocated2 .ensures)
-    (early-range (s .args .settings) (s .args .n) (s .args .r) (tables s) (s .args .levels .now) (fine x) (sym (q .in-range .ensures) ∙ not-true _ (c .before .if2 .taken)))
-    (s .args .points .now) (s .args .rows .now) (s .args .pivots .now) (s .args .point .now)
+    located-nowhere (s .args .settings) (s .args .n) (s .args .r) (tables s) (s .args .levels .now)
+    (told-outside (s .args .settings) (s .args .n) (s .args .r) (tables s) (tooShort (tables s)) (wrong s) (ltb 64 (s .args .n)) (inside s) (s .args .points .now) (s .args .rows .now) (s .args .pivots .now)
+    (fine x) (sym (q .in-range .ensures) ∙ not-true _ (c .before .if2 .taken)))
+    (c .unlocated2 .ensures) (λ z. omega arith)
 
 recognise-requires : tie.Need-recognise-requires
 recognise-requires c κs =
@@ -178,9 +182,10 @@ returns-3 c =
     let k = unknown c in
     let h = k .before .before .before .before in
     let s = s (e h) in
-    located-unknown (s .args .settings) (s .args .n) (s .args .r) (tables s) (s .args .levels .now) (c .unlocated3 .result) (fine (e h)) (range h) (s .args .points .now)
-    (k .recognise .last .1 .1 .1 .1 .1 .1 .1 .1 .0) (k .recognise .ensures .1 .0) (c .unlocated3 .ensures) (sym (k .recognise .ensures .0) ∙ not-true _ (c .before .if3 .taken))
-    (k .recognise .last .1 .1 .1 .1 .1 .1 .1 .1 .1 .0) (k .recognise .last .1 .1 .1 .1 .1 .1 .1 .1 .1 .1 .0) (s .args .point .now)
+    located-nowhere (s .args .settings) (s .args .n) (s .args .r) (tables s) (s .args .levels .now)
+    (told-unknown (s .args .settings) (s .args .n) (s .args .r) (tables s) (tooShort (tables s)) (wrong s) (ltb 64 (s .args .n)) (inside s) (s .args .points .now) (s .args .rows .now) (s .args .pivots .now)
+    (fine (e h)) (range h) (k .recognise .ensures) (not-true _ (c .before .if3 .taken)))
+    (c .unlocated3 .ensures) (λ z. omega arith)
 
 put-residues-requires : tie.Need-put-residues-requires
 put-residues-requires c κs = let x = e (f (c .before)) in omega (arith, long x, room x .settings .few, ap length (s x .pre .1 .1))
@@ -206,8 +211,10 @@ same-length-7 c = w c .put-residues .kept .1 .1 .0
 returns-4 : tie.Need-returns-4
 returns-4 c =
     let s = o (h c) in
-    located-known (s .args .settings) (s .args .n) (s .args .r) (tables s) (s .args .levels .now) _ (fine (x c)) (range (f (h c))) (s .args .points .now) _ (table (h c)) refl (placed c)
-    (known (h c)) (solves (h c)) (s .args .point .now) (put (w c))
+    located (s .args .settings) (s .args .n) (s .args .r) (tables s) (s .args .levels .now)
+    (told-known (s .args .settings) (s .args .n) (s .args .r) (tables s) (tooShort (tables s)) (wrong s) (ltb 64 (s .args .n)) (inside s) (s .args .points .now) (s .args .rows .now) (s .args .pivots .now)
+    (fine (x c)) (range (f (h c))) (k (h c) .recognise .ensures) (not-false _ (h c .if3 .left)))
+    refl (placed c) (put (w c))
 
 pub locate-spec : {M : Type 1} → statement M
 locate-spec =
