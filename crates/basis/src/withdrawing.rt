@@ -19,7 +19,7 @@ ghost use Rattle.specification.specs.Withdrawing.{withdrawOutcome};
 ghost use Rattle.specification.specs.CallByCall.{recounted};
 ghost use Rattle.specification.proofs.Replicates.{holdingBoth};
 ghost use Rattle.specification.proofs.agreement.Points.{Points};
-ghost use Rattle.construction.specs.Drawing.{RowsLong, PointsGiven};
+ghost use Rattle.construction.specs.Drawing.{RowsLong, PointsGiven, pivotBytes, pivotRowsUnder};
 
 // One occurrence fewer of the point at a place among the n of a table: its count is lowered, or, where that was 1, the points and counts behind move up and the
 // points that are left are drawn up.
@@ -48,6 +48,9 @@ fn withdraw_accepted(
         place (getD (now (counts .entry)) place 0 - 1))
         (holdingBoth settings (removedAt place (pointsIn settings n (now (points .entry)))) (removedAt place (fill n (now (counts .entry))))
         (fiveTables (now (states .entry)) (now (standard .entry)) (now (leads .entry)) (now (coefficients .entry)) (now (counts .entry)))) ⌝ }
+    ensures { λ _. ⌜ pivotBytes (now (rows .exit)) (now (pivots .exit))
+        ≡ cond (ltb 1 (getD (now (counts .entry)) place 0)) (pivotBytes (now (rows .entry)) (now (pivots .entry)))
+        (pivotRowsUnder settings (removedAt place (pointsIn settings n (now (points .entry)))) (now (rows .entry)) (now (pivots .entry))) ⌝ }
 {
     let count = counts[place];
     if 1 < count {

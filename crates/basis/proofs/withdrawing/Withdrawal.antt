@@ -29,7 +29,7 @@ use Rattle.specification.proofs.counted.Entered.{lowered-last}
 use Rattle.specification.proofs.counted.Held.{points-held}
 use Rattle.specification.proofs.counted.Lowered.{entries-lowered}
 use Rattle.specification.proofs.agreement.Points.{Points}
-use Rattle.construction.specs.Drawing.{PointsGiven}
+use Rattle.construction.specs.Drawing.{PointsGiven, PivotBytes, pivotRowsUnder}
 use Rattle.construction.proofs.drawing.Given.{given, given-count, table-points}
 use Rattle.construction.proofs.points.PointPlaces.{place-le}
 use Rattle.recognition.proofs.settings.ByNumber.{when-refused}
@@ -85,6 +85,11 @@ module _ (s : Settings) (n j : ℕ) (table : List ℕ) (g : PointsGiven s n tabl
     left-done t times f l one lower =
         let is : times ≡ fill 64 (removedAt j (fill n (t .counts))) = f ∙ counts-out n j (t .counts) low (g .most) l in
         rw (left-points, is, le-ltb 1 (getD (t .counts) j 0) one, fill-twice 64 64 (removedAt j (fill n (t .counts))) (omega arith)) refl
+
+    -- and their pivot rows
+    pub left-rows : (count : ℕ) → count ≤ 1 → (rows pivots : List ℕ) (lent : PivotBytes)
+        → pivotRowsUnder s (pointsIn s (n - 1) rest) rows pivots ≡ cond (ltb 1 count) lent (pivotRowsUnder s left rows pivots)
+    left-rows count one rows pivots lent = rw (left-points, le-ltb 1 count one) refl
 
 -- The number: 12 comes behind the cases of a named point, and is told by the place.
 module _ (s : Settings) (n r : ℕ) (t : Tables) (levels : List ℤ) where

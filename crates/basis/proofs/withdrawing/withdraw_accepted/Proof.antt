@@ -8,8 +8,9 @@ use Rattle.specification.specs.Tables.{Tables, fiveTables}
 use Rattle.specification.specs.Adding.{Outcome, DrawOutcome}
 use Rattle.specification.specs.CallByCall.{recounted}
 use Rattle.specification.proofs.agreement.Refusals.{Large, large-of}
+use Rattle.construction.specs.Drawing.{pivotBytes}
 use Rattle.construction.proofs.drawing.Grounds.{points-long}
-use Rattle.basis.proofs.withdrawing.Withdrawal.{left-given, left-done}
+use Rattle.basis.proofs.withdrawing.Withdrawal.{left-given, left-done, left-rows}
 use Rattle.basis.proofs.withdrawing.withdraw_accepted.Statement.{statement}
 use Rattle.basis.proofs.withdrawing.withdraw_accepted.Tie as tie
 
@@ -73,7 +74,7 @@ same-length c = let s = start (c .before) in length-set (s .args .counts .now) (
 
 returns : tie.Need-returns
 unfolding recounted
-returns c = let s = start (c .before) in rw (lt-ltb 1 (count s) (c .if1 .taken)) refl
+returns c = let s = start (c .before) in let more = lt-ltb 1 (count s) (c .if1 .taken) in (rw more refl, rw more refl)
 
 slice-aggregate-take-out : tie.Need-slice-aggregate-take-out
 slice-aggregate-take-out c = refl
@@ -134,9 +135,15 @@ returns-2 c =
     let d = drawing c in
     let o = first (taken (d .before)) in
     let s = s o in
-    ap uncosted (d .draw-points .ensures .0)
-    ∙ left-done (s .args .settings) (s .args .n) (s .args .place) (s .args .points .now) (s .pre .0 .0) (s .pre .0 .1) (s .pre .1 .0 (one o)) _ (o .take-out .ensures) (tables s) _
-    (taken (d .before) .take-out2 .ensures) (omega (arith, large s .counts, s .pre .0 .0 .most)) (one o) (recounted (s .args .n) (s .args .r) (tables s) (s .args .place) (count s - 1))
+    let a = s .args in
+    let left = s .pre .1 .0 (one o) in (
+      ap uncosted (d .draw-points .ensures .0)
+          ∙ left-done (a .settings) (a .n) (a .place) (a .points .now) (s .pre .0 .0) (s .pre .0 .1) left _ (o .take-out .ensures) (tables s) _
+          (taken (d .before) .take-out2 .ensures) (omega (arith, large s .counts, s .pre .0 .0 .most)) (one o) (recounted (a .n) (a .r) (tables s) (a .place) (count s - 1)),
+      d .draw-points .ensures .1
+          ∙ left-rows (a .settings) (a .n) (a .place) (a .points .now) (s .pre .0 .0) (s .pre .0 .1) left _ (o .take-out .ensures) (count s) (one o) (a .rows .now) (a .pivots .now)
+          (pivotBytes (a .rows .now) (a .pivots .now)),
+    )
 
 pub withdraw-accepted-spec : {M : Type 1} → statement M
 withdraw-accepted-spec =

@@ -198,7 +198,7 @@ returns-3 c =
     let a = s e .args in
     let t = tables (s e) in
     let k = getD (a .counts .now) (place e) 0 in
-    d .withdraw-accepted .ensures
+    d .withdraw-accepted .ensures .0
     ∙ ap (λ (S : List (List ℕ)). cond (ltb 1 k) (recounted (a .n) (a .r) t (place e) (k - 1)) (holdingBoth (a .settings) (removedAt (place e) S) (removedAt (place e) (fill (a .n) (a .counts .now))) t)) (hand e .again)
     ∙ withdraw-done (a .settings) (a .n) (a .r) t (a .levels .now) (none e) (place e) (hand e .placed) (low f)
 
