@@ -2,11 +2,12 @@
 use mathlib.Core.Path.{_≡_}
 use mathlib.Core.Bool.{Bool}
 use mathlib.Core.List.{List, [], _∷_, map}
-use mathlib.Core.Option.{Option, some, none}
+use mathlib.Core.Option.{Option, some, none, Option·map}
 use Prim.Native.Nat.{ℕ, suc, _+_, _≤_}
 use lib.IntN.{ℤ}
 use lib.ListN.{length, drop}
-use Rattle.csv.specs.reading.Fields.{Field, field, broken, fieldOf, Part, part, faulty, recordOf, recordsOf}
+use Rattle.csv.specs.Digits.{numberOf}
+use Rattle.csv.specs.reading.Fields.{Field, field, broken, unquoted, fieldOf, Part, part, faulty, recordOf, recordsOf}
 use Rattle.csv.specs.reading.Forms.{levelOf, entryOf, Header, headerOf}
 use Rattle.csv.specs.reading.Text.{refusalAt, notRefused, brokenAt, entryIn}
 use Rattle.csv.specs.reading.Said.{withSign}
@@ -32,6 +33,13 @@ reading f broken = broken
 -- the field at the front, a level or a value
 unfoldable pub levelField : List ℕ → Field ℤ
 levelField l = reading levelOf (fieldOf l)
+
+-- a field without quotes whose digits are at the front, its sign being known
+unfoldable pub sizeOf : Bool → List ℕ → Option ℤ
+sizeOf negative content = Option·map (withSign negative) (numberOf content)
+
+unfoldable pub sizeField : Bool → List ℕ → Field ℤ
+sizeField negative l = reading (sizeOf negative) (unquoted l)
 
 -- a record by what its fields say, if they have the form
 unfoldable pub kept : {A : Type 0} → Option A → List ℕ → Part A

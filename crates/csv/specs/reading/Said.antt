@@ -1,15 +1,39 @@
 -- What the readers of a field's content answer, in the terms of the definitions of forms.
-use mathlib.Core.Bool.{Bool, true, false}
+use mathlib.Core.Path.{_≡_}
+use mathlib.Core.Bool.{Bool, true, false, cond}
+use mathlib.Core.List.{List}
 use mathlib.Core.Option.{Option, some, none}
 use Prim.Native.Nat.{ℕ}
 use lib.IntN.{ℤ, pos}
+use lib.ListN.{take}
+use lib.Dec.{eqb}
+use Rattle.csv.specs.Digits.{isDigit, numberOf}
+use Rattle.csv.specs.reading.Fields.{front}
 use Rattle.csv.specs.reading.Forms.{negative, Header}
+use Rattle.csv.specs.declared.reading.forms.Leading.{Leading}
+use Rattle.csv.specs.declared.reading.forms.Leading.the-variants as G
 use Rattle.csv.specs.declared.reading.forms.Signed.{Signed}
 use Rattle.csv.specs.declared.reading.forms.Signed.the-variants as S
 use Rattle.csv.specs.declared.reading.forms.Word.{Word}
 use Rattle.csv.specs.declared.reading.forms.Word.the-variants as W
 use Rattle.csv.specs.declared.reading.forms.Last.{Last}
 use Rattle.csv.specs.declared.reading.forms.Last.the-variants as L
+
+-- the number that the digits at the front write, one to three of them, and how many they are
+unfoldable pub leadingOf : ℕ → ℕ → Leading
+leadingOf size count = cond (eqb count 0) G.Broken (G.Number size count)
+
+unfoldable pub leadingSaid : Leading → Option ℕ
+leadingSaid (G.Number size count) = some size
+leadingSaid G.Broken = none
+
+abbrev pub LeadingEnds : ℕ → Leading → Type 0
+LeadingEnds k (G.Number size count) = count ≡ k
+LeadingEnds k G.Broken = Unit {0}
+
+pub record LeadingRead (content : List ℕ) (r : Leading) : Type 0 where
+  pub said : leadingSaid r ≡ numberOf (take (front isDigit content) content)
+  pub ends : LeadingEnds (front isDigit content) r
 
 unfoldable pub orderSaid : Word → Option ℕ
 orderSaid (W.Order k) = some k

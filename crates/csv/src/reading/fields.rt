@@ -64,7 +64,7 @@ pub enum End {
     Broken,
 }
 
-fn read_end(text: &[u8], at: usize) -> End
+pub fn read_end(text: &[u8], at: usize) -> End
     requires { ⌜ at ≤ length (now text) ⌝ }
     ensures { λ r. ⌜ EndRead (now (text .entry)) at r ⌝ }
 {

@@ -8,7 +8,7 @@ ghost use Rattle.residue.specs.Lists.{sameList};
 ghost use Rattle.csv.specs.reading.Fields.{front};
 ghost use Rattle.csv.specs.Digits.{isDigit};
 ghost use Rattle.csv.specs.reading.Forms.{levelOf, orderWord, modulusAndOrder, lastField};
-ghost use Rattle.csv.specs.reading.Said.{orderSaid, levelSaid, lastSaid};
+ghost use Rattle.csv.specs.reading.Said.{leadingOf, LeadingRead, orderSaid, levelSaid, lastSaid};
 
 // Whether two runs of bytes are the same.
 pub fn same(a: &[u8], b: &[u8]) -> bool
@@ -37,6 +37,41 @@ fn digit_end(content: &[u8]) -> usize
         i += 1;
     }
     i
+}
+
+// The number that the digits at the front write, and how many they are.
+pub enum Leading {
+    Number { size: u16, count: usize },
+    Broken,
+}
+
+fn leading_of(size: u16, count: usize) -> Leading
+    ensures { λ r. ⌜ r ≡ leadingOf size count ⌝ }
+{
+    if count == 0 {
+        return Leading::Broken;
+    }
+    Leading::Number { size, count }
+}
+
+// The one to three digits at the front, which no other follows: found and read at once.
+pub fn read_leading(content: &[u8]) -> Leading
+    ensures { λ r. ⌜ LeadingRead (now (content .entry)) r ⌝ }
+{
+    let mut size: u16 = 0;
+    let mut i = 0;
+    while i < content.len() {
+        let b = content[i];
+        if !is_digit(b) {
+            return leading_of(size, i);
+        }
+        if i == 3 {
+            return Leading::Broken;
+        }
+        size = 10 * size + (b - 48) as u16;
+        i += 1;
+    }
+    leading_of(size, i)
 }
 
 pub enum Signed {

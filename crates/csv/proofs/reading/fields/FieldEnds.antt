@@ -8,7 +8,7 @@ use native.Mathlib.Omega.{arith}
 use lib.ListN.{length, getD, drop, drop-of-length-le}
 use lib.Seq.{drop-cons}
 use borrow.Author.Tests.{eq-eqb, ne-eqb}
-use Rattle.csv.specs.reading.Fields.{comma, lf, cr, Field, field, broken, afterCr, ending, with}
+use Rattle.csv.specs.reading.Fields.{comma, lf, cr, field, broken, afterCr, ending, with}
 use Rattle.csv.proofs.reading.fields.Searches.{cells}
 
 module _ (content : List ℕ) where
@@ -72,13 +72,14 @@ module _ (content : List ℕ) where
             pub end-crlf : at + 1 < length t → getD t (at + 1) 0 ≡ lf → ending content (drop at t) ≡ field content false (drop (at + 2) t)
             end-crlf k f = ap (ending content) (cells t at k) ∙ first-cr _ _ n m e ∙ then-lf _ _ f
 
-chosen : (b : ℕ) (t : Bool) (x y : Field (List ℕ)) → with b (cond t x y) ≡ cond t (with b x) (with b y)
-chosen b true x y = refl
-chosen b false x y = refl
+-- a function of one of two
+pub chosen : {A B : Type 0} (f : A → B) (t : Bool) (x y : A) → f (cond t x y) ≡ cond t (f x) (f y)
+chosen f true x y = refl
+chosen f false x y = refl
 
 -- a byte more of the content
 pub with-ending : (b : ℕ) (content l : List ℕ) → with b (ending content l) ≡ ending (b ∷ content) l
 unfolding with ending afterCr
 with-ending b content [] = refl
-with-ending b content (c ∷ []) = simp (chosen b)
-with-ending b content (c ∷ d ∷ l) = simp (chosen b)
+with-ending b content (c ∷ []) = simp (chosen (with b))
+with-ending b content (c ∷ d ∷ l) = simp (chosen (with b))

@@ -164,11 +164,13 @@ plain (b ∷ l) n = simp (ne-eqb b quote (n (omega arith)))
 
 -- a field begins with a quote or not
 module _ (t : List ℕ) (at : ℕ) where
+  pub begins-otherwise : (b : ℕ) → (at < length t → getD t at 0 ≡ b → ⊥) → 0 < length (drop at t) → getD (drop at t) 0 0 ≡ b → ⊥
+  begins-otherwise b n h e =
+      n (omega (arith, h, length-drop at t)) (sym (getD-drop at t 0 0 ∙ ap (λ (j : ℕ). getD t j 0) (add-zero at)) ∙ e)
+
   pub field-quoted : at < length t → getD t at 0 ≡ quote → quoted (drop (at + 1) t) ≡ fieldOf (drop at t)
   unfolding fieldOf
   field-quoted h e = rw (add-one, drop-cons t at 0 h) (simp (eq-eqb (getD t at 0) quote e))
 
   pub field-plain : (at < length t → getD t at 0 ≡ quote → ⊥) → unquoted (drop at t) ≡ fieldOf (drop at t)
-  field-plain n =
-      let g : getD (drop at t) 0 0 ≡ getD t at 0 = getD-drop at t 0 0 ∙ ap (λ (j : ℕ). getD t j 0) (add-zero at) in
-      plain (drop at t) (λ h e. n (omega (arith, length-drop at t)) (sym g ∙ e))
+  field-plain n = plain (drop at t) (begins-otherwise quote n)

@@ -1,102 +1,52 @@
--- `records::level_at` meets its contract: the field, and the level that its bytes say.
+-- `records::level_at` meets its contract: with quotes, with a minus sign, or neither.
 use borrow.Author.Needs.{needs}
-use mathlib.Core.Path.{_≡_, sym, ap, _∙_, subst}
-use mathlib.Core.List.{List}
-use Prim.Native.Nat.{ℕ, _-_, _≤_}
-use lib.ListN.{length, take, drop}
-use Rattle.csv.specs.reading.Forms.{levelOf}
-use Rattle.csv.specs.reading.Spans.{spanned, SpanWithin}
-use Rattle.csv.specs.reading.Said.{levelSaid}
-use Rattle.csv.specs.reading.Records.{held, reading, levelField, levelAtSaid}
-use Rattle.csv.specs.declared.reading.forms.Signed.{Signed}
+use mathlib.Core.Path.{_∙_}
+use mathlib.Core.Logic.{⊎-elim}
+use native.Mathlib.Omega.{arith}
 use Rattle.csv.proofs.reading.records.Numbers.{level-read}
-use Rattle.csv.proofs.reading.records.EntriesChecked.{level-is}
+use Rattle.csv.proofs.reading.records.PlainLevels.{level-signed, level-unsigned}
 use Rattle.csv.proofs.reading.records.level_at.Statement.{statement}
 use Rattle.csv.proofs.reading.records.level_at.Tie as tie
 
-abbrev text : tie.Start → List ℕ
-text s = s .args .text .now
+shared-slice-read-b : tie.Need-shared-slice-read-b
+shared-slice-read-b c = search needs
 
--- The places: a field was read, its bytes were.
-abbrev start : tie.After-known-told → tie.Start
-start c = c .before .before .before .before .before
-
-abbrev known : tie.After-read-level → tie.After-known-told
-known c = c .before .before
-
--- the field's places, which lie within the text
-within : (c : tie.After-known-told)
-    → (c .before .from .given .0 .0 ≤ c .before .from .given .0 .1 .0) × (c .before .from .given .0 .1 .0 ≤ length (text (start c))) × (c .before .from .given .0 .1 .1 .1 .0 ≤ length (text (start c)))
-within c = subst (SpanWithin (length (text (start c)))) (c .before .from .given .1) (c .before .before .before .read-field .ensures .within)
-
-said : (c : tie.After-read-level)
-    → held (levelSaid (c .read-level .result)) (known c .before .from .given .0 .1 .1 .0) (drop (known c .before .from .given .0 .1 .1 .1 .0) (text (start (known c))))
-    ≡ levelField (drop (start (known c) .args .at) (text (start (known c))))
-unfolding spanned
-said c =
-    let f = known c .before .from .given .0 in
-    let t = text (start (known c)) in
-    level-is (take (f .1 .0 - f .0) (drop (f .0) t)) (drop (f .1 .1 .1 .0) t) (drop (start (known c) .args .at) t) (f .1 .1 .0) (c .read-level .result)
-    (ap (spanned t) (sym (known c .before .from .given .1)) ∙ known c .before .before .before .read-field .ensures .said) (c .read-level .ensures)
-
-read-field-requires : tie.Need-read-field-requires
-read-field-requires c κs = search needs
-
-enum-known-from : tie.Need-enum-known-from
-enum-known-from c = search needs
-
-enum-told : tie.Need-enum-told
-enum-told c = search needs
+field-level-requires : tie.Need-field-level-requires
+field-level-requires c κs = search needs
 
 returns : tie.Need-returns
-unfolding levelAtSaid levelField reading spanned
-returns c = level-read _ _ _ (ap (reading levelOf) (ap (spanned (text (c .before .before .before .before))) (sym (c .enum-told .given .1)) ∙ c .before .before .read-field .ensures .said)) tt
+returns c = search needs
 
-sub-read-level : tie.Need-sub-read-level
-sub-read-level c = within c .0
+add-plain-level : tie.Need-add-plain-level
+add-plain-level c = search needs
 
-part-read-level-start : tie.Need-part-read-level-start
-part-read-level-start c = within c .0
-
-part-read-level-end : tie.Need-part-read-level-end
-part-read-level-end c = within c .1
-
-read-level-requires : tie.Need-read-level-requires
-read-level-requires c κs = search needs
-
-enum-known-negative : tie.Need-enum-known-negative
-enum-known-negative c = search needs
-
-enum-told-2 : tie.Need-enum-told-2
-enum-told-2 c = search needs
+plain-level-requires : tie.Need-plain-level-requires
+plain-level-requires c κs = search needs
 
 returns-2 : tie.Need-returns-2
-unfolding levelAtSaid levelSaid held
-returns-2 c =
-    let d = c .before .before in
-    let f = known d .before .from .given .0 in
-    level-read _ _ _ (ap (λ (s : Signed). held (levelSaid s) (f .1 .1 .0) (drop (f .1 .1 .1 .0) (text (start (known d))))) (sym (c .enum-told2 .given .1)) ∙ said d) tt
+returns-2 c = level-read _ _ _ (c .plain-level .ensures .0 ∙ level-signed _ _ (c .before .before .before .before .if1 .taken) (c .before .if3 .taken)) (c .plain-level .ensures .1)
+
+plain-level-requires-2 : tie.Need-plain-level-requires-2
+plain-level-requires-2 c κs = search needs
 
 returns-3 : tie.Need-returns-3
-unfolding levelAtSaid levelSaid held
 returns-3 c =
-    let d = c .before .before .before in
-    let f = known d .before .from .given .0 in
-    level-read _ _ _ (ap (λ (s : Signed). held (levelSaid s) (f .1 .1 .0) (drop (f .1 .1 .1 .0) (text (start (known d))))) (sym (c .before .negative .given .1)) ∙ said d) (within (known d) .2)
+    let s = c .before .before .before in
+    level-read _ _ _
+    (c .plain-level2 .ensures .0
+    ∙ level-unsigned (s .args .text .now) (s .args .at) (⊎-elim (λ w h. w .2 .left) (λ w h e. omega arith) (c .before .if1 .came))
+    (⊎-elim (λ w h. w .3 .left) (λ w h e. omega arith) (c .before .if1 .came)))
+    (c .plain-level2 .ensures .1)
 
 pub level-at-spec : {M : Type 1} → statement M
 level-at-spec =
     tie.close
     (tie.spec
-    read-field-requires
-    enum-known-from
-    enum-told
+    shared-slice-read-b
+    field-level-requires
     returns
-    sub-read-level
-    part-read-level-start
-    part-read-level-end
-    read-level-requires
-    enum-known-negative
-    enum-told-2
+    add-plain-level
+    plain-level-requires
     returns-2
+    plain-level-requires-2
     returns-3)
