@@ -1,6 +1,6 @@
 // The text reader.
 mod fields;
-pub mod forms;
+mod forms;
 mod gathering;
 mod points;
 mod records;

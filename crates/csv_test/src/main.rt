@@ -2,9 +2,9 @@
 // those of standard input, or where none of them passes those of the file `texts`.
 use csv::reading;
 use csv::reading::Read;
-use csv::reading::forms;
 use libc::STDIN_FILENO;
 use libc::STDOUT_FILENO;
+use residue::bytes;
 
 // Numbers stored in two or three bytes, the lowest first.
 fn word(low: u8, high: u8) -> u16 {
@@ -40,10 +40,10 @@ fn holds(buffer: &[u8], front: &[u8], behind: &[u8]) -> bool {
     if buffer.len() < n {
         return false;
     }
-    if !forms::same(&buffer[..n], front) {
+    if !bytes::same(&buffer[..n], front) {
         return false;
     }
-    forms::same(&buffer[n..], behind)
+    bytes::same(&buffer[n..], behind)
 }
 
 // The next n bytes of the file.
@@ -76,13 +76,13 @@ fn filled(fd: i32, n: u8, states: &[u8], values: &[u8], counts: &[u8]) -> bool {
 
 // A refused text leaves the buffers as they were.
 fn untouched(states: &[u8], values: &[u8], counts: &[u8]) -> bool {
-    if !forms::same(states, &[170u8; 520]) {
+    if !bytes::same(states, &[170u8; 520]) {
         return false;
     }
-    if !forms::same(values, &[170u8; 70]) {
+    if !bytes::same(values, &[170u8; 70]) {
         return false;
     }
-    forms::same(counts, &[170u8; 68])
+    bytes::same(counts, &[170u8; 68])
 }
 
 // What a case lends: so many bytes of each buffer.

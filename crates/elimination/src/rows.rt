@@ -2,6 +2,7 @@
 // multiples, in a block of 1152 bytes.
 use crate::reducing::gain;
 use residue::bytes::all_zero;
+use residue::bytes::copy;
 use residue::inverse::inverse;
 use residue::vector::scale;
 ghost use mathlib.Core.Path.{_≡_};
@@ -45,16 +46,6 @@ fn normalise(p: u8, own: usize, at: usize, work: &mut [u8])
     }
     let len = own + 1;
     scale(p, &mut work[..len], c);
-}
-
-// Copies a row.
-pub fn copy(from: &[u8], to: &mut [u8])
-    requires { ⌜ length (now from) ≡ length (now to) ⌝ }
-    ensures { λ _. ⌜ now (to .exit) ≡ now (from .entry) ⌝ }
-{
-    for i in 0..to.len() {
-        to[i] = from[i];
-    }
 }
 
 // Fills a block with the multiples of a row: each is the one before and the first of its three.

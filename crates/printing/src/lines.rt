@@ -47,7 +47,7 @@ fn put_line(out: &mut [u8], at: usize, word: &[u8], list: &[u8]) -> usize
     put_byte(out, end, 10)
 }
 
-fn put_first(out: &mut [u8], at: usize, n: u16, r: u16) -> usize
+fn put_first_line(out: &mut [u8], at: usize, n: u16, r: u16) -> usize
     requires { ⌜ Room at (firstLine n r) (now out) ⌝ }
     ensures { λ e. ⌜ Put at (firstLine n r) (now (out .entry)) (now (out .exit)) e ⌝ }
 {
@@ -139,7 +139,7 @@ pub fn print_basis(
         (inTable 64 r n (now (coefficients .entry))) (now (interpolant .entry)) (now (names .entry)))
         (now (out .entry)) (now (out .exit)) e ⌝ }
 {
-    let first = put_first(out, 0, n as u16, r as u16);
+    let first = put_first_line(out, 0, n as u16, r as u16);
     let middle = put_standard(out, first, m, n, standard);
     let rows = put_rows(out, middle, m, n, r, leads, coefficients);
     let last = put_line(out, rows, b"interpolant", interpolant);

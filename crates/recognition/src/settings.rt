@@ -111,7 +111,7 @@ fn by_sizes(settings: Settings, short: bool, wrong: bool, many: bool) -> u8
 }
 
 // The remainder of a division as the definitions have it, by 0 too: lengths are judged before the settings are known to be good.
-fn rest(k: usize, m: u64) -> usize
+fn modulo(k: usize, m: u64) -> usize
     ensures { λ r. ⌜ r ≡ k % m ⌝ }
 {
     if m == 0 {
@@ -136,7 +136,7 @@ pub fn draw_sizes(settings: Settings, short: bool, levels: usize) -> u8
     by_sizes(
         settings,
         short,
-        rest(levels, settings.variables) != 0,
+        modulo(levels, settings.variables) != 0,
         false,
     )
 }

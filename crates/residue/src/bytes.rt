@@ -6,10 +6,12 @@ ghost use Rattle.residue.specs.Lists.{sameList, allZero};
 ghost use Rattle.residue.specs.Layout.{over, begins};
 
 // Whether two slices are equal. The loop runs to the end, so that it is compiled to packed instructions, 16 bytes at a time.
-fn same(a: &[u8], b: &[u8]) -> bool
-    requires { ⌜ length (now a) ≡ length (now b) ⌝ }
+pub fn same(a: &[u8], b: &[u8]) -> bool
     ensures { λ r. ⌜ r ≡ sameList (now (a .entry)) (now (b .entry)) ⌝ }
 {
+    if a.len() != b.len() {
+        return false;
+    }
     let mut different: u8 = 0;
     for i in 0..a.len() {
         if a[i] != b[i] {

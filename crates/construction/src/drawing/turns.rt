@@ -1,6 +1,5 @@
 // A turn of drawing up: the working row of the monomial in hand, its place among the leads or the standard monomials, and the next one's exponents and values.
 use elimination::reducing::eliminate;
-use elimination::rows;
 use residue::bytes;
 use residue::vector::multiply;
 ghost use mathlib.Core.Path.{_≡_};
@@ -32,7 +31,7 @@ pub fn reduce(
     ensures { λ _. ⌜ now (work .exit) ≡ eliminated p (now (rows .entry)) (now (pivots .entry)) found (rowWith (take n (now (own .entry)))) ⌝ }
     ensures { λ k. ⌜ k ≡ cancellations p (now (rows .entry)) (now (pivots .entry)) found (rowWith (take n (now (own .entry)))) ⌝ }
 {
-    rows::copy(&own[..n], &mut work[..n]);
+    bytes::copy(&own[..n], &mut work[..n]);
     eliminate(p, n, found, rows, pivots, work)
 }
 
@@ -76,7 +75,7 @@ pub fn keep_standard(
     let place = 8 * found;
     bytes::copy(exponents, &mut standard[place..place + 8]);
     let from = 64 * found;
-    rows::copy(own, &mut values[from..from + 64]);
+    bytes::copy(own, &mut values[from..from + 64]);
 }
 
 // The exponents of x_(k+1) times standard monomial t.
@@ -106,7 +105,7 @@ pub fn put_values(
     ensures { λ _. ⌜ now (own .exit) ≡ productValues p n (take n (drop (64 * k) (now (columns .entry)))) (take 64 (drop (64 * t) (now (values .entry)))) ⌝ }
 {
     let from = 64 * t;
-    rows::copy(&values[from..from + 64], own);
+    bytes::copy(&values[from..from + 64], own);
     let column = 64 * k;
     multiply(p, &mut own[..n], &columns[column..column + n]);
 }

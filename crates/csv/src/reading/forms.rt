@@ -2,6 +2,7 @@
 use crate::digits::Number;
 use crate::digits::is_digit;
 use crate::digits::read_number;
+use residue::bytes::same;
 ghost use mathlib.Core.Path.{_≡_};
 ghost use Prim.Native.Nat.{ℕ};
 ghost use Rattle.residue.specs.Lists.{sameList};
@@ -9,21 +10,6 @@ ghost use Rattle.csv.specs.reading.Fields.{front};
 ghost use Rattle.csv.specs.Digits.{isDigit};
 ghost use Rattle.csv.specs.reading.Forms.{levelOf, orderWord, modulusAndOrder, lastField};
 ghost use Rattle.csv.specs.reading.Said.{leadingOf, LeadingRead, orderSaid, levelSaid, lastSaid};
-
-// Whether two runs of bytes are the same.
-pub fn same(a: &[u8], b: &[u8]) -> bool
-    ensures { λ r. ⌜ r ≡ sameList (now (a .entry)) (now (b .entry)) ⌝ }
-{
-    if a.len() != b.len() {
-        return false;
-    }
-    for i in 0..a.len() {
-        if a[i] != b[i] {
-            return false;
-        }
-    }
-    true
-}
 
 // How many digits stand at the front.
 fn digit_end(content: &[u8]) -> usize

@@ -28,6 +28,14 @@ unfolding sameList
 same-self [] = tt
 same-self (a ∷ l) = and-both (eqb a a) (sameList l l) (eqb-refl a) (same-self l)
 
+-- lists of two lengths are not equal
+pub same-length : (a b : List ℕ) → (length a ≡ length b → ⊥) → sameList a b ≡ false
+unfolding sameList
+same-length [] [] n = absurd (n refl)
+same-length [] (y ∷ b) n = refl
+same-length (x ∷ a) [] n = refl
+same-length (x ∷ a) (y ∷ b) n = rw (same-length a b (λ e. n (ap suc e))) (and-false (eqb x y))
+
 -- A comparison from the front, one place further: the entries there are equal or not.
 pub same-more : (a b : List ℕ) (i : ℕ) → i < length a → i < length b
     → sameList (take (suc i) a) (take (suc i) b) ≡ (sameList (take i a) (take i b) && eqb (getD a i 0) (getD b i 0))

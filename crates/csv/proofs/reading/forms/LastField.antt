@@ -18,7 +18,7 @@ use Rattle.csv.specs.declared.digits.Number.the-variants as N
 use Rattle.csv.specs.declared.reading.forms.Word.{Word}
 use Rattle.csv.specs.declared.reading.forms.Word.the-variants as W
 use Rattle.csv.specs.declared.reading.forms.Last.the-variants as L
-use Rattle.csv.proofs.reading.forms.SameFrom.{same-length}
+use Rattle.residue.proofs.bytes.Equality.{same-length}
 
 -- the order word
 module _ (l : List ℕ) where

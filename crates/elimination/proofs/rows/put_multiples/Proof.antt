@@ -10,6 +10,7 @@ use lib.ListN.{length, getD, take, drop}
 use Rattle.residue.specs.Vector.{Below, addScaled, scaled}
 use Rattle.elimination.specs.Elimination.{factors}
 use Rattle.residue.proofs.vector.Vectors.{scaled-length, scaled-below, scaled-one}
+use Rattle.residue.proofs.Layouts.{over-all}
 use Rattle.residue.proofs.Replaced.{replaced-length, replaced-before, replaced-here, part-long}
 use Rattle.elimination.proofs.reducing.Multiples.{next-factor, scaled-sum, block-is}
 use Rattle.elimination.proofs.rows.put_multiples.Statement.{statement}
@@ -78,20 +79,24 @@ joined c =
     let s = c .before .before .before .before .before .before .before .before in
     ⊎-elim
     (λ w. let e : l .loop .k ≡ l .loop .k - l .loop .k % 3 = omega (arith, w .0 .taken) in
-    w .5 ∙ w .3 .ensures ∙ l .loop .inv .last-is (omega arith) ∙ ap (multiple (s .args .p) (s .args .row .now)) e)
+    w .5 ∙ w .3 .ensures ∙ over-all (l .loop .last) (l .loop .first) (l .loop .inv .last-long ∙ sym (l .loop .inv .first-long)) ∙ l .loop .inv .last-is (omega arith) ∙ ap (multiple (s .args .p) (s .args .row .now)) e)
     (λ w. w .1 ∙ l .loop .inv .first-is (w .0 .left))
     (c .if1 .came)
+
+-- the place of the next multiple in the block
+row-in : (l : tie.At-loop Inv-loop μ-loop) → l .loop .k < 9 → length (take (128 * l .loop .k + 128 - 128 * l .loop .k) (drop (128 * l .loop .k) (l .loop .block))) ≡ 128
+row-in l h = part-long (128 * l .loop .k) (128 * l .loop .k + 128 - 128 * l .loop .k) 128 (l .loop .block) (omega arith) (omega (arith, l .loop .inv .size))
 
 slice-aggregate-copy : tie.Need-slice-aggregate-copy Inv-loop μ-loop
 slice-aggregate-copy c = refl
 
 copy-requires : tie.Need-copy-requires Inv-loop μ-loop
-copy-requires c κs = c .before .before .before .pre .1 .0 .0
+copy-requires c κs = omega (arith, c .before .before .before .pre .1 .0 .0)
 
 loop-holds : tie.Need-loop-holds Inv-loop μ-loop
 loop-holds c =
     let s = c .before .before .before .before .before in
-    let e = c .before .copy .ensures in
+    let e = c .before .copy .ensures ∙ over-all (s .args .row .now) _ (s .pre .1 .0 .0) in
     record {
       most = omega arith;
       size = s .pre .1 .0 .1;
@@ -109,7 +114,7 @@ slice-aggregate-copy-3 : tie.Need-slice-aggregate-copy-3 Inv-loop μ-loop
 slice-aggregate-copy-3 c = sym (c .before .before .before .before .loop .inv .first-long)
 
 copy-requires-2 : tie.Need-copy-requires-2 Inv-loop μ-loop
-copy-requires-2 c κs = let F = c .before .before .before .before .loop .inv in F .last-long ∙ sym (F .first-long)
+copy-requires-2 c κs = let F = c .before .before .before .before .loop .inv in omega (arith, F .last-long, F .first-long)
 
 mul-from : tie.Need-mul-from Inv-loop μ-loop
 mul-from c = omega arith
@@ -130,7 +135,7 @@ part-copy-end : tie.Need-part-copy-end Inv-loop μ-loop
 part-copy-end c = omega (arith, c .before .before .before .loop .inv .size)
 
 copy-requires-3 : tie.Need-copy-requires-3 Inv-loop μ-loop
-copy-requires-3 c κs = let l = c .before .before .before .before in l .loop .inv .last-long ∙ sym (part-long (128 * l .loop .k) (128 * l .loop .k + 128 - 128 * l .loop .k) 128 (l .loop .block) (omega arith) (omega (arith, l .loop .inv .size)))
+copy-requires-3 c κs = let l = c .before .before .before .before in omega (arith, l .loop .inv .last-long, row-in l (omega arith))
 
 slice-aggregate-gain : tie.Need-slice-aggregate-gain Inv-loop μ-loop
 slice-aggregate-gain c = sym (c .before .before .before .before .before .before .before .before .loop .inv .last-long)
@@ -164,7 +169,7 @@ loop-again c =
     let l = c .before .before .before .before .before .before .before .before .before .before .before in
     let s = c .before .before .before .before .before .before .before .before .before .before .before .before .before .before .before .before .before in
     turn (s .args .p) (s .args .row .now) (l .loop .block) (l .loop .first) (l .loop .last) _ _ _ (l .loop .k) (128 * l .loop .k + 128 - 128 * l .loop .k) (s .pre .1 .0 .0) (omega arith) (l .loop .inv) (omega arith)
-    (joined (c .before .before .before .before .before .before .before .before .before)) (c .before .before .before .before .before .before .copy3 .ensures) (c .before .gain .ensures)
+    (joined (c .before .before .before .before .before .before .before .before .before)) (c .before .before .before .before .before .before .copy3 .ensures ∙ over-all (l .loop .last) _ (l .loop .inv .last-long ∙ sym (row-in l (omega arith)))) (c .before .gain .ensures)
 
 same-length : tie.Need-same-length Inv-loop μ-loop
 same-length c = let l = c .before in l .loop .inv .size ∙ sym (c .before .before .before .before .before .before .before .pre .1 .0 .1)

@@ -41,10 +41,10 @@ room : (s : tie.Start) → Room 0 (firstLine (s .args .n) (s .args .r) ++ (stand
 room s = rw (text s) at (s .pre .1 .1)
 
 -- The places: behind the first line, the standard lines, the row lines, the interpolant's line. Each names the one before it.
-abbrev start : tie.After-put-first → tie.Start
+abbrev start : tie.After-put-first-line → tie.Start
 start p = p .before .before .before .before .before .before .before .before
 
-abbrev first : tie.After-put-standard → tie.After-put-first
+abbrev first : tie.After-put-standard → tie.After-put-first-line
 first p = p .before .before .before .before
 
 abbrev second : tie.After-put-rows → tie.After-put-standard
@@ -53,14 +53,14 @@ second p = p .before .before .before .before
 abbrev third : tie.After-put-line → tie.After-put-rows
 third p = p .before .before .before .before .before
 
-cast-put-first : tie.Need-cast-put-first
-cast-put-first c = search needs
+cast-put-first-line : tie.Need-cast-put-first-line
+cast-put-first-line c = search needs
 
-cast-put-first-2 : tie.Need-cast-put-first-2
-cast-put-first-2 c = search needs
+cast-put-first-line-2 : tie.Need-cast-put-first-line-2
+cast-put-first-line-2 c = search needs
 
-put-first-requires : tie.Need-put-first-requires
-put-first-requires c κs =
+put-first-line-requires : tie.Need-put-first-line-requires
+put-first-line-requires c κs =
     let s = c .before .before .before .before .before .before .before in
     first-room 0 (firstLine (s .args .n) (s .args .r)) (standards s ++ (rows s ++ (solved s ++ wired s))) (s .args .out .now) (room s)
 
@@ -68,7 +68,7 @@ put-standard-requires : tie.Need-put-standard-requires
 put-standard-requires c κs =
     let p₁ = c .before .before .before in
     let s = start p₁ in
-    ((s .pre .0 .0, s .pre .1 .0 .0), put-front (p₁ .put-first .ensures) (standards s) (rows s ++ (solved s ++ wired s)) (room s))
+    ((s .pre .0 .0, s .pre .1 .0 .0), put-front (p₁ .put-first-line .ensures) (standards s) (rows s ++ (solved s ++ wired s)) (room s))
 
 put-rows-requires : tie.Need-put-rows-requires
 put-rows-requires c κs =
@@ -79,7 +79,7 @@ put-rows-requires c κs =
       (
         (s .pre .1 .0 .1, s .pre .1 .0 .2),
         put-front (p₂ .put-standard .ensures) (rows s) (solved s ++ wired s)
-            (put-room (p₁ .put-first .ensures) (standards s ++ (rows s ++ (solved s ++ wired s))) (room s)),
+            (put-room (p₁ .put-first-line .ensures) (standards s ++ (rows s ++ (solved s ++ wired s))) (room s)),
       ),
     )
 
@@ -94,7 +94,7 @@ put-line-requires c κs =
     let s = start p₁ in
     put-front {a = rows s} (p₃ .put-rows .ensures) (solved s) (wired s)
     (put-room (p₂ .put-standard .ensures) (rows s ++ (solved s ++ wired s))
-    (put-room (p₁ .put-first .ensures) (standards s ++ (rows s ++ (solved s ++ wired s))) (room s)))
+    (put-room (p₁ .put-first-line .ensures) (standards s ++ (rows s ++ (solved s ++ wired s))) (room s)))
 
 slice-aggregate-put-line-2 : tie.Need-slice-aggregate-put-line-2
 slice-aggregate-put-line-2 c = search needs
@@ -109,7 +109,7 @@ put-line-requires-2 c κs =
     put-room {a = solved s} (p₄ .put-line .ensures) (wired s)
     (put-room {a = rows s} (p₃ .put-rows .ensures) (solved s ++ wired s)
     (put-room (p₂ .put-standard .ensures) (rows s ++ (solved s ++ wired s))
-    (put-room (p₁ .put-first .ensures) (standards s ++ (rows s ++ (solved s ++ wired s))) (room s))))
+    (put-room (p₁ .put-first-line .ensures) (standards s ++ (rows s ++ (solved s ++ wired s))) (room s))))
 
 same-length : tie.Need-same-length
 same-length c = search needs
@@ -122,11 +122,11 @@ returns c =
     let p₁ = first p₂ in
     let s = start p₁ in
     let k₁ = room s in
-    let k₂ = put-room (p₁ .put-first .ensures) (standards s ++ (rows s ++ (solved s ++ wired s))) k₁ in
+    let k₂ = put-room (p₁ .put-first-line .ensures) (standards s ++ (rows s ++ (solved s ++ wired s))) k₁ in
     let k₃ = put-room (p₂ .put-standard .ensures) (rows s ++ (solved s ++ wired s)) k₂ in
     let k₄ = put-room {a = rows s} (p₃ .put-rows .ensures) (solved s ++ wired s) k₃ in
     rw (text s)
-    (put-more (p₁ .put-first .ensures) k₁
+    (put-more (p₁ .put-first-line .ensures) k₁
     (put-more (p₂ .put-standard .ensures) k₂
     (put-more {a = rows s} (p₃ .put-rows .ensures) k₃ (put-more {a = solved s} (p₄ .put-line .ensures) k₄ (c .before .before .put-line2 .ensures)))))
 
@@ -134,9 +134,9 @@ pub print-basis-spec : {M : Type 1} → statement M
 print-basis-spec =
     tie.close
     (tie.spec
-    cast-put-first
-    cast-put-first-2
-    put-first-requires
+    cast-put-first-line
+    cast-put-first-line-2
+    put-first-line-requires
     put-standard-requires
     put-rows-requires
     slice-aggregate-put-line

@@ -8,8 +8,8 @@ use Rattle.specification.specs.Settings.{settingsCases}
 use Rattle.recognition.proofs.settings.draw_sizes.Statement.{statement}
 use Rattle.recognition.proofs.settings.draw_sizes.Tie as tie
 
-rest-requires : tie.Need-rest-requires
-rest-requires c κs = tt
+modulo-requires : tie.Need-modulo-requires
+modulo-requires c κs = tt
 
 by-sizes-requires : tie.Need-by-sizes-requires
 by-sizes-requires c κs = tt
@@ -18,7 +18,7 @@ returns : tie.Need-returns
 returns c =
     let r = c .before in
     let s = r .before in
-    c .by-sizes .ensures ∙ sizes-are (settingsCases (s .args .settings)) refl (ap (λ (x : ℕ). not (eqb x 0)) (r .rest .ensures)) refl
+    c .by-sizes .ensures ∙ sizes-are (settingsCases (s .args .settings)) refl (ap (λ (x : ℕ). not (eqb x 0)) (r .modulo .ensures)) refl
 
 pub draw-sizes-spec : {M : Type 1} → statement M
-draw-sizes-spec = tie.close (tie.spec rest-requires by-sizes-requires returns)
+draw-sizes-spec = tie.close (tie.spec modulo-requires by-sizes-requires returns)

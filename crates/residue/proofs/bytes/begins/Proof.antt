@@ -9,7 +9,7 @@ slice-aggregate-same : tie.Need-slice-aggregate-same
 slice-aggregate-same c = let s = c .before .before .before in sym (length-take-le _ (s .args .table .now) (s .pre))
 
 same-requires : tie.Need-same-requires
-same-requires c κs = let s = c .before .before .before in sym (length-take-le _ (s .args .table .now) (s .pre))
+same-requires c κs = tt
 
 returns : tie.Need-returns
 unfolding begins

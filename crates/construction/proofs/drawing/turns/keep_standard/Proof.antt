@@ -6,7 +6,7 @@ use native.Mathlib.Omega.{arith}
 use native.Mathlib.Nat.{add-sub-cancel-left}
 use lib.ListN.{length}
 use borrow.Rule.Slice.PartMut.{same-len-mid}
-use Rattle.residue.proofs.Replaced.{put-place, part-long, put-whole}
+use Rattle.residue.proofs.Replaced.{put-place, part-long}
 use Rattle.construction.proofs.drawing.turns.keep_standard.Statement.{statement}
 use Rattle.construction.proofs.drawing.turns.keep_standard.Tie as tie
 
@@ -60,7 +60,7 @@ part-copy-end-2 c = omega arith
 copy-requires-2 : tie.Need-copy-requires-2
 copy-requires-2 c κs =
     let s = start (c .before .before .before) in
-    s .pre .1 .0 .1 ∙ sym (part-long (64 * s .args .found) (64 * s .args .found + 64 - 64 * s .args .found) 64 (s .args .values .now) (add-sub-cancel-left (64 * s .args .found) 64) (row-fits (s .args .found) (s .args .values .now) (omega arith) (s .pre .1 .1 .1)))
+    omega (arith, s .pre .1 .0 .1, part-long (64 * s .args .found) (64 * s .args .found + 64 - 64 * s .args .found) 64 (s .args .values .now) (add-sub-cancel-left (64 * s .args .found) 64) (row-fits (s .args .found) (s .args .values .now) (s .pre .0) (s .pre .1 .1 .1)))
 
 same-length : tie.Need-same-length
 same-length c =
@@ -77,10 +77,9 @@ same-length-2 c =
 returns : tie.Need-returns
 returns c =
     let k = second (c .before) in
-    let s = start (first k) in
-    let a = s .args in (
+    let a = start (first k) .args in (
       put-place 8 (a .found) (8 * a .found + 8 - 8 * a .found) (a .exponents .now) (a .standard .now) (add-sub-cancel-left (8 * a .found) 8) (first k .copy .ensures),
-      put-whole 64 (a .found) (64 * a .found + 64 - 64 * a .found) (a .own .now) (a .values .now) (add-sub-cancel-left (64 * a .found) 64) (row-fits (a .found) (a .values .now) (s .pre .0) (s .pre .1 .1 .1)) (s .pre .1 .0 .1) (k .copy2 .ensures),
+      put-place 64 (a .found) (64 * a .found + 64 - 64 * a .found) (a .own .now) (a .values .now) (add-sub-cancel-left (64 * a .found) 64) (k .copy2 .ensures),
     )
 
 pub keep-standard-spec : {M : Type 1} → statement M

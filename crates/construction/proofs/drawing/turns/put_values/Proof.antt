@@ -9,7 +9,7 @@ use lib.ListN.{length, take, drop}
 use lib.Seq.{length-take-le}
 use Rattle.residue.specs.Vector.{Below, pointwise}
 use Rattle.residue.proofs.vector.Vectors.{below-take, below-drop}
-use Rattle.residue.proofs.Replaced.{part-long}
+use Rattle.residue.proofs.Replaced.{part-long, read-whole}
 use Rattle.construction.specs.Drawing.{productValues}
 use Rattle.construction.proofs.drawing.ProductValues.{product-made}
 use Rattle.construction.proofs.drawing.turns.put_values.Statement.{statement}
@@ -23,8 +23,7 @@ module _ (r : tie.After-copy) where
   row : r .copy .last .1 .0 ≡ take 64 (drop (64 * start .args .t) (start .args .values .now))
   row =
       let a = start .args in
-      let e : 64 * a .t + 64 - 64 * a .t ≡ 64 = omega arith in
-      r .copy .ensures ∙ ap (λ (j : ℕ). take j (drop (64 * a .t) (a .values .now))) e
+      r .copy .ensures ∙ read-whole (64 * a .t) (64 * a .t + 64 - 64 * a .t) 64 (a .values .now) (a .own .now) (omega arith) (omega arith) (start .pre .1 .0 .1 .1)
 
   row-long : length (r .copy .last .1 .0) ≡ 64
   row-long = let a = start .args in ap length (row) ∙ part-long (64 * a .t) 64 64 (a .values .now) (omega arith) (omega arith)

@@ -9,10 +9,16 @@ use Rattle.residue.specs.Vector.{Below}
 use Rattle.elimination.specs.Elimination.{eliminated, cancellations}
 use Rattle.residue.specs.Layout.{fill}
 use Rattle.residue.proofs.vector.Vectors.{below-take}
-use Rattle.residue.proofs.Layouts.{below-fill, length-fill}
+use Rattle.residue.proofs.Layouts.{below-fill, length-fill, over-all}
 use Rattle.residue.proofs.Replaced.{zeros-long, load}
 use Rattle.construction.proofs.drawing.turns.reduce.Statement.{statement}
 use Rattle.construction.proofs.drawing.turns.reduce.Tie as tie
+
+-- the values and their place in the row are of one length
+same-fronts : (s : tie.Start) → length (take (s .args .n) (s .args .own .now)) ≡ length (take (s .args .n) (s .args .work .now))
+same-fronts s =
+    length-take-le (s .args .n) (s .args .own .now) (omega arith)
+    ∙ sym (length-take-le (s .args .n) (s .args .work .now) (omega (arith, zeros-long (s .args .work .now) 128 (s .pre .1 .1 .1 .1 .1))))
 
 -- the row is loaded
 module _ (q : tie.After-copy) where
@@ -20,7 +26,7 @@ module _ (q : tie.After-copy) where
   start = q .before .before .before .before .before .before .before
 
   loaded : q .copy .last .1 .0 ++ drop (start .args .n) (start .args .work .now) ≡ fill 128 (take (start .args .n) (start .args .own .now))
-  loaded = load (start .args .own .now) (start .args .work .now) (start .args .n) (start .pre .1 .1 .1 .1 .1) (omega arith) (omega arith) (q .copy .ensures)
+  loaded = load (start .args .own .now) (start .args .work .now) (start .args .n) (start .pre .1 .1 .1 .1 .1) (omega arith) (omega arith) (q .copy .ensures ∙ over-all (take (start .args .n) (start .args .own .now)) (take (start .args .n) (start .args .work .now)) (same-fronts start))
 
 slice-aggregate-copy : tie.Need-slice-aggregate-copy
 slice-aggregate-copy c = let s = c .before .before .before .before .before in sym (length-take-le (s .args .n) (s .args .own .now) (omega arith))
@@ -32,10 +38,7 @@ slice-aggregate-copy-2 : tie.Need-slice-aggregate-copy-2
 slice-aggregate-copy-2 c = let s = c .before .before .before .before .before .before in sym (length-take-le (s .args .n) (s .args .work .now) (omega (arith, zeros-long (s .args .work .now) 128 (s .pre .1 .1 .1 .1 .1))))
 
 copy-requires : tie.Need-copy-requires
-copy-requires c κs =
-    let s = c .before .before .before .before .before .before in
-    length-take-le (s .args .n) (s .args .own .now) (omega arith)
-    ∙ sym (length-take-le (s .args .n) (s .args .work .now) (omega (arith, zeros-long (s .args .work .now) 128 (s .pre .1 .1 .1 .1 .1))))
+copy-requires c κs = omega (arith, same-fronts (c .before .before .before .before .before .before))
 
 eliminate-requires : tie.Need-eliminate-requires
 eliminate-requires c κs =

@@ -1,11 +1,11 @@
--- `text::put_first` meets its contract.
+-- `text::put_first_line` meets its contract.
 use mathlib.Core.List.{List, _∷_, _++_}
 use Prim.Native.Nat.{ℕ}
 use Rattle.printing.specs.Lines.{points-word, standard-word, rows-word, lineEnd, labelled, firstLine}
 use Rattle.printing.proofs.appending.Appends.{first-room, put-room, put-front, put-more}
 use borrow.Author.Needs.{needs}
-use Rattle.printing.proofs.lines.put_first.Statement.{statement}
-use Rattle.printing.proofs.lines.put_first.Tie as tie
+use Rattle.printing.proofs.lines.put_first_line.Statement.{statement}
+use Rattle.printing.proofs.lines.put_first_line.Tie as tie
 
 -- what stands behind the number of points, and behind that of standard monomials
 abbrev behind₂ : ℕ → List ℕ
@@ -80,8 +80,8 @@ returns c =
     (put-more (p₂ .put-labelled2 .ensures) k
     (put-more (p₃ .put-labelled3 .ensures) (put-room (p₂ .put-labelled2 .ensures) (behind₂ (s .args .r)) k) (c .before .before .put-byte .ensures)))
 
-pub put-first-spec : {M : Type 1} → statement M
-put-first-spec =
+pub put-first-line-spec : {M : Type 1} → statement M
+put-first-line-spec =
     tie.close
     (tie.spec
     slice-aggregate-put-labelled
