@@ -1,7 +1,8 @@
 // Drawing up from all points at once.
 use construction::drawing::draw_anew;
-use construction::points;
-use construction::points::Gathered;
+use points::gathering::Gathered;
+use points::gathering::gather;
+use points::levels::in_range;
 use recognition::settings::COEFFICIENTS;
 use recognition::settings::LEADS;
 use recognition::settings::STANDARD;
@@ -95,11 +96,11 @@ fn draw_refusal(
         return Gathered { refusal, n: 0 };
     }
     let p = settings.modulus as u8;
-    if !points::in_range(p, levels) {
+    if !in_range(p, levels) {
         return Gathered { refusal: 9, n: 0 };
     }
     let m = settings.variables as usize;
-    points::gather(p, m, levels.len() / m, levels, points, times)
+    gather(p, m, levels.len() / m, levels, points, times)
 }
 
 // Drawing up from all points at once. Every refusal is decided before a lent byte is written.

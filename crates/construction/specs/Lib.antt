@@ -1,3 +1,2 @@
 -- The definitions of the crate construction.
 pub mod Drawing
-pub mod Gathering

@@ -1,3 +1,2 @@
-// Tables of points, and drawing up their basis (Buchberger and Möller).
+// Drawing up the basis of all points (Buchberger and Möller).
 pub mod drawing;
-pub mod points;

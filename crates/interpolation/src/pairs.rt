@@ -1,5 +1,5 @@
 // The wiring list: the variables with a pair of points that differ in it alone and have different values.
-use construction::points::key;
+use points::places::key;
 ghost use mathlib.Core.Path.{_≡_};
 ghost use mathlib.Core.Bool.{false};
 ghost use Prim.Native.Nat.{ℕ, _+_, _-_, _*_, _^_, _<_, _≤_};

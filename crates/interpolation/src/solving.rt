@@ -1,7 +1,7 @@
 // What elimination of the values at all points gives: the interpolant.
-use construction::points;
 use elimination::reducing::eliminate;
 use monomial::terms::put_term_values;
+use points::levels;
 use residue::arithmetic;
 use residue::bytes;
 ghost use mathlib.Core.Path.{_≡_};
@@ -64,7 +64,7 @@ pub fn solve_values(p: u8, n: usize, values: &[i8], rows: &[u8], pivots: &[u8], 
         (now (out .entry)) ⌝ }
 {
     let mut found = [0u8; 64];
-    points::put_residues(p, values, &mut found);
+    levels::put_residues(p, values, &mut found);
     let mut work = [0u8; 128];
     bytes::copy(&found[..n], &mut work);
     solve(p, n, rows, pivots, &mut work, out);
@@ -92,7 +92,7 @@ pub fn solve_terms(
         (fill 128 (termValues p (residues p (now (coefficients .entry))) (now (exponents .entry)) n (now (points .entry)))))) (now (out .entry)) ⌝ }
 {
     let mut found = [0u8; 256];
-    points::put_residues(p, coefficients, &mut found);
+    levels::put_residues(p, coefficients, &mut found);
     let count = coefficients.len();
     let mut work = [0u8; 128];
     put_term_values(p, &found[..count], exponents, n, points, &mut work);

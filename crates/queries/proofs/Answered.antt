@@ -30,7 +30,7 @@ use Rattle.interpolation.specs.Solving.{solution}
 use Rattle.construction.specs.Drawing.{Solves}
 use Rattle.interpolation.proofs.TermValues.{length-terms, terms-below}
 use Rattle.recognition.proofs.settings.BySize.{Passed, passed}
-use Rattle.construction.proofs.points.LevelLists.{residues-below}
+use Rattle.points.proofs.levels.LevelLists.{residues-below}
 use Rattle.interpolation.proofs.Interpolants.{front-of, solution-is, remainder-is, valuesIn, value-in}
 use Rattle.queries.proofs.Refusals.{valuesSizes, remainderSizes}
 use Rattle.recognition.proofs.recognising.Recognised.{count, points, positive}

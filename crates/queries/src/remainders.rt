@@ -1,6 +1,6 @@
 // The remainder of a polynomial, from the basis of lent tables.
-use construction::points;
 use interpolation::solving;
+use points::levels;
 use recognition::recognising::recognise;
 use recognition::settings::remainder_sizes;
 use recognition::settings::too_short;
@@ -68,7 +68,7 @@ fn remainder_refusal(
     if refusal != 0 {
         return refusal;
     }
-    if !points::in_range(settings.modulus as u8, term_coefficients) {
+    if !levels::in_range(settings.modulus as u8, term_coefficients) {
         return 9;
     }
     if !within_variables(settings.variables as usize, terms, exponents) {

@@ -1,7 +1,7 @@
 // The calls that answer from the basis of lent tables and values at its points: interpolant and wiring list.
-use construction::points;
 use interpolation::pairs;
 use interpolation::solving;
+use points::levels;
 use recognition::recognising::recognise;
 use recognition::settings::too_short;
 use recognition::settings::values_sizes;
@@ -52,7 +52,7 @@ fn values_refusal(
     if refusal != 0 {
         return refusal;
     }
-    if !points::in_range(settings.modulus as u8, values) {
+    if !levels::in_range(settings.modulus as u8, values) {
         return 9;
     }
     if !recognise(
@@ -165,7 +165,7 @@ pub fn wiring(
         return Wired { refusal, count: 0 };
     }
     let mut residues = [0u8; 64];
-    points::put_residues(settings.modulus as u8, values, &mut residues);
+    levels::put_residues(settings.modulus as u8, values, &mut residues);
     let mut names = [0u8; 8];
     let count = pairs::put_names(
         settings.variables as usize,

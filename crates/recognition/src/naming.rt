@@ -3,7 +3,9 @@
 use crate::recognising::recognise;
 use crate::settings::point_sizes;
 use crate::settings::too_short;
-use construction::points;
+use points::levels::in_range;
+use points::levels::put_residues;
+use points::places::place_of;
 use specification::settings::Settings;
 ghost use mathlib.Core.Path.{_≡_};
 ghost use lib.ListN.{replicate};
@@ -58,7 +60,7 @@ pub fn locate(
         return unlocated(refusal);
     }
     let p = settings.modulus as u8;
-    if !points::in_range(p, levels) {
+    if !in_range(p, levels) {
         return unlocated(9);
     }
     let count = n as usize;
@@ -77,9 +79,9 @@ pub fn locate(
     ) {
         return unlocated(10);
     }
-    points::put_residues(p, levels, point);
+    put_residues(p, levels, point);
     Located {
         refusal: 0,
-        place: points::place_of(count, points, point),
+        place: place_of(count, points, point),
     }
 }

@@ -1,6 +1,7 @@
 // Whether lent tables are the basis of their points.
 use construction::drawing::draw;
-use construction::points;
+use points::levels;
+use points::places;
 use residue::bytes;
 use specification::settings::Settings;
 ghost use mathlib.Core.Path.{_≡_};
@@ -104,8 +105,8 @@ pub fn recognise(
     ensures { λ _. ⌜ pivotBytes (now (rows .exit)) (now (pivots .exit))
         ≡ pivotRowsLeft settings (pointsIn settings n (now (states .entry))) (now (rows .entry)) (now (pivots .entry)) ⌝ }
 {
-    points::read_points(settings, n, states, points);
-    if !points::no_repeat(n, points) {
+    levels::read_points(settings, n, states, points);
+    if !places::no_repeat(n, points) {
         return false;
     }
     let mut new_standard = [0u8; 512];

@@ -33,12 +33,12 @@ use Rattle.specification.proofs.agreement.Drawings.{few-rows}
 use Rattle.construction.specs.Drawing.{PointsGiven, DrawnUp}
 use Rattle.growth.specs.Growing.{allPoints, NewPoint}
 use Rattle.construction.proofs.drawing.Given.{given, drawn-of}
-use Rattle.construction.proofs.points.LevelLists.{residues-below}
+use Rattle.points.proofs.levels.LevelLists.{residues-below}
 use Rattle.recognition.specs.Naming.{namingRefusal}
 use Rattle.recognition.proofs.naming.NamingTests.{Open, open-of, naming-first, naming-then}
 use Rattle.recognition.proofs.naming.PointAtHand.{AtHand, rows-held, among-old}
 use Rattle.recognition.proofs.recognising.Recognised as Recognised
-use Rattle.recognition.proofs.recognising.Recognised.{parts, points, standard-there, leads-there, coefficients-there}
+use Rattle.recognition.proofs.recognising.Recognised.{parts, standard-there, leads-there, coefficients-there}
 
 -- what refuses a point by its place among n others: there too often, or new beside 64 others
 abbrev pub roomAt : ℕ → ℕ → List ℕ → ℕ

@@ -31,7 +31,7 @@ use Rattle.specification.proofs.counted.Lowered.{entries-lowered}
 use Rattle.specification.proofs.agreement.Points.{Points}
 use Rattle.construction.specs.Drawing.{PointsGiven, PivotBytes, pivotRowsUnder}
 use Rattle.construction.proofs.drawing.Given.{given, given-count, table-points}
-use Rattle.construction.proofs.points.PointPlaces.{place-le}
+use Rattle.points.proofs.places.PointPlaces.{place-le}
 use Rattle.recognition.proofs.settings.ByNumber.{when-refused}
 use Rattle.recognition.specs.Naming.{namingRefusal}
 use Rattle.recognition.proofs.naming.NamingTests.{Open, open-of, naming-first, naming-then}

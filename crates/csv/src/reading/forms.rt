@@ -5,7 +5,6 @@ use crate::digits::read_number;
 use residue::bytes::same;
 ghost use mathlib.Core.Path.{_≡_};
 ghost use Prim.Native.Nat.{ℕ};
-ghost use Rattle.residue.specs.Lists.{sameList};
 ghost use Rattle.csv.specs.reading.Fields.{front};
 ghost use Rattle.csv.specs.Digits.{isDigit};
 ghost use Rattle.csv.specs.reading.Forms.{levelOf, orderWord, modulusAndOrder, lastField};

@@ -1,7 +1,7 @@
 // The distinct points of a text, with their counts and the values of their first records.
 use crate::reading::points::fill_entry;
 use crate::reading::points::first_outside;
-use construction::points::enter;
+use points::gathering::enter;
 ghost use mathlib.Core.Path.{_≡_};
 ghost use mathlib.Core.Bool.{cond, _||_};
 ghost use mathlib.Core.List.{[], _∷_};

@@ -15,7 +15,7 @@ use Rattle.specification.specs.Tables.{pointsIn}
 use Rattle.specification.proofs.Recognised.{length-read, read-each}
 use Rattle.specification.proofs.agreement.Points.{length-residues}
 use Rattle.specification.proofs.agreement.Refusals.{Accepted}
-use Rattle.construction.proofs.points.PointPlaces.{place-filled, among-place}
+use Rattle.points.proofs.places.PointPlaces.{place-filled, among-place}
 
 module _ (s : Settings) (ok : Accepted s) (n : ℕ) (few : n ≤ 64) (states : List ℕ) (levels : List ℤ) (long : length levels ≡ s .variables) where
   abbrev P : List ℕ

@@ -19,7 +19,7 @@ use Rattle.specification.proofs.agreement.Refusals.{Accepted}
 use Rattle.specification.proofs.Recognised.{read, Parts, recognised-parts, readIn, length-read}
 use Rattle.construction.specs.Drawing.{Solves}
 use Rattle.construction.proofs.drawing.Grounds.{places-below}
-use Rattle.construction.proofs.points.LevelLists.{below-reduced}
+use Rattle.points.proofs.levels.LevelLists.{below-reduced}
 
 -- what a lent table begins with
 front : (k : ℕ) (l t : List ℕ) → begins (fill k l) t ≡ true → take k t ≡ fill k l

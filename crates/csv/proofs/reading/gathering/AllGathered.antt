@@ -14,7 +14,7 @@ use Rattle.residue.proofs.Places.{over-zeros}
 use Rattle.specification.specs.Refusal.{firstOf}
 use Rattle.specification.specs.Counted.{countsOf}
 use Rattle.specification.proofs.counted.Saturated.{none-capped}
-use Rattle.construction.specs.Gathering.{EnteredAs}
+use Rattle.points.specs.Gathering.{EnteredAs}
 use Rattle.csv.specs.reading.Text.{Valued, firstFault, isOutside, firstAfter, tooMany, tooOften, otherValue, entryPoint, entryValue, valuedPoint, valuedPoints, firstOutside, refusalAt, notRefused, entryCase, pointsCases, entriesCases}
 use Rattle.csv.specs.reading.Records.{entryPart}
 use Rattle.csv.specs.reading.Points.{levelsIn, FilledAs, firstPlace, answered, GatheredAs}

@@ -20,9 +20,9 @@ use Rattle.specification.specs.Tables.{statesTable}
 use Rattle.specification.proofs.counted.Entered.{entered-there, entered-new}
 use Rattle.specification.proofs.counted.Gathered.{once-gathered}
 use Rattle.specification.proofs.counted.Saturated.{beyond}
-use Rattle.construction.proofs.points.PointPlaces.{place-le}
-use Rattle.construction.specs.Gathering.{EnteredAs}
-use Rattle.construction.proofs.points.Gathering.{Holds, once-held, holds-none, placed, among, holds-there, is-new, holds-new}
+use Rattle.points.proofs.places.PointPlaces.{place-le}
+use Rattle.points.specs.Gathering.{EnteredAs}
+use Rattle.points.proofs.gathering.Gathering.{Holds, once-held, holds-none, placed, among, holds-there, is-new, holds-new}
 use Rattle.csv.specs.reading.Text.{Valued, firstAfter, tooMany, tooOften, firstValue, otherValue, firstValues}
 use Rattle.csv.specs.reading.Points.{firstPlace}
 use Rattle.csv.proofs.reading.FirstPlaces.{after-more, after-found, none-found}

@@ -16,7 +16,7 @@ use Rattle.specification.specs.Tables.{Tables, fiveTables, statesTable, standar
 use Rattle.specification.proofs.agreement.Points.{Points}
 use Rattle.specification.proofs.agreement.Refusals.{Accepted, accepted, large-of}
 use Rattle.construction.specs.Drawing.{PointsGiven, DrawnUp, pivotBytes, pivotRowsUnder, pivotRowsLeft}
-use Rattle.construction.proofs.points.PointTables.{length-points, points-in}
+use Rattle.points.proofs.levels.PointTables.{length-points, points-in}
 use Rattle.specification.proofs.Recognised.{read-each, read}
 use Rattle.construction.proofs.drawing.Given.{table-repeat, table-points, given, drawn-long, drawn-of}
 use Rattle.recognition.proofs.recognising.Tests.{not-once, not-count, by-tables}

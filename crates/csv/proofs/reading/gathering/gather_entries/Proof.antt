@@ -7,9 +7,9 @@ use lib.IntN.{ℤ}
 use lib.ListN.{length, take, drop}
 use borrow.Author.Tests.{not-true, not-false}
 use Rattle.residue.proofs.Layouts.{length-fill}
-use Rattle.construction.specs.Gathering.{Hinted}
-use Rattle.construction.proofs.points.Gathering.{holds-sizes}
-use Rattle.construction.proofs.points.Hints.{hinted-none, hinted-turn}
+use Rattle.points.specs.Gathering.{Hinted}
+use Rattle.points.proofs.gathering.Gathering.{holds-sizes}
+use Rattle.points.proofs.gathering.Hints.{hinted-none, hinted-turn}
 use Rattle.csv.specs.reading.Text.{firstFault, isOutside}
 use Rattle.csv.specs.reading.Points.{levelsAt}
 use Rattle.csv.proofs.reading.points.EntriesRead.{ReadOn, begun, entry-there, read-on, count-left}

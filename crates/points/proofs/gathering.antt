@@ -1,0 +1,4 @@
+-- Points gathered with their counts.
+pub mod EnteredBytes
+pub mod Hints
+pub mod Gathering

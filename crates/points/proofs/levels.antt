@@ -1,0 +1,3 @@
+-- Levels, and tables of points.
+pub mod LevelLists
+pub mod PointTables

@@ -1,0 +1,2 @@
+-- Where points stand.
+pub mod PointPlaces

@@ -1,0 +1,2 @@
+-- The definitions of the crate points.
+pub mod Gathering

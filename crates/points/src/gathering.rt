@@ -1,0 +1,138 @@
+// The distinct points of a list and how often each occurs.
+use crate::levels::put_point;
+use crate::places::key;
+use crate::places::place_of;
+use residue::bytes;
+ghost use mathlib.Core.Path.{_≡_};
+ghost use mathlib.Core.Bool.{_&&_};
+ghost use Prim.Native.Nat.{suc, _+_, _*_, _%_, _≤_};
+ghost use lib.ListN.{length, getD, set, replicate};
+ghost use lib.Dec.{T, eqb, ltb};
+ghost use Rattle.residue.specs.Layout.{groups, fill, over};
+ghost use Rattle.specification.specs.Levels.{residues, noRepeat};
+ghost use Rattle.specification.specs.Tables.{statesSize, countsSize, statesTable};
+ghost use Rattle.specification.specs.Refusal.{firstOf};
+ghost use Rattle.specification.specs.Counted.{placeIn, pointsOf, countsOf, gathered, overfull};
+ghost use Rattle.points.specs.Gathering.{Hinted, hintOf, pointsEntered, countsEntered, EnteredAs};
+
+// Where a point stands among the first n of a table, none of which repeats, or n. A hint is one more than where a point with the same remainder of its key was
+// found last, or 0 where there is none: then the point is new without a search. By 233 points of small grids share fewer remainders than by chance.
+fn find(n: usize, points: &[u8], point: &[u8], hints: &mut [u8]) -> usize
+    requires { ⌜ (n ≤ 64) × (8 * n ≤ length (now points)) × (length (now point) ≡ 8) ⌝ }
+    requires { ⌜ T (noRepeat (groups 8 n (now points))) × Hinted n (now points) (now hints) ⌝ }
+    ensures { λ i. ⌜ i ≡ placeIn (now (point .entry)) (groups 8 n (now (points .entry))) ⌝ }
+    ensures { λ i. ⌜ now (hints .exit) ≡ set (now (hints .entry)) (hintOf (now (point .entry))) (suc i) ⌝ }
+{
+    let own = key(point);
+    let remainder = (own % 233) as usize;
+    let hint = hints[remainder] as usize;
+    if hint == 0 {
+        hints[remainder] = n as u8 + 1;
+        return n;
+    }
+    let guess = hint - 1;
+    if guess < n {
+        let place = 8 * guess;
+        if own == key(&points[place..place + 8]) {
+            return guess;
+        }
+    }
+    let at = place_of(n, points, point);
+    hints[remainder] = at as u8 + 1;
+    at
+}
+
+// Enters a point whose place among the first n of a table is known, n where it is new: a new one behind them, with count 1, unless 64 are there; one that is
+// there is counted, unless its count is 255. Says whether it is.
+fn enter_at(n: usize, at: usize, points: &mut [u8], counts: &mut [u8], point: &[u8]) -> bool
+    requires { ⌜ (n ≤ 64) × (at ≤ n) ⌝ }
+    requires { ⌜ (length (now points) ≡ 512) × (length (now counts) ≡ 64) × (length (now point) ≡ 8) ⌝ }
+    ensures { λ over. ⌜ over ≡ (ltb at n && eqb (getD (now (counts .entry)) at 0) 255) ⌝ }
+    ensures { λ _. ⌜ now (points .exit) ≡ pointsEntered n at (now (point .entry)) (now (points .entry)) ⌝ }
+    ensures { λ _. ⌜ now (counts .exit) ≡ countsEntered n at (now (counts .entry)) ⌝ }
+{
+    if at < n {
+        let count = counts[at];
+        if count == 255 {
+            return true;
+        }
+        counts[at] = count + 1;
+        return false;
+    }
+    if n < 64 {
+        let place = 8 * n;
+        bytes::copy(point, &mut points[place..place + 8]);
+        counts[n] = 1;
+    }
+    false
+}
+
+// Where a point stands among the first n of a table, n where it is new; whether its count is 255 already.
+pub struct Entered {
+    pub at: usize,
+    pub over: bool,
+}
+
+// Enters a point among the first n of a table, none of which repeats.
+pub fn enter(
+    n: usize,
+    points: &mut [u8],
+    counts: &mut [u8],
+    hints: &mut [u8],
+    point: &[u8],
+) -> Entered
+    requires { ⌜ n ≤ 64 ⌝ }
+    requires { ⌜ (length (now points) ≡ 512) × (length (now counts) ≡ 64) × (length (now point) ≡ 8) ⌝ }
+    requires { ⌜ T (noRepeat (groups 8 n (now points))) × Hinted n (now points) (now hints) ⌝ }
+    ensures { λ e. ⌜ EnteredAs n (now (point .entry)) (now (points .entry)) (now (counts .entry)) (now (hints .entry)) (e .at) (e .over)
+        (now (points .exit)) (now (counts .exit)) (now (hints .exit)) ⌝ }
+{
+    let at = find(n, points, point, hints);
+    let over = enter_at(n, at, points, counts, point);
+    Entered { at, over }
+}
+
+// How many points were gathered, or why they are refused.
+pub struct Gathered {
+    pub refusal: u8,
+    pub n: usize,
+}
+
+// The distinct points of levels, m a point, in a table of zeros, with their counts: refused with 8 at the 65th, with 13 where one occurs more than 255 times.
+// The parts of `enter` are called one by one: with two callers it would be a call of its own, for each of the points.
+pub fn gather(
+    p: u8,
+    m: usize,
+    count: usize,
+    levels: &[i8],
+    points: &mut [u8],
+    counts: &mut [u8],
+) -> Gathered
+    requires { ⌜ (m ≤ 8) × (length (now levels) ≡ m * count) ⌝ }
+    requires { ⌜ (now points ≡ replicate statesSize 0) × (now counts ≡ replicate countsSize 0) ⌝ }
+    ensures { λ g. ⌜ g .refusal ≡ firstOf 0 (overfull (gathered (groups m count (residues p (now (levels .entry)))))) ⌝ }
+    ensures { λ g. ⌜ (g .refusal ≡ 0 → (g .n ≡ length (gathered (groups m count (residues p (now (levels .entry))))))
+        × ((now (points .exit) ≡ statesTable (pointsOf (gathered (groups m count (residues p (now (levels .entry)))))))
+        × (now (counts .exit) ≡ fill countsSize (countsOf (gathered (groups m count (residues p (now (levels .entry))))))))) ⌝ }
+{
+    let mut hints = [0u8; 233];
+    let mut n = 0;
+    let mut over = false;
+    for i in 0..count {
+        let mut point = [0u8; 8];
+        put_point(p, m, m * i, levels, &mut point);
+        let at = find(n, points, &point, &mut hints);
+        let full = enter_at(n, at, points, counts, &point);
+        if at == 64 {
+            return Gathered { refusal: 8, n };
+        }
+        if at == n {
+            n += 1;
+        }
+        over = over | full;
+    }
+    if over {
+        return Gathered { refusal: 13, n };
+    }
+    Gathered { refusal: 0, n }
+}
