@@ -1,3 +1,2 @@
--- The definitions of the crate csv: two rooms, reading and printing, over numbers in decimal and bytes that are appended.
-pub mod Digits
+-- The definitions of the crate csv.
 pub mod reading

@@ -1,8 +1,4 @@
--- Reading a text. A reader of `read_text` needs Fields, Forms and Text; the others are the inner functions' answers.
-pub mod Fields
-pub mod Forms
+-- Reading a text. A reader of `read_text` needs Text, over Fields and Forms of notation; the others are the inner functions' answers.
 pub mod Text
-pub mod Spans
-pub mod Said
 pub mod Records
 pub mod Points

@@ -1,3 +1,2 @@
-// Comma-separated text: the reader, over numbers in decimal.
-mod digits;
+// Comma-separated text: the reader.
 pub mod reading;

@@ -1,8 +1,6 @@
 // The text reader.
-mod fields;
-mod forms;
+mod entries;
 mod gathering;
-mod points;
 mod records;
 
 ghost use mathlib.Core.Path.{_≡_};

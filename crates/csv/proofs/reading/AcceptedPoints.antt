@@ -13,9 +13,9 @@ use borrow.Author.Tests.{not-false}
 use Rattle.residue.specs.Lists.{Among, sameList}
 use Rattle.residue.proofs.Tests.{of-true}
 use Rattle.specification.specs.Levels.{inRange}
-use Rattle.csv.specs.reading.Fields.{front}
-use Rattle.csv.specs.Digits.{isDigit, numberOf}
-use Rattle.csv.specs.reading.Forms.{lex-word, grlex-word, grevlex-word, mod-word, defaultOrder, orderWord, Header, header, modulusAndOrder, lastField, headerFrom, headerOf}
+use Rattle.notation.specs.Fields.{front}
+use Rattle.notation.specs.Digits.{isDigit, numberOf}
+use Rattle.notation.specs.Forms.{lex-word, grlex-word, grevlex-word, mod-word, defaultOrder, orderWord, Header, header, modulusAndOrder, lastField, headerFrom, headerOf}
 use Rattle.csv.specs.reading.Text.{firstFault, isNone, headerIn, entryIn, entriesIn, formFault, isOutside}
 use Rattle.csv.proofs.reading.FirstPlaces.{fault-step}
 use Rattle.csv.proofs.reading.EntryLengths.{AllLong, entries-long}

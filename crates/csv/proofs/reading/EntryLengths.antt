@@ -13,7 +13,7 @@ use lib.Dec.{eqb}
 use borrow.Author.Tests.{eqb-true}
 use Rattle.residue.specs.Lists.{Among}
 use Rattle.specification.proofs.agreement.Points.{length-residues}
-use Rattle.csv.specs.reading.Forms.{levelOf, together, levelsOf, entryOf}
+use Rattle.notation.specs.Forms.{levelOf, together, levelsOf, entryOf}
 use Rattle.csv.specs.reading.Text.{entryIn, entryPoint}
 
 -- all of them are so long

@@ -11,8 +11,8 @@ use lib.ListN.{length, drop, length-map}
 use lib.Dec.{eqb}
 use borrow.Author.Tests.{lt-ltb, le-ltb, eq-eqb, ne-eqb}
 use Rattle.residue.specs.Lists.{sameList}
-use Rattle.csv.specs.reading.Fields.{Part, part, faulty, front, ending, unquoted, fieldOf, behindField, recordFrom, recordOf, behindRecord, recordsFrom, recordsOf}
-use Rattle.csv.specs.reading.Forms.{Header, lastField, headerFrom, headerOf}
+use Rattle.notation.specs.Fields.{Part, part, faulty, front, ending, unquoted, fieldOf, behindField, recordFrom, recordOf, behindRecord, recordsFrom, recordsOf}
+use Rattle.notation.specs.Forms.{Header, lastField, headerFrom, headerOf}
 use Rattle.specification.specs.Refusal.{firstOf}
 use Rattle.specification.proofs.Numbers.{never}
 use Rattle.csv.specs.reading.Text.{Contents, TextOutcome, pointsCases, further, firstFault, isNone, headerIn, entryIn, entriesIn, formFault, contentsOf, headerCases, entriesCases, readCases, notRefused, textAccepted, textRefused, textDecided, readOutcome, refusalAt}
@@ -20,8 +20,8 @@ use Rattle.csv.specs.reading.Records.{kept, reads, headerPart, entriesAt
 use Rattle.csv.specs.reading.Points.{levelsAt, saying, entriesOutcome}
 use Rattle.csv.specs.declared.reading.Refusal.{Refusal}
 use Rattle.csv.specs.declared.reading.records.Entries.the-variants as N
-use Rattle.csv.proofs.reading.fields.EnoughTurns.{records-unroll}
-use Rattle.csv.proofs.reading.points.EntriesRead.{all-entries}
+use Rattle.notation.proofs.fields.EnoughTurns.{records-unroll}
+use Rattle.csv.proofs.reading.entries.EntriesRead.{all-entries}
 use Rattle.csv.proofs.reading.FirstPlaces.{fault-le}
 use Rattle.csv.proofs.reading.TextCases.{text-refused}
 

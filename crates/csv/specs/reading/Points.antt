@@ -12,14 +12,14 @@ use Rattle.residue.specs.Layout.{fill}
 use Rattle.specification.specs.Levels.{isResidue, residueOr0, inRange}
 use Rattle.specification.specs.Counted.{pointsOf, countsOf, gathered}
 use Rattle.specification.specs.Tables.{statesTable, countsSize}
-use Rattle.csv.specs.reading.Fields.{Field, field, broken, Part, part, faulty}
+use Rattle.notation.specs.Fields.{Field, field, broken, Part, part, faulty}
 use Rattle.specification.specs.Refusal.{firstOf}
 use Rattle.csv.specs.reading.Text.{Contents, Valued, TextOutcome, entryValue, valuedPoint, firstValues, textAccepted, textDecided}
 use Rattle.csv.specs.reading.Text.{notRefused, headerCases, entriesCases}
 use Rattle.csv.specs.reading.Records.{entriesAt}
 use Rattle.csv.specs.declared.reading.Refusal.{Refusal}
-use Rattle.csv.specs.declared.reading.points.Placed.{Placed}
-use Rattle.csv.specs.declared.reading.points.Filled.{Filled}
+use Rattle.csv.specs.declared.reading.entries.Placed.{Placed}
+use Rattle.csv.specs.declared.reading.entries.Filled.{Filled}
 use Rattle.csv.specs.declared.reading.gathering.Gathered.{Gathered}
 
 -- the level in a field that has one, and the text behind it

@@ -6,11 +6,11 @@ use mathlib.Core.Option.{Option, some, none, Option·map}
 use Prim.Native.Nat.{ℕ, suc, _+_, _≤_}
 use lib.IntN.{ℤ}
 use lib.ListN.{length, drop}
-use Rattle.csv.specs.Digits.{numberOf}
-use Rattle.csv.specs.reading.Fields.{Field, field, broken, unquoted, fieldOf, Part, part, faulty, recordOf, recordsOf}
-use Rattle.csv.specs.reading.Forms.{levelOf, entryOf, Header, headerOf}
+use Rattle.notation.specs.Digits.{numberOf}
+use Rattle.notation.specs.Fields.{Field, field, broken, unquoted, fieldOf, Part, part, faulty, recordOf, recordsOf}
+use Rattle.notation.specs.Forms.{levelOf, entryOf, Header, headerOf}
 use Rattle.csv.specs.reading.Text.{refusalAt, notRefused, brokenAt, entryIn}
-use Rattle.csv.specs.reading.Said.{withSign}
+use Rattle.notation.specs.Said.{withSign}
 use Rattle.csv.specs.declared.reading.Refusal.{Refusal}
 use Rattle.csv.specs.declared.reading.records.LevelAt.{LevelAt}
 use Rattle.csv.specs.declared.reading.records.LevelAt.the-variants as L

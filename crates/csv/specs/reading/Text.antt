@@ -16,8 +16,8 @@ use Rattle.specification.specs.Tables.{statesSize, countsSize, statesTable}
 use Rattle.specification.specs.Refusal.{firstOf}
 use Rattle.csv.specs.declared.reading.Refusal.{Refusal}
 use Rattle.csv.specs.declared.reading.Read.{Read}
-use Rattle.csv.specs.reading.Fields.{recordsOf}
-use Rattle.csv.specs.reading.Forms.{Header, headerOf, entryOf}
+use Rattle.notation.specs.Fields.{recordsOf}
+use Rattle.notation.specs.Forms.{Header, headerOf, entryOf}
 
 -- a place, from 1, one further on; 0, for no place, stays
 unfoldable pub further : ℕ → ℕ

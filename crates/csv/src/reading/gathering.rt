@@ -1,6 +1,6 @@
 // The distinct points of a text, with their counts and the values of their first records.
-use crate::reading::points::fill_entry;
-use crate::reading::points::first_outside;
+use crate::reading::entries::fill_entry;
+use crate::reading::entries::first_outside;
 use points::gathering::enter;
 ghost use mathlib.Core.Path.{_≡_};
 ghost use mathlib.Core.Bool.{cond, _||_};

@@ -3,13 +3,13 @@ ghost use mathlib.Core.Path.{_≡_};
 ghost use Prim.Native.Nat.{_≤_};
 ghost use lib.ListN.{length, drop};
 ghost use Rattle.csv.specs.reading.Records.{sizeField, levelAtSaid, LevelWithin, LevelRead, HeaderRead, EntryRead, entriesAt, counted};
-use crate::reading::fields;
-use crate::reading::fields::End;
-use crate::reading::fields::Span;
-use crate::reading::forms;
-use crate::reading::forms::Last;
-use crate::reading::forms::Leading;
-use crate::reading::forms::Signed;
+use notation::fields;
+use notation::fields::End;
+use notation::fields::Span;
+use notation::forms;
+use notation::forms::Last;
+use notation::forms::Leading;
+use notation::forms::Signed;
 
 pub enum LevelAt {
     Level {

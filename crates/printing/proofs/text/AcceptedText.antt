@@ -32,8 +32,8 @@ use Rattle.construction.specs.Drawing.{PointsGiven}
 use Rattle.construction.specs.Drawing as D
 use Rattle.construction.proofs.drawing.Given as G
 use Rattle.csv.specs.declared.reading.Refusal.{Refusal}
-use Rattle.csv.specs.reading.Forms.{Header}
-use Rattle.csv.specs.reading.Fields.{recordsOf}
+use Rattle.notation.specs.Forms.{Header}
+use Rattle.notation.specs.Fields.{recordsOf}
 use Rattle.csv.specs.reading.Text.{Contents, Valued, TextOutcome, headerIn, formFault, contentsOf, entryPoint, entryValue, valuedPoint, valuedPoints, firstOutside, firstAfter, tooMany, firstValue, firstValues, headerCases, pointsCases, entriesCases, readCases, notRefused, textAccepted, textDecided, textRefused, readOutcome}
 use Rattle.printing.specs.Appending.{putAt, Put}
 use Rattle.printing.specs.Lines.{refusalLine}

@@ -19,12 +19,12 @@ use Rattle.csv.specs.reading.Text.{Valued, firstFault, isOutside, firstA
 use Rattle.csv.specs.reading.Records.{entryPart}
 use Rattle.csv.specs.reading.Points.{levelsIn, FilledAs, firstPlace, answered, GatheredAs}
 use Rattle.csv.specs.declared.reading.Refusal.{Refusal}
-use Rattle.csv.specs.declared.reading.points.Filled.{Filled}
+use Rattle.csv.specs.declared.reading.entries.Filled.{Filled}
 use Rattle.csv.specs.declared.reading.gathering.Gathered.{Gathered}
 use Rattle.csv.proofs.reading.FirstPlaces.{after-le}
 use Rattle.csv.proofs.reading.TextCases.{first-of-both, passed, place-refuses, place-passes, answer-refusal, answer-no-points}
 use Rattle.csv.proofs.reading.EntryLengths.{point-long}
-use Rattle.csv.proofs.reading.points.EntriesRead.{ReadOn, next, next-long, here, levels, one-more, all-read}
+use Rattle.csv.proofs.reading.entries.EntriesRead.{ReadOn, next, next-long, here, levels, one-more, all-read}
 use Rattle.csv.proofs.reading.FirstValues.{counted, never-many}
 use Rattle.csv.proofs.reading.gathering.EntriesGathered.{Gathering, at-most, full, turn}
 

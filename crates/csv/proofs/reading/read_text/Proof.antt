@@ -5,8 +5,8 @@ use mathlib.Core.List.{List}
 use Prim.Native.Nat.{ℕ, _≤_}
 use native.Mathlib.Omega.{arith}
 use lib.ListN.{length, drop, length-drop}
-use Rattle.csv.specs.reading.Fields.{part}
-use Rattle.csv.specs.reading.Forms.{Header}
+use Rattle.notation.specs.Fields.{part}
+use Rattle.notation.specs.Forms.{Header}
 use Rattle.csv.specs.reading.Text.{textEnded, textRefused}
 use Rattle.csv.specs.reading.Records.{headerPart, headerSaid, HeaderWithin}
 use Rattle.csv.specs.reading.Points.{entriesOutcome}

@@ -9,10 +9,10 @@ use lib.IntN.{ℤ}
 use lib.ListN.{length}
 use lib.Dec.{eqb, eqb·suc-suc}
 use borrow.Author.Tests.{ne-eqb}
-use Rattle.csv.specs.reading.Fields.{Field, field, broken, fieldOf, Part, part, faulty, withFirst, behindField, recordOf}
-use Rattle.csv.specs.reading.Forms.{levelOf, together, levelsOf, entryOf}
+use Rattle.notation.specs.Fields.{Field, field, broken, fieldOf, Part, part, faulty, withFirst, behindField, recordOf}
+use Rattle.notation.specs.Forms.{levelOf, together, levelsOf, entryOf}
 use Rattle.csv.specs.reading.Records.{held, reading, levelField, kept, reads, entryPart}
-use Rattle.csv.proofs.reading.fields.EnoughTurns.{record-unroll}
+use Rattle.notation.proofs.fields.EnoughTurns.{record-unroll}
 
 -- a field that is a level, or is none
 pub record Reads {A B : Type 0} (f : A → Option B) (x : Field A) (b : B) (more : Bool) (rest : List ℕ) : Type 0 where

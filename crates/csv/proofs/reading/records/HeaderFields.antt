@@ -6,14 +6,14 @@ use mathlib.Core.Option.{Option}
 use Prim.Native.Nat.{ℕ, suc, _+_, _<_}
 use native.Mathlib.Numerals.{add-one}
 use lib.ListN.{length}
-use Rattle.csv.specs.reading.Fields.{Field, field, broken, fieldOf, Part, part, faulty, withFirst, behindField, recordOf}
-use Rattle.csv.specs.reading.Forms.{Header, lastField, headerFrom}
-use Rattle.csv.specs.reading.Spans.{undoubled}
-use Rattle.csv.specs.reading.Said.{lastSaid}
+use Rattle.notation.specs.Fields.{Field, field, broken, fieldOf, Part, part, faulty, withFirst, behindField, recordOf}
+use Rattle.notation.specs.Forms.{Header, lastField, headerFrom}
+use Rattle.notation.specs.Spans.{undoubled}
+use Rattle.notation.specs.Said.{lastSaid}
 use Rattle.csv.specs.reading.Records.{kept, reads}
-use Rattle.csv.specs.declared.reading.forms.Last.{Last}
-use Rattle.csv.proofs.reading.forms.NoQuote.{last-raw}
-use Rattle.csv.proofs.reading.fields.EnoughTurns.{Left, going, field-left, record-unroll}
+use Rattle.notation.specs.declared.forms.Last.{Last}
+use Rattle.notation.proofs.forms.NoQuote.{last-raw}
+use Rattle.notation.proofs.fields.EnoughTurns.{Left, going, field-left, record-unroll}
 
 -- the header that begins here, behind so many names
 unfoldable pub headed : ℕ → List ℕ → Part Header

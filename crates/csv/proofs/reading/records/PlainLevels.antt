@@ -10,18 +10,18 @@ use lib.ListN.{length, getD, take, drop}
 use lib.Seq.{drop-cons, drop-drop}
 use lib.Dec.{eqb, leb}
 use borrow.Author.Tests.{ne-eqb}
-use Rattle.csv.specs.Digits.{isDigit, digitsFrom, numberOf}
-use Rattle.csv.specs.reading.Fields.{comma, quote, lf, cr, Field, field, broken, front, isPlain, afterCr, ending, with, unquoted, fieldOf}
-use Rattle.csv.specs.reading.Forms.{levelOf}
-use Rattle.csv.specs.reading.Spans.{endedBy}
-use Rattle.csv.specs.reading.Said.{withSign}
+use Rattle.notation.specs.Digits.{isDigit, digitsFrom, numberOf}
+use Rattle.notation.specs.Fields.{comma, quote, lf, cr, Field, field, broken, front, isPlain, afterCr, ending, with, unquoted, fieldOf}
+use Rattle.notation.specs.Forms.{levelOf}
+use Rattle.notation.specs.Spans.{endedBy}
+use Rattle.notation.specs.Said.{withSign}
 use Rattle.csv.specs.reading.Records.{held, reading, levelField, sizeOf, sizeField}
-use Rattle.csv.specs.declared.reading.fields.End.{End}
-use Rattle.csv.proofs.digits.NumberDigits.{digit-range}
-use Rattle.csv.proofs.reading.fields.FieldEnds.{chosen, with-ending}
-use Rattle.csv.proofs.reading.fields.FieldSpans.{begins-otherwise, field-plain}
-use Rattle.csv.proofs.reading.forms.SignedForms.{level-plus}
-use Rattle.csv.proofs.reading.forms.LeadingDigits.{digits}
+use Rattle.notation.specs.declared.fields.End.{End}
+use Rattle.notation.proofs.digits.NumberDigits.{digit-range}
+use Rattle.notation.proofs.fields.FieldEnds.{chosen, with-ending}
+use Rattle.notation.proofs.fields.FieldSpans.{begins-otherwise, field-plain}
+use Rattle.notation.proofs.forms.SignedForms.{level-plus}
+use Rattle.notation.proofs.forms.LeadingDigits.{digits}
 
 -- what is said by a field depends on its content alone
 said-alike : {A : Type 0} (f g : List ℕ → Option A) (c l : List ℕ) → f c ≡ g c → reading f (ending c l) ≡ reading g (ending c l)

@@ -12,8 +12,8 @@ use Rattle.points.proofs.gathering.Gathering.{holds-sizes}
 use Rattle.points.proofs.gathering.Hints.{hinted-none, hinted-turn}
 use Rattle.csv.specs.reading.Text.{firstFault, isOutside}
 use Rattle.csv.specs.reading.Points.{levelsAt}
-use Rattle.csv.proofs.reading.points.EntriesRead.{ReadOn, begun, entry-there, read-on, count-left}
-use Rattle.csv.proofs.reading.points.EntriesInside.{inside-on, outside-here, all-inside, outside-left, left-within}
+use Rattle.csv.proofs.reading.entries.EntriesRead.{ReadOn, begun, entry-there, read-on, count-left}
+use Rattle.csv.proofs.reading.entries.EntriesInside.{inside-on, outside-here, all-inside, outside-left, left-within}
 use Rattle.csv.proofs.reading.gathering.EntriesGathered.{Gathering, no-entries, once-there, values-long}
 use Rattle.csv.proofs.reading.gathering.AllGathered.{first, outside-refused, full-here, place-below, next-turn, all-gathered, most-within}
 use Rattle.csv.proofs.reading.gathering.gather_entries.Statement.{statement}

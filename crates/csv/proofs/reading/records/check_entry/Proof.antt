@@ -6,8 +6,8 @@ use Prim.Native.Nat.{ℕ, _≤_}
 use native.Mathlib.Omega.{arith}
 use lib.ListN.{length, drop}
 use borrow.Author.Tests.{not-true, not-false}
-use Rattle.csv.specs.reading.Fields.{field}
-use Rattle.csv.specs.reading.Said.{withSign}
+use Rattle.notation.specs.Fields.{field}
+use Rattle.notation.specs.Said.{withSign}
 use Rattle.csv.specs.reading.Records.{levelField, entryPart, levelAtSaid, LevelWithin, checked, entrySaid}
 use Rattle.csv.proofs.reading.records.EntriesChecked.{check-broken, check-long, check-last, check-short, check-more}
 use Rattle.csv.proofs.reading.records.check_entry.Statement.{statement}

@@ -4,11 +4,11 @@ use mathlib.Core.Path.{_≡_, sym, ap, _∙_, subst}
 use mathlib.Core.List.{List}
 use Prim.Native.Nat.{ℕ, _-_, _≤_}
 use lib.ListN.{length, take, drop}
-use Rattle.csv.specs.reading.Forms.{levelOf}
-use Rattle.csv.specs.reading.Spans.{spanned, SpanWithin}
-use Rattle.csv.specs.reading.Said.{levelSaid}
+use Rattle.notation.specs.Forms.{levelOf}
+use Rattle.notation.specs.Spans.{spanned, SpanWithin}
+use Rattle.notation.specs.Said.{levelSaid}
 use Rattle.csv.specs.reading.Records.{held, reading, levelField, levelAtSaid}
-use Rattle.csv.specs.declared.reading.forms.Signed.{Signed}
+use Rattle.notation.specs.declared.forms.Signed.{Signed}
 use Rattle.csv.proofs.reading.records.Numbers.{level-read}
 use Rattle.csv.proofs.reading.records.EntriesChecked.{level-is}
 use Rattle.csv.proofs.reading.records.field_level.Statement.{statement}

@@ -6,14 +6,14 @@ use Prim.Native.Nat.{ℕ, _+_, _-_, _≤_}
 use native.Mathlib.Omega.{arith}
 use lib.ListN.{length, take, drop, length-drop}
 use lib.Seq.{take-all}
-use Rattle.csv.specs.Digits.{isDigit}
-use Rattle.csv.specs.reading.Spans.{endedBy, EndWithin}
-use Rattle.csv.specs.reading.Said.{leadingSaid, LeadingRead}
+use Rattle.notation.specs.Digits.{isDigit}
+use Rattle.notation.specs.Spans.{endedBy, EndWithin}
+use Rattle.notation.specs.Said.{leadingSaid, LeadingRead}
 use Rattle.csv.specs.reading.Records.{reading, sizeOf, sizeField, levelAtSaid}
-use Rattle.csv.specs.declared.reading.fields.End.{End}
-use Rattle.csv.specs.declared.reading.forms.Leading.the-variants as G
-use Rattle.csv.proofs.reading.fields.FieldSpans.{front-le}
-use Rattle.csv.proofs.reading.forms.LeadingDigits.{digits}
+use Rattle.notation.specs.declared.fields.End.{End}
+use Rattle.notation.specs.declared.forms.Leading.the-variants as G
+use Rattle.notation.proofs.fields.FieldSpans.{front-le}
+use Rattle.notation.proofs.forms.LeadingDigits.{digits}
 use Rattle.csv.proofs.reading.records.PlainLevels.{size-none, size-some, size-ended}
 use Rattle.csv.proofs.reading.records.plain_level.Statement.{statement}
 use Rattle.csv.proofs.reading.records.plain_level.Tie as tie

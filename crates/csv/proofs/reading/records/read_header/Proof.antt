@@ -7,12 +7,12 @@ use Prim.Native.Nat.{ℕ, _-_, _<_, _≤_}
 use native.Mathlib.Omega.{arith}
 use lib.ListN.{length, take, drop, length-drop}
 use borrow.Author.Tests.{not-true, not-false}
-use Rattle.csv.specs.reading.Fields.{field, fieldOf}
-use Rattle.csv.specs.reading.Forms.{headerOf}
-use Rattle.csv.specs.reading.Spans.{undoubled, spanned, SpanWithin}
-use Rattle.csv.specs.reading.Said.{lastSaid}
+use Rattle.notation.specs.Fields.{field, fieldOf}
+use Rattle.notation.specs.Forms.{headerOf}
+use Rattle.notation.specs.Spans.{undoubled, spanned, SpanWithin}
+use Rattle.notation.specs.Said.{lastSaid}
 use Rattle.csv.specs.reading.Records.{kept, headerPart, headerSaid}
-use Rattle.csv.specs.declared.reading.forms.Last.{Last}
+use Rattle.notation.specs.declared.forms.Last.{Last}
 use Rattle.csv.proofs.reading.records.Numbers.{header-read}
 use Rattle.csv.proofs.reading.records.HeaderFields.{headed, head-broken, head-more, head-last, field-shorter}
 use Rattle.csv.proofs.reading.records.read_header.Statement.{statement}

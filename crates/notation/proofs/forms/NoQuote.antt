@@ -1,0 +1,146 @@
+-- A content with a quote has no form, so the forms may be looked for in the bytes between the quotes, undoubled or not.
+use mathlib.Core.Path.{_≡_, refl, sym, ap, _∙_, subst}
+use mathlib.Core.Bool.{Bool, true, false, cond, _&&_, _||_}
+use mathlib.Core.List.{List, [], _∷_}
+use mathlib.Core.Option.{Option, some, none, Option·map}
+use Prim.Native.Nat.{ℕ, zero, suc, _+_, _*_, _-_}
+use native.Mathlib.Omega.{arith}
+use native.Mathlib.Decide.{ℕ-discrete}
+use lib.IntN.{pos}
+use lib.ListN.{length, take, drop}
+use lib.Dec.{T, eqb, leb}
+use borrow.Author.Tests.{ne-eqb, eqb-true}
+use Rattle.residue.specs.Lists.{sameList}
+use Rattle.residue.proofs.bytes.Equality.{same-is}
+use Rattle.notation.specs.Fields.{quote, front}
+use Rattle.notation.specs.Digits.{isDigit, digitsFrom, numberOf}
+use Rattle.notation.specs.Forms.{negative, levelOf, mod-word, lex-word, grlex-word, grevlex-word, orderWord, header, modulusAndOrder, lastField}
+use Rattle.notation.specs.Spans.{undoubled}
+
+hasQuote : List ℕ → Bool
+hasQuote [] = false
+hasQuote (b ∷ l) = eqb b quote || hasQuote l
+
+-- without a quote nothing is undoubled; with one there is one left
+no-quote : (l : List ℕ) → hasQuote l ≡ false → undoubled l ≡ l
+unfolding hasQuote undoubled
+no-quote [] h = refl
+no-quote (b ∷ []) h = refl
+no-quote (b ∷ c ∷ l) h = pick (eqb b quote) h (no-quote (c ∷ l))
+  where
+    pick : (x : Bool) → x || hasQuote (c ∷ l) ≡ false → (hasQuote (c ∷ l) ≡ false → undoubled (c ∷ l) ≡ c ∷ l)
+        → cond x (b ∷ undoubled l) (b ∷ undoubled (c ∷ l)) ≡ b ∷ c ∷ l
+    pick true e f = let z : _≡_ {A = ℕ} 0 1 = cc in absurd (omega arith)
+    pick false e f = ap (λ (r : List ℕ). b ∷ r) (f e)
+
+quote-left : (l : List ℕ) → hasQuote (undoubled l) ≡ hasQuote l
+unfolding hasQuote undoubled
+quote-left [] = refl
+quote-left (b ∷ []) = refl
+quote-left (b ∷ c ∷ l) = pick (eqb b quote) refl (quote-left (c ∷ l))
+  where
+    pick : (x : Bool) → eqb b quote ≡ x → hasQuote (undoubled (c ∷ l)) ≡ hasQuote (c ∷ l)
+        → hasQuote (cond x (b ∷ undoubled l) (b ∷ undoubled (c ∷ l))) ≡ (x || hasQuote (c ∷ l))
+    pick true e h = rw e
+    pick false e h = rw e h
+
+-- what a function that knows no quotes says of the bytes, undoubled or not
+raw : {A : Type 0} (f : List ℕ → Option A) → ((l : List ℕ) → hasQuote l ≡ true → f l ≡ none) → (l : List ℕ) → f (undoubled l) ≡ f l
+raw f h l = pick (hasQuote l) refl
+  where
+    pick : (x : Bool) → hasQuote l ≡ x → f (undoubled l) ≡ f l
+    pick true e = h (undoubled l) (quote-left l ∙ e) ∙ sym (h l e)
+    pick false e = ap f (no-quote l e)
+
+-- a list with a quote is not the same as one without
+differs : (a b : List ℕ) → hasQuote a ≡ true → hasQuote b ≡ false → sameList a b ≡ false
+differs a b h k = pick (sameList a b) refl
+  where
+    pick : (x : Bool) → sameList a b ≡ x → x ≡ false
+    pick true e =
+        let f : true ≡ false = sym h ∙ ap hasQuote (same-is a b (subst T (sym e) tt)) ∙ k in
+        let z : _≡_ {A = ℕ} 0 1 = cc in
+        absurd (omega arith)
+    pick false e = refl
+
+quote-apart : (k : ℕ) (l : List ℕ) → hasQuote l ≡ (hasQuote (take k l) || hasQuote (drop k l))
+unfolding hasQuote
+quote-apart zero l = refl
+quote-apart (suc k) [] = refl
+quote-apart (suc k) (b ∷ l) = pick (eqb b quote) (quote-apart k l)
+  where
+    pick : (x : Bool) → hasQuote l ≡ (hasQuote (take k l) || hasQuote (drop k l)) → (x || hasQuote l) ≡ (x || hasQuote (take k l) || hasQuote (drop k l))
+    pick true h = refl
+    pick false h = h
+
+not-digit : (b : ℕ) → b ≡ quote → isDigit b ≡ false
+unfolding isDigit
+not-digit b e = ap isDigit e
+
+either : {A : Type 0} (x : Bool) {r : Option A} → r ≡ none → cond x r none ≡ none
+either true e = e
+either false e = refl
+
+-- digits
+digits-none : (v : ℕ) (l : List ℕ) → hasQuote l ≡ true → digitsFrom v l ≡ none
+unfolding hasQuote digitsFrom
+digits-none v [] h = let z : _≡_ {A = ℕ} 0 1 = cc in absurd (omega arith)
+digits-none v (b ∷ l) h = pick (ℕ-discrete b quote) (digits-none (10 * v + (b - 48)) l)
+  where
+    pick : Dec (b ≡ quote) → (hasQuote l ≡ true → digitsFrom (10 * v + (b - 48)) l ≡ none) → cond (isDigit b) (digitsFrom (10 * v + (b - 48)) l) none ≡ none
+    pick (yes e) f = rw (not-digit b e)
+    pick (no n) f = either (isDigit b) (f (rw (ne-eqb b quote n) at h))
+
+number-none : (l : List ℕ) → hasQuote l ≡ true → numberOf l ≡ none
+unfolding numberOf
+number-none l h = either (leb 1 (length l) && leb (length l) 3) (digits-none 0 l h)
+
+level-none : (l : List ℕ) → hasQuote l ≡ true → levelOf l ≡ none
+unfolding levelOf hasQuote
+level-none [] h = refl
+level-none (b ∷ l) h = pick (eqb b 45) refl
+  where
+    pick : (x : Bool) → eqb b 45 ≡ x → cond x (Option·map negative (numberOf l)) (Option·map pos (numberOf (b ∷ l))) ≡ none
+    pick true e =
+        let n : b ≡ quote → ⊥ = λ q. omega (arith, eqb-true b 45 e) in
+        ap (Option·map negative) (number-none l (rw (ne-eqb b quote n) at h))
+    pick false e = ap (Option·map pos) (number-none (b ∷ l) h)
+
+-- the order word, and the settings
+word-none : (l : List ℕ) → hasQuote l ≡ true → orderWord l ≡ none
+unfolding orderWord hasQuote
+word-none l h = simp (differs l [] h refl, differs l lex-word h refl, differs l grlex-word h refl, differs l grevlex-word h refl)
+
+no-modulus : (m : ℕ) (k : Option ℕ) → header m none k ≡ none
+unfolding header
+no-modulus m k = refl
+
+no-order : (m : ℕ) (p : Option ℕ) → header m p none ≡ none
+unfolding header
+no-order m none = refl
+no-order m (some p) = refl
+
+settings-none : (m : ℕ) (l : List ℕ) → hasQuote l ≡ true → modulusAndOrder m l ≡ none
+unfolding modulusAndOrder
+settings-none m l h = pick (hasQuote (take k l)) refl (sym (quote-apart k l) ∙ h)
+  where
+    k : ℕ
+    k = front isDigit l
+
+    pick : (x : Bool) → hasQuote (take k l) ≡ x → x || hasQuote (drop k l) ≡ true → header m (numberOf (take k l)) (orderWord (drop k l)) ≡ none
+    pick true e f = ap (λ (p : Option ℕ). header m p (orderWord (drop k l))) (number-none (take k l) e) ∙ no-modulus m (orderWord (drop k l))
+    pick false e f = ap (header m (numberOf (take k l))) (word-none (drop k l) f) ∙ no-order m (numberOf (take k l))
+
+last-none : (m : ℕ) (l : List ℕ) → hasQuote l ≡ true → lastField m l ≡ none
+unfolding lastField hasQuote
+last-none m l h = pick (hasQuote (take 4 l)) refl (sym (quote-apart 4 l) ∙ h)
+  where
+    pick : (x : Bool) → hasQuote (take 4 l) ≡ x → x || hasQuote (drop 4 l) ≡ true → cond (sameList (take 4 l) mod-word) (modulusAndOrder m (drop 4 l)) none ≡ none
+    pick true e f = rw (differs (take 4 l) mod-word e refl)
+    pick false e f = either (sameList (take 4 l) mod-word) (settings-none m (drop 4 l) f)
+
+pub level-raw : (l : List ℕ) → levelOf (undoubled l) ≡ levelOf l
+level-raw = raw levelOf level-none
+
+pub last-raw : (m : ℕ) (l : List ℕ) → lastField m (undoubled l) ≡ lastField m l
+last-raw m = raw (lastField m) (last-none m)

@@ -1,0 +1,56 @@
+-- `forms::read_last` meets its contract: `mod ` and the settings behind it.
+use borrow.Author.Needs.{needs}
+use mathlib.Core.Path.{sym, _∙_}
+use borrow.Author.Tests.{not-true, not-false}
+use lib.Seq.{length-take-le}
+use Rattle.notation.specs.Said.{lastSaid}
+use Rattle.notation.proofs.forms.LastField.{last-short, last-other, last-mod}
+use Rattle.notation.proofs.forms.read_last.Statement.{statement}
+use Rattle.notation.proofs.forms.read_last.Tie as tie
+
+returns : tie.Need-returns
+unfolding lastSaid
+returns c m = sym (last-short m _ (c .if1 .taken))
+
+slice-aggregate-same : tie.Need-slice-aggregate-same
+slice-aggregate-same c = sym (length-take-le 4 (c .before .before .before .args .content .now) (c .before .if1 .left))
+
+slice-aggregate-same-2 : tie.Need-slice-aggregate-same-2
+slice-aggregate-same-2 c = search needs
+
+same-requires : tie.Need-same-requires
+same-requires c κs = search needs
+
+returns-2 : tie.Need-returns-2
+unfolding lastSaid
+returns-2 c m = sym (last-other m _ (sym (c .before .same .ensures) ∙ not-true _ (c .if2 .taken)))
+
+sub-read-settings : tie.Need-sub-read-settings
+sub-read-settings c = search needs
+
+part-read-settings-start : tie.Need-part-read-settings-start
+part-read-settings-start c = search needs
+
+part-read-settings-end : tie.Need-part-read-settings-end
+part-read-settings-end c = search needs
+
+read-settings-requires : tie.Need-read-settings-requires
+read-settings-requires c κs = search needs
+
+returns-3 : tie.Need-returns-3
+returns-3 c m = c .read-settings .ensures m ∙ last-mod m _ (c .before .before .before .before .before .before .if1 .left) (sym (c .before .before .before .same .ensures) ∙ not-false _ (c .before .before .if2 .left))
+
+pub read-last-spec : {M : Type 1} → statement M
+read-last-spec =
+    tie.close
+    (tie.spec
+    returns
+    slice-aggregate-same
+    slice-aggregate-same-2
+    same-requires
+    returns-2
+    sub-read-settings
+    part-read-settings-start
+    part-read-settings-end
+    read-settings-requires
+    returns-3)

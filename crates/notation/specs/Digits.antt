@@ -1,0 +1,26 @@
+-- Numbers in decimal, of one to three digits, as a text has them (docs/SCOPE.md, 'Reading text').
+use mathlib.Core.Bool.{Bool, cond, _&&_}
+use mathlib.Core.List.{List, [], _∷_}
+use mathlib.Core.Option.{Option, some, none}
+use Prim.Native.Nat.{ℕ, _+_, _*_, _-_}
+use lib.ListN.{length}
+use lib.Dec.{leb}
+use Rattle.notation.specs.declared.digits.Number.{Number}
+use Rattle.notation.specs.declared.digits.Number.the-variants as N
+
+unfoldable pub isDigit : ℕ → Bool
+isDigit b = leb 48 b && leb b 57
+
+-- the number that digits write, behind `value`
+unfoldable pub digitsFrom : ℕ → List ℕ → Option ℕ
+digitsFrom value [] = some value
+digitsFrom value (b ∷ l) = cond (isDigit b) (digitsFrom (10 * value + (b - 48)) l) none
+
+-- one to three digits
+unfoldable pub numberOf : List ℕ → Option ℕ
+numberOf l = cond (leb 1 (length l) && leb (length l) 3) (digitsFrom 0 l) none
+
+-- what the reader of digits answers
+unfoldable pub numberSaid : Number → Option ℕ
+numberSaid (N.Size k) = some k
+numberSaid N.Broken = none

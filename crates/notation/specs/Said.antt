@@ -1,0 +1,54 @@
+-- What the readers of a field's content answer, in the terms of the definitions of forms.
+use mathlib.Core.Path.{_≡_}
+use mathlib.Core.Bool.{Bool, true, false, cond}
+use mathlib.Core.List.{List}
+use mathlib.Core.Option.{Option, some, none}
+use Prim.Native.Nat.{ℕ}
+use lib.IntN.{ℤ, pos}
+use lib.ListN.{take}
+use lib.Dec.{eqb}
+use Rattle.notation.specs.Digits.{isDigit, numberOf}
+use Rattle.notation.specs.Fields.{front}
+use Rattle.notation.specs.Forms.{negative, Header}
+use Rattle.notation.specs.declared.forms.Leading.{Leading}
+use Rattle.notation.specs.declared.forms.Leading.the-variants as G
+use Rattle.notation.specs.declared.forms.Signed.{Signed}
+use Rattle.notation.specs.declared.forms.Signed.the-variants as S
+use Rattle.notation.specs.declared.forms.Word.{Word}
+use Rattle.notation.specs.declared.forms.Word.the-variants as W
+use Rattle.notation.specs.declared.forms.Last.{Last}
+use Rattle.notation.specs.declared.forms.Last.the-variants as L
+
+-- the number that the digits at the front write, one to three of them, and how many they are
+unfoldable pub leadingOf : ℕ → ℕ → Leading
+leadingOf size count = cond (eqb count 0) G.Broken (G.Number size count)
+
+unfoldable pub leadingSaid : Leading → Option ℕ
+leadingSaid (G.Number size count) = some size
+leadingSaid G.Broken = none
+
+abbrev pub LeadingEnds : ℕ → Leading → Type 0
+LeadingEnds k (G.Number size count) = count ≡ k
+LeadingEnds k G.Broken = Unit {0}
+
+pub record LeadingRead (content : List ℕ) (r : Leading) : Type 0 where
+  pub said : leadingSaid r ≡ numberOf (take (front isDigit content) content)
+  pub ends : LeadingEnds (front isDigit content) r
+
+unfoldable pub orderSaid : Word → Option ℕ
+orderSaid (W.Order k) = some k
+orderSaid W.Broken = none
+
+-- a level by its sign and size
+unfoldable pub withSign : Bool → ℕ → ℤ
+withSign true size = negative size
+withSign false size = pos size
+
+unfoldable pub levelSaid : Signed → Option ℤ
+levelSaid (S.Level negative size) = some (withSign negative size)
+levelSaid S.Broken = none
+
+-- the last header field, behind m names
+unfoldable pub lastSaid : ℕ → Last → Option Header
+lastSaid m (L.Settings modulus order) = some (record { variables = m; modulus = modulus; order = order })
+lastSaid m L.Broken = none

@@ -1,0 +1,52 @@
+-- What the inner readers answer, by places in the text, in the terms of the definitions of fields.
+use mathlib.Core.Path.{_≡_}
+use mathlib.Core.Bool.{cond}
+use mathlib.Core.List.{List, [], _∷_}
+use Prim.Native.Nat.{ℕ, suc, _-_, _≤_}
+use lib.ListN.{length, take, drop}
+use lib.Dec.{eqb}
+use Rattle.notation.specs.Fields.{quote, Field, field, broken, ending}
+use Rattle.notation.specs.declared.fields.End.{End}
+use Rattle.notation.specs.declared.fields.End.the-variants as E
+use Rattle.notation.specs.declared.fields.Span.{Span}
+use Rattle.notation.specs.declared.fields.Span.the-variants as S
+
+-- how many bytes stand before the quote that closes a quoted field, which no other quote follows; all where none closes it
+unfoldable pub closing : List ℕ → ℕ
+closing [] = 0
+closing (b ∷ []) = cond (eqb b quote) 0 1
+closing (b ∷ c ∷ l) = cond (eqb b quote) (cond (eqb c quote) (suc (suc (closing l))) 0) (suc (closing (c ∷ l)))
+
+-- the bytes between the quotes, each pair of quotes as one
+unfoldable pub undoubled : List ℕ → List ℕ
+undoubled [] = []
+undoubled (b ∷ []) = b ∷ []
+undoubled (b ∷ c ∷ l) = cond (eqb b quote) (b ∷ undoubled l) (b ∷ undoubled (c ∷ l))
+
+-- what ended a field of this content
+unfoldable pub endedBy : List ℕ → List ℕ → End → Field (List ℕ)
+endedBy text content (E.At more next) = field content more (drop next text)
+endedBy text content E.Broken = broken
+
+abbrev pub EndWithin : ℕ → End → Type 0
+EndWithin n (E.At more next) = next ≤ n
+EndWithin n E.Broken = Unit {0}
+
+-- `read_end` at a place: what ended a field there, whatever its content
+pub record EndRead (text : List ℕ) (at : ℕ) (r : End) : Type 0 where
+  pub said : (content : List ℕ) → endedBy text content r ≡ ending content (drop at text)
+  pub within : EndWithin (length text) r
+
+-- the field whose bytes, inside its quotes if it has them, are those from one place to the other
+unfoldable pub spanned : List ℕ → Span → Field (List ℕ)
+spanned text (S.Content from to more next) = field (undoubled (take (to - from) (drop from text))) more (drop next text)
+spanned text S.Broken = broken
+
+abbrev pub SpanWithin : ℕ → Span → Type 0
+SpanWithin n (S.Content from to more next) = (from ≤ to) × (to ≤ n) × (next ≤ n)
+SpanWithin n S.Broken = Unit {0}
+
+-- `read_quoted` and `read_field`: this field, by its places
+pub record SpanRead (text : List ℕ) (f : Field (List ℕ)) (r : Span) : Type 0 where
+  pub said : spanned text r ≡ f
+  pub within : SpanWithin (length text) r
