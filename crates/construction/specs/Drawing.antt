@@ -1,5 +1,5 @@
 -- What drawing up from all points is handed, and what it leaves. The public calls stand on it. Of these definitions a public promise names `settingsOf`
--- alone (csv, Printing).
+-- alone (printing, Text).
 use mathlib.Core.Path.{_≡_}
 use mathlib.Core.Bool.{cond}
 use mathlib.Core.List.{List, [], _∷_, _++_, map}

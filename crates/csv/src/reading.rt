@@ -8,7 +8,7 @@ ghost use Prim.Native.Nat.{_≤_};
 ghost use lib.ListN.{length, drop};
 ghost use Rattle.specification.specs.Refusal.{firstOf};
 ghost use Rattle.csv.specs.reading.Text.{headerCases, notRefused, textEnded, readOutcome};
-ghost use Rattle.csv.specs.reading.Records.{entriesAt, counted};
+ghost use Rattle.csv.specs.reading.Records.{entriesAt, countedEntries};
 ghost use Rattle.csv.specs.reading.Points.{entriesOutcome};
 ghost use Rattle.csv.specs.declared.reading.records.Entries.the-variants.{Count};
 use crate::reading::records::Entries;
@@ -89,7 +89,7 @@ fn read_entries(
     counts: &mut [u8],
 ) -> Read
     requires { ⌜ (from ≤ length (now text)) × (length (now text) ≤ 16384) ⌝ }
-    requires { ⌜ counted 0 (entriesAt variables (drop from (now text))) ≡ Count entries ⌝ }
+    requires { ⌜ countedEntries 0 (entriesAt variables (drop from (now text))) ≡ Count entries ⌝ }
     ensures { λ r. ⌜ textEnded r (now (states .exit)) (now (values .exit)) (now (counts .exit))
         ≡ entriesOutcome modulus variables order (drop from (now (text .entry))) (now (states .entry)) (now (values .entry)) (now (counts .entry)) ⌝ }
 {

@@ -17,8 +17,8 @@ digitsFrom value [] = some value
 digitsFrom value (b ∷ l) = cond (isDigit b) (digitsFrom (10 * value + (b - 48)) l) none
 
 -- one to three digits
-unfoldable pub numberOf : List ℕ → Option ℕ
-numberOf l = cond (leb 1 (length l) && leb (length l) 3) (digitsFrom 0 l) none
+unfoldable pub decimalNumber : List ℕ → Option ℕ
+decimalNumber l = cond (leb 1 (length l) && leb (length l) 3) (digitsFrom 0 l) none
 
 -- what the reader of digits answers
 unfoldable pub numberSaid : Number → Option ℕ

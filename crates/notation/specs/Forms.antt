@@ -7,7 +7,7 @@ use lib.IntN.{ℤ, pos, negsuc}
 use lib.ListN.{length, take, drop}
 use lib.Dec.{eqb}
 use Rattle.residue.specs.Lists.{sameList}
-use Rattle.notation.specs.Digits.{isDigit, numberOf}
+use Rattle.notation.specs.Digits.{isDigit, decimalNumber}
 use Rattle.notation.specs.Fields.{front}
 
 unfoldable pub negative : ℕ → ℤ
@@ -17,7 +17,7 @@ negative (suc k) = negsuc k
 -- a level or a value: an optional minus sign and one to three digits
 unfoldable pub levelOf : List ℕ → Option ℤ
 levelOf [] = none
-levelOf (b ∷ l) = cond (eqb b 45) (Option·map negative (numberOf l)) (Option·map pos (numberOf (b ∷ l)))
+levelOf (b ∷ l) = cond (eqb b 45) (Option·map negative (decimalNumber l)) (Option·map pos (decimalNumber (b ∷ l)))
 
 unfoldable pub together : Option ℤ → Option (List ℤ) → Option (List ℤ)
 together (some z) (some zs) = some (z ∷ zs)
@@ -68,7 +68,7 @@ header m none k = none
 
 -- one to three digits, and optionally a space and the order word
 unfoldable pub modulusAndOrder : ℕ → List ℕ → Option Header
-modulusAndOrder m l = header m (numberOf (take (front isDigit l) l)) (orderWord (drop (front isDigit l) l))
+modulusAndOrder m l = header m (decimalNumber (take (front isDigit l) l)) (orderWord (drop (front isDigit l) l))
 
 -- the last field: `mod`, a space, and these
 unfoldable pub lastField : ℕ → List ℕ → Option Header

@@ -7,7 +7,7 @@ use Prim.Native.Nat.{ℕ}
 use lib.IntN.{ℤ, pos}
 use lib.ListN.{take}
 use lib.Dec.{eqb}
-use Rattle.notation.specs.Digits.{isDigit, numberOf}
+use Rattle.notation.specs.Digits.{isDigit, decimalNumber}
 use Rattle.notation.specs.Fields.{front}
 use Rattle.notation.specs.Forms.{negative, Header}
 use Rattle.notation.specs.declared.forms.Leading.{Leading}
@@ -32,7 +32,7 @@ LeadingEnds k (G.Number size count) = count ≡ k
 LeadingEnds k G.Broken = Unit {0}
 
 pub record LeadingRead (content : List ℕ) (r : Leading) : Type 0 where
-  pub said : leadingSaid r ≡ numberOf (take (front isDigit content) content)
+  pub said : leadingSaid r ≡ decimalNumber (take (front isDigit content) content)
   pub ends : LeadingEnds (front isDigit content) r
 
 unfoldable pub orderSaid : Word → Option ℕ

@@ -1,6 +1,6 @@
 // Numbers in decimal, read.
 ghost use mathlib.Core.Path.{_≡_};
-ghost use Rattle.notation.specs.Digits.{isDigit, numberOf, numberSaid};
+ghost use Rattle.notation.specs.Digits.{isDigit, decimalNumber, numberSaid};
 
 pub fn is_digit(b: u8) -> bool
     ensures { λ r. ⌜ r ≡ isDigit b ⌝ }
@@ -18,7 +18,7 @@ pub enum Number {
 
 // One to three digits and nothing else.
 pub fn read_number(content: &[u8]) -> Number
-    ensures { λ r. ⌜ numberSaid r ≡ numberOf (now (content .entry)) ⌝ }
+    ensures { λ r. ⌜ numberSaid r ≡ decimalNumber (now (content .entry)) ⌝ }
 {
     let n = content.len();
     if n < 1 {

@@ -38,7 +38,7 @@ use Rattle.construction.proofs.drawing.Given.{given-count}
 use Rattle.construction.proofs.drawing.Grounds.{ground, coordinate, drawn-up}
 use Rattle.construction.proofs.drawing.Costs.{lead-passed, standard-passed}
 use Rattle.construction.proofs.drawing.KeptRows.{standard-kept}
-use Rattle.construction.proofs.drawing.LoopState.{DrawingSized, pointsOf, Head, Kept}
+use Rattle.construction.proofs.drawing.LoopState.{DrawingSized, pointsDrawn, Head, Kept}
 
 module _ {s : Settings} {n : ℕ} {points : List ℕ} (given : PointsGiven s n points) where
   abbrev p : ℕ
@@ -48,7 +48,7 @@ module _ {s : Settings} {n : ℕ} {points : List ℕ} (given : PointsGiven s n p
   m = s .variables
 
   abbrev S : List (Point (suc (p - 1)) m)
-  S = pointsOf s n points
+  S = pointsDrawn s n points
 
   abbrev o : Order
   o = orderOf (s .order)

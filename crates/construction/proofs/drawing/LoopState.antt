@@ -32,14 +32,14 @@ pub record DrawingSized (p n found : ℕ) (standard leads coefficients rows pivo
   pub rows-zero : ZeroBehind n found rows
 
 -- the points under the settings
-abbrev pub pointsOf : (s : Settings) → ℕ → List ℕ → List (Point (suc (s .modulus - 1)) (s .variables))
-pointsOf s n points = pointsUnder s (pointsIn s n points)
+abbrev pub pointsDrawn : (s : Settings) → ℕ → List ℕ → List (Point (suc (s .modulus - 1)) (s .variables))
+pointsDrawn s n points = pointsUnder s (pointsIn s n points)
 
 -- rows₀ and pivots₀ are the lent bytes of the pivot rows at entry
 module _ (s : Settings) (n : ℕ) (points rows₀ pivots₀ : List ℕ) where
   -- the pivot rows of standard monomials, over them
   abbrev pub rowsKept : List (Monomial (s .variables)) → PivotBytes
-  rowsKept std = withColumns (s .modulus) n 0 (map (valueColumn (spaceUnder s) (pointsOf s n points)) std) (pivotBytes rows₀ pivots₀)
+  rowsKept std = withColumns (s .modulus) n 0 (map (valueColumn (spaceUnder s) (pointsDrawn s n points)) std) (pivotBytes rows₀ pivots₀)
 
   -- A monomial is in hand.
   pub record Head (found r total : ℕ) (standard leads coefficients rows pivots values ranks steps at exponents : List ℕ) (rank : ℕ) (own : List ℕ) : Type 0 where
@@ -49,9 +49,9 @@ module _ (s : Settings) (n : ℕ) (points rows₀ pivots₀ : List ℕ) where
     pub hand : Monomial (s .variables)
     pub found-is : found ≡ length std
     pub r-is : r ≡ length lds
-    pub held : TablesHold (s .modulus - 1) (s .variables) n (orderOf (s .order)) (pointsOf s n points) std lds css standard leads coefficients rows pivots values ranks steps
-    pub in-hand : InHand (s .modulus - 1) (s .variables) n (orderOf (s .order)) (pointsOf s n points) std lds hand at exponents rank own
-    pub ready : Ready (spaceUnder s) (pointsOf s n points) n std lds total rows pivots hand
+    pub held : TablesHold (s .modulus - 1) (s .variables) n (orderOf (s .order)) (pointsDrawn s n points) std lds css standard leads coefficients rows pivots values ranks steps
+    pub in-hand : InHand (s .modulus - 1) (s .variables) n (orderOf (s .order)) (pointsDrawn s n points) std lds hand at exponents rank own
+    pub ready : Ready (spaceUnder s) (pointsDrawn s n points) n std lds total rows pivots hand
     pub few : found + r ≤ 513
     pub rows-kept : pivotBytes rows pivots ≡ rowsKept std
 
@@ -62,10 +62,10 @@ module _ (s : Settings) (n : ℕ) (points rows₀ pivots₀ : List ℕ) where
     pub css : List (List ℕ)
     pub found-is : found ≡ length std
     pub r-is : r ≡ length lds
-    pub held : TablesHold (s .modulus - 1) (s .variables) n (orderOf (s .order)) (pointsOf s n points) std lds css standard leads coefficients rows pivots values ranks steps
-    pub decided : Decided (s .modulus - 1) (s .variables) n (orderOf (s .order)) (pointsOf s n points) std lds at
+    pub held : TablesHold (s .modulus - 1) (s .variables) n (orderOf (s .order)) (pointsDrawn s n points) std lds css standard leads coefficients rows pivots values ranks steps
+    pub decided : Decided (s .modulus - 1) (s .variables) n (orderOf (s .order)) (pointsDrawn s n points) std lds at
     pub last : Monomial (s .variables)
-    pub passed : Passed (spaceUnder s) (pointsOf s n points) n std lds total rows pivots last
+    pub passed : Passed (spaceUnder s) (pointsDrawn s n points) n std lds total rows pivots last
     pub rows-kept : pivotBytes rows pivots ≡ rowsKept std
 
 -- the same lists, by their equations

@@ -14,7 +14,7 @@ use Rattle.residue.specs.Lists.{Among, sameList}
 use Rattle.residue.proofs.Tests.{of-true}
 use Rattle.specification.specs.Levels.{inRange}
 use Rattle.notation.specs.Fields.{front}
-use Rattle.notation.specs.Digits.{isDigit, numberOf}
+use Rattle.notation.specs.Digits.{isDigit, decimalNumber}
 use Rattle.notation.specs.Forms.{lex-word, grlex-word, grevlex-word, mod-word, defaultOrder, orderWord, Header, header, modulusAndOrder, lastField, headerFrom, headerOf}
 use Rattle.csv.specs.reading.Text.{firstFault, isNone, headerIn, entryIn, entriesIn, formFault, isOutside}
 use Rattle.csv.proofs.reading.FirstPlaces.{fault-step}
@@ -50,8 +50,8 @@ last-small : (m : ℕ) (l : List ℕ) → SmallOrder (lastField m l)
 unfolding lastField modulusAndOrder
 last-small m l = go (sameList (take 4 l) mod-word)
   where
-    go : (b : Bool) → SmallOrder (cond b (header m (numberOf (take (front isDigit (drop 4 l)) (drop 4 l))) (orderWord (drop (front isDigit (drop 4 l)) (drop 4 l)))) none)
-    go true = header-small m (numberOf (take (front isDigit (drop 4 l)) (drop 4 l))) (orderWord (drop (front isDigit (drop 4 l)) (drop 4 l))) (word-small _)
+    go : (b : Bool) → SmallOrder (cond b (header m (decimalNumber (take (front isDigit (drop 4 l)) (drop 4 l))) (orderWord (drop (front isDigit (drop 4 l)) (drop 4 l)))) none)
+    go true = header-small m (decimalNumber (take (front isDigit (drop 4 l)) (drop 4 l))) (orderWord (drop (front isDigit (drop 4 l)) (drop 4 l))) (word-small _)
     go false = tt
 
 from-small : (m : ℕ) (fields : List (List ℕ)) → SmallOrder (headerFrom m fields)

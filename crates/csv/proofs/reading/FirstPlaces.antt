@@ -8,7 +8,7 @@ use lib.ListN.{length}
 use lib.Dec.{eqb·suc-zero}
 use borrow.Author.Tests.{ne-eqb}
 use Rattle.csv.specs.reading.Text.{further, firstFault, firstAfter}
-use Rattle.csv.specs.reading.Points.{firstPlace, placeAfter}
+use Rattle.csv.specs.reading.Points.{earlierPlace, placeAfter}
 
 further-some : (k : ℕ) → further (suc k) ≡ suc (suc k)
 unfolding further
@@ -19,8 +19,8 @@ unfolding further
 further-le zero n h = omega arith
 further-le (suc k) n h = rw (eqb·suc-zero k) (omega arith)
 
-further-place : (k : ℕ) (b : Bool) (n : ℕ) → further (firstPlace k b (suc n)) ≡ firstPlace (further k) b (suc (suc n))
-unfolding firstPlace further
+further-place : (k : ℕ) (b : Bool) (n : ℕ) → further (earlierPlace k b (suc n)) ≡ earlierPlace (further k) b (suc (suc n))
+unfolding earlierPlace further
 further-place zero true n = refl
 further-place zero false n = rw (eqb·suc-zero n)
 further-place (suc k) b n = simp (eqb·suc-zero)
@@ -33,8 +33,8 @@ fault-step false zero h = (refl, refl)
 fault-step false (suc k) h = let z = rw (eqb·suc-zero k) at h in absurd (omega arith)
 
 -- no place was found so far, and none now
-pub none-found : (k : ℕ) (b : Bool) (n : ℕ) → firstPlace k b (suc n) ≡ 0 → (k ≡ 0) × (b ≡ true)
-unfolding firstPlace
+pub none-found : (k : ℕ) (b : Bool) (n : ℕ) → earlierPlace k b (suc n) ≡ 0 → (k ≡ 0) × (b ≡ true)
+unfolding earlierPlace
 none-found zero true n h = (refl, refl)
 none-found zero false n h = absurd (omega arith)
 none-found (suc k) b n h = let z = rw (eqb·suc-zero k) at h in absurd (omega arith)
@@ -51,8 +51,8 @@ after-further n zero = refl
 after-further n (suc k) = rw (eqb·suc-zero k, ne-eqb (n + suc k) 0 (λ z. omega (arith, z))) (omega arith)
 
 module _ {A : Type 0} (f : List A → A → Bool) where
-  pub after-more : (seen l : List A) (a : A) → firstAfter f seen (l ++ (a ∷ [])) ≡ firstPlace (firstAfter f seen l) (not (f (seen ++ l) a)) (suc (length l))
-  unfolding firstAfter firstPlace further
+  pub after-more : (seen l : List A) (a : A) → firstAfter f seen (l ++ (a ∷ [])) ≡ earlierPlace (firstAfter f seen l) (not (f (seen ++ l) a)) (suc (length l))
+  unfolding firstAfter earlierPlace further
   after-more seen [] a = rw (append-nil seen) (go (f seen a))
     where
       go : (x : Bool) → cond {A = ℕ} x 1 (further 0) ≡ cond (not x) 0 1
@@ -60,13 +60,13 @@ module _ {A : Type 0} (f : List A → A → Bool) where
       go false = refl
   after-more seen (b ∷ l) a = go (f seen b) (after-more (seen ++ (b ∷ [])) l a)
     where
-      go : (x : Bool) → firstAfter f (seen ++ (b ∷ [])) (l ++ (a ∷ [])) ≡ firstPlace (firstAfter f (seen ++ (b ∷ [])) l) (not (f ((seen ++ (b ∷ [])) ++ l) a)) (suc (length l))
+      go : (x : Bool) → firstAfter f (seen ++ (b ∷ [])) (l ++ (a ∷ [])) ≡ earlierPlace (firstAfter f (seen ++ (b ∷ [])) l) (not (f ((seen ++ (b ∷ [])) ++ l) a)) (suc (length l))
           → cond x 1 (further (firstAfter f (seen ++ (b ∷ [])) (l ++ (a ∷ []))))
-          ≡ firstPlace (cond x 1 (further (firstAfter f (seen ++ (b ∷ [])) l))) (not (f (seen ++ (b ∷ l)) a)) (suc (suc (length l)))
+          ≡ earlierPlace (cond x 1 (further (firstAfter f (seen ++ (b ∷ [])) l))) (not (f (seen ++ (b ∷ l)) a)) (suc (suc (length l)))
       go true h = refl
       go false h =
           ap further h ∙ further-place (firstAfter f (seen ++ (b ∷ [])) l) (not (f ((seen ++ (b ∷ [])) ++ l) a)) (length l)
-          ∙ ap (λ (s : List A). firstPlace (further (firstAfter f (seen ++ (b ∷ [])) l)) (not (f s a)) (suc (suc (length l)))) (append-assoc seen (b ∷ []) l)
+          ∙ ap (λ (s : List A). earlierPlace (further (firstAfter f (seen ++ (b ∷ [])) l)) (not (f s a)) (suc (suc (length l)))) (append-assoc seen (b ∷ []) l)
 
   -- the first that has a fault, others behind it
   pub after-found : (seen l : List A) (a : A) (rest : List A) → firstAfter f seen l ≡ 0 → f (seen ++ l) a ≡ true → suc (length l) ≡ firstAfter f seen (l ++ (a ∷ rest))

@@ -20,49 +20,49 @@ use Rattle.csv.proofs.reading.FirstPlaces.{fault-step}
 use Rattle.csv.specs.reading.Text.{Valued, further, firstAfter, tooMany, firstValue, firstValues}
 
 -- the points of entries, distinct, with their counts
-abbrev pub counted : List Valued → Counted
-counted E = gathered (pointsOf E)
+abbrev pub gatheredPoints : List Valued → Counted
+gatheredPoints E = gathered (pointsOf E)
 
 all-append : (A B : List (List ℕ)) (L : Counted) → enteredAll (A ++ B) L ≡ enteredAll B (enteredAll A L)
 unfolding enteredAll
 all-append [] B L = refl
 all-append (P ∷ A) B L = all-append A B (entered P L)
 
-pub counted-more : (E : List Valued) (q : Valued) → counted (E ++ (q ∷ [])) ≡ entered (q .0) (counted E)
+pub counted-more : (E : List Valued) (q : Valued) → gatheredPoints (E ++ (q ∷ [])) ≡ entered (q .0) (gatheredPoints E)
 unfolding gathered enteredAll
 counted-more E q = ap gathered (map-append (λ x. x .0) E (q ∷ [])) ∙ all-append (pointsOf E) (q .0 ∷ []) []
 
 -- Where all entries together have at most 64 points, none of them is one too many.
-pub never-many : (seen l : List Valued) → length (counted (seen ++ l)) ≤ 64 → firstAfter tooMany seen l ≡ 0
+pub never-many : (seen l : List Valued) → length (gatheredPoints (seen ++ l)) ≤ 64 → firstAfter tooMany seen l ≡ 0
 unfolding firstAfter tooMany further gathered
 never-many seen [] h = refl
 never-many seen (q ∷ l) h =
     let front = seen ++ (q ∷ []) in
     let whole : front ++ l ≡ seen ++ (q ∷ l) = append-assoc seen (q ∷ []) l in
-    let few : length (counted front) ≤ 64 = omega (arith, grows front l, ap (λ (E : List Valued). length (counted E)) whole, h) in
-    rw (le-ltb 64 (length (counted front)) few, never-many front l (omega (arith, ap (λ (E : List Valued). length (counted E)) whole, h))) refl
+    let few : length (gatheredPoints front) ≤ 64 = omega (arith, grows front l, ap (λ (E : List Valued). length (gatheredPoints E)) whole, h) in
+    rw (le-ltb 64 (length (gatheredPoints front)) few, never-many front l (omega (arith, ap (λ (E : List Valued). length (gatheredPoints E)) whole, h))) refl
   where
-    grows : (A B : List Valued) → length (counted A) ≤ length (counted (A ++ B))
+    grows : (A B : List Valued) → length (gatheredPoints A) ≤ length (gatheredPoints (A ++ B))
     grows A B =
-        let e : counted (A ++ B) ≡ enteredAll (pointsOf B) (counted A) = ap gathered (map-append (λ x. x .0) A B) ∙ all-append (pointsOf A) (pointsOf B) [] in
-        omega (arith, all-grow (pointsOf B) (counted A), ap length e)
+        let e : gatheredPoints (A ++ B) ≡ enteredAll (pointsOf B) (gatheredPoints A) = ap gathered (map-append (λ x. x .0) A B) ∙ all-append (pointsOf A) (pointsOf B) [] in
+        omega (arith, all-grow (pointsOf B) (gatheredPoints A), ap length e)
 
 -- Where none of them is, there are at most 64.
-pub few-points : (seen l : List Valued) → length (counted seen) ≤ 64 → firstAfter tooMany seen l ≡ 0 → length (counted (seen ++ l)) ≤ 64
+pub few-points : (seen l : List Valued) → length (gatheredPoints seen) ≤ 64 → firstAfter tooMany seen l ≡ 0 → length (gatheredPoints (seen ++ l)) ≤ 64
 unfolding firstAfter tooMany
 few-points seen [] h z = rw (append-nil seen) h
 few-points seen (q ∷ l) h z =
-    let s = fault-step (ltb 64 (length (counted (seen ++ (q ∷ []))))) (firstAfter tooMany (seen ++ (q ∷ [])) l) z in
-    rw (← append-assoc seen (q ∷ []) l) (few-points (seen ++ (q ∷ [])) l (ltb-false 64 (length (counted (seen ++ (q ∷ [])))) (s .0)) (s .1))
+    let s = fault-step (ltb 64 (length (gatheredPoints (seen ++ (q ∷ []))))) (firstAfter tooMany (seen ++ (q ∷ [])) l) z in
+    rw (← append-assoc seen (q ∷ []) l) (few-points (seen ++ (q ∷ [])) l (ltb-false 64 (length (gatheredPoints (seen ++ (q ∷ [])))) (s .0)) (s .1))
 
 -- a point is among the distinct ones where it is among all
-pub among-counted : (P : List ℕ) (E : List Valued) → isAmong P (pointsOf (counted E)) ≡ isAmong P (pointsOf E)
-among-counted P E = go (isAmong P (pointsOf (counted E))) refl (isAmong P (pointsOf E)) refl
+pub among-counted : (P : List ℕ) (E : List Valued) → isAmong P (pointsOf (gatheredPoints E)) ≡ isAmong P (pointsOf E)
+among-counted P E = go (isAmong P (pointsOf (gatheredPoints E))) refl (isAmong P (pointsOf E)) refl
   where
-    go : (b : Bool) → isAmong P (pointsOf (counted E)) ≡ b → (c : Bool) → isAmong P (pointsOf E) ≡ c → b ≡ c
+    go : (b : Bool) → isAmong P (pointsOf (gatheredPoints E)) ≡ b → (c : Bool) → isAmong P (pointsOf E) ≡ c → b ≡ c
     go true e true f = refl
-    go true e false f = absurd (rw f at (is-among P (pointsOf E) (among-gathered (pointsOf E) P .0 (among-is P (pointsOf (counted E)) (of-true e)))))
-    go false e true f = absurd (rw e at (is-among P (pointsOf (counted E)) (among-gathered (pointsOf E) P .1 (among-is P (pointsOf E) (of-true f)))))
+    go true e false f = absurd (rw f at (is-among P (pointsOf E) (among-gathered (pointsOf E) P .0 (among-is P (pointsOf (gatheredPoints E)) (of-true e)))))
+    go false e true f = absurd (rw e at (is-among P (pointsOf (gatheredPoints E)) (among-gathered (pointsOf E) P .1 (among-is P (pointsOf E) (of-true f)))))
     go false e false f = refl
 
 module _ (P : List ℕ) where
@@ -107,8 +107,8 @@ values-stay (Q ∷ S) E F h =
     let b = values-stay S E F (λ R q. h R (inr q)) in
     cc
 
-pub values-kept : (E F : List Valued) → firstValues (pointsOf (counted E)) (E ++ F) ≡ firstValues (pointsOf (counted E)) E
-values-kept E F = values-stay (pointsOf (counted E)) E F (λ Q q. among-gathered (pointsOf E) Q .0 q)
+pub values-kept : (E F : List Valued) → firstValues (pointsOf (gatheredPoints E)) (E ++ F) ≡ firstValues (pointsOf (gatheredPoints E)) E
+values-kept E F = values-stay (pointsOf (gatheredPoints E)) E F (λ Q q. among-gathered (pointsOf E) Q .0 q)
 
 -- each is a value of an entry
 pub value-below : (p : ℕ) (P : List ℕ) (v : ℕ) (E : List Valued) → v < p → ((q : Valued) → Among q E → q .1 < p) → firstValue P v E < p

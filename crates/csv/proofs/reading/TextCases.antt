@@ -11,7 +11,7 @@ use Rattle.residue.specs.Layout.{over}
 use Rattle.specification.specs.Counted.{pointsOf, gathered}
 use Rattle.specification.specs.Refusal.{firstOf}
 use Rattle.csv.specs.reading.Text.{TextCase, TextOutcome, valuedPoint, valuedPoints, headerCases, entryCase, notRefused, textEnded, textAccepted, textRefused, textDecided, refusalAt}
-use Rattle.csv.specs.reading.Points.{levelsAt, saying, answered, Tabled}
+use Rattle.csv.specs.reading.Points.{levelsAt, saying, answered, EntriesTabled}
 use Rattle.csv.specs.declared.reading.Refusal.{Refusal}
 use Rattle.csv.specs.declared.reading.gathering.Gathered.{Gathered}
 
@@ -136,7 +136,7 @@ module _ (l : List TextCase) (done : TextOutcome) (states values counts : List �
 
 -- what an accepted text leaves
 pub assembled : (p m order : ℕ) (l states values counts : List ℕ) {n : ℕ} {points times firsts s v k : List ℕ} → n ≡ length (gathered (pointsOf (valuedPoints (saying p m order l))))
-    → Tabled (map (valuedPoint p m) (levelsAt m l)) points times firsts → s ≡ over points states → v ≡ over firsts values → k ≡ over times counts
+    → EntriesTabled (map (valuedPoint p m) (levelsAt m l)) points times firsts → s ≡ over points states → v ≡ over firsts values → k ≡ over times counts
     → textEnded (record { refusal = 0; at = 0; modulus = p; variables = m; order = order; n = n }) s v k ≡ textAccepted (saying p m order l) states values counts
 unfolding textAccepted saying valuedPoints
 assembled p m order l states values counts a t e f g =

@@ -16,7 +16,7 @@ use Rattle.notation.specs.Forms.{Header, lastField, headerFrom, headerOf}
 use Rattle.specification.specs.Refusal.{firstOf}
 use Rattle.specification.proofs.Numbers.{never}
 use Rattle.csv.specs.reading.Text.{Contents, TextOutcome, pointsCases, further, firstFault, isNone, headerIn, entryIn, entriesIn, formFault, contentsOf, headerCases, entriesCases, readCases, notRefused, textAccepted, textRefused, textDecided, readOutcome, refusalAt}
-use Rattle.csv.specs.reading.Records.{kept, reads, headerPart, entriesAt, counted}
+use Rattle.csv.specs.reading.Records.{kept, reads, headerPart, entriesAt, countedEntries}
 use Rattle.csv.specs.reading.Points.{levelsAt, saying, entriesOutcome}
 use Rattle.csv.specs.declared.reading.Refusal.{Refusal}
 use Rattle.csv.specs.declared.reading.records.Entries.the-variants as N
@@ -76,8 +76,8 @@ pub record Fault (j k a : ℕ) (es : List (Option (List ℤ))) : Type 0 where
   pub at : a ≡ j + suc (firstFault isNone es)
   pub found : firstFault isNone es ≡ 0 → ⊥
 
-pub counted-refused : (j k a : ℕ) (es : List (Option (List ℤ))) → N.Refused k a ≡ counted j es → Fault j k a es
-unfolding counted firstFault isNone further
+pub counted-refused : (j k a : ℕ) (es : List (Option (List ℤ))) → N.Refused k a ≡ countedEntries j es → Fault j k a es
+unfolding countedEntries firstFault isNone further
 counted-refused j k a [] e = let z : _≡_ {A = ℕ} 0 1 = cc in absurd (omega arith)
 counted-refused j k a (none ∷ es) e =
     let p : k ≡ 2 = cc in
@@ -89,8 +89,8 @@ counted-refused j k a (some zs ∷ es) e =
     let q = r .at in
     record { refusal = r .refusal; at = omega (arith, g, q); found = λ z. omega (arith, g) }
 
-pub counted-none : (j n : ℕ) (es : List (Option (List ℤ))) → N.Count n ≡ counted j es → firstFault isNone es ≡ 0
-unfolding counted firstFault isNone further
+pub counted-none : (j n : ℕ) (es : List (Option (List ℤ))) → N.Count n ≡ countedEntries j es → firstFault isNone es ≡ 0
+unfolding countedEntries firstFault isNone further
 counted-none j n [] e = refl
 counted-none j n (none ∷ es) e = let z : _≡_ {A = ℕ} 0 1 = cc in absurd (omega arith)
 counted-none j n (some zs ∷ es) e = rw (counted-none (suc j) n es e)
@@ -163,7 +163,7 @@ module _ (t s v n : List ℕ) where
           of-entries es = let f : Contents = record { header = k; entries = map (λ x. Option·getD x []) es } in
               textDecided (firstOf notRefused (readCases t (further (firstFault isNone es)) f (length s) (length v) (length n))) (textAccepted f s v n) s v n
 
-      pub entry-broken : (r a : ℕ) → N.Refused r a ≡ counted 0 (entriesAt (k .variables) rest) → textRefused (refusalAt r a) s v n ≡ readOutcome t s v n
+      pub entry-broken : (r a : ℕ) → N.Refused r a ≡ countedEntries 0 (entriesAt (k .variables) rest) → textRefused (refusalAt r a) s v n ≡ readOutcome t s v n
       entry-broken r a c =
           let f = counted-refused 0 r a (entriesAt (k .variables) rest) c in
           let g = further-some (firstFault isNone (entriesAt (k .variables) rest)) (f .found) in
@@ -173,7 +173,7 @@ module _ (t s v n : List ℕ) where
           ∙ text-refused _ _ s v n _ (refuse-2 t (further (firstFault isNone (entriesAt (k .variables) rest))) says (length s) (length v) (length n) h (λ z. omega arith)) (λ z. omega arith)
           ∙ sym outcome
 
-      pub form-right : (entries : ℕ) → N.Count entries ≡ counted 0 (entriesAt (k .variables) rest)
+      pub form-right : (entries : ℕ) → N.Count entries ≡ countedEntries 0 (entriesAt (k .variables) rest)
           → entriesOutcome (k .modulus) (k .variables) (k .order) rest s v n ≡ readOutcome t s v n
       unfolding says saying further
       form-right entries c =
@@ -183,13 +183,13 @@ module _ (t s v n : List ℕ) where
           ∙ sym outcome
 
 -- the record of a refused entry, within its type
-pub record-small : (m k a : ℕ) (l : List ℕ) → length l ≤ 16384 → N.Refused k a ≡ counted 0 (entriesAt m l) → a ≤ 16385
+pub record-small : (m k a : ℕ) (l : List ℕ) → length l ≤ 16384 → N.Refused k a ≡ countedEntries 0 (entriesAt m l) → a ≤ 16385
 record-small m k a l h c =
     let f = counted-refused 0 k a (entriesAt m l) c .at in
     omega (arith, fault-le isNone (entriesAt m l), entries-few m l)
 
 -- the number of entries, within the text's length
-pub count-small : (m n : ℕ) (l : List ℕ) → length l ≤ 16384 → counted 0 (entriesAt m l) ≡ N.Count n → n ≤ 16384
+pub count-small : (m n : ℕ) (l : List ℕ) → length l ≤ 16384 → countedEntries 0 (entriesAt m l) ≡ N.Count n → n ≤ 16384
 count-small m n l h c = omega (arith, all-entries 0 n (entriesAt m l) c .1, entries-few m l)
 
 -- No text is refused with 11, whatever it is and whatever is lent (request M-106).

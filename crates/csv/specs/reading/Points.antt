@@ -73,15 +73,15 @@ entriesOutcome p m order l states values counts = let said = saying p m order l 
     (textAccepted said states values counts) states values counts
 
 -- the first place found, or this one if it has a fault
-unfoldable pub firstPlace : ℕ → Bool → ℕ → ℕ
-firstPlace found inside place = cond (eqb found 0) (cond inside 0 place) found
+unfoldable pub earlierPlace : ℕ → Bool → ℕ → ℕ
+earlierPlace found inside place = cond (eqb found 0) (cond inside 0 place) found
 
 -- a place, from 1, behind n others; 0, for no place, stays
 unfoldable pub placeAfter : ℕ → ℕ → ℕ
 placeAfter n k = cond (eqb k 0) 0 (n + k)
 
 -- the distinct points of entries in three tables, with their counts and their first values
-pub record Tabled (l : List Valued) (points counts values : List ℕ) : Type 0 where
+pub record EntriesTabled (l : List Valued) (points counts values : List ℕ) : Type 0 where
   pub states : points ≡ statesTable (pointsOf (gathered (pointsOf l)))
   pub times : counts ≡ fill countsSize (countsOf (gathered (pointsOf l)))
   pub firsts : values ≡ fill 64 (firstValues (pointsOf (gathered (pointsOf l))) l)
@@ -94,4 +94,4 @@ answered r n = record { refusal = r .refusal; at = r .at; n = cond (eqb (r .refu
 pub record GatheredAs (p m : ℕ) (S : List (List ℤ)) (r : Gathered) (points counts values : List ℕ) : Type 0 where
   pub answer : (order : ℕ)
       → r ≡ answered (firstOf notRefused (entriesCases (contents p m order S))) (length (gathered (pointsOf (map (valuedPoint p m) S))))
-  pub tabled : r .refusal ≡ 0 → Tabled (map (valuedPoint p m) S) points counts values
+  pub tabled : r .refusal ≡ 0 → EntriesTabled (map (valuedPoint p m) S) points counts values

@@ -6,7 +6,7 @@ use mathlib.Core.Option.{Option, some, none, Option·map}
 use Prim.Native.Nat.{ℕ, suc, _+_, _≤_}
 use lib.IntN.{ℤ}
 use lib.ListN.{length, drop}
-use Rattle.notation.specs.Digits.{numberOf}
+use Rattle.notation.specs.Digits.{decimalNumber}
 use Rattle.notation.specs.Fields.{Field, field, broken, unquoted, fieldOf, Part, part, faulty, recordOf, recordsOf}
 use Rattle.notation.specs.Forms.{levelOf, entryOf, Header, headerOf}
 use Rattle.csv.specs.reading.Text.{refusalAt, notRefused, brokenAt, entryIn}
@@ -36,7 +36,7 @@ levelField l = reading levelOf (fieldOf l)
 
 -- a field without quotes whose digits are at the front, its sign being known
 unfoldable pub sizeOf : Bool → List ℕ → Option ℤ
-sizeOf negative content = Option·map (withSign negative) (numberOf content)
+sizeOf negative content = Option·map (withSign negative) (decimalNumber content)
 
 unfoldable pub sizeField : Bool → List ℕ → Field ℤ
 sizeField negative l = reading (sizeOf negative) (unquoted l)
@@ -134,7 +134,7 @@ abbrev pub entriesRefused : Refusal → Entries
 entriesRefused r = N.Refused (r .refusal) (r .at)
 
 -- the count of the entries, k being passed, or the refusal of the first record that is none, the header being 1
-unfoldable pub counted : ℕ → List (Option (List ℤ)) → Entries
-counted k [] = N.Count k
-counted k (some levels ∷ l) = counted (suc k) l
-counted k (none ∷ l) = entriesRefused (brokenAt (k + 2))
+unfoldable pub countedEntries : ℕ → List (Option (List ℤ)) → Entries
+countedEntries k [] = N.Count k
+countedEntries k (some levels ∷ l) = countedEntries (suc k) l
+countedEntries k (none ∷ l) = entriesRefused (brokenAt (k + 2))

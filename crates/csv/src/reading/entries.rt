@@ -12,7 +12,7 @@ ghost use Rattle.residue.specs.Layout.{over};
 ghost use Rattle.notation.specs.Fields.{broken, faulty};
 ghost use Rattle.notation.specs.Said.{withSign};
 ghost use Rattle.csv.specs.reading.Text.{entryPoint, isOutside, firstFault};
-ghost use Rattle.csv.specs.reading.Records.{levelField, entryPart, entriesAt, counted};
+ghost use Rattle.csv.specs.reading.Records.{levelField, entryPart, entriesAt, countedEntries};
 ghost use Rattle.csv.specs.reading.Points.{PlacedAs, levelsIn, FilledAs, levelsAt};
 ghost use Rattle.csv.specs.declared.reading.records.Entries.the-variants.{Count};
 
@@ -112,7 +112,7 @@ pub fn fill_entry(text: &[u8], at: usize, p: u8, variables: usize, row: &mut [u8
 // The place, from 1, of the first of the n entries from `at` on that is out of range, or 0.
 pub fn first_outside(text: &[u8], at: usize, p: u8, variables: usize, n: usize) -> usize
     requires { ⌜ (at ≤ length (now text)) × (variables ≤ 8) × (p ≤ 128) ⌝ }
-    requires { ⌜ counted 0 (entriesAt variables (drop at (now text))) ≡ Count n ⌝ }
+    requires { ⌜ countedEntries 0 (entriesAt variables (drop at (now text))) ≡ Count n ⌝ }
     ensures { λ r. ⌜ r ≡ firstFault (isOutside p) (levelsAt variables (drop at (now (text .entry)))) ⌝ }
 {
     let mut from = at;

@@ -11,8 +11,8 @@ ghost use lib.ListN.{length, getD, set, drop};
 ghost use Rattle.residue.specs.Layout.{fill};
 ghost use Rattle.specification.specs.Refusal.{firstOf};
 ghost use Rattle.csv.specs.reading.Text.{notRefused, entryCase};
-ghost use Rattle.csv.specs.reading.Records.{entriesAt, counted};
-ghost use Rattle.csv.specs.reading.Points.{levelsAt, firstPlace, placeAfter, answered, GatheredAs};
+ghost use Rattle.csv.specs.reading.Records.{entriesAt, countedEntries};
+ghost use Rattle.csv.specs.reading.Points.{levelsAt, earlierPlace, placeAfter, answered, GatheredAs};
 ghost use Rattle.csv.specs.declared.reading.records.Entries.the-variants.{Count};
 
 // The number of points, and whether the value is the one that is kept with its point.
@@ -43,7 +43,7 @@ fn keep_value(n: usize, at: usize, values: &mut [u8], value: u8) -> Kept
 
 // The first place found so far, or this one if it has a fault: later places must not hide an earlier one.
 fn first_place(found: usize, inside: bool, place: usize) -> usize
-    ensures { λ r. ⌜ r ≡ firstPlace found inside place ⌝ }
+    ensures { λ r. ⌜ r ≡ earlierPlace found inside place ⌝ }
 {
     if found != 0 {
         return found;
@@ -115,7 +115,7 @@ pub fn gather_entries(
     values: &mut [u8],
 ) -> Gathered
     requires { ⌜ (at ≤ length (now text)) × (variables ≤ 8) × (entries ≤ 16384) × (p ≤ 128) ⌝ }
-    requires { ⌜ counted 0 (entriesAt variables (drop at (now text))) ≡ Count entries ⌝ }
+    requires { ⌜ countedEntries 0 (entriesAt variables (drop at (now text))) ≡ Count entries ⌝ }
     requires { ⌜ (now points ≡ fill 512 []) × (now counts ≡ fill 64 []) × (now values ≡ fill 64 []) ⌝ }
     ensures { λ r. ⌜ GatheredAs p variables (levelsAt variables (drop at (now (text .entry)))) r
         (now (points .exit)) (now (counts .exit)) (now (values .exit)) ⌝ }

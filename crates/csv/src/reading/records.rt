@@ -2,7 +2,7 @@
 ghost use mathlib.Core.Path.{_≡_};
 ghost use Prim.Native.Nat.{_≤_};
 ghost use lib.ListN.{length, drop};
-ghost use Rattle.csv.specs.reading.Records.{sizeField, levelAtSaid, LevelWithin, LevelRead, HeaderRead, EntryRead, entriesAt, counted};
+ghost use Rattle.csv.specs.reading.Records.{sizeField, levelAtSaid, LevelWithin, LevelRead, HeaderRead, EntryRead, entriesAt, countedEntries};
 use notation::fields;
 use notation::fields::End;
 use notation::fields::Span;
@@ -179,7 +179,7 @@ pub enum Entries {
 // Whether all records from `at` on, behind the header, are entries of so many variables, and how many there are.
 pub fn check_entries(text: &[u8], at: usize, variables: usize) -> Entries
     requires { ⌜ (at ≤ length (now text)) × (length (now text) ≤ 16384) ⌝ }
-    ensures { λ r. ⌜ r ≡ counted 0 (entriesAt variables (drop at (now (text .entry)))) ⌝ }
+    ensures { λ r. ⌜ r ≡ countedEntries 0 (entriesAt variables (drop at (now (text .entry)))) ⌝ }
 {
     let mut from = at;
     let mut n = 0;

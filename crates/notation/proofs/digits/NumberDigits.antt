@@ -11,7 +11,7 @@ use lib.ListN.{length, getD, drop, drop-of-length-le}
 use lib.Seq.{drop-cons}
 use lib.Dec.{leb}
 use borrow.Author.Tests.{lt-leb, le-leb, leb-true}
-use Rattle.notation.specs.Digits.{isDigit, digitsFrom, numberOf}
+use Rattle.notation.specs.Digits.{isDigit, digitsFrom, decimalNumber}
 
 -- powers of ten
 pub tens : (i : ℕ) → 10 ^ (i + 1) ≡ 10 ^ i * 10
@@ -47,16 +47,16 @@ module _ (t : List ℕ) (v i : ℕ) where
 
 -- one to three digits
 module _ (t : List ℕ) where
-  pub number-none : length t < 1 → numberOf t ≡ none
-  unfolding numberOf
+  pub number-none : length t < 1 → decimalNumber t ≡ none
+  unfolding decimalNumber
   number-none h = simp (lt-leb 1 (length t) h)
 
-  pub number-long : 3 < length t → numberOf t ≡ none
-  unfolding numberOf
+  pub number-long : 3 < length t → decimalNumber t ≡ none
+  unfolding decimalNumber
   number-long h =
       let k : 1 ≤ length t = omega arith in
       simp (le-leb 1 (length t) k, lt-leb (length t) 3 h)
 
-  pub number-few : 1 ≤ length t → length t ≤ 3 → digitsFrom 0 t ≡ numberOf t
-  unfolding numberOf
+  pub number-few : 1 ≤ length t → length t ≤ 3 → digitsFrom 0 t ≡ decimalNumber t
+  unfolding decimalNumber
   number-few h k = simp (le-leb 1 (length t) h, le-leb (length t) 3 k)

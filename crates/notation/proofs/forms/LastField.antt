@@ -9,7 +9,7 @@ use lib.ListN.{length, take, drop, length-drop, length-take}
 use lib.Seq.{take-all}
 use Rattle.residue.specs.Lists.{sameList}
 use Rattle.notation.specs.Fields.{front}
-use Rattle.notation.specs.Digits.{isDigit, numberOf}
+use Rattle.notation.specs.Digits.{isDigit, decimalNumber}
 use Rattle.notation.specs.Forms.{mod-word, lex-word, grlex-word, grevlex-word, defaultOrder, orderWord, header, modulusAndOrder, lastField}
 use Rattle.notation.specs.Digits.{numberSaid}
 use Rattle.notation.specs.Said.{orderSaid, lastSaid}
@@ -50,12 +50,12 @@ module _ (l : List ℕ) where
         word-other g = simp (same-length l [] n, e, f, g)
 
 -- digits, read or not, and what stands behind them
-module _ (m : ℕ) (l : List ℕ) (k : ℕ) (r : Number) (h : k ≡ front isDigit l) (e : numberSaid r ≡ numberOf (take k l)) where
+module _ (m : ℕ) (l : List ℕ) (k : ℕ) (r : Number) (h : k ≡ front isDigit l) (e : numberSaid r ≡ decimalNumber (take k l)) where
   behind : (w : Option ℕ) → w ≡ orderWord (take (length l - k) (drop k l)) → header m (numberSaid r) w ≡ modulusAndOrder m l
   unfolding modulusAndOrder
   behind w f =
       let d : length (drop k l) ≤ length l - k = simp length-drop (omega arith) in
-      ap₂ (header m) e (f ∙ ap orderWord (take-all (length l - k) (drop k l) d)) ∙ ap (λ (j : ℕ). header m (numberOf (take j l)) (orderWord (drop j l))) h
+      ap₂ (header m) e (f ∙ ap orderWord (take-all (length l - k) (drop k l) d)) ∙ ap (λ (j : ℕ). header m (decimalNumber (take j l)) (orderWord (drop j l))) h
 
   pub no-digits : r ≡ N.Broken → lastSaid m L.Broken ≡ modulusAndOrder m l
   unfolding header lastSaid numberSaid

@@ -13,7 +13,7 @@ use borrow.Author.Tests.{ne-eqb, eqb-true}
 use Rattle.residue.specs.Lists.{sameList}
 use Rattle.residue.proofs.bytes.Equality.{same-is}
 use Rattle.notation.specs.Fields.{quote, front}
-use Rattle.notation.specs.Digits.{isDigit, digitsFrom, numberOf}
+use Rattle.notation.specs.Digits.{isDigit, digitsFrom, decimalNumber}
 use Rattle.notation.specs.Forms.{negative, levelOf, mod-word, lex-word, grlex-word, grevlex-word, orderWord, header, modulusAndOrder, lastField}
 use Rattle.notation.specs.Spans.{undoubled}
 
@@ -91,8 +91,8 @@ digits-none v (b ∷ l) h = pick (ℕ-discrete b quote) (digits-none (10 * v + (
     pick (yes e) f = rw (not-digit b e)
     pick (no n) f = either (isDigit b) (f (rw (ne-eqb b quote n) at h))
 
-number-none : (l : List ℕ) → hasQuote l ≡ true → numberOf l ≡ none
-unfolding numberOf
+number-none : (l : List ℕ) → hasQuote l ≡ true → decimalNumber l ≡ none
+unfolding decimalNumber
 number-none l h = either (leb 1 (length l) && leb (length l) 3) (digits-none 0 l h)
 
 level-none : (l : List ℕ) → hasQuote l ≡ true → levelOf l ≡ none
@@ -100,7 +100,7 @@ unfolding levelOf hasQuote
 level-none [] h = refl
 level-none (b ∷ l) h = pick (eqb b 45) refl
   where
-    pick : (x : Bool) → eqb b 45 ≡ x → cond x (Option·map negative (numberOf l)) (Option·map pos (numberOf (b ∷ l))) ≡ none
+    pick : (x : Bool) → eqb b 45 ≡ x → cond x (Option·map negative (decimalNumber l)) (Option·map pos (decimalNumber (b ∷ l))) ≡ none
     pick true e =
         let n : b ≡ quote → ⊥ = λ q. omega (arith, eqb-true b 45 e) in
         ap (Option·map negative) (number-none l (rw (ne-eqb b quote n) at h))
@@ -127,9 +127,9 @@ settings-none m l h = pick (hasQuote (take k l)) refl (sym (quote-apart k l) ∙
     k : ℕ
     k = front isDigit l
 
-    pick : (x : Bool) → hasQuote (take k l) ≡ x → x || hasQuote (drop k l) ≡ true → header m (numberOf (take k l)) (orderWord (drop k l)) ≡ none
+    pick : (x : Bool) → hasQuote (take k l) ≡ x → x || hasQuote (drop k l) ≡ true → header m (decimalNumber (take k l)) (orderWord (drop k l)) ≡ none
     pick true e f = ap (λ (p : Option ℕ). header m p (orderWord (drop k l))) (number-none (take k l) e) ∙ no-modulus m (orderWord (drop k l))
-    pick false e f = ap (header m (numberOf (take k l))) (word-none (drop k l) f) ∙ no-order m (numberOf (take k l))
+    pick false e f = ap (header m (decimalNumber (take k l))) (word-none (drop k l) f) ∙ no-order m (decimalNumber (take k l))
 
 last-none : (m : ℕ) (l : List ℕ) → hasQuote l ≡ true → lastField m l ≡ none
 unfolding lastField hasQuote

@@ -21,7 +21,7 @@ use Rattle.specification.specs.Examination.{Follows, Examines, done, mor
 use Rattle.specification.proofs.cancellations.Walk.{follows, divided-above}
 use Rattle.specification.proofs.cancellations.Counted.{cancellations-only}
 use Rattle.elimination.proofs.reducing.Eliminated.{cancellations-most}
-use Rattle.specification.proofs.cancellations.Tables.{Tabled}
+use Rattle.specification.proofs.cancellations.Tables.{RowsTabled}
 use Rattle.specification.proofs.cancellations.Turns.{lead-turn, standard-turn, table-turn, table-none}
 
 module _ (D : Space) (S : List (D .Pt)) (n : ℕ) where
@@ -30,7 +30,7 @@ module _ (D : Space) (S : List (D .Pt)) (n : ℕ) where
   -- b is examined next; `total` cancellations have been made
   pub record Ready (standard leads : List Mono) (total : ℕ) (rows pivots : List ℕ) (b : Mono) : Type 0 where
     pub found-pivots : List Pivot
-    pub tabled : Tabled n found-pivots rows pivots
+    pub tabled : RowsTabled n found-pivots rows pivots
     pub paired : length found-pivots ≡ length standard
     pub few-made : total ≤ n * (length standard + length leads)
     pub low : (a : Mono) → Among a standard → ¬ Less D b a
@@ -39,7 +39,7 @@ module _ (D : Space) (S : List (D .Pt)) (n : ℕ) where
   -- b was examined last
   pub record Passed (standard leads : List Mono) (total : ℕ) (rows pivots : List ℕ) (b : Mono) : Type 0 where
     pub found-pivots : List Pivot
-    pub tabled : Tabled n found-pivots rows pivots
+    pub tabled : RowsTabled n found-pivots rows pivots
     pub paired : length found-pivots ≡ length standard
     pub of-found : Among b standard ⊎ Among b leads
     pub few-made : total ≤ n * (length standard + length leads)

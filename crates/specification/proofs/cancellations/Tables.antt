@@ -35,14 +35,14 @@ front-less q e (suc n) h (x ∷ w) (y ∷ row) =
     turn a b = omega arith
 
 -- The table holds the pivots: the front of row t is the column of pivot t, and the list of places has its point.
-pub record Tabled (n : ℕ) (l : List Pivot) (rows pivots : List ℕ) : Type 0 where
+pub record RowsTabled (n : ℕ) (l : List Pivot) (rows pivots : List ℕ) : Type 0 where
   pub none : Pivot
   pub long : 1152 * length l ≤ length rows
   pub column : (t : ℕ) → t < length l → take n (take 128 (drop (1152 * t) rows)) ≡ getD l t none .column
   pub place : (t : ℕ) → t < length l → getD pivots t 0 ≡ getD l t none .place
   pub inside : (t : ℕ) → t < length l → getD pivots t 0 < n
 
-module _ (q n : ℕ) (l : List Pivot) (rows pivots : List ℕ) (T : Tabled n l rows pivots) (w : List ℕ) (long : length w ≡ 128) (below : Below (suc q) w) (few : n ≤ 128) where
+module _ (q n : ℕ) (l : List Pivot) (rows pivots : List ℕ) (T : RowsTabled n l rows pivots) (w : List ℕ) (long : length w ≡ 128) (below : Below (suc q) w) (few : n ≤ 128) where
   -- the front of the row after t pivots, and the cancellations
   abbrev at : ℕ → Meeting
   at t = meeting (take n (eliminated (suc q) rows pivots t w)) (cancellations (suc q) rows pivots t w)

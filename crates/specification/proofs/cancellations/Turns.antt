@@ -23,9 +23,9 @@ use Rattle.residue.proofs.Replaced.{place-length, place-apart}
 use Rattle.elimination.proofs.reducing.Multiples.{block-length, block-row}
 use Rattle.specification.specs.Cancellations.{Pivot, meeting, meetsAll, Found, found, valueColumn, pivotOf, settled, examined}
 use Rattle.specification.proofs.cancellations.Fronts.{first-same, zero-same, other-same, pivot-front}
-use Rattle.specification.proofs.cancellations.Tables.{Tabled, elimination-meets}
+use Rattle.specification.proofs.cancellations.Tables.{RowsTabled, elimination-meets}
 
-module _ (D : Space) (S : List (D .Pt)) (n : ℕ) (count : length S ≡ n) (few : n ≤ 64) (f : Found D) (b : D .Mono) (rows pivots : List ℕ) (T : Tabled n (f .pivots) rows pivots) where
+module _ (D : Space) (S : List (D .Pt)) (n : ℕ) (count : length S ≡ n) (few : n ≤ 64) (f : Found D) (b : D .Mono) (rows pivots : List ℕ) (T : RowsTabled n (f .pivots) rows pivots) where
   open Space D using (q, Mono, Pt, val)
 
   abbrev k : ℕ
@@ -104,7 +104,7 @@ module _ (D : Space) (S : List (D .Pt)) (n : ℕ) (count : length S ≡ n) (few 
           ∙ ap (λ (c : ℕ). map (λ x. (c * x) % suc q) (take n left))
           (sym inverse ∙ ap (D .inv) (sym (getD-take n left (firstNonzero n left) 0 some) ∙ ap (λ (i : ℕ). getD (take n left) i 0) (first-same n left (omega (arith, left-long)))))
 
-      pub table-turn : Tabled n (f .pivots ++ (pivotOf D (take n left) ∷ [])) put (set pivots k (firstNonzero n left))
+      pub table-turn : RowsTabled n (f .pivots ++ (pivotOf D (take n left) ∷ [])) put (set pivots k (firstNonzero n left))
       table-turn = record {
         none = T .none;
         long = omega (arith, length-append (f .pivots) (v ∷ []), place-length 1152 k (multiplesOf (suc q) new) rows fits (block-length (suc q) new new-long));
@@ -136,7 +136,7 @@ module _ (D : Space) (S : List (D .Pt)) (n : ℕ) (count : length S ≡ n) (few 
           insides t (no z) h = rw (getD-set-other pivots k t (firstNonzero n left) 0 z) (T .inside t (omega arith))
 
 -- at the start the table holds none
-pub table-none : (n : ℕ) (rows pivots : List ℕ) → Tabled n [] rows pivots
+pub table-none : (n : ℕ) (rows pivots : List ℕ) → RowsTabled n [] rows pivots
 table-none n rows pivots = record {
   none = record { place = 0; column = [] };
   long = omega arith;

@@ -11,7 +11,7 @@ use lib.Seq.{length-take-le}
 use Rattle.specification.specs.Levels.{inRange}
 use Rattle.csv.specs.reading.Text.{firstFault, isOutside}
 use Rattle.csv.specs.reading.Records.{entryPart}
-use Rattle.csv.specs.reading.Points.{FilledAs, firstPlace, placeAfter, levelsAt}
+use Rattle.csv.specs.reading.Points.{FilledAs, earlierPlace, placeAfter, levelsAt}
 use Rattle.csv.specs.declared.reading.entries.Filled.{Filled}
 use Rattle.csv.proofs.reading.FirstPlaces.{after-more, after-found, fault-after, fault-behind, fault-le}
 use Rattle.csv.proofs.reading.entries.EntriesRead.{ReadOn, next, here, levels, one-more, all-read, levels-left}
@@ -25,13 +25,13 @@ module _ (p : ℕ) {m n : ℕ} {t : List ℕ} (S : List (List ℤ)) {from i : �
     abbrev this : List ℤ
     this = next S g h
 
-    after : firstFault (isOutside p) (take (i + 1) S) ≡ firstPlace 0 (not (isOutside p this)) (suc (length (take i S)))
+    after : firstFault (isOutside p) (take (i + 1) S) ≡ earlierPlace 0 (not (isOutside p this)) (suc (length (take i S)))
     after =
         ap (firstFault (isOutside p)) (one-more S g h) ∙ fault-after (isOutside p) [] (take i S ++ (this ∷ [])) ∙ after-more (λ s a. isOutside p a) [] (take i S) this
-        ∙ ap (λ (k : ℕ). firstPlace k (not (isOutside p this)) (suc (length (take i S)))) (sym (fault-after (isOutside p) [] (take i S)) ∙ z)
+        ∙ ap (λ (k : ℕ). earlierPlace k (not (isOutside p this)) (suc (length (take i S)))) (sym (fault-after (isOutside p) [] (take i S)) ∙ z)
 
     pub inside-on : r .inside ≡ true → None (i + 1)
-    unfolding isOutside firstPlace
+    unfolding isOutside earlierPlace
     inside-on e = after ∙ rw (sym (f .inside ∙ ap (inRange p) (levels S g h)) ∙ e) refl
 
     pub outside-here : r .inside ≡ false → i + 1 ≡ firstFault (isOutside p) S

@@ -10,7 +10,7 @@ use lib.ListN.{length, getD, take, drop, length-map, length-drop}
 use lib.Seq.{take-suc, drop-cons, take-all}
 use Rattle.specification.proofs.ideal.Lists.{getD-among}
 use Rattle.notation.specs.Fields.{Part, part, faulty, recordsFrom, recordsOf}
-use Rattle.csv.specs.reading.Records.{entryPart, entriesAt, counted}
+use Rattle.csv.specs.reading.Records.{entryPart, entriesAt, countedEntries}
 use Rattle.csv.specs.reading.Points.{levelsIn, behindEntry, FilledAs, levelsAt}
 use Rattle.csv.specs.declared.reading.entries.Filled.{Filled}
 use Rattle.csv.specs.declared.reading.records.Entries.the-variants as N
@@ -18,8 +18,8 @@ use Rattle.csv.proofs.reading.records.EntriesChecked.{entries-more, ent
 use Rattle.csv.proofs.reading.EntryLengths.{AllLong, entries-long}
 
 -- where the count was taken, every record is an entry
-pub all-entries : (k n : ℕ) (es : List (Option (List ℤ))) → counted k es ≡ N.Count n → (es ≡ map some (map (λ e. Option·getD e []) es)) × (n ≡ k + length es)
-unfolding counted
+pub all-entries : (k n : ℕ) (es : List (Option (List ℤ))) → countedEntries k es ≡ N.Count n → (es ≡ map some (map (λ e. Option·getD e []) es)) × (n ≡ k + length es)
+unfolding countedEntries
 all-entries k n [] e = let q : k ≡ n = cc in (refl, omega arith)
 all-entries k n (none ∷ es) e = let z : _≡_ {A = ℕ} 0 1 = cc in absurd (omega arith)
 all-entries k n (some zs ∷ es) e =
@@ -31,8 +31,8 @@ some-levels : (l : List (List ℤ)) → map (λ e. Option·getD e []) (map some 
 some-levels [] = refl
 some-levels (zs ∷ l) = ap (λ (x : List (List ℤ)). zs ∷ x) (some-levels l)
 
-some-counted : (k : ℕ) (l : List (List ℤ)) → counted k (map some l) ≡ N.Count (k + length l)
-unfolding counted
+some-counted : (k : ℕ) (l : List (List ℤ)) → countedEntries k (map some l) ≡ N.Count (k + length l)
+unfolding countedEntries
 some-counted k [] = ap N.Count (omega arith)
 some-counted k (zs ∷ l) = some-counted (suc k) l ∙ ap N.Count (omega arith)
 
@@ -64,13 +64,13 @@ pub record ReadOn (m n : ℕ) (t : List ℕ) (S : List (List ℤ)) (from i : ℕ
   pub count : length S ≡ n
   pub long : AllLong (suc m) S
 
-entries-count : (m n : ℕ) (l : List ℕ) → counted 0 (entriesAt m l) ≡ N.Count n → length (levelsAt m l) ≡ n
+entries-count : (m n : ℕ) (l : List ℕ) → countedEntries 0 (entriesAt m l) ≡ N.Count n → length (levelsAt m l) ≡ n
 unfolding levelsAt
 entries-count m n l c =
     let h = all-entries 0 n (entriesAt m l) c .1 in
     length-map (entriesAt m l) (λ e. Option·getD e []) ∙ omega arith
 
-pub begun : (m n : ℕ) (t : List ℕ) (at : ℕ) → at ≤ length t → counted 0 (entriesAt m (drop at t)) ≡ N.Count n → ReadOn m n t (levelsAt m (drop at t)) at 0
+pub begun : (m n : ℕ) (t : List ℕ) (at : ℕ) → at ≤ length t → countedEntries 0 (entriesAt m (drop at t)) ≡ N.Count n → ReadOn m n t (levelsAt m (drop at t)) at 0
 unfolding levelsAt entriesAt
 begun m n t at w c = record {
   bound = omega arith;
@@ -124,5 +124,5 @@ module _ {m n : ℕ} {t : List ℕ} (S : List (List ℤ)) {from i : ℕ} (g : Re
   unfolding levelsAt
   levels-left = ap (map (λ e. Option·getD e [])) (g .left) ∙ some-levels (drop i S)
 
-  pub count-left : (k : ℕ) → n ≡ i + k → counted 0 (entriesAt m (drop from t)) ≡ N.Count k
-  count-left k e = ap (counted 0) (g .left) ∙ some-counted 0 (drop i S) ∙ ap N.Count (omega (arith, length-drop i S, g .count, e))
+  pub count-left : (k : ℕ) → n ≡ i + k → countedEntries 0 (entriesAt m (drop from t)) ≡ N.Count k
+  count-left k e = ap (countedEntries 0) (g .left) ∙ some-counted 0 (drop i S) ∙ ap N.Count (omega (arith, length-drop i S, g .count, e))

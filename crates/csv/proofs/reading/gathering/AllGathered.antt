@@ -17,7 +17,7 @@ use Rattle.specification.proofs.counted.Saturated.{none-capped}
 use Rattle.points.specs.Gathering.{EnteredAs}
 use Rattle.csv.specs.reading.Text.{Valued, firstFault, isOutside, firstAfter, tooMany, tooOften, otherValue, entryPoint, entryValue, valuedPoint, valuedPoints, firstOutside, refusalAt, notRefused, entryCase, pointsCases, entriesCases}
 use Rattle.csv.specs.reading.Records.{entryPart}
-use Rattle.csv.specs.reading.Points.{levelsIn, FilledAs, firstPlace, answered, GatheredAs}
+use Rattle.csv.specs.reading.Points.{levelsIn, FilledAs, earlierPlace, answered, GatheredAs}
 use Rattle.csv.specs.declared.reading.Refusal.{Refusal}
 use Rattle.csv.specs.declared.reading.entries.Filled.{Filled}
 use Rattle.csv.specs.declared.reading.gathering.Gathered.{Gathered}
@@ -25,7 +25,7 @@ use Rattle.csv.proofs.reading.FirstPlaces.{after-le}
 use Rattle.csv.proofs.reading.TextCases.{first-of-both, passed, place-refuses, place-passes, answer-refusal, answer-no-points}
 use Rattle.csv.proofs.reading.EntryLengths.{point-long}
 use Rattle.csv.proofs.reading.entries.EntriesRead.{ReadOn, next, next-long, here, levels, one-more, all-read}
-use Rattle.csv.proofs.reading.FirstValues.{counted, never-many}
+use Rattle.csv.proofs.reading.FirstValues.{gatheredPoints, never-many}
 use Rattle.csv.proofs.reading.gathering.EntriesGathered.{Gathering, at-most, full, turn}
 
 module _ (p m : ℕ) (S : List (List ℤ)) where
@@ -37,7 +37,7 @@ module _ (p m : ℕ) (S : List (List ℤ)) where
   valued = map (valuedPoint p m) S
 
   abbrev number : ℕ
-  number = length (counted valued)
+  number = length (gatheredPoints valued)
 
   -- An entry out of range: 9.
   pub outside-refused : {k : ℕ} → 0 < k → k ≡ firstFault (isOutside p) S → (a : Gathered) → a ≡ record { refusal = 9; at = suc k; n = 0 }
@@ -118,13 +118,13 @@ module _ (p m : ℕ) (S : List (List ℤ)) where
       module _ (room : at ≡ 64 → ⊥) {n₂ often₂ other₂ : ℕ} {values₂ : List ℕ} {same : Bool}
           (fn : n₂ ≡ cond (eqb at n) (suc n) n) (fs : same ≡ (eqb at n || eqb (getD values at 0) (f .value)))
           (fv : values₂ ≡ cond (eqb at n) (set values at (f .value)) values)
-          (fo : often₂ ≡ firstPlace often (not hit) (i + 1)) (ft : other₂ ≡ firstPlace other same (i + 1)) where
+          (fo : often₂ ≡ earlierPlace often (not hit) (i + 1)) (ft : other₂ ≡ earlierPlace other same (i + 1)) where
         pub next-turn : Gathering m (first (i + 1)) n₂ often₂ other₂ table bytes values₂
         next-turn =
             subst (λ (E : List Valued). Gathering m E n₂ often₂ other₂ table bytes values₂) (sym more)
             (turn fits (first i) g P v lp entering room fn
             (fs ∙ ap (λ (x : ℕ). eqb at n || eqb (getD values at 0) x) value) (fv ∙ ap (λ (x : ℕ). cond (eqb at n) (set values at x) values) value)
-            (fo ∙ ap (firstPlace often (not hit)) place) (ft ∙ ap (firstPlace other same) place))
+            (fo ∙ ap (earlierPlace often (not hit)) place) (ft ∙ ap (earlierPlace other same) place))
           where
             v : ℕ
             v = entryValue p m (next S r h)
@@ -154,7 +154,7 @@ module _ (p m : ℕ) (S : List (List ℤ)) where
       tabled = λ z.
           let first-13 = passed (not (eqb often 0)) 12 (suc often) (entryCase 14 other ∷ []) (sym (ap (λ (x : Refusal). x .refusal) (answer-refusal _ n d)) ∙ z) in
           let low = held .within (eqb-true often 0 (not-false (eqb often 0) (first-13 .0))) in
-          record { states = held .holds .table; times = held .holds .bytes ∙ ap (fill 64) (none-capped (countsOf (counted valued)) low); firsts = held .firsts };
+          record { states = held .holds .table; times = held .holds .bytes ∙ ap (fill 64) (none-capped (countsOf (gatheredPoints valued)) low); firsts = held .firsts };
     }
 
   -- places within the number of entries

@@ -24,16 +24,16 @@ use Rattle.points.proofs.places.PointPlaces.{place-le}
 use Rattle.points.specs.Gathering.{EnteredAs}
 use Rattle.points.proofs.gathering.Gathering.{Holds, once-held, holds-none, placed, among, holds-there, is-new, holds-new}
 use Rattle.csv.specs.reading.Text.{Valued, firstAfter, tooMany, tooOften, firstValue, otherValue, firstValues}
-use Rattle.csv.specs.reading.Points.{firstPlace}
+use Rattle.csv.specs.reading.Points.{earlierPlace}
 use Rattle.csv.proofs.reading.FirstPlaces.{after-more, after-found, none-found}
-use Rattle.csv.proofs.reading.FirstValues.{counted, counted-more, never-many, among-counted, value-there, value-new, value-at, values-kept}
+use Rattle.csv.proofs.reading.FirstValues.{gatheredPoints, counted-more, never-many, among-counted, value-there, value-new, value-at, values-kept}
 
 -- After these entries: their points in the tables with their counts, the values of their first entries, and the places of 13 and 14.
 pub record Gathering (m : ℕ) (E : List Valued) (n often other : ℕ) (points counts values : List ℕ) : Type 0 where
-  pub holds : Holds m (counted E) n points counts (beyond (counted E))
-  pub firsts : values ≡ fill 64 (firstValues (pointsOf (counted E)) E)
+  pub holds : Holds m (gatheredPoints E) n points counts (beyond (gatheredPoints E))
+  pub firsts : values ≡ fill 64 (firstValues (pointsOf (gatheredPoints E)) E)
   pub most : often ≡ firstAfter tooOften [] E
-  pub within : often ≡ 0 → beyond (counted E) ≡ false
+  pub within : often ≡ 0 → beyond (gatheredPoints E) ≡ false
   pub others : other ≡ firstAfter otherValue [] E
 
 pub no-entries : (m : ℕ) {points counts values : List ℕ} → points ≡ fill 512 [] → counts ≡ fill 64 [] → values ≡ fill 64 [] → Gathering m [] 0 0 0 points counts values
@@ -46,11 +46,11 @@ pub once-there : {m : ℕ} {E : List Valued} {n often other : ℕ} {points count
 once-there {m} {E} g fits = once-held (g .holds) fits (once-gathered (pointsOf E))
 
 pub values-long : {m : ℕ} {E : List Valued} {n often other : ℕ} {points counts values : List ℕ} → Gathering m E n often other points counts values → length values ≡ 64
-values-long {m} {E} g = ap length (g .firsts) ∙ length-fill 64 (firstValues (pointsOf (counted E)) E)
+values-long {m} {E} g = ap length (g .firsts) ∙ length-fill 64 (firstValues (pointsOf (gatheredPoints E)) E)
 
 -- 13 was met before, or it is met where a count would be above 255 now
-often-on : (k : ℕ) (b c : Bool) (place : ℕ) → (k ≡ 0 → b ≡ c) → firstPlace k (not b) place ≡ firstPlace k (not c) place
-unfolding firstPlace
+often-on : (k : ℕ) (b c : Bool) (place : ℕ) → (k ≡ 0 → b ≡ c) → earlierPlace k (not b) place ≡ earlierPlace k (not c) place
+unfolding earlierPlace
 often-on zero b c place h = ap (λ (x : Bool). cond {A = ℕ} (not x) 0 place) (h refl)
 often-on (suc k) b c place h = rw (eqb·suc-zero k) refl
 
@@ -70,10 +70,10 @@ module _ {m : ℕ} (fits : m ≤ 8) (E : List Valued) {n often other : ℕ} {poi
   q = (P, v)
 
   abbrev S : List (List ℕ)
-  S = pointsOf (counted E)
+  S = pointsOf (gatheredPoints E)
 
   count : length S ≡ n
-  count = length-map (counted E) (λ x. x .0) ∙ sym (g .holds .count)
+  count = length-map (gatheredPoints E) (λ x. x .0) ∙ sym (g .holds .count)
 
   place : at ≡ placeIn P S
   place = placed (g .holds) fits P lp e
@@ -81,7 +81,7 @@ module _ {m : ℕ} (fits : m ≤ 8) (E : List Valued) {n often other : ℕ} {poi
   pub at-most : at ≤ n
   at-most = omega (arith, place, place-le P S, count)
 
-  more : counted (E ++ (q ∷ [])) ≡ entered P (counted E)
+  more : gatheredPoints (E ++ (q ∷ [])) ≡ entered P (gatheredPoints E)
   more = counted-more E q
 
   -- The 65th point: 8, at this entry.
@@ -89,34 +89,34 @@ module _ {m : ℕ} (fits : m ≤ 8) (E : List Valued) {n often other : ℕ} {poi
   unfolding tooMany
   full rest z =
       let new : isAmong P S ≡ false = is-new (g .holds) fits P lp e (omega (arith, z, at-most, g .holds .few)) in
-      let l : length (counted (E ++ (q ∷ []))) ≡ suc (length (counted E)) = ap length (more ∙ entered-new P (counted E) new) ∙ length-append (counted E) ((P, 1) ∷ []) ∙ omega arith in
+      let l : length (gatheredPoints (E ++ (q ∷ []))) ≡ suc (length (gatheredPoints E)) = ap length (more ∙ entered-new P (gatheredPoints E) new) ∙ length-append (gatheredPoints E) ((P, 1) ∷ []) ∙ omega arith in
       after-found tooMany [] E q rest (never-many [] E (omega (arith, g .holds .count, g .holds .few)))
-      (lt-ltb 64 (length (counted (E ++ (q ∷ [])))) (omega (arith, l, g .holds .count, at-most, z)))
+      (lt-ltb 64 (length (gatheredPoints (E ++ (q ∷ [])))) (omega (arith, l, g .holds .count, at-most, z)))
 
   -- What a turn leaves, by what the calls leave of it.
   module _ (room : at ≡ 64 → ⊥) {n₂ often₂ other₂ : ℕ} {values₂ : List ℕ} {same : Bool} (fn : n₂ ≡ cond (eqb at n) (suc n) n)
       (fs : same ≡ (eqb at n || eqb (getD values at 0) v)) (fv : values₂ ≡ cond (eqb at n) (set values at v) values)
-      (fo : often₂ ≡ firstPlace often (not hit) (suc (length E))) (ft : other₂ ≡ firstPlace other same (suc (length E))) where
+      (fo : often₂ ≡ earlierPlace often (not hit) (suc (length E))) (ft : other₂ ≡ earlierPlace other same (suc (length E))) where
     abbrev Done : Type 0
     Done = Gathering m (E ++ (q ∷ [])) n₂ often₂ other₂ table bytes values₂
 
     -- the tables hold one point more; first values are kept and compared: the rest follows
-    module _ (held : Holds m (entered P (counted E)) n₂ table bytes (beyond (counted E) || hit)) (kept : values₂ ≡ fill 64 (firstValues (pointsOf (counted (E ++ (q ∷ [])))) (E ++ (q ∷ []))))
+    module _ (held : Holds m (entered P (gatheredPoints E)) n₂ table bytes (beyond (gatheredPoints E) || hit)) (kept : values₂ ≡ fill 64 (firstValues (pointsOf (gatheredPoints (E ++ (q ∷ [])))) (E ++ (q ∷ []))))
         (value : same ≡ eqb (firstValue P v E) v) where
-      flag : beyond (counted E) ≡ false → beyond (counted (E ++ (q ∷ []))) ≡ hit
+      flag : beyond (gatheredPoints E) ≡ false → beyond (gatheredPoints (E ++ (q ∷ []))) ≡ hit
       flag z = ap beyond more ∙ sym (held .flag) ∙ ap (λ (b : Bool). b || hit) z
 
       done : Done
       unfolding tooOften otherValue
       done = record {
-        holds = rw more (subst (λ (b : Bool). Holds m (entered P (counted E)) n₂ table bytes b) (held .flag) held);
+        holds = rw more (subst (λ (b : Bool). Holds m (entered P (gatheredPoints E)) n₂ table bytes b) (held .flag) held);
         firsts = kept;
         most =
             fo ∙ often-on often hit (tooOften E q) (suc (length E)) (λ z. sym (flag (g .within z)))
-            ∙ ap (λ (k : ℕ). firstPlace k (not (tooOften E q)) (suc (length E))) (g .most) ∙ sym (after-more tooOften [] E q);
+            ∙ ap (λ (k : ℕ). earlierPlace k (not (tooOften E q)) (suc (length E))) (g .most) ∙ sym (after-more tooOften [] E q);
         within = λ z. let f = none-found often (not hit) (length E) (sym fo ∙ z) in flag (g .within (f .0)) ∙ not-true hit (f .1);
         others =
-            ft ∙ ap₂ (λ (k : ℕ) (b : Bool). firstPlace k b (suc (length E))) (g .others) (value ∙ sym (Bool·not-not (eqb (firstValue P v E) v)))
+            ft ∙ ap₂ (λ (k : ℕ) (b : Bool). earlierPlace k b (suc (length E))) (g .others) (value ∙ sym (Bool·not-not (eqb (firstValue P v E) v)))
             ∙ sym (after-more otherValue [] E q);
       }
 
@@ -149,10 +149,10 @@ module _ {m : ℕ} (fits : m ≤ 8) (E : List Valued) {n often other : ℕ} {poi
         put : set values at v ≡ fill 64 (firstValues S E ++ (v ∷ []))
         put = ap₂ (λ (t : List ℕ) (k : ℕ). set t k v) (g .firsts) (sym long) ∙ fill-put 64 (firstValues S E) v (omega (arith, long, z, less))
 
-        points-on : pointsOf (counted (E ++ (q ∷ []))) ≡ S ++ (P ∷ [])
-        points-on = ap pointsOf (more ∙ entered-new P (counted E) absent) ∙ map-append (λ x. x .0) (counted E) ((P, 1) ∷ [])
+        points-on : pointsOf (gatheredPoints (E ++ (q ∷ []))) ≡ S ++ (P ∷ [])
+        points-on = ap pointsOf (more ∙ entered-new P (gatheredPoints E) absent) ∙ map-append (λ x. x .0) (gatheredPoints E) ((P, 1) ∷ [])
 
-        values-on : firstValues (pointsOf (counted (E ++ (q ∷ [])))) (E ++ (q ∷ [])) ≡ firstValues S E ++ (v ∷ [])
+        values-on : firstValues (pointsOf (gatheredPoints (E ++ (q ∷ [])))) (E ++ (q ∷ [])) ≡ firstValues S E ++ (v ∷ [])
         values-on =
             ap (λ (X : List (List ℕ)). firstValues X (E ++ (q ∷ []))) points-on ∙ map-append (λ Q. firstValue Q 0 (E ++ (q ∷ []))) S (P ∷ [])
             ∙ ap₂ (λ (a : List ℕ) (b : ℕ). a ++ (b ∷ [])) (values-kept E (q ∷ [])) (value-new P 0 E (q ∷ []) fresh ∙ own P v 0)
@@ -176,9 +176,9 @@ module _ {m : ℕ} (fits : m ≤ 8) (E : List Valued) {n often other : ℕ} {poi
         present : isAmong P S ≡ true
         present = sym (among (g .holds) fits P lp e) ∙ lt-ltb at n l
 
-        values-on : firstValues (pointsOf (counted (E ++ (q ∷ [])))) (E ++ (q ∷ [])) ≡ firstValues S E
+        values-on : firstValues (pointsOf (gatheredPoints (E ++ (q ∷ [])))) (E ++ (q ∷ [])) ≡ firstValues S E
         values-on =
-            ap (λ (X : List (List ℕ)). firstValues X (E ++ (q ∷ []))) (ap pointsOf more ∙ entered-there P (counted E) present .0) ∙ values-kept E (q ∷ [])
+            ap (λ (X : List (List ℕ)). firstValues X (E ++ (q ∷ []))) (ap pointsOf more ∙ entered-there P (gatheredPoints E) present .0) ∙ values-kept E (q ∷ [])
 
         stored : getD values at 0 ≡ firstValue P v E
         stored =

@@ -11,7 +11,7 @@ use Rattle.csv.specs.reading.Text.{TextCase, Contents, valuedPoints, ent
 use Rattle.csv.specs.reading.Points.{saying, answered}
 use Rattle.csv.specs.declared.reading.Read.{Read}
 use Rattle.csv.proofs.reading.TextCases.{Allowed, room, first-of-both, settings-over, answer-refusal, answer-number, text-refused, text-accepted, assembled}
-use Rattle.csv.proofs.reading.FirstValues.{counted}
+use Rattle.csv.proofs.reading.FirstValues.{gatheredPoints}
 use Rattle.csv.proofs.reading.WholeText.{count-small}
 use Rattle.csv.proofs.reading.read_entries.Statement.{statement}
 use Rattle.csv.proofs.reading.read_entries.Tie as tie
@@ -76,7 +76,7 @@ module _ (g : G) where
   residues = g .gather-entries .last .1 .1 .1 .1 .1 .1 .1 .0
 
   abbrev number : ℕ
-  number = length (counted (valuedPoints (says (start-of g))))
+  number = length (gatheredPoints (valuedPoints (says (start-of g))))
 
   answer : g .gather-entries .result ≡ answered (firstOf notRefused (entriesCases (says (start-of g)))) number
   unfolding saying valuedPoints

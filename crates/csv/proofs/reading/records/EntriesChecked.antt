@@ -14,7 +14,7 @@ use Rattle.notation.specs.Spans.{undoubled}
 use Rattle.notation.specs.Said.{levelSaid}
 use Rattle.csv.specs.reading.Text.{refusalAt, brokenAt, entryIn}
 use Rattle.csv.specs.declared.reading.Refusal.{Refusal}
-use Rattle.csv.specs.reading.Records.{held, reading, levelField, kept, reads, entryPart, entriesAt, ends, refuses, checked, counted}
+use Rattle.csv.specs.reading.Records.{held, reading, levelField, kept, reads, entryPart, entriesAt, ends, refuses, checked, countedEntries}
 use Rattle.notation.specs.declared.forms.Signed.{Signed}
 use Rattle.csv.specs.declared.reading.records.Entries.the-variants as N
 use Rattle.csv.proofs.reading.records.EntryLevels.{entry-broken, entry-more, entry-long, entry-last, entry-short}
@@ -135,21 +135,21 @@ module _ (t : List ℕ) (m from n : ℕ) (h : from < length t) where
   some-left = omega (arith, length-drop from t)
 
   pub next-entry : (next at : ℕ) → next ≤ length t → ends (drop next t) ≡ checked at (entryPart m (drop from t))
-      → (from < next) × (counted (n + 1) (entriesAt m (drop next t)) ≡ counted n (entriesAt m (drop from t)))
-  unfolding counted
+      → (from < next) × (countedEntries (n + 1) (entriesAt m (drop next t)) ≡ countedEntries n (entriesAt m (drop from t)))
+  unfolding countedEntries
   next-entry next at w e =
       let p = of-ends at (drop next t) (entryPart m (drop from t)) e in
       let k = entry-shorter m (drop from t) some-left (p .0) (drop next t) (p .1) in (
         omega (arith, length-drop from t, length-drop next t),
-        ap (λ (j : ℕ). counted j (entriesAt m (drop next t))) (add-one n) ∙ ap (counted n) (sym (entries-more m (drop from t) some-left (p .0) (drop next t) (p .1))),
+        ap (λ (j : ℕ). countedEntries j (entriesAt m (drop next t))) (add-one n) ∙ ap (countedEntries n) (sym (entries-more m (drop from t) some-left (p .0) (drop next t) (p .1))),
       )
 
-  pub no-entry : (k b : ℕ) → refuses (refusalAt k b) ≡ checked (n + 2) (entryPart m (drop from t)) → N.Refused k b ≡ counted n (entriesAt m (drop from t))
-  unfolding counted
+  pub no-entry : (k b : ℕ) → refuses (refusalAt k b) ≡ checked (n + 2) (entryPart m (drop from t)) → N.Refused k b ≡ countedEntries n (entriesAt m (drop from t))
+  unfolding countedEntries
   no-entry k b e =
       let p = of-refuses (n + 2) k b (entryPart m (drop from t)) e in
-      ap₂ N.Refused (p .1 .0) (p .1 .1) ∙ ap (counted n) (sym (entries-none m (drop from t) some-left (p .0) .1))
+      ap₂ N.Refused (p .1 .0) (p .1 .1) ∙ ap (countedEntries n) (sym (entries-none m (drop from t) some-left (p .0) .1))
 
-pub no-more : (t : List ℕ) (m from n : ℕ) → length t ≤ from → N.Count n ≡ counted n (entriesAt m (drop from t))
-unfolding entriesAt recordsOf recordsFrom counted
+pub no-more : (t : List ℕ) (m from n : ℕ) → length t ≤ from → N.Count n ≡ countedEntries n (entriesAt m (drop from t))
+unfolding entriesAt recordsOf recordsFrom countedEntries
 no-more t m from n h = rw (drop-of-length-le t h)

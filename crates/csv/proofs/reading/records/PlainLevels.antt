@@ -10,7 +10,7 @@ use lib.ListN.{length, getD, take, drop}
 use lib.Seq.{drop-cons, drop-drop}
 use lib.Dec.{eqb, leb}
 use borrow.Author.Tests.{ne-eqb}
-use Rattle.notation.specs.Digits.{isDigit, digitsFrom, numberOf}
+use Rattle.notation.specs.Digits.{isDigit, digitsFrom, decimalNumber}
 use Rattle.notation.specs.Fields.{comma, quote, lf, cr, Field, field, broken, front, isPlain, afterCr, ending, with, unquoted, fieldOf}
 use Rattle.notation.specs.Forms.{levelOf}
 use Rattle.notation.specs.Spans.{endedBy}
@@ -108,7 +108,7 @@ digits-broken v (d ∷ a) b c e = go (isDigit d) (digits-broken (10 * v + (d - 4
     go false h = refl
 
 size-digits : (sign : Bool) → DigitsOnly (sizeOf sign)
-unfolding sizeOf numberOf
+unfolding sizeOf decimalNumber
 size-digits sign a b c e = go (leb 1 (length (a ++ (b ∷ c))) && leb (length (a ++ (b ∷ c))) 3)
   where
     go : (x : Bool) → Option·map (withSign sign) (cond x (digitsFrom 0 (a ++ (b ∷ c))) none) ≡ none
@@ -117,11 +117,11 @@ size-digits sign a b c e = go (leb 1 (length (a ++ (b ∷ c))) && leb (length (a
 
 -- What is read behind the sign: no number, or one and what stands behind its digits.
 module _ (sign : Bool) (l : List ℕ) where
-  pub size-none : none ≡ numberOf (digits l) → broken ≡ sizeField sign l
+  pub size-none : none ≡ decimalNumber (digits l) → broken ≡ sizeField sign l
   unfolding sizeField sizeOf
   size-none e = sym (to-digits (sizeOf sign) (size-digits sign) l ∙ said-nothing (sizeOf sign) (digits l) (ap (Option·map (withSign sign)) (sym e)) (drop (front isDigit l) l))
 
-  pub size-some : {size : ℕ} → some size ≡ numberOf (digits l) → (more : Bool) (rest : List ℕ) → field (withSign sign size) more rest ≡ reading (sizeOf sign) (field (digits l) more rest)
+  pub size-some : {size : ℕ} → some size ≡ decimalNumber (digits l) → (more : Bool) (rest : List ℕ) → field (withSign sign size) more rest ≡ reading (sizeOf sign) (field (digits l) more rest)
   unfolding reading held sizeOf
   size-some e more rest = ap (λ (o : Option ℕ). held (Option·map (withSign sign) o) more rest) e
 

@@ -5,14 +5,14 @@ use Prim.Native.Nat.{_≤_, _<_, _-_, _^_}
 use native.Mathlib.Omega.{arith}
 use lib.ListN.{getD, drop}
 use borrow.Author.Tests.{not-true, not-false}
-use Rattle.notation.specs.Digits.{isDigit, digitsFrom, numberOf}
+use Rattle.notation.specs.Digits.{isDigit, digitsFrom, decimalNumber}
 use Rattle.notation.specs.Digits.{numberSaid}
 use Rattle.notation.proofs.digits.NumberDigits.{tens, hundred, digit-range, digits-end, digits-stop, digits-on, number-none, number-long, number-few}
 use Rattle.notation.proofs.digits.read_number.Statement.{statement}
 use Rattle.notation.proofs.digits.read_number.Tie as tie
 
 abbrev Inv-loop : tie.InvT-loop
-Inv-loop content n value₀ i₀ value i = (i ≤ n) × (value < 10 ^ i) × (digitsFrom value (drop i content) ≡ numberOf content)
+Inv-loop content n value₀ i₀ value i = (i ≤ n) × (value < 10 ^ i) × (digitsFrom value (drop i content) ≡ decimalNumber content)
 
 abbrev μ-loop : tie.MeasureT-loop
 μ-loop content n value₀ i₀ value i = n - i

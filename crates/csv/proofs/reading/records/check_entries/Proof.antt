@@ -5,14 +5,14 @@ use mathlib.Core.List.{List}
 use Prim.Native.Nat.{ℕ, _+_, _-_, _<_, _≤_}
 use native.Mathlib.Omega.{arith}
 use lib.ListN.{length, drop}
-use Rattle.csv.specs.reading.Records.{entriesAt, entrySaid, EntryWithin, counted}
+use Rattle.csv.specs.reading.Records.{entriesAt, entrySaid, EntryWithin, countedEntries}
 use Rattle.csv.proofs.reading.records.EntriesChecked.{next-entry, no-entry, no-more}
 use Rattle.csv.proofs.reading.records.check_entries.Statement.{statement}
 use Rattle.csv.proofs.reading.records.check_entries.Tie as tie
 
 abbrev Inv-loop : tie.InvT-loop
 Inv-loop text at variables from₀ n₀ from n =
-    (from ≤ length text) × (n ≤ from) × (counted n (entriesAt variables (drop from text)) ≡ counted 0 (entriesAt variables (drop at text)))
+    (from ≤ length text) × (n ≤ from) × (countedEntries n (entriesAt variables (drop from text)) ≡ countedEntries 0 (entriesAt variables (drop at text)))
 
 abbrev μ-loop : tie.MeasureT-loop
 μ-loop text at variables from₀ n₀ from n = length text - from
@@ -39,8 +39,8 @@ within c = subst (EntryWithin (length (text (start (turn c))))) (c .before .next
 -- an entry was passed
 passed : (c : K)
     → (turn c .loop .from < c .before .next .given .0 .0)
-    × (counted (turn c .loop .n + 1) (entriesAt (start (turn c) .args .variables) (drop (c .before .next .given .0 .0) (text (start (turn c)))))
-    ≡ counted (turn c .loop .n) (entriesAt (start (turn c) .args .variables) (drop (turn c .loop .from) (text (start (turn c))))))
+    × (countedEntries (turn c .loop .n + 1) (entriesAt (start (turn c) .args .variables) (drop (c .before .next .given .0 .0) (text (start (turn c)))))
+    ≡ countedEntries (turn c .loop .n) (entriesAt (start (turn c) .args .variables) (drop (turn c .loop .from) (text (start (turn c))))))
 unfolding entrySaid
 passed c =
     next-entry (text (start (turn c))) (start (turn c) .args .variables) (turn c .loop .from) (turn c .loop .n) (c .before .before .before .before .loop-test .taken) (c .before .next .given .0 .0) (turn c .loop .n + 2)
