@@ -1,6 +1,6 @@
 -- What the inner readers answer, by places in the text, in the terms of the definitions of fields.
 use mathlib.Core.Path.{_≡_}
-use mathlib.Core.Bool.{cond}
+use mathlib.Core.Bool.{Bool, true, false, cond}
 use mathlib.Core.List.{List, [], _∷_}
 use Prim.Native.Nat.{ℕ, suc, _-_, _≤_}
 use lib.ListN.{length, take, drop}
@@ -32,9 +32,19 @@ abbrev pub EndWithin : ℕ → End → Type 0
 EndWithin n (E.At more next) = next ≤ n
 EndWithin n E.Broken = Unit {0}
 
--- `read_end` at a place: what ended a field there, whatever its content
-pub record EndRead (text : List ℕ) (at : ℕ) (r : End) : Type 0 where
-  pub said : (content : List ℕ) → endedBy text content r ≡ ending content (drop at text)
+-- behind the content of a quoted field: the quote that closes it, and what comes behind
+unfoldable pub closed : List ℕ → List ℕ → Field (List ℕ)
+closed content [] = broken
+closed content (b ∷ l) = cond (eqb b quote) (ending content l) broken
+
+-- behind the content of a field with quotes or without
+abbrev pub endingIn : Bool → List ℕ → List ℕ → Field (List ℕ)
+endingIn true = closed
+endingIn false = ending
+
+-- `read_end` and `content_end` at a place: what ended a field with quotes or without there, whatever its content
+pub record EndRead (text : List ℕ) (at : ℕ) (quotes : Bool) (r : End) : Type 0 where
+  pub said : (content : List ℕ) → endedBy text content r ≡ endingIn quotes content (drop at text)
   pub within : EndWithin (length text) r
 
 -- the field whose bytes, inside its quotes if it has them, are those from one place to the other

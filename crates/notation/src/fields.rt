@@ -1,5 +1,6 @@
 // The fields of a text, by their places.
 ghost use mathlib.Core.Path.{_≡_};
+ghost use mathlib.Core.Bool.{false};
 ghost use Prim.Native.Nat.{_+_, _≤_};
 ghost use lib.ListN.{length, drop};
 ghost use Rattle.notation.specs.Fields.{isPlain, front, fieldOf, quoted};
@@ -66,7 +67,7 @@ pub enum End {
 
 pub fn read_end(text: &[u8], at: usize) -> End
     requires { ⌜ at ≤ length (now text) ⌝ }
-    ensures { λ r. ⌜ EndRead (now (text .entry)) at r ⌝ }
+    ensures { λ r. ⌜ EndRead (now (text .entry)) at false r ⌝ }
 {
     if at == text.len() {
         return End::At {
@@ -100,6 +101,23 @@ pub fn read_end(text: &[u8], at: usize) -> End
         more: false,
         next: at + 2,
     }
+}
+
+// The same for a field with quotes or without: in one with quotes the one that closes it comes first.
+pub fn content_end(text: &[u8], at: usize, quotes: bool) -> End
+    requires { ⌜ at ≤ length (now text) ⌝ }
+    ensures { λ r. ⌜ EndRead (now (text .entry)) at quotes r ⌝ }
+{
+    if !quotes {
+        return read_end(text, at);
+    }
+    if at == text.len() {
+        return End::Broken;
+    }
+    if text[at] != 34 {
+        return End::Broken;
+    }
+    read_end(text, at + 1)
 }
 
 // A field: its bytes, inside its quotes if it has them, are those from one place to the other.

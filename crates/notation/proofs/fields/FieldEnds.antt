@@ -1,5 +1,5 @@
 -- What stands behind a field's content, by the bytes at the place.
-use mathlib.Core.Path.{_≡_, refl, ap, _∙_}
+use mathlib.Core.Path.{_≡_, refl, sym, ap, _∙_, subst}
 use mathlib.Core.Bool.{Bool, true, false, cond}
 use mathlib.Core.List.{List, [], _∷_}
 use Prim.Native.Nat.{ℕ, _+_, _<_, _≤_}
@@ -8,7 +8,10 @@ use native.Mathlib.Omega.{arith}
 use lib.ListN.{length, getD, drop, drop-of-length-le}
 use lib.Seq.{drop-cons}
 use borrow.Author.Tests.{eq-eqb, ne-eqb}
-use Rattle.notation.specs.Fields.{comma, lf, cr, field, broken, afterCr, ending, with}
+use Rattle.notation.specs.Fields.{quote, comma, lf, cr, field, broken, afterCr, ending, with}
+use Rattle.notation.specs.Spans.{closed, endedBy, EndRead}
+use Rattle.notation.specs.declared.fields.End.{End}
+use Rattle.notation.specs.declared.fields.End.the-variants as E
 use Rattle.notation.proofs.fields.Searches.{cells}
 
 module _ (content : List ℕ) where
@@ -71,6 +74,26 @@ module _ (content : List ℕ) where
 
             pub end-crlf : at + 1 < length t → getD t (at + 1) 0 ≡ lf → ending content (drop at t) ≡ field content false (drop (at + 2) t)
             end-crlf k f = ap (ending content) (cells t at k) ∙ first-cr _ _ n m e ∙ then-lf _ _ f
+
+-- with quotes or without, by a test
+pub tested : {t : List ℕ} {at : ℕ} {r : End} {q x : Bool} → q ≡ x → EndRead t at x r → EndRead t at q r
+tested {t = t} {at = at} {r = r} e = subst (λ (q : Bool). EndRead t at q r) (sym e)
+
+-- in a field with quotes, the one that closes it
+module _ (t : List ℕ) (at : ℕ) where
+  pub never-closed : length t ≤ at → EndRead t at true E.Broken
+  unfolding endedBy closed
+  never-closed h = record { said = λ content. rw (drop-of-length-le t h) refl; within = tt }
+
+  module _ (h : at < length t) where
+    pub not-closed : (getD t at 0 ≡ quote → ⊥) → EndRead t at true E.Broken
+    unfolding endedBy closed
+    not-closed n = record { said = λ content. rw (drop-cons t at 0 h) (simp (ne-eqb (getD t at 0) quote n)); within = tt }
+
+    pub closed-here : (r : End) → getD t at 0 ≡ quote → EndRead t (at + 1) false r → EndRead t at true r
+    unfolding closed
+    closed-here r e b =
+        record { said = λ content. b .said content ∙ rw (add-one, drop-cons t at 0 h) (simp (eq-eqb (getD t at 0) quote e)); within = b .within }
 
 -- a function of one of two
 pub chosen : {A B : Type 0} (f : A → B) (t : Bool) (x y : A) → f (cond t x y) ≡ cond t (f x) (f y)
