@@ -5,24 +5,8 @@ use crate::digits::read_number;
 use residue::bytes::same;
 ghost use mathlib.Core.Path.{_≡_};
 ghost use Prim.Native.Nat.{ℕ};
-ghost use Rattle.notation.specs.Fields.{front};
-ghost use Rattle.notation.specs.Digits.{isDigit};
 ghost use Rattle.notation.specs.Forms.{levelOf, orderWord, modulusAndOrder, lastField};
 ghost use Rattle.notation.specs.Said.{leadingOf, LeadingRead, orderSaid, levelSaid, lastSaid};
-
-// How many digits stand at the front.
-fn digit_end(content: &[u8]) -> usize
-    ensures { λ r. ⌜ r ≡ front isDigit (now (content .entry)) ⌝ }
-{
-    let mut i = 0;
-    while i < content.len() {
-        if !is_digit(content[i]) {
-            return i;
-        }
-        i += 1;
-    }
-    i
-}
 
 // The number that the digits at the front write, and how many they are.
 pub enum Leading {
@@ -124,14 +108,16 @@ pub enum Last {
 fn read_settings(content: &[u8]) -> Last
     ensures { λ r. ⌜ ((m : ℕ) → lastSaid m r ≡ modulusAndOrder m (now (content .entry))) ⌝ }
 {
-    let k = digit_end(content);
-    let Number::Size(modulus) = read_number(&content[..k]) else {
+    let Leading::Number { size, count } = read_leading(content) else {
         return Last::Broken;
     };
-    let Word::Order(order) = read_order(&content[k..]) else {
+    let Word::Order(order) = read_order(&content[count..]) else {
         return Last::Broken;
     };
-    Last::Settings { modulus, order }
+    Last::Settings {
+        modulus: size,
+        order,
+    }
 }
 
 // The last field of the header.

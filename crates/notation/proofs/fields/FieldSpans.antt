@@ -7,13 +7,17 @@ use native.Mathlib.Nat.{not-suc-le-zero, add-zero}
 use native.Mathlib.Numerals.{add-one}
 use native.Mathlib.Omega.{arith}
 use lib.ListN.{length, getD, take, drop, length-drop}
-use lib.Seq.{drop-cons, drop-drop, getD-drop}
+use lib.Seq.{drop-cons, drop-drop, getD-drop, take-all}
 use lib.Dec.{eqb}
 use borrow.Author.Tests.{eq-eqb, ne-eqb, eqb-true, eqb-false}
 use Rattle.notation.specs.Fields.{quote, broken, front, isPlain, ending, with, quoted, unquoted, fieldOf}
 use Rattle.notation.specs.Spans.{closing, undoubled, endedBy}
 use Rattle.notation.specs.declared.fields.End.{End}
 use Rattle.notation.proofs.fields.FieldEnds.{with-ending}
+
+-- what is lent of a text from a place on
+pub all-behind : (t : List ℕ) (at : ℕ) → take (length t - at) (drop at t) ≡ drop at t
+all-behind t at = take-all (length t - at) (drop at t) (omega (arith, length-drop at t))
 
 pub front-le : (kind : ℕ → Bool) (l : List ℕ) → front kind l ≤ length l
 unfolding front

@@ -38,7 +38,7 @@ read-settings-requires : tie.Need-read-settings-requires
 read-settings-requires c κs = search needs
 
 returns-3 : tie.Need-returns-3
-returns-3 c m = c .read-settings .ensures m ∙ last-mod m _ (c .before .before .before .before .before .before .if1 .left) (sym (c .before .before .before .same .ensures) ∙ not-false _ (c .before .before .if2 .left))
+returns-3 c m = c .read-settings .ensures m ∙ last-mod m _ (sym (c .before .before .before .same .ensures) ∙ not-false _ (c .before .before .if2 .left))
 
 pub read-last-spec : {M : Type 1} → statement M
 read-last-spec =

@@ -1,44 +1,54 @@
 -- `forms::read_settings` meets its contract: the digits, and the word behind them.
 use borrow.Author.Needs.{needs}
-use mathlib.Core.Path.{sym}
-use Prim.Native.Nat.{_≤_}
+use mathlib.Core.Path.{sym, ap, _∙_, subst}
+use mathlib.Core.List.{List}
+use Prim.Native.Nat.{ℕ, _≤_}
 use native.Mathlib.Omega.{arith}
 use lib.ListN.{length}
-use lib.Seq.{length-take-le}
 use Rattle.notation.specs.Digits.{isDigit}
+use Rattle.notation.specs.Forms.{header}
+use Rattle.notation.specs.Said.{LeadingRead, orderSaid, lastSaid}
+use Rattle.notation.specs.declared.forms.Leading.the-variants as G
 use Rattle.notation.proofs.fields.FieldSpans.{front-le}
-use Rattle.notation.proofs.forms.LastField.{no-digits, no-word, all-read}
+use Rattle.notation.proofs.forms.LastField.{no-digits, digits-and}
 use Rattle.notation.proofs.forms.read_settings.Statement.{statement}
 use Rattle.notation.proofs.forms.read_settings.Tie as tie
 
-within : (c : tie.After-digit-end) → c .digit-end .result ≤ length (c .before .before .args .content .now)
-within c =
-    let h = front-le isDigit (c .before .before .args .content .now) in
-    omega (arith, c .digit-end .ensures)
+-- The places: the digits were looked for and found, and the word behind them was read. Each names the one before it.
+module _ (k : tie.After-known-told) where
+  abbrev content : List ℕ
+  content = k .before .before .before .before .before .args .content .now
 
-digit-end-requires : tie.Need-digit-end-requires
-digit-end-requires c κs = search needs
+  abbrev count : ℕ
+  count = k .before .size .given .0 .1 .0
 
-slice-aggregate-read-number : tie.Need-slice-aggregate-read-number
-slice-aggregate-read-number c = sym (length-take-le _ _ (within (c .before)))
+  found : LeadingRead content (G.Number (k .before .size .given .0 .0) count)
+  found = subst (LeadingRead content) (k .before .size .given .1) (k .before .before .before .read-leading .ensures)
 
-read-number-requires : tie.Need-read-number-requires
-read-number-requires c κs = search needs
+  within : count ≤ length content
+  within = omega (arith, found .ends, front-le isDigit content)
 
-enum-known-modulus : tie.Need-enum-known-modulus
-enum-known-modulus c = search needs
+abbrev known : tie.After-read-order → tie.After-known-told
+known c = c .before .before
+
+read-leading-requires : tie.Need-read-leading-requires
+read-leading-requires c κs = search needs
+
+enum-known-size : tie.Need-enum-known-size
+enum-known-size c = search needs
 
 enum-told : tie.Need-enum-told
 enum-told c = search needs
 
 returns : tie.Need-returns
-returns c m = no-digits m _ _ _ (c .before .before .before .before .digit-end .ensures) (c .before .before .read-number .ensures) (c .enum-told .given .1)
+unfolding lastSaid
+returns c m = no-digits m _ (subst (LeadingRead _) (c .enum-told .given .1) (c .before .before .read-leading .ensures))
 
 sub-read-order : tie.Need-sub-read-order
-sub-read-order c = within (c .before .before .before .before .before)
+sub-read-order c = within c
 
 part-read-order-start : tie.Need-part-read-order-start
-part-read-order-start c = within (c .before .before .before .before .before)
+part-read-order-start c = within c
 
 part-read-order-end : tie.Need-part-read-order-end
 part-read-order-end c = search needs
@@ -53,22 +63,19 @@ enum-told-2 : tie.Need-enum-told-2
 enum-told-2 c = search needs
 
 returns-2 : tie.Need-returns-2
-returns-2 c m =
-    no-word m _ _ _ (c .before .before .before .before .before .before .before .before .before .digit-end .ensures) (c .before .before .before .before .before .before .before .read-number .ensures) _ (c .before .before .read-order .ensures) _ (c .before .before .before .before .before .modulus .given .1) (c .enum-told2 .given .1)
+unfolding lastSaid orderSaid header
+returns-2 c m = let w = c .before .before in digits-and m _ _ _ _ (found (known w)) (ap orderSaid (sym (c .enum-told2 .given .1)) ∙ w .read-order .ensures)
 
 returns-3 : tie.Need-returns-3
-returns-3 c m =
-    all-read m _ _ _ (c .before .before .before .before .before .before .before .before .before .before .digit-end .ensures) (c .before .before .before .before .before .before .before .before .read-number .ensures) _ (c .before .before .before .read-order .ensures) _ (c .before .before .before .before .before .before .modulus .given .1) _
-    (c .before .order .given .1)
+unfolding lastSaid orderSaid header
+returns-3 c m = let w = c .before .before .before in digits-and m _ _ _ _ (found (known w)) (ap orderSaid (sym (c .before .order .given .1)) ∙ w .read-order .ensures)
 
 pub read-settings-spec : {M : Type 1} → statement M
 read-settings-spec =
     tie.close
     (tie.spec
-    digit-end-requires
-    slice-aggregate-read-number
-    read-number-requires
-    enum-known-modulus
+    read-leading-requires
+    enum-known-size
     enum-told
     returns
     sub-read-order
