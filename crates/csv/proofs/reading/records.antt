@@ -3,4 +3,4 @@ pub mod EntryLevels
 pub mod EntriesChecked
 pub mod HeaderFields
 pub mod Numbers
-pub mod PlainLevels
+pub mod ScannedLevels

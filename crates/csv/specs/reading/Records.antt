@@ -1,13 +1,13 @@
 -- What the readers of records answer, by places in the text, in the terms of the definitions.
 use mathlib.Core.Path.{_≡_}
-use mathlib.Core.Bool.{Bool}
+use mathlib.Core.Bool.{Bool, true, false}
 use mathlib.Core.List.{List, [], _∷_, map}
 use mathlib.Core.Option.{Option, some, none, Option·map}
 use Prim.Native.Nat.{ℕ, suc, _+_, _≤_}
 use lib.IntN.{ℤ}
 use lib.ListN.{length, drop}
 use Rattle.notation.specs.Digits.{decimalNumber}
-use Rattle.notation.specs.Fields.{Field, field, broken, unquoted, fieldOf, Part, part, faulty, recordOf, recordsOf}
+use Rattle.notation.specs.Fields.{Field, field, broken, unquoted, quoted, fieldOf, Part, part, faulty, recordOf, recordsOf}
 use Rattle.notation.specs.Forms.{levelOf, entryOf, Header, headerOf}
 use Rattle.csv.specs.reading.Text.{refusalAt, notRefused, brokenAt, entryIn}
 use Rattle.notation.specs.Said.{withSign}
@@ -34,12 +34,17 @@ reading f broken = broken
 unfoldable pub levelField : List ℕ → Field ℤ
 levelField l = reading levelOf (fieldOf l)
 
--- a field without quotes whose digits are at the front, its sign being known
+-- a field from its content on, behind the quote that opens it if it has quotes
+abbrev pub fieldFrom : Bool → List ℕ → Field (List ℕ)
+fieldFrom true = quoted
+fieldFrom false = unquoted
+
+-- a field from its digits on, behind its sign
 unfoldable pub sizeOf : Bool → List ℕ → Option ℤ
 sizeOf negative content = Option·map (withSign negative) (decimalNumber content)
 
-unfoldable pub sizeField : Bool → List ℕ → Field ℤ
-sizeField negative l = reading (sizeOf negative) (unquoted l)
+unfoldable pub sizeField : Bool → Bool → List ℕ → Field ℤ
+sizeField quotes negative l = reading (sizeOf negative) (fieldFrom quotes l)
 
 -- a record by what its fields say, if they have the form
 unfoldable pub kept : {A : Type 0} → Option A → List ℕ → Part A

@@ -48,7 +48,7 @@ fn residue_at(text: &[u8], at: usize, p: u8) -> Placed
         size,
         more: _,
         next,
-    } = records::field_level(text, at)
+    } = records::level_at(text, at)
     else {
         // The records have been checked.
         return Placed {

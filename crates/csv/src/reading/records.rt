@@ -2,14 +2,15 @@
 ghost use mathlib.Core.Path.{_≡_};
 ghost use Prim.Native.Nat.{_≤_};
 ghost use lib.ListN.{length, drop};
-ghost use Rattle.csv.specs.reading.Records.{sizeField, levelAtSaid, LevelWithin, LevelRead, HeaderRead, EntryRead, entriesAt, countedEntries};
+ghost use Rattle.notation.specs.Forms.{levelOf};
+ghost use Rattle.csv.specs.reading.Records.{reading, fieldFrom, sizeField, levelAtSaid, LevelWithin, LevelRead};
+ghost use Rattle.csv.specs.reading.Records.{HeaderRead, EntryRead, entriesAt, countedEntries};
 use notation::fields;
 use notation::fields::End;
 use notation::fields::Span;
 use notation::forms;
 use notation::forms::Last;
 use notation::forms::Leading;
-use notation::forms::Signed;
 
 pub enum LevelAt {
     Level {
@@ -21,41 +22,16 @@ pub enum LevelAt {
     Broken,
 }
 
-// The level or value in the field at `at`, with quotes or without.
-pub fn field_level(text: &[u8], at: usize) -> LevelAt
+// The level or value whose digits begin at `at`, behind its quote and its sign if it has them.
+fn sized_level(text: &[u8], at: usize, quotes: bool, negative: bool) -> LevelAt
     requires { ⌜ at ≤ length (now text) ⌝ }
-    ensures { λ r. ⌜ LevelRead (now (text .entry)) at r ⌝ }
-{
-    let Span::Content {
-        from,
-        to,
-        more,
-        next,
-    } = fields::read_field(text, at)
-    else {
-        return LevelAt::Broken;
-    };
-    let Signed::Level { negative, size } = forms::read_level(&text[from..to]) else {
-        return LevelAt::Broken;
-    };
-    LevelAt::Level {
-        negative,
-        size,
-        more,
-        next,
-    }
-}
-
-// The level or value of a field without quotes whose digits begin at `at`, behind its sign.
-fn plain_level(text: &[u8], at: usize, negative: bool) -> LevelAt
-    requires { ⌜ at ≤ length (now text) ⌝ }
-    ensures { λ r. ⌜ levelAtSaid (now (text .entry)) r ≡ sizeField negative (drop at (now (text .entry))) ⌝
+    ensures { λ r. ⌜ levelAtSaid (now (text .entry)) r ≡ sizeField quotes negative (drop at (now (text .entry))) ⌝
         ∗ ⌜ LevelWithin (length (now (text .entry))) r ⌝ }
 {
     let Leading::Number { size, count } = forms::read_leading(&text[at..]) else {
         return LevelAt::Broken;
     };
-    let End::At { more, next } = fields::read_end(text, at + count) else {
+    let End::At { more, next } = fields::content_end(text, at + count, quotes) else {
         return LevelAt::Broken;
     };
     LevelAt::Level {
@@ -66,22 +42,31 @@ fn plain_level(text: &[u8], at: usize, negative: bool) -> LevelAt
     }
 }
 
-// The level or value in the field at `at`, for the check of an entry. Most fields have no quotes: their bytes are gone through once.
-// It is called from one place, where it is compiled in; as a call of its own, from two, it was slower than `field_level`.
-fn level_at(text: &[u8], at: usize) -> LevelAt
+// The level or value whose content begins at `at`, behind its quote if it has one.
+fn signed_level(text: &[u8], at: usize, quotes: bool) -> LevelAt
+    requires { ⌜ at ≤ length (now text) ⌝ }
+    ensures { λ r. ⌜ levelAtSaid (now (text .entry)) r ≡ reading levelOf (fieldFrom quotes (drop at (now (text .entry)))) ⌝
+        ∗ ⌜ LevelWithin (length (now (text .entry))) r ⌝ }
+{
+    if at < text.len() {
+        if text[at] == 45 {
+            return sized_level(text, at + 1, quotes, true);
+        }
+    }
+    sized_level(text, at, quotes, false)
+}
+
+// The level or value in the field at `at`, with quotes or without. Its bytes are gone through once.
+pub fn level_at(text: &[u8], at: usize) -> LevelAt
     requires { ⌜ at ≤ length (now text) ⌝ }
     ensures { λ r. ⌜ LevelRead (now (text .entry)) at r ⌝ }
 {
     if at < text.len() {
-        let b = text[at];
-        if b == 34 {
-            return field_level(text, at);
-        }
-        if b == 45 {
-            return plain_level(text, at + 1, true);
+        if text[at] == 34 {
+            return signed_level(text, at + 1, true);
         }
     }
-    plain_level(text, at, false)
+    signed_level(text, at, false)
 }
 
 pub enum HeaderAt {

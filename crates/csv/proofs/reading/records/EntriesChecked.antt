@@ -8,24 +8,14 @@ use native.Mathlib.Numerals.{add-one}
 use native.Mathlib.Omega.{arith}
 use lib.IntN.{ℤ}
 use lib.ListN.{length, drop, length-drop, drop-of-length-le}
-use Rattle.notation.specs.Fields.{field, broken, fieldOf, Part, part, faulty, withFirst, recordOf, behindRecord, recordsFrom, recordsOf}
-use Rattle.notation.specs.Forms.{levelOf, entryOf}
-use Rattle.notation.specs.Spans.{undoubled}
-use Rattle.notation.specs.Said.{levelSaid}
+use Rattle.notation.specs.Fields.{field, broken, Part, part, faulty, withFirst, recordOf, behindRecord, recordsFrom, recordsOf}
+use Rattle.notation.specs.Forms.{entryOf}
 use Rattle.csv.specs.reading.Text.{refusalAt, brokenAt, entryIn}
 use Rattle.csv.specs.declared.reading.Refusal.{Refusal}
-use Rattle.csv.specs.reading.Records.{held, reading, levelField, kept, reads, entryPart, entriesAt, ends, refuses, checked, countedEntries}
-use Rattle.notation.specs.declared.forms.Signed.{Signed}
+use Rattle.csv.specs.reading.Records.{levelField, kept, reads, entryPart, entriesAt, ends, refuses, checked, countedEntries}
 use Rattle.csv.specs.declared.reading.records.Entries.the-variants as N
 use Rattle.csv.proofs.reading.records.EntryLevels.{entry-broken, entry-more, entry-long, entry-last, entry-short}
-use Rattle.notation.proofs.forms.NoQuote.{level-raw}
 use Rattle.notation.proofs.fields.EnoughTurns.{Behind, shorter, stopped, record-left, records-unroll}
-
--- the level in a field, by the bytes between its quotes
-pub level-is : (raw rest l : List ℕ) (more : Bool) (s : Signed) → field (undoubled raw) more rest ≡ fieldOf l → levelSaid s ≡ levelOf raw
-    → held (levelSaid s) more rest ≡ levelField l
-unfolding levelField reading
-level-is raw rest l more s h e = ap (λ (o : Option ℤ). held o more rest) (e ∙ sym (level-raw raw)) ∙ ap (reading levelOf) h
 
 with-checked : (at : ℕ) (z : ℤ) (p : Part (List ℤ)) → checked at (withFirst z p) ≡ checked at p
 unfolding withFirst checked

@@ -21,13 +21,13 @@ said : (c : tie.After-known-told)
     → field (withSign (c .before .negative .given .0 .0) (c .before .negative .given .0 .1 .0)) (c .before .negative .given .0 .1 .1 .0) (drop (c .before .negative .given .0 .1 .1 .1 .0) (text (start c)))
     ≡ levelField (drop (start c .args .at) (text (start c)))
 unfolding levelAtSaid
-said c = ap (levelAtSaid (text (start c))) (sym (c .before .negative .given .1)) ∙ c .before .before .before .field-level .ensures .said
+said c = ap (levelAtSaid (text (start c))) (sym (c .before .negative .given .1)) ∙ c .before .before .before .level-at .ensures .said
 
 within : (c : tie.After-known-told) → c .before .negative .given .0 .1 .1 .1 .0 ≤ length (text (start c))
-within c = subst (LevelWithin (length (text (start c)))) (c .before .negative .given .1) (c .before .before .before .field-level .ensures .within)
+within c = subst (LevelWithin (length (text (start c)))) (c .before .negative .given .1) (c .before .before .before .level-at .ensures .within)
 
-field-level-requires : tie.Need-field-level-requires
-field-level-requires c κs = search needs
+level-at-requires : tie.Need-level-at-requires
+level-at-requires c κs = search needs
 
 enum-known-negative : tie.Need-enum-known-negative
 enum-known-negative c = search needs
@@ -37,7 +37,7 @@ enum-told c = search needs
 
 returns : tie.Need-returns
 unfolding levelAtSaid
-returns c = absurd (c .before .before .before .before .pre .1 (sym (ap (levelAtSaid (text (c .before .before .before .before))) (sym (c .enum-told .given .1)) ∙ c .before .before .field-level .ensures .said)))
+returns c = absurd (c .before .before .before .before .pre .1 (sym (ap (levelAtSaid (text (c .before .before .before .before))) (sym (c .enum-told .given .1)) ∙ c .before .before .level-at .ensures .said)))
 
 residue-of-requires : tie.Need-residue-of-requires
 residue-of-requires c κs = search needs
@@ -64,7 +64,7 @@ pub residue-at-spec : {M : Type 1} → statement M
 residue-at-spec =
     tie.close
     (tie.spec
-    field-level-requires
+    level-at-requires
     enum-known-negative
     enum-told
     returns

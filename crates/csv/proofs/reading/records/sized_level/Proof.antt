@@ -1,26 +1,21 @@
--- `records::plain_level` meets its contract: the digits, and what stands behind them.
+-- `records::sized_level` meets its contract: the digits, and what stands behind them.
 use borrow.Author.Needs.{needs}
 use mathlib.Core.Path.{_≡_, sym, ap, _∙_, subst}
 use mathlib.Core.List.{List}
-use Prim.Native.Nat.{ℕ, _+_, _-_, _≤_}
+use Prim.Native.Nat.{ℕ, _+_, _≤_}
 use native.Mathlib.Omega.{arith}
-use lib.ListN.{length, take, drop, length-drop}
-use lib.Seq.{take-all}
+use lib.ListN.{length, drop, length-drop}
 use Rattle.notation.specs.Digits.{isDigit}
 use Rattle.notation.specs.Spans.{endedBy, EndWithin}
 use Rattle.notation.specs.Said.{leadingSaid, LeadingRead}
 use Rattle.csv.specs.reading.Records.{reading, sizeOf, sizeField, levelAtSaid}
 use Rattle.notation.specs.declared.fields.End.{End}
 use Rattle.notation.specs.declared.forms.Leading.the-variants as G
-use Rattle.notation.proofs.fields.FieldSpans.{front-le}
+use Rattle.notation.proofs.fields.FieldSpans.{all-behind, front-le}
 use Rattle.notation.proofs.forms.LeadingDigits.{digits}
-use Rattle.csv.proofs.reading.records.PlainLevels.{size-none, size-some, size-ended}
-use Rattle.csv.proofs.reading.records.plain_level.Statement.{statement}
-use Rattle.csv.proofs.reading.records.plain_level.Tie as tie
-
--- what is lent of a text from a place on
-all-behind : (t : List ℕ) (at : ℕ) → take (length t - at) (drop at t) ≡ drop at t
-all-behind t at = take-all (length t - at) (drop at t) (omega (arith, length-drop at t))
+use Rattle.csv.proofs.reading.records.ScannedLevels.{size-none, size-some, size-ended}
+use Rattle.csv.proofs.reading.records.sized_level.Statement.{statement}
+use Rattle.csv.proofs.reading.records.sized_level.Tie as tie
 
 -- The places: the digits were looked for, they were found, and what stands behind them was read. Each names the one before it.
 abbrev start : tie.After-read-leading → tie.Start
@@ -52,11 +47,11 @@ module _ (k : tie.After-known-told) where
   within =
       omega (arith, found .ends, front-le isDigit (behind (looked k)), length-drop (start (looked k) .args .at) (text (looked k)), start (looked k) .pre)
 
-said : (e : tie.After-read-end)
-    → let c = looked (e .before) in reading (sizeOf (start c .args .negative)) (endedBy (text c) (digits (behind c)) (e .read-end .result)) ≡ sizeField (start c .args .negative) (behind c)
+said : (e : tie.After-content-end)
+    → let c = looked (e .before) in reading (sizeOf (start c .args .negative)) (endedBy (text c) (digits (behind c)) (e .content-end .result)) ≡ sizeField (start c .args .quotes) (start c .args .negative) (behind c)
 said e =
     let c = looked (e .before) in
-    size-ended (start c .args .negative) (text c) (start c .args .at) (count (e .before)) (e .read-end .result) (found (e .before) .ends) (e .read-end .ensures .said)
+    size-ended (start c .args .quotes) (start c .args .negative) (text c) (start c .args .at) (count (e .before)) (e .content-end .result) (found (e .before) .ends) (e .content-end .ensures .said)
 
 sub-read-leading : tie.Need-sub-read-leading
 sub-read-leading c = search needs
@@ -80,13 +75,13 @@ returns : tie.Need-returns
 unfolding levelAtSaid leadingSaid
 returns c =
     let d = c .before .before in
-    (size-none (start d .args .negative) (behind d) (subst (LeadingRead (behind d)) (c .enum-told .given .1) (leading d) .said), tt)
+    (size-none (start d .args .quotes) (start d .args .negative) (behind d) (subst (LeadingRead (behind d)) (c .enum-told .given .1) (leading d) .said), tt)
 
-add-read-end : tie.Need-add-read-end
-add-read-end c = omega (arith, within c)
+add-content-end : tie.Need-add-content-end
+add-content-end c = omega (arith, within c)
 
-read-end-requires : tie.Need-read-end-requires
-read-end-requires c κs = within c
+content-end-requires : tie.Need-content-end-requires
+content-end-requires c κs = within c
 
 enum-known-more : tie.Need-enum-known-more
 enum-known-more c = search needs
@@ -108,11 +103,11 @@ returns-3 c =
     let d = looked (e .before) in (
       size-some (start d .args .negative) (behind d) (found (e .before) .said) _ _
           ∙ ap (λ (x : End). reading (sizeOf (start d .args .negative)) (endedBy (text d) (digits (behind d)) x)) (sym (c .before .more .given .1)) ∙ said e,
-      subst (EndWithin (length (text d))) (c .before .more .given .1) (e .read-end .ensures .within),
+      subst (EndWithin (length (text d))) (c .before .more .given .1) (e .content-end .ensures .within),
     )
 
-pub plain-level-spec : {M : Type 1} → statement M
-plain-level-spec =
+pub sized-level-spec : {M : Type 1} → statement M
+sized-level-spec =
     tie.close
     (tie.spec
     sub-read-leading
@@ -122,8 +117,8 @@ plain-level-spec =
     enum-known-size
     enum-told
     returns
-    add-read-end
-    read-end-requires
+    add-content-end
+    content-end-requires
     enum-known-more
     enum-told-2
     returns-2
