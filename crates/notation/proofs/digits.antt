@@ -1,2 +1,2 @@
--- Numbers in decimal, read and written.
+-- Numbers in decimal.
 pub mod NumberDigits

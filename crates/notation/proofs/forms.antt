@@ -1,5 +1,4 @@
 -- The forms of fields.
-pub mod SignedForms
 pub mod LeadingDigits
 pub mod LastField
 pub mod NoQuote

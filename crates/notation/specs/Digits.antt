@@ -5,8 +5,6 @@ use mathlib.Core.Option.{Option, some, none}
 use Prim.Native.Nat.{ℕ, _+_, _*_, _-_}
 use lib.ListN.{length}
 use lib.Dec.{leb}
-use Rattle.notation.specs.declared.digits.Number.{Number}
-use Rattle.notation.specs.declared.digits.Number.the-variants as N
 
 unfoldable pub isDigit : ℕ → Bool
 isDigit b = leb 48 b && leb b 57
@@ -19,8 +17,3 @@ digitsFrom value (b ∷ l) = cond (isDigit b) (digitsFrom (10 * value + (b - 48)
 -- one to three digits
 unfoldable pub decimalNumber : List ℕ → Option ℕ
 decimalNumber l = cond (leb 1 (length l) && leb (length l) 3) (digitsFrom 0 l) none
-
--- what the reader of digits answers
-unfoldable pub numberSaid : Number → Option ℕ
-numberSaid (N.Size k) = some k
-numberSaid N.Broken = none

@@ -12,8 +12,6 @@ use Rattle.notation.specs.Fields.{front}
 use Rattle.notation.specs.Forms.{negative, Header}
 use Rattle.notation.specs.declared.forms.Leading.{Leading}
 use Rattle.notation.specs.declared.forms.Leading.the-variants as G
-use Rattle.notation.specs.declared.forms.Signed.{Signed}
-use Rattle.notation.specs.declared.forms.Signed.the-variants as S
 use Rattle.notation.specs.declared.forms.Word.{Word}
 use Rattle.notation.specs.declared.forms.Word.the-variants as W
 use Rattle.notation.specs.declared.forms.Last.{Last}
@@ -43,10 +41,6 @@ orderSaid W.Broken = none
 unfoldable pub withSign : Bool → ℕ → ℤ
 withSign true size = negative size
 withSign false size = pos size
-
-unfoldable pub levelSaid : Signed → Option ℤ
-levelSaid (S.Level negative size) = some (withSign negative size)
-levelSaid S.Broken = none
 
 -- the last header field, behind m names
 unfoldable pub lastSaid : ℕ → Last → Option Header

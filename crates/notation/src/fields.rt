@@ -103,7 +103,7 @@ pub fn read_end(text: &[u8], at: usize) -> End
     }
 }
 
-// The same for a field with quotes or without: in one with quotes the one that closes it comes first.
+// What stands behind a content: in a field with quotes the one that closes it comes first.
 pub fn content_end(text: &[u8], at: usize, quotes: bool) -> End
     requires { ⌜ at ≤ length (now text) ⌝ }
     ensures { λ r. ⌜ EndRead (now (text .entry)) at quotes r ⌝ }

@@ -1,12 +1,10 @@
 // The forms of a field's content.
-use crate::digits::Number;
 use crate::digits::is_digit;
-use crate::digits::read_number;
 use residue::bytes::same;
 ghost use mathlib.Core.Path.{_≡_};
 ghost use Prim.Native.Nat.{ℕ};
-ghost use Rattle.notation.specs.Forms.{levelOf, orderWord, modulusAndOrder, lastField};
-ghost use Rattle.notation.specs.Said.{leadingOf, LeadingRead, orderSaid, levelSaid, lastSaid};
+ghost use Rattle.notation.specs.Forms.{orderWord, modulusAndOrder, lastField};
+ghost use Rattle.notation.specs.Said.{leadingOf, LeadingRead, orderSaid, lastSaid};
 
 // The number that the digits at the front write, and how many they are.
 pub enum Leading {
@@ -41,35 +39,6 @@ pub fn read_leading(content: &[u8]) -> Leading
         i += 1;
     }
     leading_of(size, i)
-}
-
-pub enum Signed {
-    Level { negative: bool, size: u16 },
-    Broken,
-}
-
-// A level or a value: an optional minus sign and one to three digits.
-pub fn read_level(content: &[u8]) -> Signed
-    ensures { λ r. ⌜ levelSaid r ≡ levelOf (now (content .entry)) ⌝ }
-{
-    if 0 < content.len() {
-        if content[0] == 45 {
-            let Number::Size(size) = read_number(&content[1..]) else {
-                return Signed::Broken;
-            };
-            return Signed::Level {
-                negative: true,
-                size,
-            };
-        }
-    }
-    let Number::Size(size) = read_number(content) else {
-        return Signed::Broken;
-    };
-    Signed::Level {
-        negative: false,
-        size,
-    }
 }
 
 pub enum Word {

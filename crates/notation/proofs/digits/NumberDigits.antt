@@ -1,14 +1,13 @@
--- One to three digits, one after the other.
+-- One to three digits.
 use mathlib.Core.Path.{_≡_, refl, ap, _∙_}
 use mathlib.Core.Bool.{Bool, true, false, _&&_}
 use mathlib.Core.List.{List}
-use mathlib.Core.Option.{some, none}
-use Prim.Native.Nat.{ℕ, zero, suc, _+_, _*_, _-_, _^_, _<_, _≤_}
+use mathlib.Core.Option.{none}
+use Prim.Native.Nat.{ℕ, zero, suc, _+_, _*_, _^_, _<_, _≤_}
 use native.Mathlib.Nat.{pow-suc}
 use native.Mathlib.Numerals.{add-one}
 use native.Mathlib.Omega.{arith}
-use lib.ListN.{length, getD, drop, drop-of-length-le}
-use lib.Seq.{drop-cons}
+use lib.ListN.{length}
 use lib.Dec.{leb}
 use borrow.Author.Tests.{lt-leb, le-leb, leb-true}
 use Rattle.notation.specs.Digits.{isDigit, digitsFrom, decimalNumber}
@@ -30,20 +29,6 @@ both false b h = let z : _≡_ {A = ℕ} 0 1 = cc in absurd (omega arith)
 pub digit-range : (b : ℕ) → isDigit b ≡ true → (48 ≤ b) × (b ≤ 57)
 unfolding isDigit
 digit-range b h = let p = both (leb 48 b) (leb b 57) h in (leb-true 48 b (p .0), leb-true b 57 (p .1))
-
--- digits, one after the other
-module _ (t : List ℕ) (v i : ℕ) where
-  pub digits-end : length t ≤ i → digitsFrom v (drop i t) ≡ some v
-  unfolding digitsFrom
-  digits-end h = rw (drop-of-length-le t h)
-
-  pub digits-stop : i < length t → isDigit (getD t i 0) ≡ false → digitsFrom v (drop i t) ≡ none
-  unfolding digitsFrom
-  digits-stop h e = rw (drop-cons t i 0 h) (simp e)
-
-  pub digits-on : i < length t → isDigit (getD t i 0) ≡ true → digitsFrom (10 * v + (getD t i 0 - 48)) (drop (i + 1) t) ≡ digitsFrom v (drop i t)
-  unfolding digitsFrom
-  digits-on h e = rw (add-one, drop-cons t i 0 h) (simp e)
 
 -- one to three digits
 module _ (t : List ℕ) where

@@ -56,16 +56,15 @@ undoubled-pair : (b c : ℕ) (l : List ℕ) → b ≡ quote → undoubled (b ∷
 unfolding undoubled
 undoubled-pair b c l e = simp (eq-eqb b quote e) (ap (λ (a : ℕ). a ∷ undoubled l) e)
 
--- an unquoted field has no quote, so nothing is undoubled
-plain-other : (b : ℕ) → isPlain b ≡ true → b ≡ quote → ⊥
-unfolding isPlain
-plain-other b h e =
-    let f : false ≡ true = sym (ap isPlain e) ∙ h in
+pub plain-other : (b k : ℕ) → isPlain b ≡ true → isPlain k ≡ false → b ≡ k → ⊥
+plain-other b k h n e =
+    let f : false ≡ true = sym n ∙ sym (ap isPlain e) ∙ h in
     let z : _≡_ {A = ℕ} 0 1 = cc in
     omega arith
 
+-- an unquoted field has no quote, so nothing is undoubled
 undoubled-plain : (l : List ℕ) → undoubled (take (front isPlain l) l) ≡ take (front isPlain l) l
-unfolding front undoubled
+unfolding front undoubled isPlain
 undoubled-plain [] = refl
 undoubled-plain (b ∷ l) = pick (isPlain b) refl (undoubled-plain l)
   where
@@ -74,7 +73,7 @@ undoubled-plain (b ∷ l) = pick (isPlain b) refl (undoubled-plain l)
         → isPlain b ≡ x
         → undoubled (take (front isPlain l) l) ≡ take (front isPlain l) l
         → undoubled (take (cond x (suc (front isPlain l)) 0) (b ∷ l)) ≡ take (cond x (suc (front isPlain l)) 0) (b ∷ l)
-    pick true e h = undoubled-other b (take (front isPlain l) l) (plain-other b e) ∙ ap (λ (r : List ℕ). b ∷ r) h
+    pick true e h = undoubled-other b (take (front isPlain l) l) (plain-other b quote e refl) ∙ ap (λ (r : List ℕ). b ∷ r) h
     pick false e h = refl
 
 pub quoted-closed : (l : List ℕ) → closing l < length l → quoted l ≡ ending (undoubled (take (closing l) l)) (drop (suc (closing l)) l)

@@ -1,20 +1,19 @@
--- A content with a quote has no form, so the forms may be looked for in the bytes between the quotes, undoubled or not.
+-- A content with a quote is no last field of a header, so that field may be looked for in the bytes between the quotes, undoubled or not.
 use mathlib.Core.Path.{_≡_, refl, sym, ap, _∙_, subst}
 use mathlib.Core.Bool.{Bool, true, false, cond, _&&_, _||_}
 use mathlib.Core.List.{List, [], _∷_}
-use mathlib.Core.Option.{Option, some, none, Option·map}
+use mathlib.Core.Option.{Option, some, none}
 use Prim.Native.Nat.{ℕ, zero, suc, _+_, _*_, _-_}
 use native.Mathlib.Omega.{arith}
 use native.Mathlib.Decide.{ℕ-discrete}
-use lib.IntN.{pos}
 use lib.ListN.{length, take, drop}
 use lib.Dec.{T, eqb, leb}
-use borrow.Author.Tests.{ne-eqb, eqb-true}
+use borrow.Author.Tests.{ne-eqb}
 use Rattle.residue.specs.Lists.{sameList}
 use Rattle.residue.proofs.bytes.Equality.{same-is}
 use Rattle.notation.specs.Fields.{quote, front}
 use Rattle.notation.specs.Digits.{isDigit, digitsFrom, decimalNumber}
-use Rattle.notation.specs.Forms.{negative, levelOf, mod-word, lex-word, grlex-word, grevlex-word, orderWord, header, modulusAndOrder, lastField}
+use Rattle.notation.specs.Forms.{mod-word, lex-word, grlex-word, grevlex-word, orderWord, header, modulusAndOrder, lastField}
 use Rattle.notation.specs.Spans.{undoubled}
 
 hasQuote : List ℕ → Bool
@@ -43,14 +42,6 @@ quote-left (b ∷ c ∷ l) = pick (eqb b quote) refl (quote-left (c ∷ l))
         → hasQuote (cond x (b ∷ undoubled l) (b ∷ undoubled (c ∷ l))) ≡ (x || hasQuote (c ∷ l))
     pick true e h = rw e
     pick false e h = rw e h
-
--- what a function that knows no quotes says of the bytes, undoubled or not
-raw : {A : Type 0} (f : List ℕ → Option A) → ((l : List ℕ) → hasQuote l ≡ true → f l ≡ none) → (l : List ℕ) → f (undoubled l) ≡ f l
-raw f h l = pick (hasQuote l) refl
-  where
-    pick : (x : Bool) → hasQuote l ≡ x → f (undoubled l) ≡ f l
-    pick true e = h (undoubled l) (quote-left l ∙ e) ∙ sym (h l e)
-    pick false e = ap f (no-quote l e)
 
 -- a list with a quote is not the same as one without
 differs : (a b : List ℕ) → hasQuote a ≡ true → hasQuote b ≡ false → sameList a b ≡ false
@@ -95,17 +86,6 @@ number-none : (l : List ℕ) → hasQuote l ≡ true → decimalNumber l ≡ non
 unfolding decimalNumber
 number-none l h = either (leb 1 (length l) && leb (length l) 3) (digits-none 0 l h)
 
-level-none : (l : List ℕ) → hasQuote l ≡ true → levelOf l ≡ none
-unfolding levelOf hasQuote
-level-none [] h = refl
-level-none (b ∷ l) h = pick (eqb b 45) refl
-  where
-    pick : (x : Bool) → eqb b 45 ≡ x → cond x (Option·map negative (decimalNumber l)) (Option·map pos (decimalNumber (b ∷ l))) ≡ none
-    pick true e =
-        let n : b ≡ quote → ⊥ = λ q. omega (arith, eqb-true b 45 e) in
-        ap (Option·map negative) (number-none l (rw (ne-eqb b quote n) at h))
-    pick false e = ap (Option·map pos) (number-none (b ∷ l) h)
-
 -- the order word, and the settings
 word-none : (l : List ℕ) → hasQuote l ≡ true → orderWord l ≡ none
 unfolding orderWord hasQuote
@@ -139,8 +119,9 @@ last-none m l h = pick (hasQuote (take 4 l)) refl (sym (quote-apart 4 l) ∙ h)
     pick true e f = rw (differs (take 4 l) mod-word e refl)
     pick false e f = either (sameList (take 4 l) mod-word) (settings-none m (drop 4 l) f)
 
-pub level-raw : (l : List ℕ) → levelOf (undoubled l) ≡ levelOf l
-level-raw = raw levelOf level-none
-
 pub last-raw : (m : ℕ) (l : List ℕ) → lastField m (undoubled l) ≡ lastField m l
-last-raw m = raw (lastField m) (last-none m)
+last-raw m l = pick (hasQuote l) refl
+  where
+    pick : (x : Bool) → hasQuote l ≡ x → lastField m (undoubled l) ≡ lastField m l
+    pick true e = last-none m (undoubled l) (quote-left l ∙ e) ∙ sym (last-none m l e)
+    pick false e = ap (lastField m) (no-quote l e)

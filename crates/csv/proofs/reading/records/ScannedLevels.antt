@@ -19,7 +19,7 @@ use Rattle.csv.specs.reading.Records.{held, reading, fieldFrom, sizeOf, 
 use Rattle.notation.specs.declared.fields.End.{End}
 use Rattle.notation.proofs.digits.NumberDigits.{digit-range}
 use Rattle.notation.proofs.fields.FieldEnds.{chosen, with-ending}
-use Rattle.notation.proofs.fields.FieldSpans.{begins-otherwise}
+use Rattle.notation.proofs.fields.FieldSpans.{plain-other, begins-otherwise}
 use Rattle.notation.proofs.forms.LeadingDigits.{digits}
 
 -- what is said by a field depends on its content alone
@@ -28,11 +28,13 @@ unfolding reading
 alike f g e (field c more rest) = ap (λ (o : Option _). held o more rest) (e c)
 alike f g e broken = refl
 
+-- a field says nothing if its content does
 silent : {A : Type 0} (f : List ℕ → Option A) → ((c : List ℕ) → f c ≡ none) → (x : Field (List ℕ)) → reading f x ≡ broken
 unfolding reading held
 silent f e (field c more rest) = rw (e c) refl
 silent f e broken = refl
 
+-- the same where only the content before this end counts
 ended-alike : {A : Type 0} (f g : List ℕ → Option A) (q : Bool) (c l : List ℕ) → f c ≡ g c → reading f (endingIn q c l) ≡ reading g (endingIn q c l)
 unfolding ending afterCr closed reading
 ended-alike f g false c [] e = rw e refl
@@ -57,15 +59,9 @@ with-ended true b c [] = refl
 with-ended true b c (a ∷ l) = simp (chosen (with b), with-ending b c l)
 
 -- a plain byte is in the content: it ends no field, nor is it a quote
-not-plain : (b k : ℕ) → isPlain b ≡ true → isPlain k ≡ false → b ≡ k → ⊥
-not-plain b k e f z =
-    let g : false ≡ true = sym f ∙ sym (ap isPlain z) ∙ e in
-    let w : _≡_ {A = ℕ} 0 1 = cc in
-    omega arith
-
 no-end : (b : ℕ) (c l : List ℕ) → isPlain b ≡ true → ending c (b ∷ l) ≡ broken
 unfolding isPlain ending
-no-end b c l e = simp (ne-eqb b comma (not-plain b comma e refl), ne-eqb b lf (not-plain b lf e refl), ne-eqb b cr (not-plain b cr e refl))
+no-end b c l e = simp (ne-eqb b comma (plain-other b comma e refl), ne-eqb b lf (plain-other b lf e refl), ne-eqb b cr (plain-other b cr e refl))
 
 unquoted-more : (b : ℕ) (l : List ℕ) → isPlain b ≡ true → unquoted (b ∷ l) ≡ with b (unquoted l)
 unfolding unquoted front
@@ -78,7 +74,7 @@ quoted-more b (c ∷ l) n = simp (ne-eqb b quote n)
 
 plain-more : (q : Bool) (b : ℕ) (l : List ℕ) → isPlain b ≡ true → fieldFrom q (b ∷ l) ≡ with b (fieldFrom q l)
 unfolding isPlain
-plain-more true b l e = quoted-more b l (not-plain b quote e refl)
+plain-more true b l e = quoted-more b l (plain-other b quote e refl)
 plain-more false b l e = unquoted-more b l e
 
 -- a field from its content on: the first byte is in the content, or the content is empty
@@ -181,6 +177,7 @@ unfolding sizeField sizeOf levelOf withSign isPlain
 minus q b l e =
     sym (with-said levelOf 45 (fieldFrom q l)) ∙ ap (reading levelOf) (sym (plain-more q 45 l refl)) ∙ ap (λ (a : ℕ). reading levelOf (fieldFrom q (a ∷ l))) (sym e)
 
+-- a content that does not begin with a minus sign, and an empty one
 unsigned : (b : ℕ) (c : List ℕ) → (b ≡ 45 → ⊥) → sizeOf false (b ∷ c) ≡ levelOf (b ∷ c)
 unfolding sizeOf levelOf withSign
 unsigned b c n = simp (ne-eqb b 45 n)

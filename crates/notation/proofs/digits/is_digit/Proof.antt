@@ -1,4 +1,4 @@
--- `forms::is_digit` meets its contract.
+-- `digits::is_digit` meets its contract.
 use borrow.Author.Tests.{le-leb, lt-leb}
 use Rattle.notation.specs.Digits.{isDigit}
 use Rattle.notation.proofs.digits.is_digit.Statement.{statement}
