@@ -1,14 +1,13 @@
--- The first place of a fault: one entry more, the entry at fault, those behind a front without one, and that a place is at most the length.
+-- The first place of a fault: one entry more, the entry at fault, and that a place is at most the length.
 use mathlib.Core.Path.{_≡_, refl, sym, ap, _∙_}
 use mathlib.Core.Bool.{Bool, true, false, not, cond}
 use mathlib.Core.List.{List, [], _∷_, _++_, append-assoc, append-nil}
-use Prim.Native.Nat.{ℕ, zero, suc, _+_, _≤_}
+use Prim.Native.Nat.{ℕ, zero, suc, _≤_}
 use native.Mathlib.Omega.{arith}
 use lib.ListN.{length}
 use lib.Dec.{eqb·suc-zero}
-use borrow.Author.Tests.{ne-eqb}
 use Rattle.csv.specs.reading.Text.{further, firstFault, firstAfter}
-use Rattle.csv.specs.reading.Points.{earlierPlace, placeAfter}
+use Rattle.csv.specs.reading.Points.{earlierPlace}
 
 further-some : (k : ℕ) → further (suc k) ≡ suc (suc k)
 unfolding further
@@ -38,17 +37,6 @@ unfolding earlierPlace
 none-found zero true n h = (refl, refl)
 none-found zero false n h = absurd (omega arith)
 none-found (suc k) b n h = let z = rw (eqb·suc-zero k) at h in absurd (omega arith)
-
--- a place behind n others, and behind one more
-after-none : (k : ℕ) → placeAfter 0 k ≡ k
-unfolding placeAfter
-after-none zero = refl
-after-none (suc k) = rw (eqb·suc-zero k) (omega arith)
-
-after-further : (n k : ℕ) → further (placeAfter n k) ≡ placeAfter (suc n) k
-unfolding further placeAfter
-after-further n zero = refl
-after-further n (suc k) = rw (eqb·suc-zero k, ne-eqb (n + suc k) 0 (λ z. omega (arith, z))) (omega arith)
 
 module _ {A : Type 0} (f : List A → A → Bool) where
   pub after-more : (seen l : List A) (a : A) → firstAfter f seen (l ++ (a ∷ [])) ≡ earlierPlace (firstAfter f seen l) (not (f (seen ++ l) a)) (suc (length l))
@@ -94,11 +82,3 @@ fault-after f seen (a ∷ l) = ap (λ (k : ℕ). cond (f a) 1 (further k)) (faul
 
 pub fault-le : {A : Type 0} (f : A → Bool) (l : List A) → firstFault f l ≤ length l
 fault-le f l = rw (fault-after f [] l) (after-le (λ s a. f a) [] l)
-
--- where the front of a list has no fault, the first is the first of those behind it
-pub fault-behind : {A : Type 0} (f : A → Bool) (l rest : List A) → firstFault f l ≡ 0 → firstFault f (l ++ rest) ≡ placeAfter (length l) (firstFault f rest)
-unfolding firstFault
-fault-behind f [] rest z = sym (after-none (firstFault f rest))
-fault-behind f (a ∷ l) rest z =
-    let s = fault-step (f a) (firstFault f l) z in
-    rw (s .0) (ap further (fault-behind f l rest (s .1)) ∙ after-further (length l) (firstFault f rest))

@@ -3,7 +3,7 @@ use mathlib.Core.Path.{_≡_}
 use mathlib.Core.Bool.{Bool, cond}
 use mathlib.Core.List.{List, [], _++_, map}
 use mathlib.Core.Option.{Option·getD}
-use Prim.Native.Nat.{ℕ, _+_, _≤_}
+use Prim.Native.Nat.{ℕ, _≤_}
 use lib.IntN.{ℤ, pos}
 use lib.ListN.{length, drop}
 use lib.Dec.{eqb}
@@ -75,10 +75,6 @@ entriesOutcome p m order l states values counts = let said = saying p m order l 
 -- the first place found, or this one if it has a fault
 unfoldable pub earlierPlace : ℕ → Bool → ℕ → ℕ
 earlierPlace found inside place = cond (eqb found 0) (cond inside 0 place) found
-
--- a place, from 1, behind n others; 0, for no place, stays
-unfoldable pub placeAfter : ℕ → ℕ → ℕ
-placeAfter n k = cond (eqb k 0) 0 (n + k)
 
 -- the distinct points of entries in three tables, with their counts and their first values
 pub record EntriesTabled (l : List Valued) (points counts values : List ℕ) : Type 0 where

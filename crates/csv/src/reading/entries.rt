@@ -11,10 +11,9 @@ ghost use Rattle.residue.specs.Level.{residueOf};
 ghost use Rattle.residue.specs.Layout.{over};
 ghost use Rattle.notation.specs.Fields.{broken, faulty};
 ghost use Rattle.notation.specs.Said.{withSign};
-ghost use Rattle.csv.specs.reading.Text.{entryPoint, isOutside, firstFault};
-ghost use Rattle.csv.specs.reading.Records.{levelField, entryPart, entriesAt, countedEntries};
-ghost use Rattle.csv.specs.reading.Points.{PlacedAs, levelsIn, FilledAs, levelsAt};
-ghost use Rattle.csv.specs.declared.reading.records.Entries.the-variants.{Count};
+ghost use Rattle.csv.specs.reading.Text.{entryPoint};
+ghost use Rattle.csv.specs.reading.Records.{levelField, entryPart};
+ghost use Rattle.csv.specs.reading.Points.{PlacedAs, levelsIn, FilledAs};
 
 // The residue of a level by its sign and size. A size that fits no signed byte is out of range like any other.
 fn residue_of(p: u8, negative: bool, size: u16) -> Level
@@ -107,22 +106,4 @@ pub fn fill_entry(text: &[u8], at: usize, p: u8, variables: usize, row: &mut [u8
         value: last.residue,
         next: last.next,
     }
-}
-
-// The place, from 1, of the first of the n entries from `at` on that is out of range, or 0.
-pub fn first_outside(text: &[u8], at: usize, p: u8, variables: usize, n: usize) -> usize
-    requires { ⌜ (at ≤ length (now text)) × (variables ≤ 8) × (p ≤ 128) ⌝ }
-    requires { ⌜ countedEntries 0 (entriesAt variables (drop at (now text))) ≡ Count n ⌝ }
-    ensures { λ r. ⌜ r ≡ firstFault (isOutside p) (levelsAt variables (drop at (now (text .entry)))) ⌝ }
-{
-    let mut from = at;
-    for i in 0..n {
-        let mut row = [0u8; 8];
-        let entry = fill_entry(text, from, p, variables, &mut row);
-        if !entry.inside {
-            return i + 1;
-        }
-        from = entry.next;
-    }
-    0
 }

@@ -1,6 +1,5 @@
 // The distinct points of a text, with their counts and the values of their first records.
 use crate::reading::entries::fill_entry;
-use crate::reading::entries::first_outside;
 use points::gathering::enter;
 ghost use mathlib.Core.Path.{_≡_};
 ghost use mathlib.Core.Bool.{cond, _||_};
@@ -12,7 +11,7 @@ ghost use Rattle.residue.specs.Layout.{fill};
 ghost use Rattle.specification.specs.Refusal.{firstOf};
 ghost use Rattle.csv.specs.reading.Text.{notRefused, entryCase};
 ghost use Rattle.csv.specs.reading.Records.{entriesAt, countedEntries};
-ghost use Rattle.csv.specs.reading.Points.{levelsAt, earlierPlace, placeAfter, answered, GatheredAs};
+ghost use Rattle.csv.specs.reading.Points.{levelsAt, earlierPlace, answered, GatheredAs};
 ghost use Rattle.csv.specs.declared.reading.records.Entries.the-variants.{Count};
 
 // The number of points, and whether the value is the one that is kept with its point.
@@ -73,22 +72,14 @@ fn refused_at(refusal: u8, place: usize) -> Gathered
     }
 }
 
-// A point at this place has no room: 9 at the first entry out of range behind it, by its place there, before 8 at its own record.
-fn no_room(place: usize, behind: usize) -> Gathered
-    requires { ⌜ (0 < place) × (place + behind ≤ 16384) ⌝ }
-    ensures { λ r. ⌜ r ≡ answered (firstOf notRefused (entryCase 9 (placeAfter place behind) ∷ entryCase 8 place ∷ [])) 0 ⌝ }
+// 8 before 13 before 14, by the places from 1 at which they were met; 0 where one was not.
+fn decided(n: usize, full: usize, often: usize, other: usize) -> Gathered
+    requires { ⌜ (n ≤ 64) × (full ≤ 16384) × (often ≤ 16384) × (other ≤ 16384) ⌝ }
+    ensures { λ r. ⌜ r ≡ answered (firstOf notRefused (entryCase 8 full ∷ entryCase 13 often ∷ entryCase 14 other ∷ [])) n ⌝ }
 {
-    if behind != 0 {
-        return refused_at(9, place + behind);
+    if full != 0 {
+        return refused_at(8, full);
     }
-    refused_at(8, place)
-}
-
-// 13 before 14, by the places from 1 at which they were met; 0 where one was not.
-fn decided(n: usize, often: usize, other: usize) -> Gathered
-    requires { ⌜ (n ≤ 64) × (often ≤ 16384) × (other ≤ 16384) ⌝ }
-    ensures { λ r. ⌜ r ≡ answered (firstOf notRefused (entryCase 13 often ∷ entryCase 14 other ∷ [])) n ⌝ }
-{
     if often != 0 {
         return refused_at(13, often);
     }
@@ -103,7 +94,8 @@ fn decided(n: usize, often: usize, other: usize) -> Gathered
 }
 
 // The distinct points of the entries from `at` on, in tables of zeros, with their counts and first values, or the refusal that comes first.
-// The entries are read once: 9 anywhere in them comes before 8, 13 and 14, so those wait until all have been seen to be in range.
+// The entries are read once: 9 anywhere in them comes before 8, 13 and 14, so those wait until all have been seen to be in range. Behind the 65th point nothing
+// is entered any more.
 pub fn gather_entries(
     text: &[u8],
     at: usize,
@@ -123,6 +115,7 @@ pub fn gather_entries(
     let mut hints = [0u8; 233];
     let mut from = at;
     let mut n = 0;
+    let mut full = 0;
     let mut often = 0;
     let mut other = 0;
     for i in 0..entries {
@@ -131,16 +124,19 @@ pub fn gather_entries(
         if !entry.inside {
             return refused_at(9, i + 1);
         }
+        from = entry.next;
+        if full != 0 {
+            continue;
+        }
         let met = enter(n, points, counts, &mut hints, &point);
         if met.at == 64 {
-            let behind = first_outside(text, entry.next, p, variables, entries - i - 1);
-            return no_room(i + 1, behind);
+            full = i + 1;
+            continue;
         }
         let kept = keep_value(n, met.at, values, entry.value);
         often = first_place(often, !met.over, i + 1);
         other = first_place(other, kept.same, i + 1);
         n = kept.n;
-        from = entry.next;
     }
-    decided(n, often, other)
+    decided(n, full, often, other)
 }

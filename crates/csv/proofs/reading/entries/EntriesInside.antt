@@ -1,20 +1,20 @@
 -- The first entry out of range, looked for one by one.
-use mathlib.Core.Path.{_≡_, refl, sym, ap, ap₂, _∙_}
+use mathlib.Core.Path.{_≡_, refl, sym, ap, _∙_}
 use mathlib.Core.Bool.{true, false, not}
 use mathlib.Core.List.{List, [], _∷_, _++_}
 use Prim.Native.Nat.{ℕ, suc, _+_, _<_, _≤_}
 use native.Mathlib.Numerals.{add-one}
 use native.Mathlib.Omega.{arith}
 use lib.IntN.{ℤ}
-use lib.ListN.{length, take, drop, length-drop, take-append-drop}
+use lib.ListN.{length, take, drop, take-append-drop}
 use lib.Seq.{length-take-le}
 use Rattle.specification.specs.Levels.{inRange}
 use Rattle.csv.specs.reading.Text.{firstFault, isOutside}
 use Rattle.csv.specs.reading.Records.{entryPart}
-use Rattle.csv.specs.reading.Points.{FilledAs, earlierPlace, placeAfter, levelsAt}
+use Rattle.csv.specs.reading.Points.{FilledAs, earlierPlace}
 use Rattle.csv.specs.declared.reading.entries.Filled.{Filled}
-use Rattle.csv.proofs.reading.FirstPlaces.{after-more, after-found, fault-after, fault-behind, fault-le}
-use Rattle.csv.proofs.reading.entries.EntriesRead.{ReadOn, next, here, levels, one-more, all-read, levels-left}
+use Rattle.csv.proofs.reading.FirstPlaces.{after-more, after-found, fault-after}
+use Rattle.csv.proofs.reading.entries.EntriesRead.{ReadOn, next, here, levels, one-more, all-read}
 
 module _ (p : ℕ) {m n : ℕ} {t : List ℕ} (S : List (List ℤ)) {from i : ℕ} (g : ReadOn m n t S from i) where
   -- no entry before the ith is outside
@@ -45,13 +45,3 @@ module _ (p : ℕ) {m n : ℕ} {t : List ℕ} (S : List (List ℤ)) {from i : �
 
   pub all-inside : n ≤ i → None i → 0 ≡ firstFault (isOutside p) S
   all-inside h z = sym z ∙ ap (firstFault (isOutside p)) (all-read S g h)
-
-  -- the first of those that are left is the first of all
-  module _ {k : ℕ} (e : k ≡ firstFault (isOutside p) (levelsAt m (drop from t))) where
-    pub outside-left : None i → placeAfter i k ≡ firstFault (isOutside p) S
-    outside-left z =
-        ap₂ placeAfter (sym (length-take-le i S (omega (arith, g .bound, g .count)))) (e ∙ ap (firstFault (isOutside p)) (levels-left S g))
-        ∙ sym (fault-behind (isOutside p) (take i S) (drop i S) z) ∙ ap (firstFault (isOutside p)) (take-append-drop i S)
-
-    pub left-within : i + k ≤ n
-    left-within = omega (arith, e, fault-le (isOutside p) (levelsAt m (drop from t)), ap length (levels-left S g), length-drop i S, g .bound, g .count)

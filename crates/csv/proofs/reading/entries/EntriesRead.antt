@@ -6,7 +6,7 @@ use Prim.Native.Nat.{ℕ, suc, _+_, _<_, _≤_}
 use native.Mathlib.Numerals.{add-one}
 use native.Mathlib.Omega.{arith}
 use lib.IntN.{ℤ}
-use lib.ListN.{length, getD, take, drop, length-map, length-drop}
+use lib.ListN.{length, getD, take, drop, length-map}
 use lib.Seq.{take-suc, drop-cons, take-all}
 use Rattle.specification.proofs.ideal.Lists.{getD-among}
 use Rattle.notation.specs.Fields.{Part, part, faulty, recordsFrom, recordsOf}
@@ -25,16 +25,6 @@ all-entries k n (none ∷ es) e = let z : _≡_ {A = ℕ} 0 1 = cc in absurd (om
 all-entries k n (some zs ∷ es) e =
     let h = all-entries (suc k) n es e in
     (ap (λ (l : List (Option (List ℤ))). some zs ∷ l) (h .0), omega (arith, h .1))
-
--- entries, and how many they are
-some-levels : (l : List (List ℤ)) → map (λ e. Option·getD e []) (map some l) ≡ l
-some-levels [] = refl
-some-levels (zs ∷ l) = ap (λ (x : List (List ℤ)). zs ∷ x) (some-levels l)
-
-some-counted : (k : ℕ) (l : List (List ℤ)) → countedEntries k (map some l) ≡ N.Count (k + length l)
-unfolding countedEntries
-some-counted k [] = ap N.Count (omega arith)
-some-counted k (zs ∷ l) = some-counted (suc k) l ∙ ap N.Count (omega arith)
 
 some-bytes : (m : ℕ) (l : List ℕ) (zs : List ℤ) (tl : List (Option (List ℤ))) → entriesAt m l ≡ some zs ∷ tl → 0 < length l
 unfolding entriesAt recordsOf recordsFrom
@@ -118,11 +108,3 @@ module _ {m n : ℕ} {t : List ℕ} (S : List (List ℤ)) {from i : ℕ} (g : Re
 
   pub all-read : n ≤ i → take i S ≡ S
   all-read h = take-all i S (omega (arith, g .count))
-
-  -- those that are left
-  pub levels-left : levelsAt m (drop from t) ≡ drop i S
-  unfolding levelsAt
-  levels-left = ap (map (λ e. Option·getD e [])) (g .left) ∙ some-levels (drop i S)
-
-  pub count-left : (k : ℕ) → n ≡ i + k → countedEntries 0 (entriesAt m (drop from t)) ≡ N.Count k
-  count-left k e = ap (countedEntries 0) (g .left) ∙ some-counted 0 (drop i S) ∙ ap N.Count (omega (arith, length-drop i S, g .count, e))

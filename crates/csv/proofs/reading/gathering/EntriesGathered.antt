@@ -85,9 +85,9 @@ module _ {m : ℕ} (fits : m ≤ 8) (E : List Valued) {n often other : ℕ} {poi
   more = counted-more E q
 
   -- The 65th point: 8, at this entry.
-  pub full : (rest : List Valued) → at ≡ 64 → suc (length E) ≡ firstAfter tooMany [] (E ++ (q ∷ rest))
+  pub full-here : (rest : List Valued) → at ≡ 64 → suc (length E) ≡ firstAfter tooMany [] (E ++ (q ∷ rest))
   unfolding tooMany
-  full rest z =
+  full-here rest z =
       let new : isAmong P S ≡ false = is-new (g .holds) fits P lp e (omega (arith, z, at-most, g .holds .few)) in
       let l : length (gatheredPoints (E ++ (q ∷ []))) ≡ suc (length (gatheredPoints E)) = ap length (more ∙ entered-new P (gatheredPoints E) new) ∙ length-append (gatheredPoints E) ((P, 1) ∷ []) ∙ omega arith in
       after-found tooMany [] E q rest (never-many [] E (omega (arith, g .holds .count, g .holds .few)))

@@ -14,7 +14,7 @@ refused-at-requires c κs = search needs
 
 returns : tie.Need-returns
 unfolding answered
-returns c = c .refused-at .ensures ∙ ap (λ (x : Refusal). answered x (c .before .before .args .n)) (place-refuses 13 _ _ (c .before .if1 .taken))
+returns c = c .refused-at .ensures ∙ ap (λ (x : Refusal). answered x (c .before .before .args .n)) (place-refuses 8 _ _ (c .before .if1 .taken))
 
 refused-at-requires-2 : tie.Need-refused-at-requires-2
 refused-at-requires-2 c κs = search needs
@@ -23,14 +23,34 @@ returns-2 : tie.Need-returns-2
 unfolding answered
 returns-2 c =
     c .refused-at2 .ensures
-    ∙ ap (λ (x : Refusal). answered x (c .before .before .before .args .n)) (place-refuses 14 _ _ (c .before .if2 .taken) ∙ sym (place-passes 13 _ _ (c .before .before .if1 .left)))
+    ∙ ap (λ (x : Refusal). answered x (c .before .before .before .args .n)) (place-refuses 13 _ _ (c .before .if2 .taken) ∙ sym (place-passes 8 _ _ (c .before .before .if1 .left)))
 
-cast-t5 : tie.Need-cast-t5
-cast-t5 c = search needs
+refused-at-requires-3 : tie.Need-refused-at-requires-3
+refused-at-requires-3 c κs = search needs
 
 returns-3 : tie.Need-returns-3
+unfolding answered
+returns-3 c =
+    c .refused-at3 .ensures
+    ∙ ap (λ (x : Refusal). answered x (c .before .before .before .before .args .n))
+    (place-refuses 14 _ _ (c .before .if3 .taken) ∙ sym (place-passes 8 _ _ (c .before .before .before .if1 .left) ∙ place-passes 13 _ _ (c .before .before .if2 .left)))
+
+cast-t6 : tie.Need-cast-t6
+cast-t6 c = search needs
+
+returns-4 : tie.Need-returns-4
 unfolding firstOf answered
-returns-3 c = simp (eq-eqb _ 0 (c .before .if1 .left), eq-eqb _ 0 (c .if2 .left))
+returns-4 c = simp (eq-eqb _ 0 (c .before .before .if1 .left), eq-eqb _ 0 (c .before .if2 .left), eq-eqb _ 0 (c .if3 .left))
 
 pub decided-spec : {M : Type 1} → statement M
-decided-spec = tie.close (tie.spec refused-at-requires returns refused-at-requires-2 returns-2 cast-t5 returns-3)
+decided-spec =
+    tie.close
+    (tie.spec
+    refused-at-requires
+    returns
+    refused-at-requires-2
+    returns-2
+    refused-at-requires-3
+    returns-3
+    cast-t6
+    returns-4)

@@ -1,4 +1,5 @@
--- `gathering::gather_entries` meets its contract. The first i entries are in range and gathered; those behind them are to be read from `from` on.
+-- `gathering::gather_entries` meets its contract. The first i entries are in range, and gathered up to the 65th point; those behind them are to be read from
+-- `from` on.
 use mathlib.Core.Path.{_≡_, refl, sym, ap, _∙_}
 use mathlib.Core.List.{List, []}
 use Prim.Native.Nat.{ℕ, _+_, _-_, _^_, _<_, _≤_}
@@ -7,15 +8,13 @@ use lib.IntN.{ℤ}
 use lib.ListN.{length, take, drop}
 use borrow.Author.Tests.{not-true, not-false}
 use Rattle.residue.proofs.Layouts.{length-fill}
-use Rattle.points.specs.Gathering.{Hinted}
 use Rattle.points.proofs.gathering.Gathering.{holds-sizes}
-use Rattle.points.proofs.gathering.Hints.{hinted-none, hinted-turn}
 use Rattle.csv.specs.reading.Text.{firstFault, isOutside}
 use Rattle.csv.specs.reading.Points.{levelsAt}
-use Rattle.csv.proofs.reading.entries.EntriesRead.{ReadOn, begun, entry-there, read-on, count-left}
-use Rattle.csv.proofs.reading.entries.EntriesInside.{inside-on, outside-here, all-inside, outside-left, left-within}
-use Rattle.csv.proofs.reading.gathering.EntriesGathered.{Gathering, no-entries, once-there, values-long}
-use Rattle.csv.proofs.reading.gathering.AllGathered.{first, outside-refused, full-here, place-below, next-turn, all-gathered, most-within}
+use Rattle.csv.proofs.reading.entries.EntriesRead.{ReadOn, begun, entry-there, read-on}
+use Rattle.csv.proofs.reading.entries.EntriesInside.{inside-on, outside-here, all-inside}
+use Rattle.csv.proofs.reading.gathering.EntriesGathered.{Gathering, once-there, values-long}
+use Rattle.csv.proofs.reading.gathering.AllGathered.{first, outside-refused, Turned, none-turned, going, turned-full, full-turn, place-below, next-turn, all-gathered, places-within}
 use Rattle.csv.proofs.reading.gathering.gather_entries.Statement.{statement}
 use Rattle.csv.proofs.reading.gathering.gather_entries.Tie as tie
 
@@ -26,22 +25,18 @@ lt-le h k = omega (arith, h, k)
 next-le : {a b : ℕ} → a < b → a + 1 ≤ b
 next-le h = omega (arith, h)
 
-left-number : {i n : ℕ} → i < n → n ≡ (i + 1) + (n - i - 1)
-left-number h = omega (arith, h)
-
 fits-64 : {a : ℕ} → a < 16384 → a + 1 < 2 ^ 64
 fits-64 h = omega (arith, h)
 
 abbrev Inv-loop : tie.InvT-loop
-Inv-loop text at p variables entries points₀ counts₀ values₀ hints₀ from₀ n₀ often₀ other₀ i₀ points counts values hints from n often other i =
+Inv-loop text at p variables entries points₀ counts₀ values₀ hints₀ from₀ n₀ full₀ often₀ other₀ i₀ points counts values hints from n full often other i =
     let S = levelsAt variables (drop at text) in
-    ReadOn variables entries text S from i × Gathering variables (first p variables S i) n often other points counts values × (firstFault (isOutside p) (take i S) ≡ 0) × Hinted n points hints
+    ReadOn variables entries text S from i × Turned p variables S i n full often other points counts values hints × (firstFault (isOutside p) (take i S) ≡ 0)
 
 abbrev μ-loop : tie.MeasureT-loop
-μ-loop text at p variables entries points₀ counts₀ values₀ hints₀ from₀ n₀ often₀ other₀ i₀ points counts values hints from n often other i = entries - i
+μ-loop text at p variables entries points₀ counts₀ values₀ hints₀ from₀ n₀ full₀ often₀ other₀ i₀ points counts values hints from n full often other i = entries - i
 
--- The places: the loop, an entry that was read in it, one that is in range, its point entered, whether there was room, and its value kept.
--- Each names the one before it.
+-- The places: the loop, an entry that was read in it, one that is in range, its point entered, and its value kept. Each names the one before it.
 abbrev L : Type 0
 L = tie.At-loop Inv-loop μ-loop
 
@@ -60,14 +55,20 @@ turn f = f .before .before .before
 abbrev looked : tie.After-struct-known Inv-loop μ-loop → F
 looked k = k .before .before
 
+abbrev W : Type 0
+W = tie.Else1 Inv-loop μ-loop
+
+abbrev read : W → F
+read w = looked (w .before)
+
 abbrev N : Type 0
 N = tie.After-enter Inv-loop μ-loop
 
-abbrev within : N → tie.Else1 Inv-loop μ-loop
-within e = e .before .before .before .before .before
+abbrev not-full : N → tie.Else2 Inv-loop μ-loop
+not-full e = e .before .before .before .before .before
 
-abbrev read : N → F
-read e = looked (within e .before)
+abbrev within : N → W
+within e = not-full e .before
 
 abbrev entered : tie.After-struct-known2 Inv-loop μ-loop → N
 entered k = k .before .before .before .before .before .before
@@ -75,11 +76,11 @@ entered k = k .before .before .before .before .before .before
 abbrev kept : tie.After-struct-known3 Inv-loop μ-loop → tie.After-keep-value Inv-loop μ-loop
 kept c = c .before .before .before
 
-abbrev had-room : tie.After-keep-value Inv-loop μ-loop → tie.Else2 Inv-loop μ-loop
+abbrev had-room : tie.After-keep-value Inv-loop μ-loop → tie.Else3 Inv-loop μ-loop
 had-room k = k .before .before
 
 abbrev read-then : tie.After-struct-known3 Inv-loop μ-loop → F
-read-then c = read (entered (had-room (kept c) .before))
+read-then c = read (within (entered (had-room (kept c) .before)))
 
 -- an entry that was read: its place is small, and where the reading goes on
 module _ (f : F) where
@@ -93,17 +94,22 @@ module _ (f : F) where
   on = read-on (entries (turn f)) (turn f .loop .inv .0) taken (f .fill-entry .ensures .0)
 
 -- it is in range, like those before it
-none-outside : (e : N) → firstFault (isOutside (start (turn (read e)) .args .p)) (take (turn (read e) .loop .i + 1) (entries (turn (read e)))) ≡ 0
-none-outside e =
-    let f = read e in
+none-outside : (w : W) → firstFault (isOutside (start (turn (read w)) .args .p)) (take (turn (read w) .loop .i + 1) (entries (turn (read w)))) ≡ 0
+none-outside w =
+    let f = read w in
     let l = turn f in
-    inside-on _ (entries l) (l .loop .inv .0) (taken f) (l .loop .inv .2) (f .fill-entry .ensures .0) (not-false _ (within e .if1 .left))
+    inside-on _ (entries l) (l .loop .inv .0) (taken f) (l .loop .inv .2) (f .fill-entry .ensures .0) (not-false _ (w .if1 .left))
+
+-- what is gathered before it is entered
+gathering : (c : tie.Else2 Inv-loop μ-loop)
+    → let l = turn (read (c .before)) in Gathering (start l .args .variables) (first (start l .args .p) (start l .args .variables) (entries l) (l .loop .i)) (l .loop .n) (l .loop .often) (l .loop .other) (l .loop .points) (l .loop .counts) (l .loop .values)
+gathering c = let l = turn (read (c .before)) in going _ _ (entries l) (l .loop .inv .1) (c .if2 .left)
 
 loop-holds : tie.Need-loop-holds Inv-loop μ-loop
 unfolding firstFault
 loop-holds c =
     let s = c .before .before .before .before in
-    (begun _ _ _ _ (s .pre .0 .0) (s .pre .1 .0), no-entries _ (s .pre .1 .1 .0) (s .pre .1 .1 .1) (s .pre .1 .1 .2), refl, hinted-none (s .args .points .now))
+    (begun _ _ _ _ (s .pre .0 .0) (s .pre .1 .0), none-turned _ _ _ (s .pre .1 .1 .0) (s .pre .1 .1 .1) (s .pre .1 .1 .2), refl)
 
 slice-aggregate-fill-entry : tie.Need-slice-aggregate-fill-entry Inv-loop μ-loop
 slice-aggregate-fill-entry c = refl
@@ -122,13 +128,13 @@ refused-at-requires c κs = next-le (place-small (looked (c .before)))
 -- The lent tables keep their lengths.
 module _ (l : L) where
   same-points : length (l .loop .points) ≡ length (start l .args .points .now)
-  same-points = holds-sizes (l .loop .inv .1 .holds) .0 ∙ sym (ap length (start l .pre .1 .1 .0) ∙ length-fill 512 [])
+  same-points = holds-sizes (l .loop .inv .1 .gathering .holds) .0 ∙ sym (ap length (start l .pre .1 .1 .0) ∙ length-fill 512 [])
 
   same-counts : length (l .loop .counts) ≡ length (start l .args .counts .now)
-  same-counts = holds-sizes (l .loop .inv .1 .holds) .1 ∙ sym (ap length (start l .pre .1 .1 .1) ∙ length-fill 64 [])
+  same-counts = holds-sizes (l .loop .inv .1 .gathering .holds) .1 ∙ sym (ap length (start l .pre .1 .1 .1) ∙ length-fill 64 [])
 
   same-values : length (l .loop .values) ≡ length (start l .args .values .now)
-  same-values = values-long (l .loop .inv .1) ∙ sym (ap length (start l .pre .1 .1 .2) ∙ length-fill 64 [])
+  same-values = values-long (l .loop .inv .1 .gathering) ∙ sym (ap length (start l .pre .1 .1 .2) ∙ length-fill 64 [])
 
 same-length : tie.Need-same-length Inv-loop μ-loop
 same-length c = same-points (turn (looked (c .before .before)))
@@ -146,64 +152,63 @@ returns c =
     outside-refused _ _ (entries l) (omega arith) (outside-here _ (entries l) (l .loop .inv .0) (taken f) (l .loop .inv .2) (f .fill-entry .ensures .0) (not-true _ (c .before .if1 .taken)))
     _ (c .refused-at .ensures) _ _ _
 
+-- Behind the 65th point.
+add-i : tie.Need-add-i Inv-loop μ-loop
+add-i c = record { fits = fits-64 (place-small (read (c .before))) }
+
+loop-less : tie.Need-loop-less Inv-loop μ-loop
+loop-less c = omega arith
+
+loop-again : tie.Need-loop-again Inv-loop μ-loop
+loop-again c =
+    let f = read (c .before) in
+    let l = turn f in
+    (on f, turned-full _ _ (entries l) (l .loop .inv .1) (c .if2 .taken), none-outside (c .before))
+
 slice-aggregate-enter : tie.Need-slice-aggregate-enter Inv-loop μ-loop
-slice-aggregate-enter c = sym (turn (looked (c .before .before .before .before)) .loop .inv .3 .long)
+slice-aggregate-enter c =
+    let d = c .before .before .before in
+    sym (turn (read (d .before)) .loop .inv .1 .hinted (d .if2 .left) .long)
 
 slice-aggregate-enter-2 : tie.Need-slice-aggregate-enter-2 Inv-loop μ-loop
-slice-aggregate-enter-2 c = sym (looked (c .before .before .before .before .before) .fill-entry .kept .1 .1 .1 .1 .0)
+slice-aggregate-enter-2 c = sym (read (c .before .before .before .before .before) .fill-entry .kept .1 .1 .1 .1 .0)
 
 enter-requires : tie.Need-enter-requires Inv-loop μ-loop
 enter-requires c κs =
-    let f = looked (c .before .before .before .before .before) in
+    let d = c .before .before .before .before in
+    let f = read (d .before) in
     let l = turn f in
-    let g = l .loop .inv .1 in
-    (g .holds .few, ((holds-sizes (g .holds) .0, holds-sizes (g .holds) .1, f .fill-entry .kept .1 .1 .1 .1 .0), (once-there g (start l .pre .0 .1), l .loop .inv .3)))
+    let g = gathering d in
+    (g .holds .few, ((holds-sizes (g .holds) .0, holds-sizes (g .holds) .1, f .fill-entry .kept .1 .1 .1 .1 .0), (once-there g (start l .pre .0 .1), l .loop .inv .1 .hinted (d .if2 .left))))
 
-sub-first-outside : tie.Need-sub-first-outside Inv-loop μ-loop
-sub-first-outside c = let h = taken (read (entered (c .before))) in omega arith
+-- The 65th point.
+add-full : tie.Need-add-full Inv-loop μ-loop
+add-full c = record { fits = fits-64 (place-small (read (within (entered (c .before))))) }
 
-sub-first-outside-2 : tie.Need-sub-first-outside-2 Inv-loop μ-loop
-sub-first-outside-2 c = let h = taken (read (entered (c .before))) in omega arith
+add-i-2 : tie.Need-add-i-2 Inv-loop μ-loop
+add-i-2 c = record { fits = fits-64 (place-small (read (within (entered (c .before))))) }
 
-first-outside-requires : tie.Need-first-outside-requires Inv-loop μ-loop
-first-outside-requires c κs =
-    let f = read (entered (c .before)) in
-    let s = start (turn f) in
-    ((on f .within, s .pre .0 .1, s .pre .0 .3), count-left (entries (turn f)) (on f) _ (left-number (taken f)))
+loop-less-2 : tie.Need-loop-less-2 Inv-loop μ-loop
+loop-less-2 c = omega arith
 
-add-no-room : tie.Need-add-no-room Inv-loop μ-loop
-add-no-room c = record { fits = fits-64 (place-small (read (entered (c .before .before)))) }
+loop-again-2 : tie.Need-loop-again-2 Inv-loop μ-loop
+loop-again-2 c =
+    let e = entered (c .before) in
+    let f = read (within e) in
+    let l = turn f in (
+      on f,
+      full-turn _ _ (entries l) (l .loop .inv .0) (start l .pre .0 .1) (taken f) (gathering (not-full e)) (f .fill-entry .ensures .0) (f .fill-entry .ensures .1) (e .enter .ensures) (c .if3 .taken),
+      none-outside (within e),
+    )
 
-no-room-requires : tie.Need-no-room-requires Inv-loop μ-loop
-no-room-requires c κs =
-    let f = read (entered (c .before .before)) in
-    let h = left-within _ (entries (turn f)) (on f) (c .first-outside .ensures) in
-    (omega arith, omega arith)
-
-same-length-4 : tie.Need-same-length-4 Inv-loop μ-loop
-same-length-4 c = let e = entered (c .before .before .before) in e .enter .kept .1 .0 ∙ same-points (turn (read e))
-
-same-length-5 : tie.Need-same-length-5 Inv-loop μ-loop
-same-length-5 c = let e = entered (c .before .before .before) in e .enter .kept .1 .1 .0 ∙ same-counts (turn (read e))
-
-same-length-6 : tie.Need-same-length-6 Inv-loop μ-loop
-same-length-6 c = same-values (turn (read (entered (c .before .before .before))))
-
-returns-2 : tie.Need-returns-2 Inv-loop μ-loop
-returns-2 c =
-    let e = entered (c .before .before .before) in
-    let f = read e in
-    let l = turn f in
-    full-here _ _ (entries l) (l .loop .inv .0) (start l .pre .0 .1) (taken f) (l .loop .inv .1) (f .fill-entry .ensures .0) (f .fill-entry .ensures .1) (e .enter .ensures)
-    (c .before .before .if2 .taken) (outside-left _ (entries l) (on f) (c .before .first-outside .ensures) (none-outside e)) _ (c .no-room .ensures) _ _ _
-
+-- Any other.
 keep-value-requires : tie.Need-keep-value-requires Inv-loop μ-loop
 keep-value-requires c κs =
     let e = entered (c .before .before) in
-    let f = read e in
+    let f = read (within e) in
     let l = turn f in
-    let g = l .loop .inv .1 in
-    (place-below _ _ (entries l) (l .loop .inv .0) (start l .pre .0 .1) (taken f) g (f .fill-entry .ensures .0) (f .fill-entry .ensures .1) (e .enter .ensures) (c .before .if2 .left), g .holds .few, values-long g)
+    let g = gathering (not-full e) in
+    (place-below _ _ (entries l) (l .loop .inv .0) (start l .pre .0 .1) (taken f) g (f .fill-entry .ensures .0) (f .fill-entry .ensures .1) (e .enter .ensures) (c .before .if3 .left), g .holds .few, values-long g)
 
 add-first-place : tie.Need-add-first-place Inv-loop μ-loop
 add-first-place c = record { fits = fits-64 (place-small (read-then c)) }
@@ -217,43 +222,43 @@ add-first-place-2 c = record { fits = fits-64 (place-small (read-then (c .before
 first-place-requires-2 : tie.Need-first-place-requires-2 Inv-loop μ-loop
 first-place-requires-2 c κs = tt
 
-add-i : tie.Need-add-i Inv-loop μ-loop
-add-i c = record { fits = fits-64 (place-small (read-then (c .before .before))) }
+add-i-3 : tie.Need-add-i-3 Inv-loop μ-loop
+add-i-3 c = record { fits = fits-64 (place-small (read-then (c .before .before))) }
 
-loop-less : tie.Need-loop-less Inv-loop μ-loop
-loop-less c = omega arith
+loop-less-3 : tie.Need-loop-less-3 Inv-loop μ-loop
+loop-less-3 c = omega arith
 
-loop-again : tie.Need-loop-again Inv-loop μ-loop
-loop-again c =
+loop-again-3 : tie.Need-loop-again-3 Inv-loop μ-loop
+loop-again-3 c =
     let k = kept (c .before .before) in
     let e = entered (had-room k .before) in
-    let f = read e in
+    let f = read (within e) in
     let l = turn f in (
       on f,
-      next-turn _ _ (entries l) (l .loop .inv .0) (start l .pre .0 .1) (taken f) (l .loop .inv .1) (f .fill-entry .ensures .0) (f .fill-entry .ensures .1) (e .enter .ensures)
-          (had-room k .if2 .left) (k .keep-value .ensures .0) (k .keep-value .ensures .1 .0) (k .keep-value .ensures .1 .1) (c .before .first-place .ensures) (c .first-place2 .ensures),
-      none-outside e,
-      hinted-turn (l .loop .inv .3) _ (l .loop .inv .1 .holds .few) (holds-sizes (l .loop .inv .1 .holds) .0) (f .fill-entry .kept .1 .1 .1 .1 .0) (e .enter .ensures) (had-room k .if2 .left) (k .keep-value .ensures .0),
+      next-turn _ _ (entries l) (l .loop .inv .0) (start l .pre .0 .1) (taken f) (gathering (not-full e)) (f .fill-entry .ensures .0) (f .fill-entry .ensures .1) (e .enter .ensures)
+          (had-room k .if3 .left) (k .keep-value .ensures .0) (k .keep-value .ensures .1 .0) (k .keep-value .ensures .1 .1) (c .before .first-place .ensures) (c .first-place2 .ensures)
+          (not-full e .if2 .left) (l .loop .inv .1 .hinted (not-full e .if2 .left)),
+      none-outside (within e),
     )
 
 decided-requires : tie.Need-decided-requires Inv-loop μ-loop
 decided-requires c κs =
     let l = c .before in
-    let m = most-within _ _ (entries l) (l .loop .i) (l .loop .inv .1) in
+    let m = places-within _ _ (entries l) (l .loop .inv .1) in
     let r = l .loop .inv .0 .count in
-    (l .loop .inv .1 .holds .few, omega arith, omega arith)
+    (l .loop .inv .1 .gathering .holds .few, omega arith, omega arith, omega arith)
 
-same-length-7 : tie.Need-same-length-7 Inv-loop μ-loop
-same-length-7 c = same-points (c .before .before)
+same-length-4 : tie.Need-same-length-4 Inv-loop μ-loop
+same-length-4 c = same-points (c .before .before)
 
-same-length-8 : tie.Need-same-length-8 Inv-loop μ-loop
-same-length-8 c = same-counts (c .before .before)
+same-length-5 : tie.Need-same-length-5 Inv-loop μ-loop
+same-length-5 c = same-counts (c .before .before)
 
-same-length-9 : tie.Need-same-length-9 Inv-loop μ-loop
-same-length-9 c = same-values (c .before .before)
+same-length-6 : tie.Need-same-length-6 Inv-loop μ-loop
+same-length-6 c = same-values (c .before .before)
 
-returns-3 : tie.Need-returns-3 Inv-loop μ-loop
-returns-3 c =
+returns-2 : tie.Need-returns-2 Inv-loop μ-loop
+returns-2 c =
     let l = c .before .before in
     let h = c .before .loop-test .left in
     all-gathered _ _ (entries l) (l .loop .inv .0) h (l .loop .inv .1) (all-inside _ (entries l) (l .loop .inv .0) h (l .loop .inv .2)) (c .decided .result) (c .decided .ensures)
@@ -273,28 +278,26 @@ gather-entries-spec =
     same-length-2
     same-length-3
     returns
+    add-i
+    loop-less
+    loop-again
     slice-aggregate-enter
     slice-aggregate-enter-2
     enter-requires
-    sub-first-outside
-    sub-first-outside-2
-    first-outside-requires
-    add-no-room
-    no-room-requires
-    same-length-4
-    same-length-5
-    same-length-6
-    returns-2
+    add-full
+    add-i-2
+    loop-less-2
+    loop-again-2
     keep-value-requires
     add-first-place
     first-place-requires
     add-first-place-2
     first-place-requires-2
-    add-i
-    loop-less
-    loop-again
+    add-i-3
+    loop-less-3
+    loop-again-3
     decided-requires
-    same-length-7
-    same-length-8
-    same-length-9
-    returns-3)
+    same-length-4
+    same-length-5
+    same-length-6
+    returns-2)
