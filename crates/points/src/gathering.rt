@@ -42,6 +42,21 @@ fn find(n: usize, points: &[u8], point: &[u8], hints: &mut [u8]) -> usize
     at
 }
 
+// The same of a point whose remainder is known: without a hint there it is new, and its bytes are not looked at. The reader of text has just written them one by
+// one, and a load of all at once would wait for them.
+fn find_at(n: usize, points: &[u8], point: &[u8], remainder: usize, hints: &mut [u8]) -> usize
+    requires { ⌜ (n ≤ 64) × (8 * n ≤ length (now points)) × (length (now point) ≡ 8) × (remainder ≡ hintOf (now point)) ⌝ }
+    requires { ⌜ T (noRepeat (groups 8 n (now points))) × Hinted n (now points) (now hints) ⌝ }
+    ensures { λ i. ⌜ i ≡ placeIn (now (point .entry)) (groups 8 n (now (points .entry))) ⌝ }
+    ensures { λ i. ⌜ now (hints .exit) ≡ set (now (hints .entry)) (hintOf (now (point .entry))) (suc i) ⌝ }
+{
+    if hints[remainder] == 0 {
+        hints[remainder] = n as u8 + 1;
+        return n;
+    }
+    find(n, points, point, hints)
+}
+
 // Enters a point whose place among the first n of a table is known, n where it is new: a new one behind them, with count 1, unless 64 are there; one that is
 // there is counted, unless its count is 255. Says whether it is.
 fn enter_at(n: usize, at: usize, points: &mut [u8], counts: &mut [u8], point: &[u8]) -> bool
@@ -73,21 +88,22 @@ pub struct Entered {
     pub over: bool,
 }
 
-// Enters a point among the first n of a table, none of which repeats.
+// Enters a point, whose remainder is known, among the first n of a table, none of which repeats.
 pub fn enter(
     n: usize,
     points: &mut [u8],
     counts: &mut [u8],
     hints: &mut [u8],
     point: &[u8],
+    remainder: usize,
 ) -> Entered
-    requires { ⌜ n ≤ 64 ⌝ }
+    requires { ⌜ (n ≤ 64) × (remainder ≡ hintOf (now point)) ⌝ }
     requires { ⌜ (length (now points) ≡ 512) × (length (now counts) ≡ 64) × (length (now point) ≡ 8) ⌝ }
     requires { ⌜ T (noRepeat (groups 8 n (now points))) × Hinted n (now points) (now hints) ⌝ }
     ensures { λ e. ⌜ EnteredAs n (now (point .entry)) (now (points .entry)) (now (counts .entry)) (now (hints .entry)) (e .at) (e .over)
         (now (points .exit)) (now (counts .exit)) (now (hints .exit)) ⌝ }
 {
-    let at = find(n, points, point, hints);
+    let at = find_at(n, points, point, remainder, hints);
     let over = enter_at(n, at, points, counts, point);
     Entered { at, over }
 }

@@ -3,11 +3,12 @@ use mathlib.Core.Path.{_≡_}
 use mathlib.Core.Bool.{Bool, cond}
 use mathlib.Core.List.{List, [], _++_, map}
 use mathlib.Core.Option.{Option·getD}
-use Prim.Native.Nat.{ℕ, _≤_}
+use Prim.Native.Nat.{ℕ, _*_, _-_, _^_, _≤_}
 use lib.IntN.{ℤ, pos}
 use lib.ListN.{length, drop}
 use lib.Dec.{eqb}
 use Rattle.residue.specs.Level.{residueOf}
+use Rattle.residue.specs.Lists.{keyOf}
 use Rattle.residue.specs.Layout.{fill}
 use Rattle.specification.specs.Levels.{isResidue, residueOr0, inRange}
 use Rattle.specification.specs.Counted.{pointsOf, countsOf, gathered}
@@ -47,10 +48,11 @@ unfoldable pub behindEntry : Part (List ℤ) → List ℕ
 behindEntry (part levels rest) = rest
 behindEntry faulty = []
 
--- whether all of them are in range, and the value
-pub record FilledAs (p m : ℕ) (text : List ℕ) (e : Part (List ℤ)) (r : Filled) : Type 0 where
+-- whether all of them are in range, the value, and the number that the point's bytes in the row spell, with zeros behind them up to 8 digits
+pub record FilledAs (p m : ℕ) (text : List ℕ) (e : Part (List ℤ)) (r : Filled) (row : List ℕ) : Type 0 where
   pub inside : r .inside ≡ inRange p (levelsIn e)
   pub value : r .value ≡ entryValue p m (levelsIn e)
+  pub key : r .key ≡ keyOf m row * 2 ^ (8 * (8 - m))
   pub rest : drop (r .next) text ≡ behindEntry e
   pub within : r .next ≤ length text
 

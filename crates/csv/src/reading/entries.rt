@@ -82,28 +82,34 @@ fn both(a: bool, b: bool) -> bool
 pub struct Filled {
     pub inside: bool,
     pub value: u8,
+    pub key: u64,
     pub next: usize,
 }
 
-// The point and the value of the entry at `at`.
+// The point and the value of the entry at `at`, and the key of the point in 8 bytes, which end in zeros.
 pub fn fill_entry(text: &[u8], at: usize, p: u8, variables: usize, row: &mut [u8]) -> Filled
-    requires { ⌜ (at ≤ length (now text)) × (variables ≤ length (now row)) × (p ≤ 128) ⌝ }
+    requires { ⌜ (at ≤ length (now text)) × (variables ≤ length (now row)) × (1 ≤ variables) × (variables ≤ 8) × (p ≤ 128) ⌝ }
     requires { ⌜ (entryPart variables (drop at (now text)) ≡ faulty → ⊥) ⌝ }
-    ensures { λ r. ⌜ FilledAs p variables (now (text .entry)) (entryPart variables (drop at (now (text .entry)))) r ⌝
+    ensures { λ r. ⌜ FilledAs p variables (now (text .entry)) (entryPart variables (drop at (now (text .entry)))) r (now (row .exit)) ⌝
         ∗ ⌜ now (row .exit) ≡ over (entryPoint p variables (levelsIn (entryPart variables (drop at (now (text .entry)))))) (now (row .entry)) ⌝ }
 {
     let mut from = at;
     let mut inside = true;
+    let mut key = 0u64;
     for j in 0..variables {
         let level = residue_at(text, from, p);
         row[j] = level.residue;
+        key = 256 * key + level.residue as u64;
         inside = both(inside, level.inside);
         from = level.next;
     }
     let last = residue_at(text, from, p);
+    let zeros = 64 - 8 * variables;
+    let spelled = key << zeros;
     Filled {
         inside: both(inside, last.inside),
         value: last.residue,
+        key: spelled,
         next: last.next,
     }
 }

@@ -4,7 +4,7 @@ use points::gathering::enter;
 ghost use mathlib.Core.Path.{_≡_};
 ghost use mathlib.Core.Bool.{cond, _||_};
 ghost use mathlib.Core.List.{[], _∷_};
-ghost use Prim.Native.Nat.{suc, _+_, _<_, _≤_};
+ghost use Prim.Native.Nat.{suc, _<_, _≤_};
 ghost use lib.Dec.{eqb};
 ghost use lib.ListN.{length, getD, set, drop};
 ghost use Rattle.residue.specs.Layout.{fill};
@@ -106,7 +106,7 @@ pub fn gather_entries(
     counts: &mut [u8],
     values: &mut [u8],
 ) -> Gathered
-    requires { ⌜ (at ≤ length (now text)) × (variables ≤ 8) × (entries ≤ 16384) × (p ≤ 128) ⌝ }
+    requires { ⌜ (at ≤ length (now text)) × (1 ≤ variables) × (variables ≤ 8) × (entries ≤ 16384) × (p ≤ 128) ⌝ }
     requires { ⌜ countedEntries 0 (entriesAt variables (drop at (now text))) ≡ Count entries ⌝ }
     requires { ⌜ (now points ≡ fill 512 []) × (now counts ≡ fill 64 []) × (now values ≡ fill 64 []) ⌝ }
     ensures { λ r. ⌜ GatheredAs p variables (levelsAt variables (drop at (now (text .entry)))) r
@@ -128,7 +128,8 @@ pub fn gather_entries(
         if full != 0 {
             continue;
         }
-        let met = enter(n, points, counts, &mut hints, &point);
+        let remainder = (entry.key % 233) as usize;
+        let met = enter(n, points, counts, &mut hints, &point, remainder);
         if met.at == 64 {
             full = i + 1;
             continue;

@@ -21,7 +21,7 @@ module _ (p : ℕ) {m n : ℕ} {t : List ℕ} (S : List (List ℤ)) {from i : �
   abbrev pub None : ℕ → Type 0
   None j = firstFault (isOutside p) (take j S) ≡ 0
 
-  module _ (h : i < n) (z : None i) {r : Filled} (f : FilledAs p m t (entryPart m (drop from t)) r) where
+  module _ (h : i < n) (z : None i) {r : Filled} {row : List ℕ} (f : FilledAs p m t (entryPart m (drop from t)) r row) where
     abbrev this : List ℤ
     this = next S g h
 

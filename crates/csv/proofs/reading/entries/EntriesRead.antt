@@ -96,7 +96,7 @@ module _ {m n : ℕ} {t : List ℕ} (S : List (List ℤ)) {from i : ℕ} (g : Re
     pub one-more : take (i + 1) S ≡ take i S ++ (next ∷ [])
     one-more = ap (λ (k : ℕ). take k S) (add-one i) ∙ take-suc S i [] (omega (arith, g .count))
 
-    pub read-on : {p : ℕ} {r : Filled} → FilledAs p m t (entryPart m (drop from t)) r → ReadOn m n t S (r .next) (i + 1)
+    pub read-on : {p : ℕ} {r : Filled} {row : List ℕ} → FilledAs p m t (entryPart m (drop from t)) r row → ReadOn m n t S (r .next) (i + 1)
     unfolding behindEntry
     read-on f = record {
       bound = omega arith;

@@ -1,15 +1,17 @@
 -- The levels of an entry one by one: what is read, what is left, and what has been written.
-use mathlib.Core.Path.{_≡_, refl, sym, ap, ap₂, _∙_}
+use mathlib.Core.Path.{_≡_, refl, sym, ap, ap₂, _∙_, subst}
 use mathlib.Core.Bool.{Bool, true, false, _&&_}
 use mathlib.Core.List.{List, [], _∷_, _++_}
-use Prim.Native.Nat.{ℕ, suc, _+_, _-_, _<_, _≤_}
+use Prim.Native.Nat.{ℕ, suc, _+_, _*_, _-_, _%_, _^_, _<_, _≤_}
 use native.Mathlib.Numerals.{add-one}
 use native.Mathlib.Omega.{arith}
 use lib.IntN.{ℤ, pos}
 use lib.ListN.{length, getD, set, take, drop, length-set, length-drop, take-append-drop}
 use lib.Seq.{take-suc, drop-cons, drop-drop, getD-at, length-take-le}
 use Rattle.residue.specs.Level.{residueOf}
+use Rattle.residue.specs.Lists.{keyOf}
 use Rattle.residue.specs.Layout.{over}
+use Rattle.residue.proofs.bytes.Keys.{digit-more, key-none, key-put, key-moved}
 use Rattle.specification.specs.Levels.{isResidue, residueOr0, inRange, residues}
 use Rattle.specification.proofs.agreement.Points.{length-residues}
 use Rattle.notation.specs.Fields.{Field, field, broken, Part, part, faulty, withFirst}
@@ -113,17 +115,19 @@ module _ (p m : ℕ) (zs : List ℤ) (z : ℤ) (e : drop m zs ≡ z ∷ []) wher
       sym (ap (λ (l : List ℕ). getD l m 0) (ap (residues p) all ∙ residues-snoc p (take m zs) z)
       ∙ getD-at (residues p (take m zs)) (residueOr0 (residueOf p z)) [] 0 m (count p m zs z [] e))
 
--- How far the filling of a row has come: the first j levels are written, the others and the value are to be read from `from` on.
-pub record SoFar (p m : ℕ) (t : List ℕ) (e : Part (List ℤ)) (old row : List ℕ) (from : ℕ) (inside : Bool) (j : ℕ) : Type 0 where
+-- How far the filling of a row has come: the first j levels are written, and the key spells them; the others and the value are to be read from `from` on.
+pub record SoFar (p m : ℕ) (t : List ℕ) (e : Part (List ℤ)) (old row : List ℕ) (from : ℕ) (inside : Bool) (key j : ℕ) : Type 0 where
   pub bound : j ≤ m
   pub within : from ≤ length t
   pub left : entryPart (m - j) (drop from t) ≡ part (drop j (levelsIn e)) (behindEntry e)
   pub written : row ≡ over (residues p (take j (levelsIn e))) old
   pub ranged : inside ≡ inRange p (take j (levelsIn e))
+  pub spelled : key ≡ keyOf j row
+  pub small : key < 2 ^ (8 * j)
   pub kept : length row ≡ length old
 
 module _ (p m : ℕ) (t : List ℕ) where
-  pub start : (at : ℕ) (old : List ℕ) → at ≤ length t → (entryPart m (drop at t) ≡ faulty → ⊥) → SoFar p m t (entryPart m (drop at t)) old old at true 0
+  pub start : (at : ℕ) (old : List ℕ) → at ≤ length t → (entryPart m (drop at t) ≡ faulty → ⊥) → SoFar p m t (entryPart m (drop at t)) old old at true 0 0
   unfolding over residues inRange
   start at old w n =
       let z : m - 0 ≡ m = omega arith in
@@ -133,10 +137,12 @@ module _ (p m : ℕ) (t : List ℕ) where
         left = ap (λ (k : ℕ). entryPart k (drop at t)) z ∙ whole (entryPart m (drop at t)) n;
         written = refl;
         ranged = refl;
+        spelled = key-none old;
+        small = omega arith;
         kept = refl;
       }
 
-  module _ (e : Part (List ℤ)) (old row : List ℕ) (from : ℕ) (inside : Bool) (j : ℕ) (s : SoFar p m t e old row from inside j) where
+  module _ (e : Part (List ℤ)) (old row : List ℕ) (from : ℕ) (inside : Bool) (key j : ℕ) (s : SoFar p m t e old row from inside key j) where
     next : j < m → Next (m - (j + 1)) (levelField (drop from t)) (drop j (levelsIn e)) (behindEntry e)
     next h =
         let k : m - j ≡ suc (m - (j + 1)) = omega arith in
@@ -157,8 +163,8 @@ module _ (p m : ℕ) (t : List ℕ) where
     value-there h = last h .read
 
     module _ (r : Placed) (f : PlacedAs p t (levelField (drop from t)) r) (b : Bool) (g : b ≡ (inside && r .inside)) where
-      pub step : j < m → m ≤ length old → SoFar p m t e old (set row j (r .residue)) (r .next) b (j + 1)
-      step h w =
+      pub step : j < m → m ≤ length old → r .residue < 256 → SoFar p m t e old (set row j (r .residue)) (r .next) b (256 * key + r .residue) (j + 1)
+      step h w byte =
           let n = next h in
           let z = levelIn (levelField (drop from t)) in
           record {
@@ -168,18 +174,23 @@ module _ (p m : ℕ) (t : List ℕ) where
                 ap (entryPart (m - (j + 1))) (f .rest) ∙ n .then ∙ ap (λ (l : List ℤ). part l (behindEntry e)) (drop-drop 1 j (levelsIn e));
             written = row-next p j (levelsIn e) z (drop 1 (drop j (levelsIn e))) (n .first) row old (r .residue) (omega arith) (s .written) (f .residue);
             ranged = g ∙ range-next p j (levelsIn e) z (drop 1 (drop j (levelsIn e))) (n .first) inside (r .inside) (s .ranged) (f .inside);
+            spelled = key-put row j (r .residue) (omega (arith, s .kept)) (s .spelled);
+            small = digit-more j (s .small) byte;
             kept = length-set row j (r .residue) ∙ s .kept;
           }
 
-      pub done : m ≤ j → FilledAs p m t e (record { inside = b; value = r .residue; next = r .next }) × (row ≡ over (entryPoint p m (levelsIn e)) old)
+      pub done : m ≤ j → m ≤ 8
+          → FilledAs p m t e (record { inside = b; value = r .residue; key = (key * 2 ^ (64 - 8 * m)) % 18446744073709551616; next = r .next }) row × (row ≡ over (entryPoint p m (levelsIn e)) old)
       unfolding entryPoint
-      done h =
+      done h few =
           let i : j ≡ m = let b = s .bound in omega arith in
           let n = last h in
           let z = levelIn (levelField (drop from t)) in (
             record {
               inside = g ∙ range-all p m (levelsIn e) z (n .only) inside (r .inside) (s .ranged ∙ ap (λ (k : ℕ). inRange p (take k (levelsIn e))) i) (f .inside);
               value = f .residue ∙ value-last p m (levelsIn e) z (n .only);
+              key =
+                  key-moved m few (subst (λ (k : ℕ). key < 2 ^ (8 * k)) i (s .small)) ∙ ap (λ (x : ℕ). x * 2 ^ (8 * (8 - m))) (s .spelled ∙ ap (λ (k : ℕ). keyOf k row) i);
               rest = f .rest ∙ n .then;
               within = f .within;
             },

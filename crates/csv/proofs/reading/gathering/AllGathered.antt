@@ -2,21 +2,23 @@
 use mathlib.Core.Path.{_≡_, refl, sym, ap, ap₂, _∙_, subst}
 use mathlib.Core.Bool.{Bool, not, cond, _||_}
 use mathlib.Core.List.{List, [], _∷_, _++_, map, map-append}
-use Prim.Native.Nat.{ℕ, suc, _+_, _<_, _≤_}
+use Prim.Native.Nat.{ℕ, suc, _+_, _-_, _%_, _<_, _≤_}
 use native.Mathlib.Decide.{ℕ-discrete}
 use native.Mathlib.Omega.{arith}
 use lib.IntN.{ℤ}
-use lib.ListN.{length, getD, set, take, drop, replicate, length-map, length-take, take-append-drop}
+use lib.ListN.{length, getD, set, take, drop, replicate, length-map, length-take, take-append-drop, List·getD-eq-default}
 use lib.Seq.{length-take-le}
 use lib.Dec.{eqb}
 use borrow.Author.Tests.{eqb-true, not-false}
 use Rattle.residue.specs.Layout.{fill, over}
-use Rattle.residue.proofs.Layouts.{length-fill}
+use Rattle.residue.specs.Lists.{keyOf}
+use Rattle.residue.proofs.Layouts.{fill-at, length-fill}
+use Rattle.residue.proofs.bytes.Keys.{key-padded}
 use Rattle.residue.proofs.Places.{over-zeros}
 use Rattle.specification.specs.Refusal.{firstOf}
 use Rattle.specification.specs.Counted.{countsOf}
 use Rattle.specification.proofs.counted.Saturated.{none-capped}
-use Rattle.points.specs.Gathering.{Hinted, EnteredAs}
+use Rattle.points.specs.Gathering.{hintOf, Hinted, EnteredAs}
 use Rattle.points.proofs.gathering.EnteredBytes.{no-room}
 use Rattle.points.proofs.gathering.Hints.{hinted-none, hinted-turn}
 use Rattle.points.proofs.gathering.Gathering.{holds-sizes}
@@ -78,9 +80,8 @@ module _ (p m : ℕ) (S : List (List ℤ)) where
     count = length-map (take i S) (valuedPoint p m) ∙ length-take-le i S (omega (arith, r .bound, r .count))
 
     -- the next one, its point in 8 bytes of zeros
-    module _ (fits : m ≤ 8) (h : i < entries) {n often other : ℕ} {points counts values : List ℕ} (g : Gathering m (first i) n often other points counts values)
-        {f : Filled} (w : FilledAs p m t (entryPart m (drop from t)) f) {point : List ℕ} (ep : point ≡ over (entryPoint p m (levelsIn (entryPart m (drop from t)))) (replicate 8 0))
-        {hints : List ℕ} {at : ℕ} {hit : Bool} {table bytes noted : List ℕ} (e : EnteredAs n point points counts hints at hit table bytes noted) where
+    module _ (fits : m ≤ 8) (h : i < entries) {f : Filled} {point : List ℕ} (w : FilledAs p m t (entryPart m (drop from t)) f point)
+        (ep : point ≡ over (entryPoint p m (levelsIn (entryPart m (drop from t)))) (replicate 8 0)) where
       P : List ℕ
       P = entryPoint p m (next S r h)
 
@@ -92,8 +93,15 @@ module _ (p m : ℕ) (S : List (List ℤ)) where
       unfolding P
       filled = ep ∙ ap (λ (l : List ℤ). over (entryPoint p m l) (replicate 8 0)) (levels S r h) ∙ over-zeros (entryPoint p m (next S r h)) 8 (omega (arith, lp, fits))
 
-      entering : EnteredAs n (fill 8 P) points counts hints at hit table bytes noted
-      entering = subst (λ (x : List ℕ). EnteredAs n x points counts hints at hit table bytes noted) filled e
+      zeros : (k : ℕ) → m ≤ k → k < m + (8 - m) → getD point k 0 ≡ 0
+      zeros k a b = ap (λ (l : List ℕ). getD l k 0) filled ∙ fill-at 8 P k (omega (arith, b, fits)) ∙ List·getD-eq-default P 0 (omega (arith, a, lp))
+
+      -- the remainder at which it has its hint
+      pub keyed : f .key % 233 ≡ hintOf point
+      unfolding hintOf
+      keyed =
+          let eight : m + (8 - m) ≡ 8 = omega (arith, fits) in
+          ap (λ (x : ℕ). x % 233) (w .key ∙ sym (key-padded m (8 - m) point zeros) ∙ ap (λ (k : ℕ). keyOf k point) eight)
 
       value : f .value ≡ entryValue p m (next S r h)
       value = w .value ∙ ap (entryValue p m) (levels S r h)
@@ -108,56 +116,62 @@ module _ (p m : ℕ) (S : List (List ℤ)) where
       unfolding P valuedPoint
       more = ap (map (valuedPoint p m)) (one-more S r h) ∙ map-append (valuedPoint p m) (take i S) (next S r h ∷ [])
 
-      -- The 65th point: nothing is entered, and 8 is due here.
-      module _ (z : at ≡ 64) where
-        most : n ≡ 64
-        most = omega (arith, z, at-most fits (first i) g P (entryValue p m (next S r h)) lp entering, g .holds .few)
+      -- it is entered
+      module _ {n often other : ℕ} {points counts values : List ℕ} (g : Gathering m (first i) n often other points counts values)
+          {hints : List ℕ} {at : ℕ} {hit : Bool} {table bytes noted : List ℕ} (e : EnteredAs n point points counts hints at hit table bytes noted) where
+        entering : EnteredAs n (fill 8 P) points counts hints at hit table bytes noted
+        entering = subst (λ (x : List ℕ). EnteredAs n x points counts hints at hit table bytes noted) filled e
 
-        place-8 : i + 1 ≡ firstAfter tooMany [] valued
-        place-8 =
-            omega (arith, count) ∙ full-here fits (first i) g P (entryValue p m (next S r h)) lp entering (map (valuedPoint p m) (drop (suc i) S)) z ∙ ap (firstAfter tooMany []) (sym all)
+        -- The 65th point: nothing is entered, and 8 is due here.
+        module _ (z : at ≡ 64) where
+          most : n ≡ 64
+          most = omega (arith, z, at-most fits (first i) g P (entryValue p m (next S r h)) lp entering, g .holds .few)
 
-        pub full-turn : Turned (i + 1) n (i + 1) often other table bytes values noted
-        full-turn = record {
-          upto = i;
-          gathering =
-              let same = no-room n at (fill 8 P) points counts (z ∙ sym most) (omega (arith, most)) in
-              subst (λ (t : List ℕ). Gathering m (first i) n often other t bytes values) (same .1 .0 ∙ sym (entering .table))
-              (subst (λ (b : List ℕ). Gathering m (first i) n often other points b values) (same .1 .1 ∙ sym (entering .bytes)) g);
-          hinted = λ y. absurd (omega (arith, y));
-          all = λ y. absurd (omega (arith, y));
-          many = λ y. place-8;
-        }
+          place-8 : i + 1 ≡ firstAfter tooMany [] valued
+          place-8 =
+              omega (arith, count) ∙ full-here fits (first i) g P (entryValue p m (next S r h)) lp entering (map (valuedPoint p m) (drop (suc i) S)) z ∙ ap (firstAfter tooMany []) (sym all)
 
-      pub place-below : (at ≡ 64 → ⊥) → at < 64
-      place-below room = omega (arith, at-most fits (first i) g P (entryValue p m (next S r h)) lp entering, g .holds .few, room)
+          pub full-turn : Turned (i + 1) n (i + 1) often other table bytes values noted
+          full-turn = record {
+            upto = i;
+            gathering =
+                let same = no-room n at (fill 8 P) points counts (z ∙ sym most) (omega (arith, most)) in
+                subst (λ (t : List ℕ). Gathering m (first i) n often other t bytes values) (same .1 .0 ∙ sym (entering .table))
+                (subst (λ (b : List ℕ). Gathering m (first i) n often other points b values) (same .1 .1 ∙ sym (entering .bytes)) g);
+            hinted = λ y. absurd (omega (arith, y));
+            all = λ y. absurd (omega (arith, y));
+            many = λ y. place-8;
+          }
 
-      -- what the calls of its turn leave
-      module _ (room : at ≡ 64 → ⊥) {n₂ often₂ other₂ : ℕ} {values₂ : List ℕ} {same : Bool}
-          (fn : n₂ ≡ cond (eqb at n) (suc n) n) (fs : same ≡ (eqb at n || eqb (getD values at 0) (f .value)))
-          (fv : values₂ ≡ cond (eqb at n) (set values at (f .value)) values)
-          (fo : often₂ ≡ earlierPlace often (not hit) (i + 1)) (ft : other₂ ≡ earlierPlace other same (i + 1)) where
-        gathered-on : Gathering m (first (i + 1)) n₂ often₂ other₂ table bytes values₂
-        gathered-on =
-            subst (λ (E : List Valued). Gathering m E n₂ often₂ other₂ table bytes values₂) (sym more)
-            (turn fits (first i) g P v lp entering room fn
-            (fs ∙ ap (λ (x : ℕ). eqb at n || eqb (getD values at 0) x) value) (fv ∙ ap (λ (x : ℕ). cond (eqb at n) (set values at x) values) value)
-            (fo ∙ ap (earlierPlace often (not hit)) place) (ft ∙ ap (earlierPlace other same) place))
-          where
-            v : ℕ
-            v = entryValue p m (next S r h)
+        pub place-below : (at ≡ 64 → ⊥) → at < 64
+        place-below room = omega (arith, at-most fits (first i) g P (entryValue p m (next S r h)) lp entering, g .holds .few, room)
 
-            place : i + 1 ≡ suc (length (first i))
-            place = omega (arith, count)
+        -- what the calls of its turn leave
+        module _ (room : at ≡ 64 → ⊥) {n₂ often₂ other₂ : ℕ} {values₂ : List ℕ} {same : Bool}
+            (fn : n₂ ≡ cond (eqb at n) (suc n) n) (fs : same ≡ (eqb at n || eqb (getD values at 0) (f .value)))
+            (fv : values₂ ≡ cond (eqb at n) (set values at (f .value)) values)
+            (fo : often₂ ≡ earlierPlace often (not hit) (i + 1)) (ft : other₂ ≡ earlierPlace other same (i + 1)) where
+          gathered-on : Gathering m (first (i + 1)) n₂ often₂ other₂ table bytes values₂
+          gathered-on =
+              subst (λ (E : List Valued). Gathering m E n₂ often₂ other₂ table bytes values₂) (sym more)
+              (turn fits (first i) g P v lp entering room fn
+              (fs ∙ ap (λ (x : ℕ). eqb at n || eqb (getD values at 0) x) value) (fv ∙ ap (λ (x : ℕ). cond (eqb at n) (set values at x) values) value)
+              (fo ∙ ap (earlierPlace often (not hit)) place) (ft ∙ ap (earlierPlace other same) place))
+            where
+              v : ℕ
+              v = entryValue p m (next S r h)
 
-        pub next-turn : {full : ℕ} → full ≡ 0 → Hinted n points hints → Turned (i + 1) n₂ full often₂ other₂ table bytes values₂ noted
-        next-turn z H = record {
-          upto = i + 1;
-          gathering = gathered-on;
-          hinted = λ y. hinted-turn H point (g .holds .few) (holds-sizes (g .holds) .0) (ap length filled ∙ length-fill 8 P) e room fn;
-          all = λ y. refl;
-          many = λ y. absurd (y z);
-        }
+              place : i + 1 ≡ suc (length (first i))
+              place = omega (arith, count)
+
+          pub next-turn : {full : ℕ} → full ≡ 0 → Hinted n points hints → Turned (i + 1) n₂ full often₂ other₂ table bytes values₂ noted
+          next-turn z H = record {
+            upto = i + 1;
+            gathering = gathered-on;
+            hinted = λ y. hinted-turn H point (g .holds .few) (holds-sizes (g .holds) .0) (ap length filled ∙ length-fill 8 P) e room fn;
+            all = λ y. refl;
+            many = λ y. absurd (y z);
+          }
 
   -- All of them: 8, 13 and 14 as they were met first, or the tables.
   module _ {entries : ℕ} {t : List ℕ} {from i : ℕ} (r : ReadOn m entries t S from i) (h : entries ≤ i) {n full often other : ℕ} {points counts values hints : List ℕ}

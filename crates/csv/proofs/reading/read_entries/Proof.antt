@@ -116,7 +116,7 @@ gather-entries-requires c κs =
     let e = c .before .before .before in
     let h = space e in
     let k = modulus-range _ (h .modulus) in
-    ((start e .pre .0 .0, h .few, few (start e), omega arith), (start e .pre .1, (sym (fill-zeros 512), sym (fill-zeros 64), sym (fill-zeros 64))))
+    ((start e .pre .0 .0, h .some, h .few, few (start e), omega arith), (start e .pre .1, (sym (fill-zeros 512), sym (fill-zeros 64), sym (fill-zeros 64))))
 
 refused-requires-2 : tie.Need-refused-requires-2
 refused-requires-2 c κs = tt

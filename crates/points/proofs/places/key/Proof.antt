@@ -5,7 +5,7 @@ use native.Mathlib.Omega.{arith}
 use lib.ListN.{drop}
 use lib.Seq.{getD-drop}
 use Rattle.residue.specs.Lists.{keyOf}
-use Rattle.residue.proofs.bytes.Keys.{digit-more, key-none, key-more, half-small, key-halves}
+use Rattle.residue.proofs.bytes.Keys.{digit-more, key-none, key-more, digits-fit, key-halves}
 use Rattle.points.proofs.places.key.Statement.{statement}
 use Rattle.points.proofs.places.key.Tie as tie
 
@@ -20,7 +20,7 @@ loop-holds : tie.Need-loop-holds Inv-loop μ-loop
 loop-holds c = (omega arith, ((key-none _, key-none _), (omega arith, omega arith)))
 
 mul-high : tie.Need-mul-high Inv-loop μ-loop
-mul-high c = let l = c .before in omega (arith, half-small (l .loop .inv .0) (l .loop .inv .1 .1 .0))
+mul-high c = let l = c .before in omega (arith, digits-fit 4 (l .loop .inv .0) (l .loop .inv .1 .1 .0))
 
 shared-slice-read-high : tie.Need-shared-slice-read-high Inv-loop μ-loop
 shared-slice-read-high c = omega arith
@@ -29,10 +29,10 @@ cast-high : tie.Need-cast-high Inv-loop μ-loop
 cast-high c = omega (arith, c .shared-slice-known .given (c .before .before .loop .i))
 
 add-high : tie.Need-add-high Inv-loop μ-loop
-add-high c = let l = c .before .before in omega (arith, half-small (l .loop .inv .0) (l .loop .inv .1 .1 .0), c .shared-slice-known .given (l .loop .i))
+add-high c = let l = c .before .before in omega (arith, digits-fit 4 (l .loop .inv .0) (l .loop .inv .1 .1 .0), c .shared-slice-known .given (l .loop .i))
 
 mul-low : tie.Need-mul-low Inv-loop μ-loop
-mul-low c = let l = c .before .before in omega (arith, half-small (l .loop .inv .0) (l .loop .inv .1 .1 .1))
+mul-low c = let l = c .before .before in omega (arith, digits-fit 4 (l .loop .inv .0) (l .loop .inv .1 .1 .1))
 
 add-low : tie.Need-add-low Inv-loop μ-loop
 add-low c = omega arith
@@ -44,7 +44,7 @@ cast-low : tie.Need-cast-low Inv-loop μ-loop
 cast-low c = omega (arith, c .shared-slice-known2 .given (4 + c .before .before .before .loop .i))
 
 add-low-2 : tie.Need-add-low-2 Inv-loop μ-loop
-add-low-2 c = let l = c .before .before .before in omega (arith, half-small (l .loop .inv .0) (l .loop .inv .1 .1 .1), c .shared-slice-known2 .given (4 + l .loop .i))
+add-low-2 c = let l = c .before .before .before in omega (arith, digits-fit 4 (l .loop .inv .0) (l .loop .inv .1 .1 .1), c .shared-slice-known2 .given (4 + l .loop .i))
 
 add-i : tie.Need-add-i Inv-loop μ-loop
 add-i c = omega arith
@@ -64,10 +64,10 @@ loop-again c =
     )
 
 mul-result : tie.Need-mul-result Inv-loop μ-loop
-mul-result c = let l = c .before in omega (arith, half-small (l .loop .inv .0) (l .loop .inv .1 .1 .0))
+mul-result c = let l = c .before in omega (arith, digits-fit 4 (l .loop .inv .0) (l .loop .inv .1 .1 .0))
 
 add-result : tie.Need-add-result Inv-loop μ-loop
-add-result c = let l = c .before in omega (arith, half-small (l .loop .inv .0) (l .loop .inv .1 .1 .0), half-small (l .loop .inv .0) (l .loop .inv .1 .1 .1))
+add-result c = let l = c .before in omega (arith, digits-fit 4 (l .loop .inv .0) (l .loop .inv .1 .1 .0), digits-fit 4 (l .loop .inv .0) (l .loop .inv .1 .1 .1))
 
 returns : tie.Need-returns Inv-loop μ-loop
 returns c =

@@ -2,19 +2,20 @@
 -- `from` on.
 use mathlib.Core.Path.{_≡_, refl, sym, ap, _∙_}
 use mathlib.Core.List.{List, []}
-use Prim.Native.Nat.{ℕ, _+_, _-_, _^_, _<_, _≤_}
+use Prim.Native.Nat.{ℕ, _+_, _-_, _%_, _^_, _<_, _≤_}
 use native.Mathlib.Omega.{arith}
 use lib.IntN.{ℤ}
 use lib.ListN.{length, take, drop}
 use borrow.Author.Tests.{not-true, not-false}
 use Rattle.residue.proofs.Layouts.{length-fill}
+use Rattle.points.specs.Gathering.{hintOf}
 use Rattle.points.proofs.gathering.Gathering.{holds-sizes}
 use Rattle.csv.specs.reading.Text.{firstFault, isOutside}
 use Rattle.csv.specs.reading.Points.{levelsAt}
 use Rattle.csv.proofs.reading.entries.EntriesRead.{ReadOn, begun, entry-there, read-on}
 use Rattle.csv.proofs.reading.entries.EntriesInside.{inside-on, outside-here, all-inside}
 use Rattle.csv.proofs.reading.gathering.EntriesGathered.{Gathering, once-there, values-long}
-use Rattle.csv.proofs.reading.gathering.AllGathered.{first, outside-refused, Turned, none-turned, going, turned-full, full-turn, place-below, next-turn, all-gathered, places-within}
+use Rattle.csv.proofs.reading.gathering.AllGathered.{first, outside-refused, keyed, Turned, none-turned, going, turned-full, full-turn, place-below, next-turn, all-gathered, places-within}
 use Rattle.csv.proofs.reading.gathering.gather_entries.Statement.{statement}
 use Rattle.csv.proofs.reading.gathering.gather_entries.Tie as tie
 
@@ -24,6 +25,9 @@ lt-le h k = omega (arith, h, k)
 
 next-le : {a b : ℕ} → a < b → a + 1 ≤ b
 next-le h = omega (arith, h)
+
+one-less : {a b : ℕ} → a < b → b - (a + 1) < b - a
+one-less h = omega (arith, h)
 
 fits-64 : {a : ℕ} → a < 16384 → a + 1 < 2 ^ 64
 fits-64 h = omega (arith, h)
@@ -65,33 +69,36 @@ abbrev N : Type 0
 N = tie.After-enter Inv-loop μ-loop
 
 abbrev not-full : N → tie.Else2 Inv-loop μ-loop
-not-full e = e .before .before .before .before .before
+not-full e = e .before .before .before .before .before .before
 
 abbrev within : N → W
 within e = not-full e .before
 
-abbrev entered : tie.After-struct-known2 Inv-loop μ-loop → N
+abbrev entered : tie.After-struct-known3 Inv-loop μ-loop → N
 entered k = k .before .before .before .before .before .before
 
-abbrev kept : tie.After-struct-known3 Inv-loop μ-loop → tie.After-keep-value Inv-loop μ-loop
+abbrev kept : tie.After-struct-known4 Inv-loop μ-loop → tie.After-keep-value Inv-loop μ-loop
 kept c = c .before .before .before
 
 abbrev had-room : tie.After-keep-value Inv-loop μ-loop → tie.Else3 Inv-loop μ-loop
 had-room k = k .before .before
 
-abbrev read-then : tie.After-struct-known3 Inv-loop μ-loop → F
+abbrev read-then : tie.After-struct-known4 Inv-loop μ-loop → F
 read-then c = read (within (entered (had-room (kept c) .before)))
 
--- an entry that was read: its place is small, and where the reading goes on
+-- an entry that was read: its place is small, where the reading goes on, and the remainder at which its point has its hint
 module _ (f : F) where
   taken : turn f .loop .i < start (turn f) .args .entries
   taken = f .before .before .loop-test .taken
 
   place-small : turn f .loop .i < 16384
-  place-small = lt-le taken (start (turn f) .pre .0 .2)
+  place-small = lt-le taken (start (turn f) .pre .0 .3)
 
   on : ReadOn (start (turn f) .args .variables) (start (turn f) .args .entries) (start (turn f) .args .text .now) (entries (turn f)) (f .fill-entry .result .next) (turn f .loop .i + 1)
   on = read-on (entries (turn f)) (turn f .loop .inv .0) taken (f .fill-entry .ensures .0)
+
+  hinted : f .fill-entry .result .key % 233 ≡ hintOf (f .fill-entry .last .1 .1 .1 .1 .0)
+  hinted = keyed _ _ (entries (turn f)) (turn f .loop .inv .0) (start (turn f) .pre .0 .2) taken (f .fill-entry .ensures .0) (f .fill-entry .ensures .1)
 
 -- it is in range, like those before it
 none-outside : (w : W) → firstFault (isOutside (start (turn (read w)) .args .p)) (take (turn (read w) .loop .i + 1) (entries (turn (read w)))) ≡ 0
@@ -117,7 +124,7 @@ slice-aggregate-fill-entry c = refl
 fill-entry-requires : tie.Need-fill-entry-requires Inv-loop μ-loop
 fill-entry-requires c κs =
     let l = c .before .before in
-    ((l .loop .inv .0 .within, start l .pre .0 .1, start l .pre .0 .3), entry-there (entries l) (l .loop .inv .0) (c .before .loop-test .taken))
+    ((l .loop .inv .0 .within, start l .pre .0 .2, start l .pre .0 .1, start l .pre .0 .2, start l .pre .0 .4), entry-there (entries l) (l .loop .inv .0) (c .before .loop-test .taken))
 
 add-refused-at : tie.Need-add-refused-at Inv-loop μ-loop
 add-refused-at c = record { fits = fits-64 (place-small (looked (c .before))) }
@@ -157,7 +164,7 @@ add-i : tie.Need-add-i Inv-loop μ-loop
 add-i c = record { fits = fits-64 (place-small (read (c .before))) }
 
 loop-less : tie.Need-loop-less Inv-loop μ-loop
-loop-less c = omega arith
+loop-less c = one-less (taken (read (c .before)))
 
 loop-again : tie.Need-loop-again Inv-loop μ-loop
 loop-again c =
@@ -167,19 +174,19 @@ loop-again c =
 
 slice-aggregate-enter : tie.Need-slice-aggregate-enter Inv-loop μ-loop
 slice-aggregate-enter c =
-    let d = c .before .before .before in
+    let d = c .before .before .before .before in
     sym (turn (read (d .before)) .loop .inv .1 .hinted (d .if2 .left) .long)
 
 slice-aggregate-enter-2 : tie.Need-slice-aggregate-enter-2 Inv-loop μ-loop
-slice-aggregate-enter-2 c = sym (read (c .before .before .before .before .before) .fill-entry .kept .1 .1 .1 .1 .0)
+slice-aggregate-enter-2 c = sym (read (c .before .before .before .before .before .before) .fill-entry .kept .1 .1 .1 .1 .0)
 
 enter-requires : tie.Need-enter-requires Inv-loop μ-loop
 enter-requires c κs =
-    let d = c .before .before .before .before in
+    let d = c .before .before .before .before .before in
     let f = read (d .before) in
     let l = turn f in
     let g = gathering d in
-    (g .holds .few, ((holds-sizes (g .holds) .0, holds-sizes (g .holds) .1, f .fill-entry .kept .1 .1 .1 .1 .0), (once-there g (start l .pre .0 .1), l .loop .inv .1 .hinted (d .if2 .left))))
+    ((g .holds .few, hinted f), ((holds-sizes (g .holds) .0, holds-sizes (g .holds) .1, f .fill-entry .kept .1 .1 .1 .1 .0), (once-there g (start l .pre .0 .2), l .loop .inv .1 .hinted (d .if2 .left))))
 
 -- The 65th point.
 add-full : tie.Need-add-full Inv-loop μ-loop
@@ -189,7 +196,7 @@ add-i-2 : tie.Need-add-i-2 Inv-loop μ-loop
 add-i-2 c = record { fits = fits-64 (place-small (read (within (entered (c .before))))) }
 
 loop-less-2 : tie.Need-loop-less-2 Inv-loop μ-loop
-loop-less-2 c = omega arith
+loop-less-2 c = one-less (taken (read (within (entered (c .before)))))
 
 loop-again-2 : tie.Need-loop-again-2 Inv-loop μ-loop
 loop-again-2 c =
@@ -197,7 +204,7 @@ loop-again-2 c =
     let f = read (within e) in
     let l = turn f in (
       on f,
-      full-turn _ _ (entries l) (l .loop .inv .0) (start l .pre .0 .1) (taken f) (gathering (not-full e)) (f .fill-entry .ensures .0) (f .fill-entry .ensures .1) (e .enter .ensures) (c .if3 .taken),
+      full-turn _ _ (entries l) (l .loop .inv .0) (start l .pre .0 .2) (taken f) (f .fill-entry .ensures .0) (f .fill-entry .ensures .1) (gathering (not-full e)) (e .enter .ensures) (c .if3 .taken),
       none-outside (within e),
     )
 
@@ -208,7 +215,7 @@ keep-value-requires c κs =
     let f = read (within e) in
     let l = turn f in
     let g = gathering (not-full e) in
-    (place-below _ _ (entries l) (l .loop .inv .0) (start l .pre .0 .1) (taken f) g (f .fill-entry .ensures .0) (f .fill-entry .ensures .1) (e .enter .ensures) (c .before .if3 .left), g .holds .few, values-long g)
+    (place-below _ _ (entries l) (l .loop .inv .0) (start l .pre .0 .2) (taken f) (f .fill-entry .ensures .0) (f .fill-entry .ensures .1) g (e .enter .ensures) (c .before .if3 .left), g .holds .few, values-long g)
 
 add-first-place : tie.Need-add-first-place Inv-loop μ-loop
 add-first-place c = record { fits = fits-64 (place-small (read-then c)) }
@@ -226,7 +233,7 @@ add-i-3 : tie.Need-add-i-3 Inv-loop μ-loop
 add-i-3 c = record { fits = fits-64 (place-small (read-then (c .before .before))) }
 
 loop-less-3 : tie.Need-loop-less-3 Inv-loop μ-loop
-loop-less-3 c = omega arith
+loop-less-3 c = one-less (taken (read-then (c .before .before)))
 
 loop-again-3 : tie.Need-loop-again-3 Inv-loop μ-loop
 loop-again-3 c =
@@ -235,7 +242,7 @@ loop-again-3 c =
     let f = read (within e) in
     let l = turn f in (
       on f,
-      next-turn _ _ (entries l) (l .loop .inv .0) (start l .pre .0 .1) (taken f) (gathering (not-full e)) (f .fill-entry .ensures .0) (f .fill-entry .ensures .1) (e .enter .ensures)
+      next-turn _ _ (entries l) (l .loop .inv .0) (start l .pre .0 .2) (taken f) (f .fill-entry .ensures .0) (f .fill-entry .ensures .1) (gathering (not-full e)) (e .enter .ensures)
           (had-room k .if3 .left) (k .keep-value .ensures .0) (k .keep-value .ensures .1 .0) (k .keep-value .ensures .1 .1) (c .before .first-place .ensures) (c .first-place2 .ensures)
           (not-full e .if2 .left) (l .loop .inv .1 .hinted (not-full e .if2 .left)),
       none-outside (within e),
