@@ -1,2 +1,3 @@
 -- Numbers in decimal.
 pub mod NumberDigits
+pub mod LeadingDigits

@@ -1,4 +1,3 @@
 -- The forms of fields.
-pub mod LeadingDigits
 pub mod LastField
 pub mod NoQuote

@@ -10,8 +10,8 @@ use lib.Dec.{eqb}
 use Rattle.notation.specs.Digits.{isDigit, decimalNumber}
 use Rattle.notation.specs.Fields.{front}
 use Rattle.notation.specs.Forms.{negative, Header}
-use Rattle.notation.specs.declared.forms.Leading.{Leading}
-use Rattle.notation.specs.declared.forms.Leading.the-variants as G
+use Rattle.notation.specs.declared.digits.Leading.{Leading}
+use Rattle.notation.specs.declared.digits.Leading.the-variants as G
 use Rattle.notation.specs.declared.forms.Word.{Word}
 use Rattle.notation.specs.declared.forms.Word.the-variants as W
 use Rattle.notation.specs.declared.forms.Last.{Last}

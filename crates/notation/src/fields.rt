@@ -137,10 +137,7 @@ fn read_quoted(text: &[u8], from: usize) -> Span
     ensures { λ r. ⌜ SpanRead (now (text .entry)) (quoted (drop from (now (text .entry)))) r ⌝ }
 {
     let to = quote_end(text, from);
-    if to == text.len() {
-        return Span::Broken;
-    }
-    let End::At { more, next } = read_end(text, to + 1) else {
+    let End::At { more, next } = content_end(text, to, true) else {
         return Span::Broken;
     };
     Span::Content {

@@ -1,4 +1,4 @@
-// How a text writes things: fields of comma-separated records (`fields`), digits (`digits`), numbers and settings (`forms`).
+// How a text writes things: fields of comma-separated records (`fields`), numbers (`digits`), the last header field (`forms`).
 pub mod digits;
 pub mod fields;
 pub mod forms;

@@ -5,12 +5,13 @@ ghost use lib.ListN.{length, drop};
 ghost use Rattle.notation.specs.Forms.{levelOf};
 ghost use Rattle.csv.specs.reading.Records.{reading, fieldFrom, sizeField, levelAtSaid, LevelWithin, LevelRead};
 ghost use Rattle.csv.specs.reading.Records.{HeaderRead, EntryRead, entriesAt, countedEntries};
+use notation::digits;
+use notation::digits::Leading;
 use notation::fields;
 use notation::fields::End;
 use notation::fields::Span;
 use notation::forms;
 use notation::forms::Last;
-use notation::forms::Leading;
 
 pub enum LevelAt {
     Level {
@@ -28,7 +29,7 @@ fn sized_level(text: &[u8], at: usize, quotes: bool, negative: bool) -> LevelAt
     ensures { λ r. ⌜ levelAtSaid (now (text .entry)) r ≡ sizeField quotes negative (drop at (now (text .entry))) ⌝
         ∗ ⌜ LevelWithin (length (now (text .entry))) r ⌝ }
 {
-    let Leading::Number { size, count } = forms::read_leading(&text[at..]) else {
+    let Leading::Number { size, count } = digits::read_leading(&text[at..]) else {
         return LevelAt::Broken;
     };
     let End::At { more, next } = fields::content_end(text, at + count, quotes) else {

@@ -6,12 +6,11 @@ use mathlib.Core.Option.{Option, some}
 use Prim.Native.Nat.{ℕ, zero, suc, _-_, _<_, _≤_}
 use native.Mathlib.Nat.{not-suc-le-zero}
 use native.Mathlib.Omega.{arith}
-use native.Mathlib.Decide.{decLt}
 use lib.ListN.{length, take, drop, length-drop}
 use lib.Dec.{eqb}
 use Rattle.notation.specs.Fields.{quote, comma, lf, cr, Field, field, broken, Part, part, faulty, front, isPlain, afterCr, ending, unquoted, quoted, fieldOf, withFirst, behindField, recordFrom, recordOf, behindRecord, recordsFrom, recordsOf}
-use Rattle.notation.specs.Spans.{closing, undoubled}
-use Rattle.notation.proofs.fields.FieldSpans.{quoted-closed, quoted-open}
+use Rattle.notation.specs.Spans.{closing, undoubled, closed}
+use Rattle.notation.proofs.fields.FieldSpans.{quoted-is}
 
 -- a field that was read from n bytes leaves fewer, if another follows it or there were any
 pub data Left (n : ℕ) : Field (List ℕ) → Type 0 where
@@ -39,19 +38,18 @@ ending-left content (b ∷ c ∷ l) =
     (either (eqb b lf) (ended {rest = c ∷ l} (omega arith))
     (either (eqb b cr) (either (eqb c lf) (ended {rest = l} (omega arith)) unread) unread))
 
-dropped : (k : ℕ) (content l : List ℕ) → Left (length l) (ending content (drop k l))
-dropped k content l = wider (simp length-drop (omega arith)) (ending-left content (drop k l))
+closed-left : (content l : List ℕ) → Left (length l) (closed content l)
+unfolding closed
+closed-left content [] = unread
+closed-left content (b ∷ l) = either (eqb b quote) (wider (omega arith) (ending-left content l)) unread
 
 quoted-left : (l : List ℕ) → Left (length l) (quoted l)
-quoted-left l = pick (decLt (closing l) (length l))
-  where
-    pick : Dec (closing l < length l) → Left (length l) (quoted l)
-    pick (yes h) = subst (Left (length l)) (sym (quoted-closed l h)) (dropped (suc (closing l)) (undoubled (take (closing l) l)) l)
-    pick (no n) = subst (Left (length l)) (sym (quoted-open l (omega (arith, n)))) unread
+quoted-left l =
+    subst (Left (length l)) (sym (quoted-is l)) (wider (simp length-drop (omega arith)) (closed-left (undoubled (take (closing l) l)) (drop (closing l) l)))
 
 unquoted-left : (l : List ℕ) → Left (length l) (unquoted l)
 unfolding unquoted
-unquoted-left l = dropped (front isPlain l) (take (front isPlain l) l) l
+unquoted-left l = wider (simp length-drop (omega arith)) (ending-left (take (front isPlain l) l) (drop (front isPlain l) l))
 
 pub field-left : (l : List ℕ) → Left (length l) (fieldOf l)
 unfolding fieldOf

@@ -106,3 +106,8 @@ unfolding with ending afterCr
 with-ending b content [] = refl
 with-ending b content (c ∷ []) = simp (chosen (with b))
 with-ending b content (c ∷ d ∷ l) = simp (chosen (with b))
+
+pub with-closed : (b : ℕ) (content l : List ℕ) → with b (closed content l) ≡ closed (b ∷ content) l
+unfolding with closed
+with-closed b content [] = refl
+with-closed b content (c ∷ l) = simp (chosen (with b), with-ending b content l)

@@ -3,7 +3,7 @@ use mathlib.Core.Path.{_≡_, refl, sym, ap, _∙_}
 use mathlib.Core.Bool.{Bool, true, false, cond}
 use mathlib.Core.List.{List, [], _∷_}
 use Prim.Native.Nat.{ℕ, suc, _+_, _-_, _<_, _≤_}
-use native.Mathlib.Nat.{not-suc-le-zero, add-zero}
+use native.Mathlib.Nat.{add-zero}
 use native.Mathlib.Numerals.{add-one}
 use native.Mathlib.Omega.{arith}
 use lib.ListN.{length, getD, take, drop, length-drop}
@@ -11,9 +11,9 @@ use lib.Seq.{drop-cons, drop-drop, getD-drop, take-all}
 use lib.Dec.{eqb}
 use borrow.Author.Tests.{eq-eqb, ne-eqb, eqb-true, eqb-false}
 use Rattle.notation.specs.Fields.{quote, broken, front, isPlain, ending, with, quoted, unquoted, fieldOf}
-use Rattle.notation.specs.Spans.{closing, undoubled, endedBy}
+use Rattle.notation.specs.Spans.{closing, undoubled, closed, endingIn, endedBy}
 use Rattle.notation.specs.declared.fields.End.{End}
-use Rattle.notation.proofs.fields.FieldEnds.{with-ending}
+use Rattle.notation.proofs.fields.FieldEnds.{with-closed}
 
 -- what is lent of a text from a place on
 pub all-behind : (t : List ℕ) (at : ℕ) → take (length t - at) (drop at t) ≡ drop at t
@@ -76,89 +76,58 @@ undoubled-plain (b ∷ l) = pick (isPlain b) refl (undoubled-plain l)
     pick true e h = undoubled-other b (take (front isPlain l) l) (plain-other b quote e refl) ∙ ap (λ (r : List ℕ). b ∷ r) h
     pick false e h = refl
 
-pub quoted-closed : (l : List ℕ) → closing l < length l → quoted l ≡ ending (undoubled (take (closing l) l)) (drop (suc (closing l)) l)
-unfolding closing quoted undoubled
-quoted-closed [] h = absurd (not-suc-le-zero h)
-quoted-closed (b ∷ []) h = pick (eqb b quote) h
+-- a quoted field: its bytes up to the quote that closes it, and what is there
+pub quoted-is : (l : List ℕ) → quoted l ≡ closed (undoubled (take (closing l) l)) (drop (closing l) l)
+unfolding closing quoted undoubled closed
+quoted-is [] = refl
+quoted-is (b ∷ []) = pick (eqb b quote) refl
   where
-    pick :
-        (x : Bool)
-        → cond {A = ℕ} x 0 1 < 1
-        → cond x (ending [] []) broken ≡ ending (undoubled (take (cond x 0 1) (b ∷ []))) (drop (suc (cond x 0 1)) (b ∷ []))
-    pick true h = refl
-    pick false h = absurd (omega arith)
-quoted-closed (b ∷ c ∷ l) h = pick (eqb b quote) (eqb c quote) refl (quoted-closed l) (quoted-closed (c ∷ l)) h
+    pick : (x : Bool) → eqb b quote ≡ x → cond x (ending [] []) broken ≡ closed (undoubled (take (cond x 0 1) (b ∷ []))) (drop (cond x 0 1) (b ∷ []))
+    pick true e = rw e refl
+    pick false e = refl
+quoted-is (b ∷ c ∷ l) = pick (eqb b quote) (eqb c quote) refl (quoted-is l) (quoted-is (c ∷ l))
   where
     pick :
         (x y : Bool)
         → eqb b quote ≡ x
-        → (closing l < length l → quoted l ≡ ending (undoubled (take (closing l) l)) (drop (suc (closing l)) l))
-        → (closing (c ∷ l) < suc (length l) → quoted (c ∷ l) ≡ ending (undoubled (take (closing (c ∷ l)) (c ∷ l))) (drop (suc (closing (c ∷ l))) (c ∷ l)))
-        → cond x (cond y (suc (suc (closing l))) 0) (suc (closing (c ∷ l))) < suc (suc (length l))
+        → quoted l ≡ closed (undoubled (take (closing l) l)) (drop (closing l) l)
+        → quoted (c ∷ l) ≡ closed (undoubled (take (closing (c ∷ l)) (c ∷ l))) (drop (closing (c ∷ l)) (c ∷ l))
         → cond x (cond y (with quote (quoted l)) (ending [] (c ∷ l))) (with b (quoted (c ∷ l)))
-        ≡ ending (undoubled (take (cond x (cond y (suc (suc (closing l))) 0) (suc (closing (c ∷ l)))) (b ∷ c ∷ l)))
-        (drop (suc (cond x (cond y (suc (suc (closing l))) 0) (suc (closing (c ∷ l))))) (b ∷ c ∷ l))
-    pick true true e h k s =
+        ≡ closed (undoubled (take (cond x (cond y (suc (suc (closing l))) 0) (suc (closing (c ∷ l)))) (b ∷ c ∷ l)))
+        (drop (cond x (cond y (suc (suc (closing l))) 0) (suc (closing (c ∷ l)))) (b ∷ c ∷ l))
+    pick true true e h k =
         let x = take (closing l) l in
-        let r = drop (suc (closing l)) l in
-        ap (with quote) (h (omega arith)) ∙ with-ending quote (undoubled x) r
-        ∙ ap (λ (d : List ℕ). ending d r) (sym (undoubled-pair b c x (eqb-true b quote e)))
-    pick true false e h k s = refl
-    pick false y e h k s =
+        let r = drop (closing l) l in
+        ap (with quote) h ∙ with-closed quote (undoubled x) r ∙ ap (λ (d : List ℕ). closed d r) (sym (undoubled-pair b c x (eqb-true b quote e)))
+    pick true false e h k = rw e refl
+    pick false y e h k =
         let x = take (closing (c ∷ l)) (c ∷ l) in
-        let r = drop (suc (closing (c ∷ l))) (c ∷ l) in
-        ap (with b) (k (omega arith)) ∙ with-ending b (undoubled x) r
-        ∙ ap (λ (d : List ℕ). ending d r) (sym (undoubled-other b x (eqb-false b quote e)))
+        let r = drop (closing (c ∷ l)) (c ∷ l) in
+        ap (with b) k ∙ with-closed b (undoubled x) r ∙ ap (λ (d : List ℕ). closed d r) (sym (undoubled-other b x (eqb-false b quote e)))
 
-pub quoted-open : (l : List ℕ) → length l ≤ closing l → quoted l ≡ broken
-unfolding closing quoted with
-quoted-open [] h = refl
-quoted-open (b ∷ []) h = pick (eqb b quote) h
-  where
-    pick : (x : Bool) → 1 ≤ cond {A = ℕ} x 0 1 → cond x (ending [] []) broken ≡ broken
-    pick true h = absurd (omega arith)
-    pick false h = refl
-quoted-open (b ∷ c ∷ l) h = pick (eqb b quote) (eqb c quote) (quoted-open l) (quoted-open (c ∷ l)) h
-  where
-    pick :
-        (x y : Bool)
-        → (length l ≤ closing l → quoted l ≡ broken)
-        → (suc (length l) ≤ closing (c ∷ l) → quoted (c ∷ l) ≡ broken)
-        → suc (suc (length l)) ≤ cond x (cond y (suc (suc (closing l))) 0) (suc (closing (c ∷ l)))
-        → cond x (cond y (with quote (quoted l)) (ending [] (c ∷ l))) (with b (quoted (c ∷ l))) ≡ broken
-    pick true true h k s = ap (with quote) (h (omega arith))
-    pick true false h k s = absurd (omega arith)
-    pick false y h k s = ap (with b) (k (omega arith))
-
--- what `read_end` says of every content behind the place `to`
-abbrev Behind : List ℕ → ℕ → End → Type 0
-Behind t to e = (content : List ℕ) → endedBy t content e ≡ ending content (drop to t)
-
+-- a field by its places: its content has so many bytes, and what `content_end` says of every content stands behind them
 module _ (t : List ℕ) (from to : ℕ) (e : End) where
+  spanned-by : (q : Bool) (k : ℕ) → to ≡ from + k → ((content : List ℕ) → endedBy t content e ≡ endingIn q content (drop to t))
+      → endedBy t (undoubled (take (to - from) (drop from t))) e ≡ endingIn q (undoubled (take k (drop from t))) (drop k (drop from t))
+  spanned-by q k h b =
+      let n : to - from ≡ k = omega arith in
+      b _ ∙ ap (λ (j : ℕ). endingIn q (undoubled (take j (drop from t))) (drop to t)) n
+      ∙ ap (endingIn q (undoubled (take k (drop from t)))) (ap (λ (j : ℕ). drop j t) h ∙ sym (drop-drop k from t))
+
   pub span-quoted :
       to ≡ from + closing (drop from t)
-      → to < length t
-      → Behind t (to + 1) e
+      → ((content : List ℕ) → endedBy t content e ≡ closed content (drop to t))
       → endedBy t (undoubled (take (to - from) (drop from t))) e ≡ quoted (drop from t)
-  span-quoted h k b =
-      let n : to - from ≡ closing (drop from t) = omega arith in
-      let m : from + suc (closing (drop from t)) ≡ to + 1 = omega arith in
-      b _ ∙ ap (λ (j : ℕ). ending (undoubled (take j (drop from t))) (drop (to + 1) t)) n
-      ∙ ap (λ (r : List ℕ). ending (undoubled (take (closing (drop from t)) (drop from t))) r)
-      (sym (drop-drop (suc (closing (drop from t))) from t ∙ ap (λ (j : ℕ). drop j t) m))
-      ∙ sym (quoted-closed (drop from t) (simp length-drop (omega arith)))
+  span-quoted h b = spanned-by true (closing (drop from t)) h b ∙ sym (quoted-is (drop from t))
 
   pub span-plain :
       to ≡ from + front isPlain (drop from t)
-      → Behind t to e
+      → ((content : List ℕ) → endedBy t content e ≡ ending content (drop to t))
       → endedBy t (undoubled (take (to - from) (drop from t))) e ≡ unquoted (drop from t)
   unfolding unquoted
   span-plain h b =
-      let n : to - from ≡ front isPlain (drop from t) = omega arith in
-      b _ ∙ ap (λ (j : ℕ). ending (undoubled (take j (drop from t))) (drop to t)) n
-      ∙ ap (λ (c : List ℕ). ending c (drop to t)) (undoubled-plain (drop from t))
-      ∙ ap (λ (r : List ℕ). ending (take (front isPlain (drop from t)) (drop from t)) r)
-      (ap (λ (j : ℕ). drop j t) h ∙ sym (drop-drop (front isPlain (drop from t)) from t))
+      spanned-by false (front isPlain (drop from t)) h b
+      ∙ ap (λ (c : List ℕ). ending c (drop (front isPlain (drop from t)) (drop from t))) (undoubled-plain (drop from t))
 
 plain : (l : List ℕ) → (0 < length l → getD l 0 0 ≡ quote → ⊥) → unquoted l ≡ fieldOf l
 unfolding fieldOf

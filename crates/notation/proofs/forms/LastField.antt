@@ -11,7 +11,7 @@ use Rattle.notation.specs.Fields.{front}
 use Rattle.notation.specs.Digits.{isDigit}
 use Rattle.notation.specs.Forms.{mod-word, lex-word, grlex-word, grevlex-word, defaultOrder, orderWord, header, modulusAndOrder, lastField}
 use Rattle.notation.specs.Said.{leadingSaid, LeadingRead}
-use Rattle.notation.specs.declared.forms.Leading.the-variants as G
+use Rattle.notation.specs.declared.digits.Leading.the-variants as G
 use Rattle.residue.proofs.bytes.Equality.{same-length}
 use Rattle.notation.proofs.fields.FieldSpans.{all-behind}
 

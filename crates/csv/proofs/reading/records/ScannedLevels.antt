@@ -18,9 +18,9 @@ use Rattle.notation.specs.Said.{withSign}
 use Rattle.csv.specs.reading.Records.{held, reading, fieldFrom, sizeOf, sizeField}
 use Rattle.notation.specs.declared.fields.End.{End}
 use Rattle.notation.proofs.digits.NumberDigits.{digit-range}
-use Rattle.notation.proofs.fields.FieldEnds.{chosen, with-ending}
+use Rattle.notation.proofs.fields.FieldEnds.{chosen, with-ending, with-closed}
 use Rattle.notation.proofs.fields.FieldSpans.{plain-other, begins-otherwise}
-use Rattle.notation.proofs.forms.LeadingDigits.{digits}
+use Rattle.notation.proofs.digits.LeadingDigits.{digits}
 
 -- what is said by a field depends on its content alone
 alike : {A : Type 0} (f g : List ℕ → Option A) → ((c : List ℕ) → f c ≡ g c) → (x : Field (List ℕ)) → reading f x ≡ reading g x
@@ -53,10 +53,8 @@ with-said f b (field c more rest) = refl
 with-said f b broken = refl
 
 with-ended : (q : Bool) (b : ℕ) (c l : List ℕ) → with b (endingIn q c l) ≡ endingIn q (b ∷ c) l
-unfolding with closed
-with-ended false b c l = with-ending b c l
-with-ended true b c [] = refl
-with-ended true b c (a ∷ l) = simp (chosen (with b), with-ending b c l)
+with-ended false = with-ending
+with-ended true = with-closed
 
 -- a plain byte is in the content: it ends no field, nor is it a quote
 no-end : (b : ℕ) (c l : List ℕ) → isPlain b ≡ true → ending c (b ∷ l) ≡ broken

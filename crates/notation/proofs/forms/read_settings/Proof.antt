@@ -8,7 +8,7 @@ use lib.ListN.{length}
 use Rattle.notation.specs.Digits.{isDigit}
 use Rattle.notation.specs.Forms.{header}
 use Rattle.notation.specs.Said.{LeadingRead, orderSaid, lastSaid}
-use Rattle.notation.specs.declared.forms.Leading.the-variants as G
+use Rattle.notation.specs.declared.digits.Leading.the-variants as G
 use Rattle.notation.proofs.fields.FieldSpans.{front-le}
 use Rattle.notation.proofs.forms.LastField.{no-digits, digits-and}
 use Rattle.notation.proofs.forms.read_settings.Statement.{statement}

@@ -10,9 +10,9 @@ use Rattle.notation.specs.Spans.{endedBy, EndWithin}
 use Rattle.notation.specs.Said.{leadingSaid, LeadingRead}
 use Rattle.csv.specs.reading.Records.{reading, sizeOf, sizeField, levelAtSaid}
 use Rattle.notation.specs.declared.fields.End.{End}
-use Rattle.notation.specs.declared.forms.Leading.the-variants as G
+use Rattle.notation.specs.declared.digits.Leading.the-variants as G
 use Rattle.notation.proofs.fields.FieldSpans.{all-behind, front-le}
-use Rattle.notation.proofs.forms.LeadingDigits.{digits}
+use Rattle.notation.proofs.digits.LeadingDigits.{digits}
 use Rattle.csv.proofs.reading.records.ScannedLevels.{size-none, size-some, size-ended}
 use Rattle.csv.proofs.reading.records.sized_level.Statement.{statement}
 use Rattle.csv.proofs.reading.records.sized_level.Tie as tie

@@ -12,8 +12,8 @@ use lib.Dec.{eqb·suc-zero}
 use Rattle.notation.specs.Digits.{isDigit, digitsFrom}
 use Rattle.notation.specs.Fields.{front}
 use Rattle.notation.specs.Said.{leadingOf, leadingSaid, LeadingRead}
-use Rattle.notation.specs.declared.forms.Leading.{Leading}
-use Rattle.notation.specs.declared.forms.Leading.the-variants as G
+use Rattle.notation.specs.declared.digits.Leading.{Leading}
+use Rattle.notation.specs.declared.digits.Leading.the-variants as G
 use Rattle.notation.proofs.digits.NumberDigits.{number-none, number-long, number-few}
 use Rattle.notation.proofs.fields.FieldSpans.{front-le}
 

@@ -1,4 +1,4 @@
--- `forms::read_leading` meets its contract. The digits from `i` on, behind the number so far, write the number of all, and end where all do.
+-- `digits::read_leading` meets its contract. The digits from `i` on, behind the number so far, write the number of all, and end where all do.
 use mathlib.Core.Path.{_≡_, refl, sym, _∙_}
 use mathlib.Core.Bool.{true}
 use mathlib.Core.List.{List}
@@ -11,9 +11,9 @@ use Rattle.notation.specs.Digits.{isDigit, digitsFrom}
 use Rattle.notation.specs.Fields.{front}
 use Rattle.notation.proofs.digits.NumberDigits.{tens, hundred, digit-range}
 use Rattle.notation.proofs.fields.Searches.{front-on, front-stop, front-end}
-use Rattle.notation.proofs.forms.LeadingDigits.{digits, digits-next, leading-done, leading-long}
-use Rattle.notation.proofs.forms.read_leading.Statement.{statement}
-use Rattle.notation.proofs.forms.read_leading.Tie as tie
+use Rattle.notation.proofs.digits.LeadingDigits.{digits, digits-next, leading-done, leading-long}
+use Rattle.notation.proofs.digits.read_leading.Statement.{statement}
+use Rattle.notation.proofs.digits.read_leading.Tie as tie
 
 abbrev Inv-loop : tie.InvT-loop
 Inv-loop content size₀ i₀ size i =

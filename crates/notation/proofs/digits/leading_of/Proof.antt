@@ -1,8 +1,8 @@
--- `forms::leading_of` meets its contract.
+-- `digits::leading_of` meets its contract.
 use borrow.Author.Tests.{eq-eqb, ne-eqb}
 use Rattle.notation.specs.Said.{leadingOf}
-use Rattle.notation.proofs.forms.leading_of.Statement.{statement}
-use Rattle.notation.proofs.forms.leading_of.Tie as tie
+use Rattle.notation.proofs.digits.leading_of.Statement.{statement}
+use Rattle.notation.proofs.digits.leading_of.Tie as tie
 
 returns : tie.Need-returns
 unfolding leadingOf
