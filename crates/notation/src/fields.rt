@@ -65,7 +65,7 @@ pub enum End {
     Broken,
 }
 
-pub fn read_end(text: &[u8], at: usize) -> End
+fn read_end(text: &[u8], at: usize) -> End
     requires { ⌜ at ≤ length (now text) ⌝ }
     ensures { λ r. ⌜ EndRead (now (text .entry)) at false r ⌝ }
 {

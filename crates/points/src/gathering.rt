@@ -8,6 +8,7 @@ ghost use mathlib.Core.Bool.{_&&_};
 ghost use Prim.Native.Nat.{suc, _+_, _*_, _%_, _≤_};
 ghost use lib.ListN.{length, getD, set, replicate};
 ghost use lib.Dec.{T, eqb, ltb};
+ghost use Rattle.residue.specs.Lists.{keyOf};
 ghost use Rattle.residue.specs.Layout.{groups, fill, over};
 ghost use Rattle.specification.specs.Levels.{residues, noRepeat};
 ghost use Rattle.specification.specs.Tables.{statesSize, countsSize, statesTable};
@@ -15,8 +16,18 @@ ghost use Rattle.specification.specs.Refusal.{firstOf};
 ghost use Rattle.specification.specs.Counted.{placeIn, pointsOf, countsOf, gathered, overfull};
 ghost use Rattle.points.specs.Gathering.{Hinted, hintOf, pointsEntered, countsEntered, EnteredAs};
 
+// How many hints there are. By 233 points of small grids share fewer remainders than by chance.
+pub const HINTS: usize = 233;
+
+// Where the hint of a point with this key stands.
+fn hint_place(own: u64) -> usize
+    ensures { λ r. ⌜ r ≡ own % 233 ⌝ }
+{
+    (own % HINTS as u64) as usize
+}
+
 // Where a point stands among the first n of a table, none of which repeats, or n. A hint is one more than where a point with the same remainder of its key was
-// found last, or 0 where there is none: then the point is new without a search. By 233 points of small grids share fewer remainders than by chance.
+// found last, or 0 where there is none: then the point is new without a search.
 fn find(n: usize, points: &[u8], point: &[u8], hints: &mut [u8]) -> usize
     requires { ⌜ (n ≤ 64) × (8 * n ≤ length (now points)) × (length (now point) ≡ 8) ⌝ }
     requires { ⌜ T (noRepeat (groups 8 n (now points))) × Hinted n (now points) (now hints) ⌝ }
@@ -24,7 +35,7 @@ fn find(n: usize, points: &[u8], point: &[u8], hints: &mut [u8]) -> usize
     ensures { λ i. ⌜ now (hints .exit) ≡ set (now (hints .entry)) (hintOf (now (point .entry))) (suc i) ⌝ }
 {
     let own = key(point);
-    let remainder = (own % 233) as usize;
+    let remainder = hint_place(own);
     let hint = hints[remainder] as usize;
     if hint == 0 {
         hints[remainder] = n as u8 + 1;
@@ -42,14 +53,15 @@ fn find(n: usize, points: &[u8], point: &[u8], hints: &mut [u8]) -> usize
     at
 }
 
-// The same of a point whose remainder is known: without a hint there it is new, and its bytes are not looked at. The reader of text has just written them one by
-// one, and a load of all at once would wait for them.
-fn find_at(n: usize, points: &[u8], point: &[u8], remainder: usize, hints: &mut [u8]) -> usize
-    requires { ⌜ (n ≤ 64) × (8 * n ≤ length (now points)) × (length (now point) ≡ 8) × (remainder ≡ hintOf (now point)) ⌝ }
+// The same of a point whose key is known: without a hint it is new, and its bytes are not looked at. The reader of text has just written them one by one, and a
+// load of all at once would wait for them.
+fn find_by(n: usize, points: &[u8], point: &[u8], own: u64, hints: &mut [u8]) -> usize
+    requires { ⌜ (n ≤ 64) × (8 * n ≤ length (now points)) × (length (now point) ≡ 8) × (own ≡ keyOf 8 (now point)) ⌝ }
     requires { ⌜ T (noRepeat (groups 8 n (now points))) × Hinted n (now points) (now hints) ⌝ }
     ensures { λ i. ⌜ i ≡ placeIn (now (point .entry)) (groups 8 n (now (points .entry))) ⌝ }
     ensures { λ i. ⌜ now (hints .exit) ≡ set (now (hints .entry)) (hintOf (now (point .entry))) (suc i) ⌝ }
 {
+    let remainder = hint_place(own);
     if hints[remainder] == 0 {
         hints[remainder] = n as u8 + 1;
         return n;
@@ -88,22 +100,22 @@ pub struct Entered {
     pub over: bool,
 }
 
-// Enters a point, whose remainder is known, among the first n of a table, none of which repeats.
+// Enters a point, whose key is known, among the first n of a table, none of which repeats.
 pub fn enter(
     n: usize,
     points: &mut [u8],
     counts: &mut [u8],
     hints: &mut [u8],
     point: &[u8],
-    remainder: usize,
+    own: u64,
 ) -> Entered
-    requires { ⌜ (n ≤ 64) × (remainder ≡ hintOf (now point)) ⌝ }
+    requires { ⌜ (n ≤ 64) × (own ≡ keyOf 8 (now point)) ⌝ }
     requires { ⌜ (length (now points) ≡ 512) × (length (now counts) ≡ 64) × (length (now point) ≡ 8) ⌝ }
     requires { ⌜ T (noRepeat (groups 8 n (now points))) × Hinted n (now points) (now hints) ⌝ }
     ensures { λ e. ⌜ EnteredAs n (now (point .entry)) (now (points .entry)) (now (counts .entry)) (now (hints .entry)) (e .at) (e .over)
         (now (points .exit)) (now (counts .exit)) (now (hints .exit)) ⌝ }
 {
-    let at = find_at(n, points, point, remainder, hints);
+    let at = find_by(n, points, point, own, hints);
     let over = enter_at(n, at, points, counts, point);
     Entered { at, over }
 }
@@ -131,7 +143,7 @@ pub fn gather(
         × ((now (points .exit) ≡ statesTable (pointsOf (gathered (groups m count (residues p (now (levels .entry)))))))
         × (now (counts .exit) ≡ fill countsSize (countsOf (gathered (groups m count (residues p (now (levels .entry))))))))) ⌝ }
 {
-    let mut hints = [0u8; 233];
+    let mut hints = [0u8; HINTS];
     let mut n = 0;
     let mut over = false;
     for i in 0..count {

@@ -1,5 +1,6 @@
 // The distinct points of a text, with their counts and the values of their first records.
 use crate::reading::entries::fill_entry;
+use points::gathering::HINTS;
 use points::gathering::enter;
 ghost use mathlib.Core.Path.{_≡_};
 ghost use mathlib.Core.Bool.{cond, _||_};
@@ -112,7 +113,7 @@ pub fn gather_entries(
     ensures { λ r. ⌜ GatheredAs p variables (levelsAt variables (drop at (now (text .entry)))) r
         (now (points .exit)) (now (counts .exit)) (now (values .exit)) ⌝ }
 {
-    let mut hints = [0u8; 233];
+    let mut hints = [0u8; HINTS];
     let mut from = at;
     let mut n = 0;
     let mut full = 0;
@@ -128,8 +129,7 @@ pub fn gather_entries(
         if full != 0 {
             continue;
         }
-        let remainder = (entry.key % 233) as usize;
-        let met = enter(n, points, counts, &mut hints, &point, remainder);
+        let met = enter(n, points, counts, &mut hints, &point, entry.key);
         if met.at == 64 {
             full = i + 1;
             continue;

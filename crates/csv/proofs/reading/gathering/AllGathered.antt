@@ -2,7 +2,7 @@
 use mathlib.Core.Path.{_≡_, refl, sym, ap, ap₂, _∙_, subst}
 use mathlib.Core.Bool.{Bool, not, cond, _||_}
 use mathlib.Core.List.{List, [], _∷_, _++_, map, map-append}
-use Prim.Native.Nat.{ℕ, suc, _+_, _-_, _%_, _<_, _≤_}
+use Prim.Native.Nat.{ℕ, suc, _+_, _-_, _<_, _≤_}
 use native.Mathlib.Decide.{ℕ-discrete}
 use native.Mathlib.Omega.{arith}
 use lib.IntN.{ℤ}
@@ -18,7 +18,7 @@ use Rattle.residue.proofs.Places.{over-zeros}
 use Rattle.specification.specs.Refusal.{firstOf}
 use Rattle.specification.specs.Counted.{countsOf}
 use Rattle.specification.proofs.counted.Saturated.{none-capped}
-use Rattle.points.specs.Gathering.{hintOf, Hinted, EnteredAs}
+use Rattle.points.specs.Gathering.{Hinted, EnteredAs}
 use Rattle.points.proofs.gathering.EnteredBytes.{no-room}
 use Rattle.points.proofs.gathering.Hints.{hinted-none, hinted-turn}
 use Rattle.points.proofs.gathering.Gathering.{holds-sizes}
@@ -96,12 +96,10 @@ module _ (p m : ℕ) (S : List (List ℤ)) where
       zeros : (k : ℕ) → m ≤ k → k < m + (8 - m) → getD point k 0 ≡ 0
       zeros k a b = ap (λ (l : List ℕ). getD l k 0) filled ∙ fill-at 8 P k (omega (arith, b, fits)) ∙ List·getD-eq-default P 0 (omega (arith, a, lp))
 
-      -- the remainder at which it has its hint
-      pub keyed : f .key % 233 ≡ hintOf point
-      unfolding hintOf
+      pub keyed : f .key ≡ keyOf 8 point
       keyed =
           let eight : m + (8 - m) ≡ 8 = omega (arith, fits) in
-          ap (λ (x : ℕ). x % 233) (w .key ∙ sym (key-padded m (8 - m) point zeros) ∙ ap (λ (k : ℕ). keyOf k point) eight)
+          w .key ∙ sym (key-padded m (8 - m) point zeros) ∙ ap (λ (k : ℕ). keyOf k point) eight
 
       value : f .value ≡ entryValue p m (next S r h)
       value = w .value ∙ ap (entryValue p m) (levels S r h)

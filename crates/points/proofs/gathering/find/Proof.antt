@@ -18,17 +18,17 @@ use Rattle.points.proofs.gathering.find.Tie as tie
 -- the hint is read
 module _ (c : tie.After-slice-known2) where
   abbrev start : tie.Start
-  start = c .before .before .before .before .before
+  start = c .before .before .before .before .before .before
 
   abbrev remainder : ℕ
-  remainder = c .before .key .result % 233
+  remainder = c .before .hint-place .result
 
   abbrev hint : ℕ
   hint = getD (start .args .hints .now) remainder 0
 
   here : remainder ≡ hintOf (start .args .point .now)
   unfolding hintOf
-  here = ap (λ (k : ℕ). k % 233) (c .before .key .ensures)
+  here = c .before .hint-place .ensures ∙ ap (λ (k : ℕ). k % 233) (c .before .before .key .ensures)
 
   -- a place written as a hint
   noted : (i : ℕ) → set (start .args .hints .now) remainder (i + 1) ≡ set (start .args .hints .now) (hintOf (start .args .point .now)) (suc i)
@@ -46,6 +46,9 @@ found-few c =
 
 key-requires : tie.Need-key-requires
 key-requires c κs = c .before .before .before .pre .0 .2
+
+hint-place-requires : tie.Need-hint-place-requires
+hint-place-requires c κs = tt
 
 slice-read-hint : tie.Need-slice-read-hint
 slice-read-hint c = within c
@@ -98,11 +101,11 @@ returns-2 c =
     let e = t .before in
     let r = e .before in
     let a = start r .args in
-    let bytes = r .before .before .before in
+    let bytes = r .before .before .before .before in
     let again : suc (hint r - 1) ≡ getD (a .hints .now) (hintOf (a .point .now)) 0 = omega (arith, e .if1 .left, ap (λ (k : ℕ). getD (a .hints .now) k 0) (here r)) in (
       guessed (a .point .now) (a .points .now) (a .n) (hint r - 1) (start r .pre .1 .0) (t .if2 .taken)
           (keys-told (a .point .now) (a .points .now) (hint r - 1) (λ j h. bytes .shared-slice-known2 .given j .fits)
-          (λ j h. bytes .before .shared-slice-known .given j .fits) (omega arith) (omega arith) (r .before .key .ensures) (k .key2 .ensures) ∙ eq-eqb _ _ (c .if3 .taken)),
+          (λ j h. bytes .before .shared-slice-known .given j .fits) (omega arith) (omega arith) (r .before .before .key .ensures) (k .key2 .ensures) ∙ eq-eqb _ _ (c .if3 .taken)),
       sym (ap (set (a .hints .now) (hintOf (a .point .now))) again ∙ set-getD (a .hints .now) (hintOf (a .point .now)) 0),
     )
 
@@ -129,6 +132,7 @@ find-spec =
     tie.close
     (tie.spec
     key-requires
+    hint-place-requires
     slice-read-hint
     cast-hint
     cast-hints

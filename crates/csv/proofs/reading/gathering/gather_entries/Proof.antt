@@ -2,35 +2,23 @@
 -- `from` on.
 use mathlib.Core.Path.{_≡_, refl, sym, ap, _∙_}
 use mathlib.Core.List.{List, []}
-use Prim.Native.Nat.{ℕ, _+_, _-_, _%_, _^_, _<_, _≤_}
+use Prim.Native.Nat.{_+_, _-_, _<_}
 use native.Mathlib.Omega.{arith}
 use lib.IntN.{ℤ}
 use lib.ListN.{length, take, drop}
 use borrow.Author.Tests.{not-true, not-false}
+use Rattle.residue.specs.Lists.{keyOf}
 use Rattle.residue.proofs.Layouts.{length-fill}
-use Rattle.points.specs.Gathering.{hintOf}
 use Rattle.points.proofs.gathering.Gathering.{holds-sizes}
 use Rattle.csv.specs.reading.Text.{firstFault, isOutside}
 use Rattle.csv.specs.reading.Points.{levelsAt}
 use Rattle.csv.proofs.reading.entries.EntriesRead.{ReadOn, begun, entry-there, read-on}
 use Rattle.csv.proofs.reading.entries.EntriesInside.{inside-on, outside-here, all-inside}
+use Rattle.csv.proofs.reading.gathering.SmallPlaces.{lt-le, next-le, one-less, fits-64}
 use Rattle.csv.proofs.reading.gathering.EntriesGathered.{Gathering, once-there, values-long}
 use Rattle.csv.proofs.reading.gathering.AllGathered.{first, outside-refused, keyed, Turned, none-turned, going, turned-full, full-turn, place-below, next-turn, all-gathered, places-within}
 use Rattle.csv.proofs.reading.gathering.gather_entries.Statement.{statement}
 use Rattle.csv.proofs.reading.gathering.gather_entries.Tie as tie
-
--- over plain numbers
-lt-le : {a b c : ℕ} → a < b → b ≤ c → a < c
-lt-le h k = omega (arith, h, k)
-
-next-le : {a b : ℕ} → a < b → a + 1 ≤ b
-next-le h = omega (arith, h)
-
-one-less : {a b : ℕ} → a < b → b - (a + 1) < b - a
-one-less h = omega (arith, h)
-
-fits-64 : {a : ℕ} → a < 16384 → a + 1 < 2 ^ 64
-fits-64 h = omega (arith, h)
 
 abbrev Inv-loop : tie.InvT-loop
 Inv-loop text at p variables entries points₀ counts₀ values₀ hints₀ from₀ n₀ full₀ often₀ other₀ i₀ points counts values hints from n full often other i =
@@ -69,24 +57,24 @@ abbrev N : Type 0
 N = tie.After-enter Inv-loop μ-loop
 
 abbrev not-full : N → tie.Else2 Inv-loop μ-loop
-not-full e = e .before .before .before .before .before .before
+not-full e = e .before .before .before .before .before
 
 abbrev within : N → W
 within e = not-full e .before
 
-abbrev entered : tie.After-struct-known3 Inv-loop μ-loop → N
+abbrev entered : tie.After-struct-known2 Inv-loop μ-loop → N
 entered k = k .before .before .before .before .before .before
 
-abbrev kept : tie.After-struct-known4 Inv-loop μ-loop → tie.After-keep-value Inv-loop μ-loop
+abbrev kept : tie.After-struct-known3 Inv-loop μ-loop → tie.After-keep-value Inv-loop μ-loop
 kept c = c .before .before .before
 
 abbrev had-room : tie.After-keep-value Inv-loop μ-loop → tie.Else3 Inv-loop μ-loop
 had-room k = k .before .before
 
-abbrev read-then : tie.After-struct-known4 Inv-loop μ-loop → F
+abbrev read-then : tie.After-struct-known3 Inv-loop μ-loop → F
 read-then c = read (within (entered (had-room (kept c) .before)))
 
--- an entry that was read: its place is small, where the reading goes on, and the remainder at which its point has its hint
+-- an entry that was read: its place is small, where the reading goes on, and the key of its point
 module _ (f : F) where
   taken : turn f .loop .i < start (turn f) .args .entries
   taken = f .before .before .loop-test .taken
@@ -97,8 +85,8 @@ module _ (f : F) where
   on : ReadOn (start (turn f) .args .variables) (start (turn f) .args .entries) (start (turn f) .args .text .now) (entries (turn f)) (f .fill-entry .result .next) (turn f .loop .i + 1)
   on = read-on (entries (turn f)) (turn f .loop .inv .0) taken (f .fill-entry .ensures .0)
 
-  hinted : f .fill-entry .result .key % 233 ≡ hintOf (f .fill-entry .last .1 .1 .1 .1 .0)
-  hinted = keyed _ _ (entries (turn f)) (turn f .loop .inv .0) (start (turn f) .pre .0 .2) taken (f .fill-entry .ensures .0) (f .fill-entry .ensures .1)
+  own : f .fill-entry .result .key ≡ keyOf 8 (f .fill-entry .last .1 .1 .1 .1 .0)
+  own = keyed _ _ (entries (turn f)) (turn f .loop .inv .0) (start (turn f) .pre .0 .2) taken (f .fill-entry .ensures .0) (f .fill-entry .ensures .1)
 
 -- it is in range, like those before it
 none-outside : (w : W) → firstFault (isOutside (start (turn (read w)) .args .p)) (take (turn (read w) .loop .i + 1) (entries (turn (read w)))) ≡ 0
@@ -174,19 +162,19 @@ loop-again c =
 
 slice-aggregate-enter : tie.Need-slice-aggregate-enter Inv-loop μ-loop
 slice-aggregate-enter c =
-    let d = c .before .before .before .before in
+    let d = c .before .before .before in
     sym (turn (read (d .before)) .loop .inv .1 .hinted (d .if2 .left) .long)
 
 slice-aggregate-enter-2 : tie.Need-slice-aggregate-enter-2 Inv-loop μ-loop
-slice-aggregate-enter-2 c = sym (read (c .before .before .before .before .before .before) .fill-entry .kept .1 .1 .1 .1 .0)
+slice-aggregate-enter-2 c = sym (read (c .before .before .before .before .before) .fill-entry .kept .1 .1 .1 .1 .0)
 
 enter-requires : tie.Need-enter-requires Inv-loop μ-loop
 enter-requires c κs =
-    let d = c .before .before .before .before .before in
+    let d = c .before .before .before .before in
     let f = read (d .before) in
     let l = turn f in
     let g = gathering d in
-    ((g .holds .few, hinted f), ((holds-sizes (g .holds) .0, holds-sizes (g .holds) .1, f .fill-entry .kept .1 .1 .1 .1 .0), (once-there g (start l .pre .0 .2), l .loop .inv .1 .hinted (d .if2 .left))))
+    ((g .holds .few, own f), ((holds-sizes (g .holds) .0, holds-sizes (g .holds) .1, f .fill-entry .kept .1 .1 .1 .1 .0), (once-there g (start l .pre .0 .2), l .loop .inv .1 .hinted (d .if2 .left))))
 
 -- The 65th point.
 add-full : tie.Need-add-full Inv-loop μ-loop
