@@ -3,7 +3,6 @@
 mod answered;
 mod buffers;
 mod counts;
-mod refused;
 mod stored;
 mod written;
 

@@ -2,7 +2,6 @@
 use crate::answered;
 use crate::buffers;
 use crate::counts;
-use crate::refused;
 use crate::written;
 use specification::settings::Settings;
 
@@ -153,6 +152,20 @@ fn run_basis(fd: i32, head: Head, levels: &[i8], counts: &mut [u64; 16]) {
     );
 }
 
+// A list of points that is refused changes nothing.
+fn run_refused(head: Head, levels: &[i8], counts: &mut [u64; 16]) {
+    let passed = written::drawn(
+        head,
+        levels,
+        &[170u8; 512],
+        &[170u8; 512],
+        &[170u8; 3592],
+        &[170u8; 28736],
+        &[170u8; 64],
+    );
+    counts::count(counts, counts::REFUSED, passed);
+}
+
 fn run_case(fd: i32, head: Head, counts: &mut [u64; 16]) {
     let mut levels = [0i8; 512];
     let count = head.levels as usize;
@@ -160,8 +173,7 @@ fn run_case(fd: i32, head: Head, counts: &mut [u64; 16]) {
     if head.refusal == 0 {
         run_basis(fd, head, buffers::signed_front(&levels, count), counts);
     } else {
-        let passed = refused::drawn(head, buffers::signed_front(&levels, count));
-        counts::count(counts, counts::REFUSED, passed);
+        run_refused(head, buffers::signed_front(&levels, count), counts);
     }
 }
 

@@ -1,24 +1,23 @@
 // One stored case against each call that writes tables: the refusal, the counts and every byte that is left.
 use crate::buffers;
-use crate::refused;
 use crate::stored::Head;
 use addition::adding;
 use basis::drawing;
 use specification::settings::Answer;
 use specification::settings::Drawn;
 
-fn is_due(got: Answer, head: Head) -> bool {
-    if got.refusal != 0 {
+fn is_due(got: Answer, refusal: u8, n: u8, r: u16) -> bool {
+    if got.refusal != refusal {
         return false;
     }
-    if got.n != head.n {
+    if got.n != n {
         return false;
     }
-    got.r == head.r
+    got.r == r
 }
 
 // What drawing up answers, without its cancellations.
-pub fn plain(got: Drawn) -> Answer {
+fn plain(got: Drawn) -> Answer {
     Answer {
         refusal: got.refusal,
         n: got.n,
@@ -26,7 +25,7 @@ pub fn plain(got: Drawn) -> Answer {
     }
 }
 
-// Drawing up: the counts and the cancellations, and every byte of the tables with the guards behind them.
+// Drawing up: the refusal, the counts and the cancellations, which a refusal has none of, and every byte of the tables with the guards behind them.
 pub fn drawn(
     head: Head,
     levels: &[i8],
@@ -54,7 +53,7 @@ pub fn drawn(
     if got.cancellations != head.cancellations as u32 {
         return false;
     }
-    if !is_due(plain(got), head) {
+    if !is_due(plain(got), head.refusal, head.n, head.r) {
         return false;
     }
     if !buffers::holds(&new_times, times) {
@@ -94,7 +93,7 @@ fn again(
         times,
         last,
     );
-    if !is_due(repeated, head) {
+    if !is_due(repeated, 0, head.n, head.r) {
         return false;
     }
     buffers::ends(times, head.n as usize, 2)
@@ -122,7 +121,7 @@ fn outside(
         times,
         buffers::signed_front(&[127i8; 8], count),
     );
-    refused::is_due(large, 9)
+    is_due(large, 9, 0, 0)
 }
 
 // Adding the last point to the others answers the same as drawing up all.
@@ -157,7 +156,7 @@ fn add(
         times,
         last,
     );
-    is_due(got, head)
+    is_due(got, 0, head.n, head.r)
 }
 
 // The counts after the last point is added to the others; then it is offered once more, and one out of range is refused.
