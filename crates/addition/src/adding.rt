@@ -3,7 +3,7 @@ use growth::growing::add_tables;
 use recognition::naming::locate;
 use recognition::settings::refused;
 use residue::bytes;
-use specification::settings::Answer;
+use specification::answers::Answer;
 use specification::settings::Settings;
 ghost use mathlib.Core.Path.{_≡_};
 ghost use mathlib.Core.Bool.{true, false, cond};
@@ -13,8 +13,7 @@ ghost use lib.Dec.{eqb, ltb};
 ghost use lib.ListN.{length, take, getD, set};
 ghost use Rattle.residue.specs.Layout.{fill, withPlace, begins};
 ghost use Rattle.specification.specs.Tables.{fiveTables, tooShort, pointsIn, countsSize};
-ghost use Rattle.specification.specs.Adding.{ended, addOutcome};
-ghost use Rattle.specification.proofs.Replicates.{holdingBoth};
+ghost use Rattle.specification.specs.Adding.{ended, addOutcome, holdingBoth};
 ghost use Rattle.construction.specs.Drawing.{PointsGiven, DrawnUp};
 ghost use Rattle.growth.specs.Growing.{allPoints, NewPoint};
 

@@ -10,7 +10,7 @@ use recognition::settings::draw_sizes;
 use recognition::settings::refused_drawing;
 use recognition::settings::too_short;
 use residue::bytes;
-use specification::settings::Drawn;
+use specification::answers::Drawn;
 use specification::settings::Settings;
 ghost use mathlib.Core.Path.{_≡_};
 ghost use mathlib.Core.Bool.{not, false};
@@ -24,8 +24,7 @@ ghost use Rattle.specification.specs.Settings.{settingsCases};
 ghost use Rattle.specification.specs.Levels.{inRange};
 ghost use Rattle.specification.specs.Counted.{pointsOf, countsOf, gathered, overfull};
 ghost use Rattle.specification.specs.Tables.{pointsIn, fiveTables, tooShort, statesTable, statesSize, countsSize};
-ghost use Rattle.specification.specs.Adding.{drawEnded, costing, cancellationsUnder, pointsOffered, drawOutcome};
-ghost use Rattle.specification.proofs.Replicates.{holdingBoth};
+ghost use Rattle.specification.specs.Adding.{drawEnded, costing, cancellationsUnder, pointsOffered, drawOutcome, holdingBoth};
 ghost use Rattle.construction.specs.Drawing.{RowsLong, PointsGiven, pivotBytes, pivotRowsUnder};
 
 // The basis of the n points of a table, with the counts in `times`, written to lent tables over lent pivot rows, and the answer that says so.

@@ -4,7 +4,7 @@ use crate::drawing::draw_points;
 use monomial::insert::take_out;
 use recognition::naming::locate;
 use recognition::settings::refused;
-use specification::settings::Answer;
+use specification::answers::Answer;
 use specification::settings::Settings;
 ghost use mathlib.Core.Path.{_≡_};
 ghost use mathlib.Core.Bool.{false, cond};
@@ -14,11 +14,10 @@ ghost use lib.Dec.{ltb};
 ghost use Rattle.residue.specs.Layout.{fill};
 ghost use Rattle.monomial.specs.Insert.{removedAt};
 ghost use Rattle.specification.specs.Tables.{fiveTables, pointsIn, tooShort};
-ghost use Rattle.specification.specs.Adding.{ended};
+ghost use Rattle.specification.specs.Adding.{ended, holdingBoth};
 ghost use Rattle.specification.specs.Withdrawing.{withdrawOutcome};
 ghost use Rattle.specification.specs.CallByCall.{recounted};
-ghost use Rattle.specification.proofs.Replicates.{holdingBoth};
-ghost use Rattle.specification.proofs.agreement.Points.{Points};
+ghost use Rattle.specification.specs.Points.{Points};
 ghost use Rattle.construction.specs.Drawing.{RowsLong, PointsGiven, pivotBytes, pivotRowsUnder};
 
 // One occurrence fewer of the point at a place among the n of a table: its count is lowered, or, where that was 1, the points and counts behind move up and the

@@ -16,7 +16,7 @@ use Rattle.specification.specs.Levels.{noRepeat}
 use Rattle.specification.specs.BasisOf.{interpolantOf}
 use Rattle.specification.specs.Cancellations.{valueColumn}
 use Rattle.specification.specs.Tables.{spaceUnder, pointsUnder, standardUnder, rowCount, standardTable, leadsTable, coefficientsTable, pointsIn, statesSize}
-use Rattle.specification.proofs.agreement.Refusals.{Accepted}
+use Rattle.specification.specs.Settings.{Accepted}
 
 -- A working row: empty, and with values at its front.
 abbrev pub emptyRow : List ℕ
@@ -32,9 +32,6 @@ RowsLong rows pivots = (length rows ≡ 73728) × (length pivots ≡ 64)
 -- the values of a variable times a monomial, from the n of the variable and those of the monomial
 unfoldable pub productValues : ℕ → ℕ → List ℕ → List ℕ → List ℕ
 productValues p n column values = over (pointwise p (take n values) column) values
-
-abbrev pub settingsOf : ℕ → ℕ → ℕ → Settings
-settingsOf p m order = record { modulus = p; variables = m; order = order }
 
 -- Settings that no call refuses, and the table of n points, none twice.
 pub record PointsGiven (s : Settings) (n : ℕ) (points : List ℕ) : Type 0 where

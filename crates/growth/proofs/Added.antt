@@ -13,10 +13,10 @@ use lib.Seq.{length-take-le}
 use Rattle.residue.specs.Lists.{Among}
 use Rattle.residue.specs.Vector.{Below}
 use Rattle.elimination.specs.Elimination.{eliminated, Multiplied}
-use Rattle.residue.specs.Layout.{groups, fill, inPlaces, over, withPlace, rowAt}
+use Rattle.residue.specs.Layout.{groups, fill, inPlaces, over, withPlace, rowAt, length-fill}
 use Rattle.residue.proofs.vector.Vectors.{below-take, map-same}
 use Rattle.residue.proofs.Tests.{true-of}
-use Rattle.residue.proofs.Layouts.{fill-exact, below-fill, length-fill}
+use Rattle.residue.proofs.Layouts.{fill-exact, below-fill}
 use Rattle.residue.proofs.Places.{places-append, over-zeros, place-more}
 use Rattle.monomial.specs.Monomial.{monomialAt}
 use Rattle.monomial.specs.Order.{orderOf}
@@ -30,7 +30,8 @@ use Rattle.specification.specs.Instance.{Monomial, Point, reduced, pointOf}
 use Rattle.specification.specs.Tables.{spaceUnder, pointsUnder, standardUnder, leadsUnder, rowsUnder, rowCount, pointsIn}
 use Rattle.specification.specs.Tables.{statesTable, standardTable, leadsTable, coefficientsTable}
 use Rattle.specification.proofs.Repeats.{is-among}
-use Rattle.specification.proofs.agreement.Points.{IsPoint, Points, points-more}
+use Rattle.specification.specs.Points.{Points, IsPoint}
+use Rattle.specification.proofs.agreement.Points.{points-more}
 use Rattle.specification.proofs.agreement.Drawings as Drawings
 use Rattle.specification.proofs.Instance.{laws, point-of, lead-exponent}
 use Rattle.specification.proofs.ideal.Laws.{Laws}

@@ -8,9 +8,9 @@ use native.Mathlib.Numerals.{add-one}
 use lib.ListN.{length, getD, set, take, drop, replicate, length-append, length-drop, drop-of-length-le}
 use lib.Seq.{length-take-le, take-all, drop-cons, take-at, drop-at, set-at}
 use Rattle.residue.specs.Vector.{Below}
-use Rattle.residue.specs.Layout.{fill, inPlaces, over, rowAt}
+use Rattle.residue.specs.Layout.{fill, inPlaces, over, rowAt, length-fill}
 use Rattle.residue.proofs.vector.Vectors.{below-append, below-take, below-drop, below-zeros}
-use Rattle.residue.proofs.Layouts.{fill-append, over-all, fill-cut, length-fill}
+use Rattle.residue.proofs.Layouts.{fill-append, over-all, fill-cut}
 use Rattle.monomial.specs.Insert.{insertedAt, takenOut}
 use Rattle.growth.specs.Growing.{rowValueAt, correctedBy, correctedRow, correctedRows, rowsLeft}
 

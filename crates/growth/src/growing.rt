@@ -13,7 +13,7 @@ ghost use Rattle.residue.specs.Vector.{Below};
 ghost use Rattle.elimination.specs.Elimination.{Multiplied};
 ghost use Rattle.residue.specs.Layout.{rowAt};
 ghost use Rattle.specification.specs.Tables.{pointsIn};
-ghost use Rattle.specification.proofs.agreement.Refusals.{Accepted};
+ghost use Rattle.specification.specs.Settings.{Accepted};
 ghost use Rattle.growth.specs.Growing.{grown, othersOf, othersCorrected, standardGrown, grownBy, allPoints, NewPoint};
 ghost use Rattle.construction.specs.Drawing.{PointsGiven, Tabled, DrawnUp};
 

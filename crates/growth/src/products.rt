@@ -11,7 +11,7 @@ ghost use lib.ListN.{length, getD};
 ghost use Rattle.residue.specs.Vector.{Below};
 ghost use Rattle.elimination.specs.Elimination.{Multiplied};
 ghost use Rattle.monomial.specs.Insert.{withRowAt};
-ghost use Rattle.specification.proofs.agreement.Refusals.{Accepted};
+ghost use Rattle.specification.specs.Settings.{Accepted};
 ghost use Rattle.growth.specs.Growing.{correctedRow, reducedRow, grown, productPut, productsPut};
 
 // The row of a monomial put into the table of coefficients before row i of k: its values at the n points are eliminated, and what they leave is corrected.

@@ -29,8 +29,9 @@ use Rattle.specification.specs.Solving.{withinVariables, polynomialOf}
 use Rattle.specification.proofs.ideal.Lists.{getD-among, index-of}
 use Rattle.specification.proofs.ideal.Basis.{interpolant-fits, interpolant-agree, value-at}
 use Rattle.specification.proofs.ideal.Counts.{standard-length}
-use Rattle.specification.proofs.agreement.Points.{Points, point-same}
-use Rattle.specification.proofs.agreement.Refusals.{Accepted}
+use Rattle.specification.specs.Points.{Points}
+use Rattle.specification.proofs.agreement.Points.{point-same}
+use Rattle.specification.specs.Settings.{Accepted}
 use Rattle.specification.proofs.agreement.Drawings.{laws-under, distinct-points}
 use Rattle.interpolation.specs.Solving.{solution}
 use Rattle.construction.specs.Drawing.{Solves}

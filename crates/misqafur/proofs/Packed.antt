@@ -2,9 +2,9 @@
 use mathlib.Core.Path.{_≡_, ap, _∙_}
 use mathlib.Core.List.{List}
 use Prim.Native.Nat.{ℕ}
-use Rattle.specification.specs.declared.settings.Answer.{Answer}
-use Rattle.specification.specs.declared.settings.Drawn.{Drawn}
-use Rattle.specification.specs.declared.settings.Wired.{Wired}
+use Rattle.specification.specs.declared.answers.Answer.{Answer}
+use Rattle.specification.specs.declared.answers.Drawn.{Drawn}
+use Rattle.specification.specs.declared.answers.Wired.{Wired}
 use Rattle.specification.specs.Adding.{Outcome, ended, DrawOutcome, drawEnded}
 use Rattle.specification.specs.Solving.{Listed, listed}
 use Rattle.csv.specs.declared.reading.Read.{Read}

@@ -4,18 +4,14 @@ use mathlib.Core.List.{List, [], _∷_}
 use Prim.Native.Nat.{ℕ, _+_, _*_}
 use lib.Dec.{eqb}
 use Rattle.specification.specs.declared.settings.Settings.{Settings}
-use Rattle.specification.specs.declared.settings.Answer.{Answer}
-use Rattle.specification.specs.declared.settings.Drawn.{Drawn}
-use Rattle.specification.specs.declared.settings.Wired.{Wired}
+use Rattle.specification.specs.declared.answers.Answer.{Answer}
+use Rattle.specification.specs.declared.answers.Drawn.{Drawn}
+use Rattle.specification.specs.declared.answers.Wired.{Wired}
 use Rattle.specification.specs.Tables.{Tables, fiveTables}
 use Rattle.specification.specs.Adding.{Outcome, DrawOutcome}
 use Rattle.specification.specs.Solving.{Listed}
 use Rattle.csv.specs.declared.reading.Read.{Read}
 use Rattle.csv.specs.reading.Text.{TextOutcome}
-
--- The settings, number by number.
-abbrev pub givenSettings : ℕ → ℕ → ℕ → Settings
-givenSettings modulus variables order = record { modulus = modulus; variables = variables; order = order }
 
 -- Numbers in one, each 256 times higher than the one before it.
 abbrev pub packed : List ℕ → ℕ

@@ -7,7 +7,8 @@ use specification::settings::Settings;
 ghost use mathlib.Core.Path.{_≡_};
 ghost use Rattle.specification.specs.Tables.{fiveTables};
 ghost use Rattle.specification.specs.Solving.{answering, interpolateOutcome, remainderOutcome, wiringOutcome};
-ghost use Rattle.misqafur.specs.Packing.{givenSettings, leftList, packedList};
+ghost use Rattle.specification.specs.Settings.{settingsOf};
+ghost use Rattle.misqafur.specs.Packing.{leftList, packedList};
 
 // The interpolant of n values, in the order of the points.
 #[no_mangle]
@@ -26,7 +27,7 @@ pub extern "C" fn misqafur_interpolate(
     out: &mut [u8],
 ) -> u32
     ensures { λ a. ⌜ answering a (now (out .exit))
-        ≡ interpolateOutcome (givenSettings modulus variables order) n r
+        ≡ interpolateOutcome (settingsOf modulus variables order) n r
         (fiveTables (now (states .entry)) (now (standard .entry)) (now (leads .entry)) (now (coefficients .entry)) (now (counts .entry)))
         (now (values .entry)) (now (out .entry)) ⌝ }
 {
@@ -67,7 +68,7 @@ pub extern "C" fn misqafur_remainder(
     out: &mut [u8],
 ) -> u32
     ensures { λ a. ⌜ answering a (now (out .exit))
-        ≡ remainderOutcome (givenSettings modulus variables order) n r
+        ≡ remainderOutcome (settingsOf modulus variables order) n r
         (fiveTables (now (states .entry)) (now (standard .entry)) (now (leads .entry)) (now (coefficients .entry)) (now (counts .entry)))
         (now («term_coefficients» .entry)) (now (exponents .entry)) (now (out .entry)) ⌝ }
 {
@@ -108,7 +109,7 @@ pub extern "C" fn misqafur_wiring(
     out: &mut [u8],
 ) -> u32
     ensures { λ a. ⌜ leftList a (now (out .exit))
-        ≡ packedList (wiringOutcome (givenSettings modulus variables order) n r
+        ≡ packedList (wiringOutcome (settingsOf modulus variables order) n r
         (fiveTables (now (states .entry)) (now (standard .entry)) (now (leads .entry)) (now (coefficients .entry)) (now (counts .entry)))
         (now (values .entry)) (now (out .entry))) ⌝ }
 {

@@ -1,8 +1,8 @@
 // Answers as one number.
 use csv::reading::Read;
-use specification::settings::Answer;
-use specification::settings::Drawn;
-use specification::settings::Wired;
+use specification::answers::Answer;
+use specification::answers::Drawn;
+use specification::answers::Wired;
 ghost use mathlib.Core.Path.{_≡_};
 ghost use Rattle.misqafur.specs.Packing.{packedAnswer, packedDrawn, packedWired, packedRead};
 

@@ -11,7 +11,8 @@ ghost use Rattle.specification.specs.Tables.{fiveTables};
 ghost use Rattle.specification.specs.Adding.{addOutcome, drawOutcome};
 ghost use Rattle.specification.specs.Withdrawing.{withdrawOutcome};
 ghost use Rattle.specification.specs.Solving.{checkRefusal};
-ghost use Rattle.misqafur.specs.Packing.{givenSettings, left, packedOutcome, packedDrawing};
+ghost use Rattle.specification.specs.Settings.{settingsOf};
+ghost use Rattle.misqafur.specs.Packing.{left, packedOutcome, packedDrawing};
 
 // Adding one point to the n points of the tables.
 #[no_mangle]
@@ -29,7 +30,7 @@ pub extern "C" fn misqafur_add_point(
     levels: &[i8],
 ) -> u32
     ensures { λ a. ⌜ left a (now (states .exit)) (now (standard .exit)) (now (leads .exit)) (now (coefficients .exit)) (now (counts .exit))
-        ≡ packedOutcome (addOutcome (givenSettings modulus variables order) n r
+        ≡ packedOutcome (addOutcome (settingsOf modulus variables order) n r
         (fiveTables (now (states .entry)) (now (standard .entry)) (now (leads .entry)) (now (coefficients .entry)) (now (counts .entry)))
         (now (levels .entry))) ⌝ }
 {
@@ -68,7 +69,7 @@ pub extern "C" fn misqafur_withdraw_point(
     levels: &[i8],
 ) -> u32
     ensures { λ a. ⌜ left a (now (states .exit)) (now (standard .exit)) (now (leads .exit)) (now (coefficients .exit)) (now (counts .exit))
-        ≡ packedOutcome (withdrawOutcome (givenSettings modulus variables order) n r
+        ≡ packedOutcome (withdrawOutcome (settingsOf modulus variables order) n r
         (fiveTables (now (states .entry)) (now (standard .entry)) (now (leads .entry)) (now (coefficients .entry)) (now (counts .entry)))
         (now (levels .entry))) ⌝ }
 {
@@ -105,7 +106,7 @@ pub extern "C" fn misqafur_draw_up(
     levels: &[i8],
 ) -> u64
     ensures { λ a. ⌜ left a (now (states .exit)) (now (standard .exit)) (now (leads .exit)) (now (coefficients .exit)) (now (counts .exit))
-        ≡ packedDrawing (drawOutcome (givenSettings modulus variables order)
+        ≡ packedDrawing (drawOutcome (settingsOf modulus variables order)
         (fiveTables (now (states .entry)) (now (standard .entry)) (now (leads .entry)) (now (coefficients .entry)) (now (counts .entry)))
         (now (levels .entry))) ⌝ }
 {
@@ -141,7 +142,7 @@ pub extern "C" fn misqafur_check(
     counts: &[u8],
 ) -> u32
     ensures { λ a. ⌜ a
-        ≡ checkRefusal (givenSettings modulus variables order) n r
+        ≡ checkRefusal (settingsOf modulus variables order) n r
         (fiveTables (now (states .entry)) (now (standard .entry)) (now (leads .entry)) (now (coefficients .entry)) (now (counts .entry))) ⌝ }
 {
     let settings = Settings {

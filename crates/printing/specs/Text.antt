@@ -8,7 +8,7 @@ use lib.ListN.{length, take, replicate}
 use Rattle.specification.specs.declared.settings.Settings.{Settings}
 use Rattle.specification.specs.BasisOf.{interpolantOf}
 use Rattle.specification.specs.Tables.{spaceUnder, pointsUnder, standardUnder, leadsUnder, rowsUnder, pointsIn}
-use Rattle.construction.specs.Drawing.{settingsOf}
+use Rattle.specification.specs.Settings.{settingsOf}
 use Rattle.specification.specs.Needed.{wiringOf}
 use Rattle.residue.specs.Layout.{over}
 use Rattle.csv.specs.reading.Text.{TextOutcome, readOutcome}

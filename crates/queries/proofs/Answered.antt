@@ -16,14 +16,14 @@ use Rattle.monomial.specs.Monomial.{monomialAt}
 use Rattle.monomial.specs.Terms.{termValues}
 use Rattle.specification.specs.declared.settings.Settings.{Settings}
 use Rattle.specification.specs.Refusal.{firstOf}
-use Rattle.specification.specs.Settings.{settingsCases}
+use Rattle.specification.specs.Settings.{Accepted, settingsCases}
 use Rattle.specification.specs.Levels.{inRange, residues}
 use Rattle.specification.specs.BasisOf.{interpolantOf}
 use Rattle.specification.specs.Tables.{Tables, spaceUnder, pointsUnder, tooShort, pointsIn, recognised}
 use Rattle.specification.specs.Solving.{interpolantIn, withinVariables, polynomialUnder, remainderIn}
 use Rattle.specification.specs.Needed.{wiringOf}
-use Rattle.specification.proofs.agreement.Points.{Points, length-residues}
-use Rattle.specification.proofs.agreement.Refusals.{Accepted}
+use Rattle.specification.specs.Points.{Points}
+use Rattle.specification.proofs.agreement.Points.{length-residues}
 use Rattle.specification.proofs.Recognised.{readIn}
 use Rattle.specification.proofs.needed.Filled.{names-tabled}
 use Rattle.interpolation.specs.Solving.{solution}

@@ -1,7 +1,7 @@
 // The refusals that look at the settings and at lengths and counts alone, 3 to 8, and the answer of a refused call.
 use residue::level;
-use specification::settings::Answer;
-use specification::settings::Drawn;
+use specification::answers::Answer;
+use specification::answers::Drawn;
 use specification::settings::Settings;
 ghost use mathlib.Core.Path.{_≡_};
 ghost use mathlib.Core.Bool.{not, false, _||_};

@@ -8,17 +8,10 @@ use native.Mathlib.Decide.{decLt}
 use lib.ListN.{length, getD, take, replicate, length-append, drop, length-drop, drop-of-length-le, set, List·getD-eq-default}
 use lib.Seq.{take-at, drop-at}
 use lib.Dec.{T}
-use Rattle.residue.specs.Layout.{fill, inPlaces, groups, over, begins}
+use Rattle.residue.specs.Layout.{fill, length-fill, inPlaces, groups, over, begins}
 use Rattle.residue.specs.Vector.{Below}
 use Rattle.residue.proofs.bytes.Equality.{same-self}
 use Rattle.residue.proofs.vector.Vectors.{below-append, below-drop, below-zeros}
-
--- a list cut or filled up has k numbers
-pub length-fill : (k : ℕ) (l : List ℕ) → length (fill k l) ≡ k
-unfolding fill
-length-fill zero l = refl
-length-fill (suc k) [] = ap suc (length-fill k [])
-length-fill (suc k) (a ∷ l) = ap suc (length-fill k l)
 
 pub fill-at : (k : ℕ) (l : List ℕ) (i : ℕ) → i < k → getD (fill k l) i 0 ≡ getD l i 0
 unfolding fill

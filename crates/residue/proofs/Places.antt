@@ -8,9 +8,9 @@ use native.Mathlib.Nat.{le-of-suc-le-suc, add-sub-cancel-left}
 use native.Mathlib.Numerals.{add-one}
 use lib.ListN.{length, take, drop, getD, length-drop, List·getD-map, replicate, length-append, length-replicate, replicate-append-replicate, length-take}
 use lib.Seq.{drop-drop, length-take-le, take-at, drop-at}
-use Rattle.residue.specs.Layout.{groups, fill, inPlaces, over}
+use Rattle.residue.specs.Layout.{groups, fill, inPlaces, over, length-fill}
 use Rattle.residue.specs.Lists.{Among}
-use Rattle.residue.proofs.Layouts.{places-back, table-split, fill-zeros, length-places, fill-exact, length-fill, length-over, fill-twice}
+use Rattle.residue.proofs.Layouts.{places-back, table-split, fill-zeros, length-places, fill-exact, length-over, fill-twice}
 
 -- Reading.
 module _ {A : Type 0} (w : ℕ) where

@@ -1,4 +1,5 @@
 -- How lists of numbers lie in lent bytes: docs/SCOPE.md, 'The sheet'.
+use mathlib.Core.Path.{_≡_, refl, ap}
 use mathlib.Core.Bool.{Bool}
 use mathlib.Core.List.{List, [], _∷_, _++_}
 use Prim.Native.Nat.{ℕ, zero, suc, _*_}
@@ -10,6 +11,13 @@ unfoldable pub fill : ℕ → List ℕ → List ℕ
 fill zero l = []
 fill (suc k) [] = 0 ∷ fill k []
 fill (suc k) (a ∷ l) = a ∷ fill k l
+
+-- it has k numbers: monomials and points of m numbers carry that with them
+pub length-fill : (k : ℕ) (l : List ℕ) → length (fill k l) ≡ k
+unfolding fill
+length-fill zero l = refl
+length-fill (suc k) [] = ap suc (length-fill k [])
+length-fill (suc k) (a ∷ l) = ap suc (length-fill k l)
 
 -- k groups of m
 unfoldable pub groups : {A : Type 0} → ℕ → ℕ → List A → List (List A)

@@ -30,10 +30,12 @@ use Rattle.residue.proofs.Tests.{of-true, neither}
 use Rattle.specification.proofs.ideal.Lists.{among-map}
 use Rattle.specification.proofs.ideal.Basis.{basis-is, interpolant-fits, interpolant-values, remainder-fits}
 use Rattle.specification.proofs.ideal.Division.{basis-reduced}
-use Rattle.specification.proofs.agreement.Points.{IsPoint, Points, no-points, read-count, point-same, length-residues, of-once}
+use Rattle.specification.specs.Points.{Points, IsPoint}
+use Rattle.specification.proofs.agreement.Points.{no-points, read-count, point-same, length-residues, of-once}
 use Rattle.specification.proofs.counted.Gathered.{Entries, count-gathered}
 use Rattle.specification.proofs.counted.Held.{points-held, counts-held, length-held}
-use Rattle.specification.proofs.agreement.Refusals.{Accepted, accepted, over-begins, written-held, written-recognised}
+use Rattle.specification.specs.Settings.{Accepted}
+use Rattle.specification.proofs.agreement.Refusals.{accepted, over-begins, written-held, written-recognised}
 use Rattle.specification.proofs.agreement.Operations.{lawful}
 use Rattle.specification.proofs.agreement.Run.{number-of, same-tables}
 use Rattle.specification.proofs.agreement.Drawings.{laws-under, among-under, distinct-points, few-rows}

@@ -15,15 +15,15 @@ use Rattle.residue.specs.Modulus.{primes, isOneOf, isModulus}
 use Rattle.residue.specs.Inverse.{inverseBelow, inverseOf}
 use Rattle.residue.specs.Level.{residueOf}
 use Rattle.residue.specs.declared.level.Level.the-variants.{Residue}
-use Rattle.residue.specs.Layout.{groups, fill, begins}
+use Rattle.residue.specs.Layout.{groups, fill, begins, length-fill}
 use Rattle.residue.proofs.level.Moduli.{below, below-at}
 use Rattle.residue.proofs.Tests.{and-left, and-right}
 use Rattle.residue.proofs.bytes.Equality.{same-is}
-use Rattle.residue.proofs.Layouts.{fill-zeros, over-all, begins-over, length-fill}
+use Rattle.residue.proofs.Layouts.{fill-zeros, over-all, begins-over}
 use Rattle.monomial.specs.Order.{orderOf, cmp}
 use Rattle.specification.specs.declared.settings.Settings.{Settings}
 use Rattle.specification.specs.Refusal.{firstOf}
-use Rattle.specification.specs.Settings.{settingsCases}
+use Rattle.specification.specs.Settings.{settingsOf, settingsCases}
 use Rattle.specification.specs.Levels.{isResidue, residueOr0, inRange, residues, isAmong}
 use Rattle.specification.specs.Extension.{slot, minus, without, divided, extended, gap, first, newton, grow}
 use Rattle.specification.specs.BasisOf.{basisOf, valueAt}
@@ -35,7 +35,7 @@ use Rattle.specification.specs.Needed.{alike, apart, contrary, pairIn, w
 use Rattle.specification.specs.Solving.{polynomialOf}
 use Rattle.specification.specs.Reference.{referenceAnswer, listAfter, referenceAfter, addition, Held, heldAfter, numbers, heldAtEnd, fed, referenceAtEnd, dueAt, due, RefusesAt, Refuses}
 use Rattle.specification.specs.Agreement.{freshly, Agrees}
-use Rattle.specification.specs.Examples.{Example, Holds, LaidOut, under, anyOrder, fresh, A, examples, CountedExamples}
+use Rattle.specification.specs.Examples.{Example, Holds, LaidOut, anyOrder, fresh, A, examples, CountedExamples}
 use Rattle.residue.proofs.Tests.{true-of}
 use Rattle.specification.proofs.agreement.Claim.{agreement}
 
@@ -83,13 +83,13 @@ module _ (s : Settings) (S standard leads rows : List (List ℕ)) where
 -- the same under each order of a list
 each-tested : (p m : ℕ) (orders : List ℕ) (S standard leads rows : List (List ℕ)) → Bool
 each-tested p m [] S standard leads rows = true
-each-tested p m (o ∷ orders) S standard leads rows = tested (under p m o) S standard leads rows && each-tested p m orders S standard leads rows
+each-tested p m (o ∷ orders) S standard leads rows = tested (settingsOf p m o) S standard leads rows && each-tested p m orders S standard leads rows
 
 under-each : (p m : ℕ) (orders : List ℕ) (S standard leads rows : List (List ℕ)) → T (each-tested p m orders S standard leads rows)
-    → (order : ℕ) → Among order orders → LaidOut (under p m order) S standard leads rows
+    → (order : ℕ) → Among order orders → LaidOut (settingsOf p m order) S standard leads rows
 unfolding each-tested
-under-each p m (o ∷ orders) S standard leads rows t order (inl e) = rw e (of-test (under p m o) S standard leads rows (and-left (tested (under p m o) S standard leads rows) _ t))
-under-each p m (o ∷ orders) S standard leads rows t order (inr q) = under-each p m orders S standard leads rows (and-right (tested (under p m o) S standard leads rows) _ t) order q
+under-each p m (o ∷ orders) S standard leads rows t order (inl e) = rw e (of-test (settingsOf p m o) S standard leads rows (and-left (tested (settingsOf p m o) S standard leads rows) _ t))
+under-each p m (o ∷ orders) S standard leads rows t order (inr q) = under-each p m orders S standard leads rows (and-right (tested (settingsOf p m o) S standard leads rows) _ t) order q
 
 -- zeros are fresh tables
 blank : (k : ℕ) → T (begins (fill k []) (replicate k 0))
@@ -123,7 +123,7 @@ known-order o (inr (inl e)) = omega arith
 known-order o (inr (inr (inl e))) = omega arith
 known-order o (inr (inr (inr q))) = absurd q
 
-fine : (p m order : ℕ) → isModulus p ≡ true → 1 ≤ m → m ≤ 8 → Among order anyOrder → firstOf 0 (settingsCases (under p m order)) ≡ 0
+fine : (p m order : ℕ) → isModulus p ≡ true → 1 ≤ m → m ≤ 8 → Among order anyOrder → firstOf 0 (settingsCases (settingsOf p m order)) ≡ 0
 unfolding settingsCases firstOf
 fine p m order h low high q = simp (h, le-leb 1 m low, le-leb m 8 high, le-ltb 2 order (omega (arith, known-order order q)))
 
@@ -134,10 +134,10 @@ range-append p [] l = refl
 range-append p (z ∷ k) l = ap (λ (b : Bool). isResidue (residueOf p z) && b) (range-append p k l) ∙ sym (and-assoc (isResidue (residueOf p z)) (inRange p k) (inRange p l))
 
 -- two additions, of which the second has a level out of range
-ranged : (p m order : ℕ) (k l : List ℤ) → firstOf 0 (settingsCases (under p m order)) ≡ 0 → length k ≡ m → length l ≡ m → inRange p k ≡ true → inRange p l ≡ false
-    → numbers (under p m order) fresh (addition k ∷ addition l ∷ []) ≡ 0 ∷ 9 ∷ []
+ranged : (p m order : ℕ) (k l : List ℤ) → firstOf 0 (settingsCases (settingsOf p m order)) ≡ 0 → length k ≡ m → length l ≡ m → inRange p k ≡ true → inRange p l ≡ false
+    → numbers (settingsOf p m order) fresh (addition k ∷ addition l ∷ []) ≡ 0 ∷ 9 ∷ []
 unfolding due dueAt fed referenceAnswer referenceAfter listAfter entered overfull firstOf
-ranged p m order k l f ek el rk rl = added (under p m order) (k ∷ l ∷ []) f ∙ simp (eq-eqb (length k) m ek, eq-eqb (length l) m el, rk, rl)
+ranged p m order k l f ek el rk rl = added (settingsOf p m order) (k ∷ l ∷ []) f ∙ simp (eq-eqb (length k) m ek, eq-eqb (length l) m el, rk, rl)
 
 abbrev All : List Example → Type 0
 All [] = Unit {0}
@@ -149,11 +149,11 @@ all = (under-each 5 2 (1 ∷ []) A _ _ _ tt, (under-each 5 2 (0 ∷ []) A _ _ _ 
   where
     -- each order, and each point (a, b) modulo 5
     one : ℕ → ℕ → ℕ → Bool
-    one order a b = tested (under 5 2 order) ((a ∷ b ∷ []) ∷ []) ((0 ∷ 0 ∷ []) ∷ []) ((0 ∷ 1 ∷ []) ∷ (1 ∷ 0 ∷ []) ∷ []) (((5 - b) % 5 ∷ []) ∷ ((5 - a) % 5 ∷ []) ∷ [])
+    one order a b = tested (settingsOf 5 2 order) ((a ∷ b ∷ []) ∷ []) ((0 ∷ 0 ∷ []) ∷ []) ((0 ∷ 1 ∷ []) ∷ (1 ∷ 0 ∷ []) ∷ []) (((5 - b) % 5 ∷ []) ∷ ((5 - a) % 5 ∷ []) ∷ [])
 
     single : (order a b : ℕ) → Among order anyOrder → a < 5 → b < 5
-        → LaidOut (under 5 2 order) ((a ∷ b ∷ []) ∷ []) ((0 ∷ 0 ∷ []) ∷ []) ((0 ∷ 1 ∷ []) ∷ (1 ∷ 0 ∷ []) ∷ []) (((5 - b) % 5 ∷ []) ∷ ((5 - a) % 5 ∷ []) ∷ [])
-    single order a b ho ha hb = of-test (under 5 2 order) ((a ∷ b ∷ []) ∷ []) ((0 ∷ 0 ∷ []) ∷ []) ((0 ∷ 1 ∷ []) ∷ (1 ∷ 0 ∷ []) ∷ []) (((5 - b) % 5 ∷ []) ∷ ((5 - a) % 5 ∷ []) ∷ [])
+        → LaidOut (settingsOf 5 2 order) ((a ∷ b ∷ []) ∷ []) ((0 ∷ 0 ∷ []) ∷ []) ((0 ∷ 1 ∷ []) ∷ (1 ∷ 0 ∷ []) ∷ []) (((5 - b) % 5 ∷ []) ∷ ((5 - a) % 5 ∷ []) ∷ [])
+    single order a b ho ha hb = of-test (settingsOf 5 2 order) ((a ∷ b ∷ []) ∷ []) ((0 ∷ 0 ∷ []) ∷ []) ((0 ∷ 1 ∷ []) ∷ (1 ∷ 0 ∷ []) ∷ []) (((5 - b) % 5 ∷ []) ∷ ((5 - a) % 5 ∷ []) ∷ [])
         (below-at (one order a) 5 (below-at (λ c. below (one order c) 5) 5 (below-at (λ o. below (λ c. below (one o c) 5) 5) 3 tt order (known-order order ho)) a ha) b hb)
 
     lowest : (e : ℕ × ℤ × ℕ) → Among e ((5, negsuc 0, 4) ∷ (3, negsuc 0, 2) ∷ (2, negsuc 0, 1) ∷ []) → residueOf (e .0) (e .1) ≡ Residue (e .2)
@@ -165,12 +165,12 @@ all = (under-each 5 2 (1 ∷ []) A _ _ _ tt, (under-each 5 2 (0 ∷ []) A _ _ _ 
     twice : List (List ℤ)
     twice = (pos 4 ∷ []) ∷ (negsuc 0 ∷ []) ∷ []
 
-    again : (order : ℕ) → Among order anyOrder → let end = heldAtEnd (under 5 1 order) fresh (map addition twice) in
-        (numbers (under 5 1 order) fresh (map addition twice) ≡ 0 ∷ 0 ∷ []) × (heldIn (under 5 1 order) (end .n) (end .tables) ≡ (4 ∷ [], 2) ∷ [])
-    again order q = let f = fine 5 1 order refl (omega arith) (omega arith) q in (added (under 5 1 order) twice f, now-held (under 5 1 order) twice f)
+    again : (order : ℕ) → Among order anyOrder → let end = heldAtEnd (settingsOf 5 1 order) fresh (map addition twice) in
+        (numbers (settingsOf 5 1 order) fresh (map addition twice) ≡ 0 ∷ 0 ∷ []) × (heldIn (settingsOf 5 1 order) (end .n) (end .tables) ≡ (4 ∷ [], 2) ∷ [])
+    again order q = let f = fine 5 1 order refl (omega arith) (omega arith) q in (added (settingsOf 5 1 order) twice f, now-held (settingsOf 5 1 order) twice f)
 
     ends : (m order : ℕ) (before behind : List ℤ) → m ≤ 8 → Among order anyOrder → length before + suc (length behind) ≡ m → T (inRange 5 before) → T (inRange 5 behind)
-        → numbers (under 5 m order) fresh (addition (before ++ (negsuc 3 ∷ behind)) ∷ addition (before ++ (negsuc 4 ∷ behind)) ∷ []) ≡ 0 ∷ 9 ∷ []
+        → numbers (settingsOf 5 m order) fresh (addition (before ++ (negsuc 3 ∷ behind)) ∷ addition (before ++ (negsuc 4 ∷ behind)) ∷ []) ≡ 0 ∷ 9 ∷ []
     ends m order before behind few q e h k = ranged 5 m order (before ++ (negsuc 3 ∷ behind)) (before ++ (negsuc 4 ∷ behind)) (fine 5 m order refl (omega arith) few q)
         (length-append before (negsuc 3 ∷ behind) ∙ e) (length-append before (negsuc 4 ∷ behind) ∙ e)
         (range-append 5 before (negsuc 3 ∷ behind) ∙ simp (true-of (inRange 5 before) h, true-of (inRange 5 behind) k))

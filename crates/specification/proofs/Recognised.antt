@@ -17,7 +17,7 @@ use Rattle.residue.specs.Lists.{Among, every}
 use Rattle.residue.proofs.level.Moduli.{modulus-range}
 use Rattle.specification.specs.declared.settings.Settings.{Settings}
 use Rattle.specification.specs.Refusal.{Case, firstOf}
-use Rattle.specification.specs.Settings.{settingsCases}
+use Rattle.specification.specs.Settings.{Accepted, settingsCases}
 use Rattle.specification.specs.Levels.{inRange, residues, noRepeat}
 use Rattle.residue.specs.Layout.{groups, fill, begins}
 use Rattle.specification.specs.Instance.{Point, reduced, pointOf}
@@ -28,10 +28,11 @@ use Rattle.specification.proofs.Cases.{numbered, None, none-holds, firs
 use Rattle.specification.proofs.Instance.{point-of}
 use Rattle.residue.proofs.Layouts.{fill-exact}
 use Rattle.specification.proofs.ideal.Lists.{among-map}
-use Rattle.specification.proofs.agreement.Points.{IsPoint, Points, read-count, residues-same, length-residues}
+use Rattle.specification.specs.Points.{Points, IsPoint}
+use Rattle.specification.proofs.agreement.Points.{read-count, residues-same, length-residues}
 use Rattle.specification.proofs.counted.Gathered.{Entries, entries-gathered}
 use Rattle.specification.proofs.counted.Held.{points-held, counts-held}
-use Rattle.specification.proofs.agreement.Refusals.{Accepted, settings-pass}
+use Rattle.specification.proofs.agreement.Refusals.{settings-pass}
 
 -- no case of the settings holds, and none of those behind them
 pub none-of : (s : Settings) (l : List Case) → T (numbered l) → firstOf 0 (settingsCases s ++ l) ≡ 0 → (firstOf 0 (settingsCases s) ≡ 0) × None l

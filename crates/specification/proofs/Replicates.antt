@@ -10,14 +10,14 @@ use lib.IntN.{ℤ}
 use lib.ListN.{length, drop, getD, set, length-set, length-map}
 use lib.Dec.{eqb}
 use borrow.Author.Tests.{eq-eqb, ne-eqb, not-false}
-use Rattle.residue.specs.Layout.{fill, over}
-use Rattle.residue.proofs.Layouts.{length-fill, fill-at, fill-put}
+use Rattle.residue.specs.Layout.{fill, over, length-fill}
+use Rattle.residue.proofs.Layouts.{fill-at, fill-put}
 use Rattle.monomial.specs.Insert.{removedAt}
 use Rattle.specification.specs.declared.settings.Settings.{Settings}
 use Rattle.specification.specs.Levels.{residues, isAmong}
 use Rattle.specification.specs.Counted.{Counted, pointsOf, countsOf, entered, lowered, countOf, placeIn}
 use Rattle.specification.specs.Tables.{Tables, fiveTables, rowCount, statesTable, standardTable, leadsTable, coefficientsTable, tablesOf, written, pointsIn, heldIn, countsSize}
-use Rattle.specification.specs.Adding.{Outcome, holding, byRefusal, addRefusal, addOutcome}
+use Rattle.specification.specs.Adding.{Outcome, holding, holdingBoth, byRefusal, addRefusal, addOutcome}
 use Rattle.specification.specs.Withdrawing.{withdrawCases, withdrawRefusal, withdrawOutcome}
 use Rattle.specification.specs.Reference.{Operation, adding, withdrawing, outcomeOf, refusalOf, listAfter}
 use Rattle.specification.specs.CallByCall.{recounted}
@@ -64,11 +64,6 @@ count-put w n c h e =
 -- a call whose number is 0
 abbrev answered : ℕ → ℕ → Tables → Outcome
 answered n r t = record { answer = record { refusal = 0; n = n; r = r }; tables = t }
-
--- Tables that hold a list, by its points and its counts.
-abbrev pub holdingBoth : Settings → List (List ℕ) → List ℕ → Tables → Outcome
-holdingBoth s S c t = answered (length S) (rowCount s S)
-    (fiveTables (over (statesTable S) (t .states)) (over (standardTable s S) (t .standard)) (over (leadsTable s S) (t .leads)) (over (coefficientsTable s S) (t .coefficients)) (over (fill countsSize c) (t .counts)))
 
 pub holding-told : (s : Settings) (L : Counted) (t : Tables) (S : List (List ℕ)) (c : List ℕ) → pointsOf L ≡ S → countsOf L ≡ c → holding s L t ≡ holdingBoth s S c t
 unfolding holding written tablesOf

@@ -23,7 +23,8 @@ use Rattle.specification.proofs.CallByCall.{known-entries, known-tables
 use Rattle.specification.proofs.counted.Entered.{lowered-entered}
 use Rattle.specification.proofs.counted.Gathered.{Entries, positive-of, among-entered}
 use Rattle.specification.proofs.counted.Held.{length-held}
-use Rattle.specification.proofs.agreement.Refusals.{Accepted, accepted, not-short, large-of, written-large, written-held, written-recognised}
+use Rattle.specification.specs.Settings.{Accepted}
+use Rattle.specification.proofs.agreement.Refusals.{accepted, not-short, large-of, written-large, written-held, written-recognised}
 use Rattle.specification.proofs.agreement.Operations.{Passed, lawful}
 use Rattle.specification.proofs.agreement.Run.{number-of, written-twice}
 

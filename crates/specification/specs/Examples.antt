@@ -9,6 +9,7 @@ use Rattle.residue.specs.Lists.{Among}
 use Rattle.residue.specs.Level.{residueOf}
 use Rattle.residue.specs.declared.level.Level.the-variants.{Residue}
 use Rattle.specification.specs.declared.settings.Settings.{Settings}
+use Rattle.specification.specs.Settings.{settingsOf}
 use Rattle.specification.specs.Levels.{inRange}
 use Rattle.specification.specs.Counted.{Counted, pointsOf, entered, lowered, gathered}
 use Rattle.specification.specs.Polynomial.{Polynomial}
@@ -43,9 +44,6 @@ pub record LaidOut (s : Settings) (S standard leads rows : List (List ℕ)) : Ty
   pub leads-are : map (λ a. a .0) (leadsUnder s S) ≡ leads
   pub rows-are : rowsUnder s S ≡ rows
 
-abbrev pub under : ℕ → ℕ → ℕ → Settings
-under p m order = record { modulus = p; variables = m; order = order }
-
 -- the orders 0 to 2, for examples that leave the order open
 abbrev pub anyOrder : List ℕ
 anyOrder = 0 ∷ 1 ∷ 2 ∷ []
@@ -55,23 +53,23 @@ fresh = freshly
     (fiveTables (replicate statesSize 0) (replicate standardSize 0) (replicate leadsSize 0) (replicate coefficientsSize 0) (replicate countsSize 0))
 
 unfoldable pub Holds : Example → Type 0
-Holds (basis p m orders S standard leads rows) = (order : ℕ) → Among order orders → LaidOut (under p m order) S standard leads rows
+Holds (basis p m orders S standard leads rows) = (order : ℕ) → Among order orders → LaidOut (settingsOf p m order) S standard leads rows
 -- under any settings: one row, 1, and every remainder and interpolant has no term
 Holds no-points = (s : Settings) → LaidOut s [] [] (replicate (s .variables) 0 ∷ []) ([] ∷ [])
     × ((values : List ℕ) → interpolantOf (spaceUnder s) [] values ≡ []) × ((f : Polynomial (spaceUnder s)) → remainderOf (spaceUnder s) [] f ≡ [])
 -- p = 5, orders 0 to 2: rows y - b, then x - a
 Holds one-point = (order a b : ℕ) → Among order anyOrder → a < 5 → b < 5
-    → LaidOut (under 5 2 order) ((a ∷ b ∷ []) ∷ []) ((0 ∷ 0 ∷ []) ∷ []) ((0 ∷ 1 ∷ []) ∷ (1 ∷ 0 ∷ []) ∷ []) (((5 - b) % 5 ∷ []) ∷ ((5 - a) % 5 ∷ []) ∷ [])
+    → LaidOut (settingsOf 5 2 order) ((a ∷ b ∷ []) ∷ []) ((0 ∷ 0 ∷ []) ∷ []) ((0 ∷ 1 ∷ []) ∷ (1 ∷ 0 ∷ []) ∷ []) (((5 - b) % 5 ∷ []) ∷ ((5 - a) % 5 ∷ []) ∷ [])
 Holds (interpolant s S values coefficients names) =
     (interpolantOf (spaceUnder s) (pointsUnder s S) values ≡ coefficients) × (wiringOf (s .variables) S values ≡ names)
 Holds (remainder s S coefficients exponents left) = remainderOf (spaceUnder s) (pointsUnder s S) (polynomialOf (s .variables) coefficients exponents) ≡ left
 Holds (levels l) = (e : ℕ × ℤ × ℕ) → Among e l → residueOf (e .0) (e .1) ≡ Residue (e .2)
-Holds (additions p m offered due held) = (order : ℕ) → Among order anyOrder → let end = heldAtEnd (under p m order) fresh (map addition offered) in
-    (numbers (under p m order) fresh (map addition offered) ≡ due) × (heldIn (under p m order) (end .n) (end .tables) ≡ held)
+Holds (additions p m offered due held) = (order : ℕ) → Among order anyOrder → let end = heldAtEnd (settingsOf p m order) fresh (map addition offered) in
+    (numbers (settingsOf p m order) fresh (map addition offered) ≡ due) × (heldIn (settingsOf p m order) (end .n) (end .tables) ≡ held)
 -- under every m and order, in any place of m levels of which the others are in range
 Holds (range p taken outside) = (m order : ℕ) (before behind : List ℤ) → m ≤ 8 → Among order anyOrder
     → length before + suc (length behind) ≡ m → T (inRange p before) → T (inRange p behind)
-    → numbers (under p m order) fresh (addition (before ++ (taken ∷ behind)) ∷ addition (before ++ (outside ∷ behind)) ∷ []) ≡ 0 ∷ 9 ∷ []
+    → numbers (settingsOf p m order) fresh (addition (before ++ (taken ∷ behind)) ∷ addition (before ++ (outside ∷ behind)) ∷ []) ≡ 0 ∷ 9 ∷ []
 
 -- the points A: (0,0), (1,2), (2,1)
 abbrev pub A : List (List ℕ)
@@ -91,9 +89,9 @@ examples =
     -- p=2, m=1, states 0 and 1: row x²+x
     ∷ basis 2 1 anyOrder ((0 ∷ []) ∷ (1 ∷ []) ∷ []) ((0 ∷ []) ∷ (1 ∷ []) ∷ []) ((2 ∷ []) ∷ []) ((0 ∷ 1 ∷ []) ∷ [])
     -- A, p=5, grlex, values 1, 0, 3: interpolant 1+2y; the wiring list is empty (M-107)
-    ∷ interpolant (under 5 2 1) A (1 ∷ 0 ∷ 3 ∷ []) (1 ∷ 2 ∷ 0 ∷ []) []
+    ∷ interpolant (settingsOf 5 2 1) A (1 ∷ 0 ∷ 3 ∷ []) (1 ∷ 2 ∷ 0 ∷ []) []
     -- x²y has remainder 2x
-    ∷ remainder (under 5 2 1) A (1 ∷ []) ((2 ∷ 1 ∷ []) ∷ []) (0 ∷ 0 ∷ 2 ∷ [])
+    ∷ remainder (settingsOf 5 2 1) A (1 ∷ []) ((2 ∷ 1 ∷ []) ∷ []) (0 ∷ 0 ∷ 2 ∷ [])
     -- level -1: residue 4 for p=5, 2 for p=3, 1 for p=2
     ∷ levels ((5, negsuc 0, 4) ∷ (3, negsuc 0, 2) ∷ (2, negsuc 0, 1) ∷ [])
     -- p=5, m=1: level -1 after level 4 is a count of 2 (M-106)
@@ -109,19 +107,19 @@ pub record Examined (s : Settings) (S standard leads : List (List ℕ)) (count :
 
 pub record ExaminedExamples : Type 0 where
   -- A, p=3, grlex: five monomials, 3 cancellations
-  pub points-A : Examined (under 3 2 1) A ((0 ∷ 0 ∷ []) ∷ (0 ∷ 1 ∷ []) ∷ (0 ∷ 2 ∷ []) ∷ []) ((1 ∷ 0 ∷ []) ∷ (0 ∷ 3 ∷ []) ∷ []) 3
+  pub points-A : Examined (settingsOf 3 2 1) A ((0 ∷ 0 ∷ []) ∷ (0 ∷ 1 ∷ []) ∷ (0 ∷ 2 ∷ []) ∷ []) ((1 ∷ 0 ∷ []) ∷ (0 ∷ 3 ∷ []) ∷ []) 3
   -- p=3, m=1: the count depends on the order of arrival
-  pub in-order : Examined (under 3 1 0) ((0 ∷ []) ∷ (1 ∷ []) ∷ (2 ∷ []) ∷ []) ((0 ∷ []) ∷ (1 ∷ []) ∷ (2 ∷ []) ∷ []) ((3 ∷ []) ∷ []) 2
-  pub out-of-order : Examined (under 3 1 0) ((1 ∷ []) ∷ (0 ∷ []) ∷ (2 ∷ []) ∷ []) ((0 ∷ []) ∷ (1 ∷ []) ∷ (2 ∷ []) ∷ []) ((3 ∷ []) ∷ []) 5
+  pub in-order : Examined (settingsOf 3 1 0) ((0 ∷ []) ∷ (1 ∷ []) ∷ (2 ∷ []) ∷ []) ((0 ∷ []) ∷ (1 ∷ []) ∷ (2 ∷ []) ∷ []) ((3 ∷ []) ∷ []) 2
+  pub out-of-order : Examined (settingsOf 3 1 0) ((1 ∷ []) ∷ (0 ∷ []) ∷ (2 ∷ []) ∷ []) ((0 ∷ []) ∷ (1 ∷ []) ∷ (2 ∷ []) ∷ []) ((3 ∷ []) ∷ []) 5
   -- A with every point twice (M-106): three points, at the same cost
-  pub replicates : Examined (under 3 2 1) (pointsOf (gathered (A ++ A))) ((0 ∷ 0 ∷ []) ∷ (0 ∷ 1 ∷ []) ∷ (0 ∷ 2 ∷ []) ∷ []) ((1 ∷ 0 ∷ []) ∷ (0 ∷ 3 ∷ []) ∷ []) 3
+  pub replicates : Examined (settingsOf 3 2 1) (pointsOf (gathered (A ++ A))) ((0 ∷ 0 ∷ []) ∷ (0 ∷ 1 ∷ []) ∷ (0 ∷ 2 ∷ []) ∷ []) ((1 ∷ 0 ∷ []) ∷ (0 ∷ 3 ∷ []) ∷ []) 3
   -- no points: the column of 1 is empty, so 1 is a lead, at no cost
-  pub no-points : Examined (under 3 2 0) [] [] ((0 ∷ 0 ∷ []) ∷ []) 0
+  pub no-points : Examined (settingsOf 3 2 0) [] [] ((0 ∷ 0 ∷ []) ∷ []) 0
 
 -- And docs/SCOPE.md, 'Replicates' (request M-106): points with their counts, p=5, m=1.
 pub record CountedExamples : Type 0 where
   -- the levels 4, 0, -1 are the points 4 and 0, the first of them twice
-  pub offered : gathered (pointsOffered (under 5 1 0) (pos 4 ∷ pos 0 ∷ negsuc 0 ∷ [])) ≡ (4 ∷ [], 2) ∷ (0 ∷ [], 1) ∷ []
+  pub offered : gathered (pointsOffered (settingsOf 5 1 0) (pos 4 ∷ pos 0 ∷ negsuc 0 ∷ [])) ≡ (4 ∷ [], 2) ∷ (0 ∷ [], 1) ∷ []
   -- one pot withdrawn, then the other: 0 moves up
   pub withdrawn : lowered (4 ∷ []) ((4 ∷ [], 2) ∷ (0 ∷ [], 1) ∷ []) ≡ (4 ∷ [], 1) ∷ (0 ∷ [], 1) ∷ []
   pub gone : lowered (4 ∷ []) ((4 ∷ [], 1) ∷ (0 ∷ [], 1) ∷ []) ≡ (0 ∷ [], 1) ∷ []

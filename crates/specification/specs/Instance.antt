@@ -7,8 +7,7 @@ use lib.ListN.{length, getD, length-replicate, length-set, length-map}
 use lib.Dec.{T, ltb, lt→ltb}
 use Rattle.residue.specs.Inverse.{inverseOf}
 use Rattle.residue.specs.Lists.{sameList}
-use Rattle.residue.specs.Layout.{fill}
-use Rattle.residue.proofs.Layouts.{length-fill}
+use Rattle.residue.specs.Layout.{fill, length-fill}
 use Rattle.monomial.specs.Monomial.{one, timesVariable, divides, monomialAt}
 use Rattle.monomial.specs.Order.{Order, cmp}
 use Rattle.specification.specs.Space.{Space}

@@ -12,6 +12,7 @@ pub mod BasisOf
 pub mod Cancellations
 pub mod Examination
 pub mod Instance
+pub mod Points
 pub mod Tables
 pub mod Adding
 pub mod Withdrawing

@@ -8,7 +8,7 @@ use lib.Dec.{eqb, ltb}
 use Rattle.residue.specs.Lists.{every, allZero}
 use Rattle.residue.specs.Layout.{groups, fill, over}
 use Rattle.specification.specs.declared.settings.Settings.{Settings}
-use Rattle.specification.specs.declared.settings.Wired.{Wired}
+use Rattle.specification.specs.declared.answers.Wired.{Wired}
 use Rattle.specification.specs.Refusal.{Case, firstOf}
 use Rattle.specification.specs.Settings.{settingsCases}
 use Rattle.specification.specs.Levels.{inRange, residues}

@@ -16,18 +16,19 @@ use Rattle.residue.proofs.level.Moduli.{modulus-range}
 use Rattle.residue.proofs.Tests.{of-true}
 use Rattle.residue.proofs.Layouts.{take-fill, below-fill}
 use Rattle.specification.specs.declared.settings.Settings.{Settings}
-use Rattle.specification.specs.declared.settings.Answer.{Answer}
+use Rattle.specification.specs.declared.answers.Answer.{Answer}
 use Rattle.specification.specs.Refusal.{Case, firstOf}
 use Rattle.specification.specs.Levels.{residues, isAmong}
 use Rattle.specification.specs.Counted.{Counted, pointsOf, entered, overfull, placeIn}
 use Rattle.specification.specs.Tables.{Tables, tooShort, pointsIn, heldIn, countsSize}
-use Rattle.specification.specs.Adding.{ended, addCases, addRefusal, addOutcome}
+use Rattle.specification.specs.Adding.{ended, addCases, addRefusal, addOutcome, holdingBoth}
 use Rattle.specification.specs.CallByCall.{recounted}
 use Rattle.specification.proofs.CallByCall.{known-entries}
-use Rattle.specification.proofs.Replicates.{same-count, add-raises, add-new, holdingBoth}
+use Rattle.specification.proofs.Replicates.{same-count, add-raises, add-new}
 use Rattle.specification.proofs.counted.Held.{points-held, length-held}
 use Rattle.specification.proofs.counted.Room.{room-there, room-new}
-use Rattle.specification.proofs.agreement.Points.{IsPoint, levels-point}
+use Rattle.specification.specs.Points.{IsPoint}
+use Rattle.specification.proofs.agreement.Points.{levels-point}
 use Rattle.specification.proofs.agreement.Refusals.{large-of}
 use Rattle.specification.proofs.agreement.Drawings.{few-rows}
 use Rattle.construction.specs.Drawing.{PointsGiven, DrawnUp}

@@ -15,8 +15,8 @@ use Rattle.specification.specs.Settings.{settingsCases}
 use Rattle.specification.specs.Levels.{inRange}
 use Rattle.specification.specs.Counted.{Counted, pointsOf, countsOf, gathered, overfull}
 use Rattle.specification.specs.Tables.{Tables, statesTable, tooShort, pointsIn}
-use Rattle.specification.specs.Adding.{refused, pointsOffered, drawCases, drawRefusal, costing, cancellationsUnder, drawOutcome}
-use Rattle.specification.proofs.Replicates.{holdingBoth, holding-told}
+use Rattle.specification.specs.Adding.{refused, pointsOffered, drawCases, drawRefusal, costing, cancellationsUnder, drawOutcome, holdingBoth}
+use Rattle.specification.proofs.Replicates.{holding-told}
 use Rattle.specification.proofs.CallByCall.{Offered, drawn-points}
 use Rattle.construction.specs.Drawing.{PointsGiven}
 use Rattle.construction.proofs.drawing.Given.{table-points, given}

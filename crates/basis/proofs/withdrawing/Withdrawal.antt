@@ -9,8 +9,8 @@ use lib.IntN.{ℤ}
 use lib.ListN.{length, take, drop, replicate, getD}
 use lib.Dec.{eqb, ltb}
 use borrow.Author.Tests.{le-ltb, lt-ltb, eq-eqb, ltb-true, ltb-false}
-use Rattle.residue.specs.Layout.{fill, inPlaces, over}
-use Rattle.residue.proofs.Layouts.{fill-cut, fill-twice, length-fill}
+use Rattle.residue.specs.Layout.{fill, inPlaces, over, length-fill}
+use Rattle.residue.proofs.Layouts.{fill-cut, fill-twice}
 use Rattle.residue.proofs.Places.{over-zeros}
 use Rattle.monomial.specs.Insert.{takenOut, removedAt}
 use Rattle.monomial.proofs.insert.Tables.{table-out, removed-long}
@@ -19,16 +19,16 @@ use Rattle.specification.specs.Refusal.{Case, firstOf}
 use Rattle.specification.specs.Levels.{residues, isAmong}
 use Rattle.specification.specs.Counted.{pointsOf, countOf, placeIn}
 use Rattle.specification.specs.Tables.{Tables, pointsIn, heldIn}
-use Rattle.specification.specs.Adding.{Outcome, refused}
+use Rattle.specification.specs.Adding.{Outcome, refused, holdingBoth}
 use Rattle.specification.specs.Withdrawing.{withdrawCases, withdrawRefusal, withdrawOutcome}
 use Rattle.specification.specs.CallByCall.{recounted}
 use Rattle.specification.proofs.Recognised.{length-read}
-use Rattle.specification.proofs.Replicates.{holdingBoth, same-count, withdraw-lowers, withdraw-last}
+use Rattle.specification.proofs.Replicates.{same-count, withdraw-lowers, withdraw-last}
 use Rattle.specification.proofs.CallByCall.{known-entries}
 use Rattle.specification.proofs.counted.Entered.{lowered-last}
 use Rattle.specification.proofs.counted.Held.{points-held}
 use Rattle.specification.proofs.counted.Lowered.{entries-lowered}
-use Rattle.specification.proofs.agreement.Points.{Points}
+use Rattle.specification.specs.Points.{Points}
 use Rattle.construction.specs.Drawing.{PointsGiven, PivotBytes, pivotRowsUnder}
 use Rattle.construction.proofs.drawing.Given.{given, given-count, table-points}
 use Rattle.points.proofs.places.PointPlaces.{place-le}

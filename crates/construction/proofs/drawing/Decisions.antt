@@ -12,14 +12,13 @@ use Rattle.residue.specs.Inverse.{inverseOf}
 use Rattle.residue.specs.Lists.{Among}
 use Rattle.residue.specs.Vector.{Below}
 use Rattle.elimination.specs.Elimination.{eliminated, multiplesOf}
-use Rattle.residue.specs.Layout.{fill, inPlaces, withPlace}
+use Rattle.residue.specs.Layout.{fill, inPlaces, withPlace, length-fill}
 use Rattle.elimination.specs.Rows.{firstNonzero, pivotRow}
 use Rattle.residue.proofs.Congruence.{of, _then_}
 use Rattle.residue.proofs.inverse.Inverses.{inverse-mod}
 use Rattle.residue.proofs.level.Moduli.{modulus-range}
 use Rattle.residue.proofs.vector.Vectors.{below-take, below-set}
 use Rattle.residue.proofs.Places.{places-filled}
-use Rattle.residue.proofs.Layouts.{length-fill}
 use Rattle.elimination.proofs.rows.Zeros.{zero-before, not-zero-there}
 use Rattle.residue.proofs.Replaced.{table-more, place-length, place-below, place-before, place-here}
 use Rattle.elimination.proofs.reducing.PivotRows.{PivotRows, Working, ZeroAt, vanishes, eliminated-works, eliminated-zero}

@@ -7,16 +7,17 @@ use native.Mathlib.Omega.{arith}
 use lib.ListN.{length}
 use lib.Dec.{T}
 use Rattle.residue.specs.Lists.{Among}
-use Rattle.residue.specs.Layout.{groups, fill, inPlaces, over}
-use Rattle.residue.proofs.Layouts.{over-all, length-fill}
+use Rattle.residue.specs.Layout.{groups, fill, inPlaces, over, length-fill}
+use Rattle.residue.proofs.Layouts.{over-all}
 use Rattle.residue.proofs.Places.{table-groups}
 use Rattle.specification.specs.declared.settings.Settings.{Settings}
 use Rattle.specification.specs.Levels.{noRepeat}
 use Rattle.specification.specs.Tables.{rowCount, statesTable, standardTable, leadsTable, coefficientsTable, pointsIn}
 use Rattle.specification.specs.Adding.{cancellationsUnder}
 use Rattle.specification.proofs.Repeats.{repeat-filled}
-use Rattle.specification.proofs.agreement.Points.{IsPoint, Points, points-back}
-use Rattle.specification.proofs.agreement.Refusals.{Accepted}
+use Rattle.specification.specs.Points.{Points, IsPoint}
+use Rattle.specification.proofs.agreement.Points.{points-back}
+use Rattle.specification.specs.Settings.{Accepted}
 use Rattle.specification.proofs.agreement.Drawings.{few-rows}
 use Rattle.specification.proofs.cancellations.Under.{few-cancellations}
 use Rattle.specification.proofs.Recognised.{length-read, read}

@@ -14,11 +14,11 @@ use Rattle.residue.specs.Lists.{Among}
 use Rattle.residue.specs.Modulus.{isModulus}
 use Rattle.residue.specs.Vector.{Below}
 use Rattle.elimination.specs.Elimination.{eliminated, multiplesOf}
-use Rattle.residue.specs.Layout.{groups, fill, inPlaces}
+use Rattle.residue.specs.Layout.{groups, fill, inPlaces, length-fill}
 use Rattle.residue.proofs.Congruence.{of, flip, reduce, _then_}
 use Rattle.residue.proofs.level.Moduli.{modulus-range}
 use Rattle.residue.proofs.vector.Vectors.{map-at, below-append}
-use Rattle.residue.proofs.Layouts.{fill-at, below-fill, length-fill}
+use Rattle.residue.proofs.Layouts.{fill-at, below-fill}
 use Rattle.residue.proofs.Places.{groups-at}
 use Rattle.elimination.proofs.reducing.Combinations.{combination}
 use Rattle.elimination.proofs.reducing.PivotRows.{PivotRows}

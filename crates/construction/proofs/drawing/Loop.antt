@@ -8,9 +8,8 @@ use lib.ListN.{length, getD, set, take, drop, replicate, length-append}
 use Rattle.residue.specs.Inverse.{inverseOf}
 use Rattle.residue.specs.Vector.{Below}
 use Rattle.elimination.specs.Elimination.{eliminated, cancellations, multiplesOf}
-use Rattle.residue.specs.Layout.{fill, withPlace}
+use Rattle.residue.specs.Layout.{fill, withPlace, length-fill}
 use Rattle.elimination.specs.Rows.{firstNonzero, pivotRow}
-use Rattle.residue.proofs.Layouts.{length-fill}
 use Rattle.elimination.proofs.reducing.Eliminated.{cancellations-most}
 use Rattle.monomial.specs.Monomial.{timesVariable}
 use Rattle.monomial.specs.Order.{Order, orderOf}

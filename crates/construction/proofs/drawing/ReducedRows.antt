@@ -10,10 +10,10 @@ use lib.Seq.{ext-getD, getD-append-add}
 use Rattle.residue.specs.Congruence.{Mod}
 use Rattle.residue.specs.Vector.{Below}
 use Rattle.elimination.specs.Elimination.{eliminated}
-use Rattle.residue.specs.Layout.{fill}
+use Rattle.residue.specs.Layout.{fill, length-fill}
 use Rattle.residue.proofs.Congruence.{of, flip, reduce, negative, _then_, _plus_, lin, small}
 use Rattle.residue.proofs.vector.Vectors.{map-at}
-use Rattle.residue.proofs.Layouts.{fill-at, length-fill}
+use Rattle.residue.proofs.Layouts.{fill-at}
 use Rattle.elimination.proofs.reducing.Combinations.{combination, combination-add, combination-zero}
 use Rattle.elimination.proofs.reducing.PivotRows.{PivotRows, Working, ZeroAt, vanishes, eliminated-works, eliminated-zero}
 

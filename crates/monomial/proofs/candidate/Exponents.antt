@@ -8,8 +8,8 @@ use native.Mathlib.Omega.{arith}
 use native.Mathlib.Decide.{decLt, ℕ-discrete}
 use lib.ListN.{length, getD, set, length-set, List·getD-eq-default}
 use lib.Seq.{getD-set-same, getD-set-other, set-set, set-getD}
-use Rattle.residue.specs.Layout.{fill}
-use Rattle.residue.proofs.Layouts.{length-fill, fill-at}
+use Rattle.residue.specs.Layout.{fill, length-fill}
+use Rattle.residue.proofs.Layouts.{fill-at}
 use Rattle.monomial.specs.Monomial.{degree, one, timesVariable}
 use Rattle.monomial.specs.Order.{Order, cmp}
 use Rattle.monomial.specs.Rank.{rankOf, variableRank, rankBound}

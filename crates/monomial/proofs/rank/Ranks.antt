@@ -5,8 +5,7 @@ use Prim.Native.Nat.{ℕ, _+_, _*_, _^_, _<_, _≤_, compare, Ordering}
 use native.Mathlib.Nat.{pow-succ', mul-le-mul-right}
 use native.Mathlib.Omega.{arith}
 use lib.ListN.{length}
-use Rattle.residue.specs.Layout.{fill}
-use Rattle.residue.proofs.Layouts.{length-fill}
+use Rattle.residue.specs.Layout.{fill, length-fill}
 use Rattle.monomial.specs.Monomial.{degree, one, product, timesVariable}
 use Rattle.monomial.specs.Order.{Order, lex, grlex, grevlex, andThen, byFirst, cmp}
 use Rattle.monomial.specs.Rank.{sumsDown, key, numeral, rankOf, variableRank, rankBound}

@@ -10,8 +10,8 @@ use lib.ListN.{length, take, drop, replicate, getD, set, length-map, length-appe
 use lib.Dec.{T, eqb, ltb}
 use borrow.Author.Tests.{lt-ltb, le-ltb, eq-eqb, ne-eqb}
 use Rattle.residue.specs.Lists.{Among}
-use Rattle.residue.specs.Layout.{groups, fill, inPlaces, withPlace}
-use Rattle.residue.proofs.Layouts.{length-fill, fill-at, fill-put, fill-zeros}
+use Rattle.residue.specs.Layout.{groups, fill, inPlaces, withPlace, length-fill}
+use Rattle.residue.proofs.Layouts.{fill-at, fill-put, fill-zeros}
 use Rattle.residue.proofs.Places.{table-groups, places-filled, no-places, length-groups, groups-long, groups-at, groups-step, groups-end}
 use Rattle.residue.proofs.Replaced.{table-more}
 use Rattle.specification.specs.Refusal.{firstOf}

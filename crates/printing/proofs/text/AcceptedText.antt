@@ -14,10 +14,10 @@ use Rattle.residue.specs.Lists.{Among}
 use Rattle.residue.specs.Level.{residueOf}
 use Rattle.residue.specs.Modulus.{isModulus}
 use Rattle.residue.specs.Vector.{Below}
-use Rattle.residue.specs.Layout.{fill, over}
+use Rattle.residue.specs.Layout.{fill, over, length-fill}
 use Rattle.residue.proofs.level.Moduli.{modulus-range}
 use Rattle.residue.proofs.vector.Vectors.{map-at}
-use Rattle.residue.proofs.Layouts.{length-fill, take-fill, over-all}
+use Rattle.residue.proofs.Layouts.{take-fill, over-all}
 use Rattle.residue.proofs.Tests.{true-of, of-true, and-left, and-right, and-both}
 use Rattle.specification.specs.declared.settings.Settings.{Settings}
 use Rattle.specification.specs.Levels.{isResidue, inRange, residues}
@@ -25,11 +25,12 @@ use Rattle.specification.specs.Counted.{Counted, pointsOf, enteredAll, gathered
 use Rattle.specification.specs.Tables.{statesTable, pointsIn}
 use Rattle.specification.specs.Refusal.{firstOf}
 use Rattle.specification.proofs.ideal.Lists.{among-map}
-use Rattle.specification.proofs.agreement.Points.{IsPoint, Points, residues-same, length-residues}
-use Rattle.specification.proofs.agreement.Refusals.{Accepted}
+use Rattle.specification.specs.Points.{Points, IsPoint}
+use Rattle.specification.proofs.agreement.Points.{residues-same, length-residues}
+use Rattle.specification.specs.Settings.{Accepted}
 use Rattle.specification.proofs.counted.Gathered.{among-gathered, once-gathered}
 use Rattle.construction.specs.Drawing.{PointsGiven}
-use Rattle.construction.specs.Drawing as D
+use Rattle.specification.specs.Settings.{settingsOf}
 use Rattle.construction.proofs.drawing.Given as G
 use Rattle.csv.specs.declared.reading.Refusal.{Refusal}
 use Rattle.notation.specs.Forms.{Header}
@@ -103,7 +104,7 @@ module _ (e : Contents) (h : Says e) where
   m = e .header .variables
 
   abbrev pub under : Settings
-  under = D.settingsOf p m (e .header .order)
+  under = settingsOf p m (e .header .order)
 
   ok : Accepted under
   ok = record { modulus = h .modulus; some = h .some; few = h .few; order = h .order }
@@ -176,7 +177,7 @@ module _ (e : Contents) (h : Says e) where
 -- What the reader left is fit to be printed.
 abbrev pub Fit : TextOutcome → Type 0
 Fit o =
-    PointsGiven (D.settingsOf (o .answer .modulus) (o .answer .variables) (o .answer .order)) (o .answer .n) (o .states)
+    PointsGiven (settingsOf (o .answer .modulus) (o .answer .variables) (o .answer .order)) (o .answer .n) (o .states)
     × (length (take (o .answer .n) (o .values)) ≡ o .answer .n) × Below (o .answer .modulus) (take (o .answer .n) (o .values)) × (o .answer .n ≤ length (o .values))
 
 -- the lent buffers of the printer
@@ -219,8 +220,8 @@ module _ {o w : TextOutcome} (e : o ≡ w) where
   printed-refusal n = rw (← e) (simp (ne-eqb (o .answer .refusal) 0 n))
 
   pub printed-basis : o .answer .refusal ≡ 0
-      → linesOf (D.settingsOf (o .answer .modulus) (o .answer .variables) (o .answer .order))
-      (pointsIn (D.settingsOf (o .answer .modulus) (o .answer .variables) (o .answer .order)) (o .answer .n) (o .states))
+      → linesOf (settingsOf (o .answer .modulus) (o .answer .variables) (o .answer .order))
+      (pointsIn (settingsOf (o .answer .modulus) (o .answer .variables) (o .answer .order)) (o .answer .n) (o .states))
       (take (o .answer .n) (o .values)) ≡ linesRead w
   unfolding linesRead
   printed-basis z = rw (← e) (simp (eq-eqb (o .answer .refusal) 0 z))

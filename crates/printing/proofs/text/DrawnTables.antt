@@ -25,8 +25,8 @@ use Rattle.specification.proofs.Instance.{standard-exponent, lead-exponent}
 use Rattle.specification.proofs.ideal.Lists.{getD-among, among-map}
 use Rattle.specification.proofs.ideal.Basis.{interpolant-fits}
 use Rattle.specification.proofs.ideal.Counts.{standard-length}
-use Rattle.specification.proofs.agreement.Points.{Points}
-use Rattle.specification.proofs.agreement.Refusals.{Accepted}
+use Rattle.specification.specs.Points.{Points}
+use Rattle.specification.specs.Settings.{Accepted}
 use Rattle.specification.proofs.agreement.Drawings.{laws-under, distinct-points, few-rows}
 use Rattle.specification.proofs.Wiring.{names-length, names-are}
 use Rattle.printing.specs.Text.{linesOf}

@@ -12,8 +12,8 @@ use Rattle.residue.proofs.Layouts.{take-fill}
 use Rattle.specification.specs.declared.settings.Settings.{Settings}
 use Rattle.specification.specs.BasisOf.{interpolantOf}
 use Rattle.specification.specs.Tables.{spaceUnder, pointsUnder, pointsIn, rowCount}
-use Rattle.specification.proofs.agreement.Points.{Points}
-use Rattle.specification.proofs.agreement.Refusals.{Accepted}
+use Rattle.specification.specs.Points.{Points}
+use Rattle.specification.specs.Settings.{Accepted}
 use Rattle.specification.proofs.agreement.Drawings.{few-rows}
 use Rattle.specification.specs.Needed.{wiringOf}
 use Rattle.specification.proofs.needed.Filled.{names-tabled}

@@ -10,13 +10,13 @@ use borrow.Author.Tests.{ne-eqb, eqb-true, ltb-false, not-false}
 use Rattle.residue.specs.Layout.{fill}
 use Rattle.specification.specs.declared.settings.Settings.{Settings}
 use Rattle.specification.specs.Refusal.{Case, firstOf}
-use Rattle.specification.specs.Settings.{settingsCases}
+use Rattle.specification.specs.Settings.{Accepted, settingsCases}
 use Rattle.specification.specs.Levels.{inRange, residues}
 use Rattle.specification.specs.Counted.{placeIn}
 use Rattle.specification.specs.Tables.{Tables, tooShort, pointsIn, recognised}
 use Rattle.specification.proofs.Cases.{None, first-stop, first-on}
 use Rattle.specification.proofs.Recognised.{none-of}
-use Rattle.specification.proofs.agreement.Refusals.{Accepted, accepted, settings-pass}
+use Rattle.specification.proofs.agreement.Refusals.{accepted, settings-pass}
 use Rattle.recognition.specs.Looking.{Looked}
 use Rattle.recognition.specs.Naming.{namingCases, namingRefusal, LocatedAs}
 use Rattle.recognition.specs.declared.naming.Located.{Located}

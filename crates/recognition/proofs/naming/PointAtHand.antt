@@ -15,7 +15,7 @@ use Rattle.specification.specs.Tables.{Tables, pointsIn, heldIn}
 use Rattle.specification.proofs.CallByCall.{known-points, known-entries, known-rows}
 use Rattle.specification.proofs.Recognised.{length-read}
 use Rattle.specification.proofs.agreement.Drawings.{few-rows}
-use Rattle.specification.proofs.agreement.Points.{Points}
+use Rattle.specification.specs.Points.{Points}
 use Rattle.construction.specs.Drawing.{PointsGiven, Solves}
 use Rattle.construction.proofs.drawing.Given.{given, table-points}
 use Rattle.recognition.specs.Naming.{namingRefusal, LocatedAs}

@@ -10,8 +10,7 @@ use lib.Seq.{drop-cons}
 use lib.Dec.{eqb}
 use borrow.Author.Tests.{eq-eqb, ne-eqb}
 use Rattle.residue.specs.Lists.{every, sameList, allZero}
-use Rattle.residue.specs.Layout.{fill, begins}
-use Rattle.residue.proofs.Layouts.{length-fill}
+use Rattle.residue.specs.Layout.{fill, begins, length-fill}
 use Rattle.specification.specs.Counted.{isCount}
 use Rattle.specification.proofs.counted.Room.{byte-count}
 

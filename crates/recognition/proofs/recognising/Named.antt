@@ -14,7 +14,7 @@ use Rattle.specification.specs.Counted.{placeIn}
 use Rattle.specification.specs.Tables.{pointsIn}
 use Rattle.specification.proofs.Recognised.{length-read, read-each}
 use Rattle.specification.proofs.agreement.Points.{length-residues}
-use Rattle.specification.proofs.agreement.Refusals.{Accepted}
+use Rattle.specification.specs.Settings.{Accepted}
 use Rattle.points.proofs.places.PointPlaces.{place-filled, among-place}
 
 module _ (s : Settings) (ok : Accepted s) (n : ℕ) (few : n ≤ 64) (states : List ℕ) (levels : List ℤ) (long : length levels ≡ s .variables) where

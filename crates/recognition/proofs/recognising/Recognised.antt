@@ -7,15 +7,15 @@ use native.Mathlib.Omega.{arith}
 use lib.ListN.{length, take, getD}
 use Rattle.residue.specs.Vector.{Below}
 use Rattle.elimination.specs.Elimination.{Multiplied}
-use Rattle.residue.specs.Layout.{fill, inPlaces, begins}
+use Rattle.residue.specs.Layout.{fill, inPlaces, begins, length-fill}
 use Rattle.residue.proofs.level.Moduli.{modulus-range}
 use Rattle.residue.proofs.Tests.{of-true}
 use Rattle.residue.proofs.bytes.Equality.{same-is}
-use Rattle.residue.proofs.Layouts.{below-fill, length-fill}
+use Rattle.residue.proofs.Layouts.{below-fill}
 use Rattle.specification.specs.declared.settings.Settings.{Settings}
 use Rattle.specification.specs.Tables.{Tables, standardTable, leadsTable, coefficientsTable, recognised}
-use Rattle.specification.proofs.agreement.Points.{IsPoint, Points}
-use Rattle.specification.proofs.agreement.Refusals.{Accepted}
+use Rattle.specification.specs.Points.{Points, IsPoint}
+use Rattle.specification.specs.Settings.{Accepted}
 use Rattle.specification.proofs.Recognised.{read, Parts, recognised-parts, readIn, length-read}
 use Rattle.construction.specs.Drawing.{Solves}
 use Rattle.construction.proofs.drawing.Grounds.{places-below}

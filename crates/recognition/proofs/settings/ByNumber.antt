@@ -6,8 +6,8 @@ use Prim.Native.Nat.{ℕ}
 use lib.Dec.{eqb}
 use borrow.Author.Tests.{ne-eqb}
 use Rattle.residue.specs.Layout.{over}
-use Rattle.specification.specs.declared.settings.Answer.{Answer}
-use Rattle.specification.specs.declared.settings.Drawn.{Drawn}
+use Rattle.specification.specs.declared.answers.Answer.{Answer}
+use Rattle.specification.specs.declared.answers.Drawn.{Drawn}
 use Rattle.specification.specs.Tables.{Tables}
 use Rattle.specification.specs.Adding.{Outcome, refused, byRefusal, DrawOutcome, costing}
 use Rattle.specification.specs.Solving.{Filled, filling}

@@ -10,9 +10,9 @@ use borrow.Author.Tests.{leb-true}
 use Rattle.residue.proofs.Tests.{true-of, and-left, and-right}
 use Rattle.specification.specs.declared.settings.Settings.{Settings}
 use Rattle.specification.specs.Refusal.{Case, firstOf}
-use Rattle.specification.specs.Settings.{settingsCases}
+use Rattle.specification.specs.Settings.{Accepted, settingsCases}
 use Rattle.specification.proofs.Cases.{numbered, None, none-holds, first-stop, first-on}
-use Rattle.specification.proofs.agreement.Refusals.{Accepted, accepted, settings-pass}
+use Rattle.specification.proofs.agreement.Refusals.{accepted, settings-pass}
 use Rattle.specification.proofs.Recognised.{none-of}
 
 -- no case has a number above b

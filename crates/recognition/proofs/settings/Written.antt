@@ -7,8 +7,7 @@ use Rattle.residue.specs.Layout.{fill, over}
 use Rattle.residue.proofs.Layouts.{answered}
 use Rattle.specification.specs.declared.settings.Settings.{Settings}
 use Rattle.specification.specs.Tables.{Tables, statesTable, standardTable, leadsTable, coefficientsTable, countsSize}
-use Rattle.specification.specs.Adding.{ended}
-use Rattle.specification.proofs.Replicates.{holdingBoth}
+use Rattle.specification.specs.Adding.{ended, holdingBoth}
 use Rattle.construction.specs.Drawing.{Tabled}
 
 -- the fronts of the tables of S, the rest behind them, and the states and counts as they lie in the lent tables

@@ -11,13 +11,13 @@ use lib.ListN.{length, take, length-map}
 use lib.Dec.{T, ltb}
 use borrow.Author.Tests.{eq-eqb, le-ltb}
 use Rattle.residue.specs.Lists.{Among, some, sameList}
-use Rattle.residue.specs.Layout.{over}
+use Rattle.residue.specs.Layout.{over, length-fill}
 use Rattle.residue.proofs.Tests.{true-of, of-true}
 use Rattle.residue.proofs.bytes.Equality.{same-is, same-self}
-use Rattle.residue.proofs.Layouts.{take-over, length-fill}
+use Rattle.residue.proofs.Layouts.{take-over}
 use Rattle.specification.specs.declared.settings.Settings.{Settings}
 use Rattle.specification.specs.Refusal.{firstOf}
-use Rattle.specification.specs.Settings.{settingsCases}
+use Rattle.specification.specs.Settings.{Accepted, settingsCases}
 use Rattle.specification.specs.Levels.{inRange, residues, noRepeat}
 use Rattle.specification.specs.Polynomial.{Distinct}
 use Rattle.specification.specs.Counted.{Counted, pointsOf, countsOf, gathered, overfull, countOf}
@@ -28,9 +28,10 @@ use Rattle.specification.specs.Solving.{polynomialUnder}
 use Rattle.specification.specs.Needed.{wiringOf}
 use Rattle.specification.specs.Reference.{Held}
 use Rattle.specification.specs.Agreement.{SameSet, Arranges, SameAs, SameCounts}
-use Rattle.specification.proofs.agreement.Points.{IsPoint, once-of}
+use Rattle.specification.specs.Points.{IsPoint}
+use Rattle.specification.proofs.agreement.Points.{once-of}
 use Rattle.specification.proofs.counted.Gathered.{Entries, of-parts, positive-of, positive-gathered, once-gathered, among-gathered, count-gathered, count-some, some-count, count-few}
-use Rattle.specification.proofs.agreement.Refusals.{Accepted, settings-pass, Large, large-of, written-held, written-points}
+use Rattle.specification.proofs.agreement.Refusals.{settings-pass, Large, large-of, written-held, written-points}
 use Rattle.specification.proofs.agreement.Values.{same-range}
 use Rattle.specification.proofs.agreement.Drawings.{distinct-under, distinct-points, same-rows, same-length, same-remainder, same-standard, same-leads, same-coefficients, told, remainder-told, wired, wiring-told, same-wired}
 use Rattle.specification.proofs.needed.Arranged.{wiring-arranged}

@@ -5,12 +5,12 @@ use Prim.Native.Nat.{ℕ, zero, suc, _≤_}
 use native.Mathlib.Omega.{arith}
 use lib.ListN.{length, take, replicate, length-take, length-map}
 use lib.Dec.{T}
-use Rattle.residue.specs.Layout.{fill, inPlaces, over, begins}
+use Rattle.residue.specs.Layout.{fill, inPlaces, over, begins, length-fill}
 use Rattle.residue.proofs.bytes.Equality.{same-is}
-use Rattle.residue.proofs.Layouts.{fill-zeros, length-fill}
+use Rattle.residue.proofs.Layouts.{fill-zeros}
 use Rattle.specification.specs.declared.settings.Settings.{Settings}
 use Rattle.specification.specs.Refusal.{firstOf}
-use Rattle.specification.specs.Settings.{settingsCases}
+use Rattle.specification.specs.Settings.{Accepted, settingsCases}
 use Rattle.specification.specs.Polynomial.{Distinct}
 use Rattle.specification.specs.BasisOf.{basisOf}
 use Rattle.specification.specs.Counted.{Counted, pointsOf}
@@ -22,7 +22,7 @@ use Rattle.specification.specs.Agreement.{Fresh, freshly, Remains, Agree
 use Rattle.specification.proofs.ideal.Basis.{basis-is}
 use Rattle.specification.proofs.counted.Gathered.{no-entries}
 use Rattle.specification.proofs.counted.Held.{points-held}
-use Rattle.specification.proofs.agreement.Refusals.{Accepted, accepted, Large, large-of, over-begins}
+use Rattle.specification.proofs.agreement.Refusals.{accepted, Large, large-of, over-begins}
 use Rattle.specification.proofs.agreement.Run.{same-tables, At, held-list, run}
 use Rattle.specification.proofs.agreement.Drawings.{laws-under, distinct-points, standard-count, few-rows}
 use Rattle.specification.proofs.agreement.Arrangements.{drawn-same, arranged-same}

@@ -20,7 +20,7 @@ use Rattle.residue.proofs.Tests.{cond-so, cond-not}
 use Rattle.monomial.specs.Order.{orderOf}
 use Rattle.specification.specs.declared.settings.Settings.{Settings}
 use Rattle.specification.specs.Refusal.{firstOf}
-use Rattle.specification.specs.Settings.{settingsCases}
+use Rattle.specification.specs.Settings.{Accepted, settingsCases}
 use Rattle.specification.specs.Levels.{inRange, residues, noRepeat, residueOr0}
 use Rattle.specification.specs.Polynomial.{Polynomial, Distinct}
 use Rattle.specification.specs.BasisOf.{valueAt, remainderOf}
@@ -34,9 +34,10 @@ use Rattle.specification.proofs.ideal.Laws.{Laws, point-told}
 use Rattle.specification.proofs.ideal.Lists.{among-map, map-among}
 use Rattle.specification.proofs.ideal.Counts.{standard-length, leads-length}
 use Rattle.specification.proofs.ideal.Permutation.{basis-permuted, remainder-permuted}
-use Rattle.specification.proofs.agreement.Points.{Points, IsPoint, point-same, once-of}
+use Rattle.specification.specs.Points.{Points, IsPoint}
+use Rattle.specification.proofs.agreement.Points.{point-same, once-of}
 use Rattle.specification.proofs.counted.Gathered.{Entries}
-use Rattle.specification.proofs.agreement.Refusals.{Accepted, settings-pass, Large, not-short, written-large, written-points, written-recognised}
+use Rattle.specification.proofs.agreement.Refusals.{settings-pass, Large, not-short, written-large, written-points, written-recognised}
 use Rattle.specification.proofs.agreement.Values.{point-of}
 
 module _ (s : Settings) (ok : Accepted s) where

@@ -11,7 +11,7 @@ use Rattle.residue.proofs.level.Moduli.{modulus-range}
 use Rattle.residue.proofs.Tests.{of-true}
 use Rattle.specification.specs.declared.settings.Settings.{Settings}
 use Rattle.specification.specs.Refusal.{firstOf}
-use Rattle.specification.specs.Settings.{settingsCases}
+use Rattle.specification.specs.Settings.{Accepted, settingsCases}
 use Rattle.specification.specs.Levels.{inRange, residues}
 use Rattle.specification.specs.Counted.{Counted, overfull}
 use Rattle.specification.specs.Tables.{Tables, tooShort, heldIn, recognised}
@@ -22,7 +22,7 @@ use Rattle.specification.proofs.Cases.{none-holds}
 use Rattle.specification.proofs.Recognised.{none-of}
 use Rattle.specification.proofs.agreement.Points.{levels-point}
 use Rattle.specification.proofs.counted.Gathered.{Entries, entries-entered}
-use Rattle.specification.proofs.agreement.Refusals.{Accepted, settings-pass}
+use Rattle.specification.proofs.agreement.Refusals.{settings-pass}
 use Rattle.specification.proofs.counted.Lowered.{entries-lowered}
 
 -- What an operation has found that it does not refuse.

@@ -21,20 +21,10 @@ use Rattle.residue.proofs.Places.{length-groups}
 use Rattle.specification.specs.declared.settings.Settings.{Settings}
 use Rattle.specification.specs.Levels.{isResidue, residueOr0, inRange, residues, isAmong, noRepeat}
 use Rattle.specification.specs.Instance.{reduced, pointOf}
+use Rattle.specification.specs.Points.{IsPoint, Points}
 use Rattle.specification.specs.Tables.{pointsUnder, pointsIn, statesSize, statesTable}
 use Rattle.specification.proofs.Repeats.{among-is, is-among}
 use Rattle.specification.proofs.ideal.Lists.{snoc-of}
-
--- m residues modulo p, as a point under the settings is
-pub record IsPoint (s : Settings) (P : List ℕ) : Type 0 where
-  pub long : length P ≡ s .variables
-  pub same : reduced (s .modulus - 1) P ≡ P
-
--- At most 64 points, none twice.
-pub record Points (s : Settings) (L : List (List ℕ)) : Type 0 where
-  pub points : (P : List ℕ) → Among P L → IsPoint s P
-  pub once : T (noRepeat L)
-  pub few : length L ≤ 64
 
 pub no-points : (s : Settings) → Points s []
 unfolding noRepeat

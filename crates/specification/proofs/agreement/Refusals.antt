@@ -9,13 +9,13 @@ use lib.Dec.{T, eqb, leb, ltb, leb→le, eqb-refl}
 use borrow.Author.Tests.{le-ltb, ltb-false, not-false}
 use Rattle.residue.specs.Lists.{every}
 use Rattle.residue.specs.Modulus.{isModulus}
-use Rattle.residue.specs.Layout.{fill, over, begins}
+use Rattle.residue.specs.Layout.{fill, over, begins, length-fill}
 use Rattle.residue.proofs.bytes.Equality.{same-is}
 use Rattle.residue.proofs.Tests.{true-of, of-true, neither, and-left, and-right}
-use Rattle.residue.proofs.Layouts.{length-over, begins-over, length-fill}
+use Rattle.residue.proofs.Layouts.{length-over, begins-over}
 use Rattle.specification.specs.declared.settings.Settings.{Settings}
 use Rattle.specification.specs.Refusal.{Case, firstOf}
-use Rattle.specification.specs.Settings.{settingsCases}
+use Rattle.specification.specs.Settings.{Accepted, settingsCases}
 use Rattle.specification.specs.Levels.{noRepeat}
 use Rattle.specification.specs.Counted.{Counted, pointsOf, countsOf, isCount}
 use Rattle.specification.specs.Tables.{Tables, rowCount, statesTable, standardTable, leadsTable, coefficientsTable, tablesOf, written, shortLengths, tooShort, pointsIn, heldIn, recognised}
@@ -23,13 +23,6 @@ use Rattle.specification.specs.Tables.{statesSize, standardSize, leadsSi
 use Rattle.specification.proofs.Cases.{none-holds, first-on}
 use Rattle.specification.proofs.counted.Gathered.{Entries}
 use Rattle.specification.proofs.counted.Held.{points-held, held-back}
-
--- What settings that no call refuses say.
-pub record Accepted (s : Settings) : Type 0 where
-  pub modulus : isModulus (s .modulus) ≡ true
-  pub some : 1 ≤ s .variables
-  pub few : s .variables ≤ 8
-  pub order : s .order ≤ 2
 
 pub accepted : (s : Settings) → firstOf 0 (settingsCases s) ≡ 0 → Accepted s
 unfolding settingsCases

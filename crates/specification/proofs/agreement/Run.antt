@@ -8,11 +8,11 @@ use native.Mathlib.Omega.{arith}
 use lib.ListN.{length, take, drop, take-append-drop, length-map}
 use lib.Dec.{eqb}
 use borrow.Author.Tests.{eqb-true, ne-eqb}
-use Rattle.residue.specs.Layout.{fill, over}
-use Rattle.residue.proofs.Layouts.{over-over, length-fill}
+use Rattle.residue.specs.Layout.{fill, over, length-fill}
+use Rattle.residue.proofs.Layouts.{over-over}
 use Rattle.specification.specs.declared.settings.Settings.{Settings}
 use Rattle.specification.specs.Refusal.{firstOf}
-use Rattle.specification.specs.Settings.{settingsCases}
+use Rattle.specification.specs.Settings.{Accepted, settingsCases}
 use Rattle.specification.specs.Counted.{Counted, pointsOf}
 use Rattle.specification.specs.Tables.{Tables, fiveTables, rowCount, statesTable, standardTable, leadsTable, coefficientsTable, tablesOf, written, tooShort, heldIn, recognised}
 use Rattle.specification.specs.Tables.{statesSize, standardSize, leadsSize, coefficientsSize, countsSize}
@@ -20,7 +20,7 @@ use Rattle.specification.specs.Adding.{Outcome, refused, holding, byRefu
 use Rattle.specification.specs.Reference
 use Rattle.specification.specs.Reference.{Operation, outcomeOf, refusalOf, referenceAnswer, listAfter, referenceAfter, Table, states, standard, leads, coefficients, counts, tableIn, withTable, Lent, part, other, Event, own, interposed, Held, lentTables, tablesAfter, outcomeAt, keeping, heldAfter, numbers, heldAtEnd, fed, referenceAtEnd, dueAt, due, RefusesAt, Refuses}
 use Rattle.specification.proofs.counted.Gathered.{Entries}
-use Rattle.specification.proofs.agreement.Refusals.{Accepted, accepted, Large, not-short, written-large, written-held, written-recognised}
+use Rattle.specification.proofs.agreement.Refusals.{accepted, Large, not-short, written-large, written-held, written-recognised}
 use Rattle.specification.proofs.agreement.Operations.{lawful}
 
 -- the number of an outcome is that of its refusal

@@ -15,8 +15,8 @@ use Rattle.elimination.specs.Elimination.{eliminated, cancellations, multiplesO
 use Rattle.residue.proofs.vector.Vectors.{map-at}
 use Rattle.elimination.proofs.reducing.Eliminated.{eliminated-length, eliminated-below}
 use Rattle.specification.specs.Space.{Space}
-use Rattle.residue.specs.Layout.{fill, withPlace}
-use Rattle.residue.proofs.Layouts.{length-fill, fill-at, take-fill}
+use Rattle.residue.specs.Layout.{fill, withPlace, length-fill}
+use Rattle.residue.proofs.Layouts.{fill-at, take-fill}
 use Rattle.elimination.specs.Rows.{firstNonzero, pivotRow}
 use Rattle.elimination.proofs.rows.Kept.{pivotRow-length, pivotRow-below}
 use Rattle.residue.proofs.Replaced.{place-length, place-apart}

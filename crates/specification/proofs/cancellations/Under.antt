@@ -12,8 +12,8 @@ use Rattle.specification.specs.Cancellations.{cancellationsOf, examinedA
 use Rattle.specification.specs.Tables.{spaceUnder, pointsUnder}
 use Rattle.specification.specs.Adding.{cancellationsUnder}
 use Rattle.specification.specs.CallByCall.{Costs}
-use Rattle.specification.proofs.agreement.Points.{Points}
-use Rattle.specification.proofs.agreement.Refusals.{Accepted}
+use Rattle.specification.specs.Points.{Points}
+use Rattle.specification.specs.Settings.{Accepted}
 use Rattle.specification.proofs.agreement.Drawings.{laws-under, distinct-points}
 use Rattle.specification.proofs.ideal.Laws.{Laws}
 use Rattle.specification.proofs.cancellations.Counted.{examination, counted, examination-only, cancellations-few}

@@ -16,7 +16,8 @@ use Rattle.specification.specs.Levels.{isAmong, noRepeat}
 use Rattle.specification.specs.Counted.{Counted, pointsOf, countsOf, isCount, entered, enteredAll, gathered, overfull, countOf, timesIn}
 use Rattle.specification.proofs.Cases.{None}
 use Rattle.specification.proofs.Repeats.{among-is, is-among}
-use Rattle.specification.proofs.agreement.Points.{IsPoint, Points, once-snoc, no-points}
+use Rattle.specification.specs.Points.{Points, IsPoint}
+use Rattle.specification.proofs.agreement.Points.{once-snoc, no-points}
 use Rattle.specification.proofs.counted.Entered.{Positive, entered-there, entered-new}
 use Rattle.specification.proofs.ideal.Lists.{snoc-of, snoc-in}
 

@@ -29,8 +29,10 @@ use Rattle.specification.proofs.Instance.{point-of as point-read}
 use Rattle.specification.proofs.Recognised.{none-of}
 use Rattle.specification.proofs.CallByCall.{same-points, known-points, known-basis}
 use Rattle.specification.proofs.Wiring.{names-length, list-accepted}
-use Rattle.specification.proofs.agreement.Points.{Points, read-count, residues-same, length-residues}
-use Rattle.specification.proofs.agreement.Refusals.{Accepted, accepted}
+use Rattle.specification.specs.Points.{Points}
+use Rattle.specification.proofs.agreement.Points.{read-count, residues-same, length-residues}
+use Rattle.specification.specs.Settings.{Accepted}
+use Rattle.specification.proofs.agreement.Refusals.{accepted}
 use Rattle.specification.proofs.agreement.Values.{value-of, level-there}
 use Rattle.specification.proofs.agreement.Drawings.{distinct-points, value-told}
 use Rattle.specification.proofs.needed.Pairs.{Valued, wiring-needed}

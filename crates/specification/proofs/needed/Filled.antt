@@ -15,8 +15,8 @@ use Rattle.residue.proofs.Layouts.{fill-at}
 use Rattle.residue.proofs.Places.{table-groups}
 use Rattle.specification.specs.declared.settings.Settings.{Settings}
 use Rattle.specification.specs.Needed.{alike, apart, contrary, pairIn, wiringOf}
-use Rattle.specification.proofs.agreement.Points.{Points}
-use Rattle.specification.proofs.agreement.Refusals.{Accepted}
+use Rattle.specification.specs.Points.{Points}
+use Rattle.specification.specs.Settings.{Accepted}
 
 set-filled : (w : ℕ) (P : List ℕ) (k x : ℕ) → k < length P → length P ≤ w → set (fill w P) k x ≡ fill w (set P k x)
 unfolding fill

@@ -5,9 +5,9 @@ use Prim.Native.Nat.{ℕ}
 use native.Mathlib.Omega.{arith}
 use lib.ListN.{length, length-set}
 use lib.Seq.{length-take-le, length-front}
-use Rattle.residue.specs.Layout.{fill}
+use Rattle.residue.specs.Layout.{fill, length-fill}
 use Rattle.residue.proofs.Tests.{of-true}
-use Rattle.residue.proofs.Layouts.{answered, length-fill}
+use Rattle.residue.proofs.Layouts.{answered}
 use Rattle.specification.specs.Tables.{Tables, fiveTables, statesTable}
 use Rattle.specification.proofs.agreement.Refusals.{Large, large-of, over-begins}
 use Rattle.specification.proofs.Replicates.{count-put}

@@ -10,8 +10,8 @@ use Rattle.residue.specs.Layout.{fill}
 use Rattle.monomial.specs.Insert.{removedAt}
 use Rattle.specification.specs.Tables.{Tables, fiveTables}
 use Rattle.specification.specs.CallByCall.{recounted}
-use Rattle.specification.proofs.Replicates.{holdingBoth}
-use Rattle.specification.proofs.agreement.Points.{Points}
+use Rattle.specification.specs.Adding.{holdingBoth}
+use Rattle.specification.specs.Points.{Points}
 use Rattle.recognition.proofs.settings.ByNumber.{alone}
 use Rattle.recognition.specs.Naming.{namingRefusal}
 use Rattle.recognition.proofs.naming.NamingTests.{Open, open-of}

@@ -10,9 +10,9 @@ use lib.ListN.{length, getD, set, take, drop, replicate, length-map, length-take
 use lib.Seq.{length-take-le}
 use lib.Dec.{eqb}
 use borrow.Author.Tests.{eqb-true, not-false}
-use Rattle.residue.specs.Layout.{fill, over}
+use Rattle.residue.specs.Layout.{fill, over, length-fill}
 use Rattle.residue.specs.Lists.{keyOf}
-use Rattle.residue.proofs.Layouts.{fill-at, length-fill}
+use Rattle.residue.proofs.Layouts.{fill-at}
 use Rattle.residue.proofs.bytes.Keys.{key-padded}
 use Rattle.residue.proofs.Places.{over-zeros}
 use Rattle.specification.specs.Refusal.{firstOf}

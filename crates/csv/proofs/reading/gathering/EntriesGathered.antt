@@ -10,10 +10,10 @@ use lib.ListN.{length, getD, set, length-map, length-append}
 use lib.Dec.{T, eqb, eqb·suc-zero}
 use borrow.Author.Tests.{eq-eqb, ne-eqb, lt-ltb, not-true}
 use Rattle.residue.specs.Lists.{sameList}
-use Rattle.residue.specs.Layout.{groups, fill, inPlaces}
+use Rattle.residue.specs.Layout.{groups, fill, inPlaces, length-fill}
 use Rattle.residue.proofs.Tests.{true-of}
 use Rattle.residue.proofs.bytes.Equality.{same-self}
-use Rattle.residue.proofs.Layouts.{fill-at, fill-put, length-fill}
+use Rattle.residue.proofs.Layouts.{fill-at, fill-put}
 use Rattle.specification.specs.Levels.{isAmong, noRepeat}
 use Rattle.specification.specs.Counted.{pointsOf, entered, enteredAll, gathered, placeIn}
 use Rattle.specification.specs.Tables.{statesTable}

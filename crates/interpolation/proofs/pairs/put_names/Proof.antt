@@ -5,8 +5,8 @@ use Prim.Native.Nat.{ℕ, _+_, _-_, _≤_}
 use native.Mathlib.Omega.{arith}
 use lib.ListN.{length, take, set, length-append}
 use mathlib.Core.Logic.{⊎-elim}
-use Rattle.residue.specs.Layout.{groups, fill}
-use Rattle.residue.proofs.Layouts.{fill-zeros, fill-put, length-fill}
+use Rattle.residue.specs.Layout.{groups, fill, length-fill}
+use Rattle.residue.proofs.Layouts.{fill-zeros, fill-put}
 use Rattle.specification.proofs.Wiring.{names-on, names-off, names-length}
 use Rattle.specification.specs.Needed.{wiringOf}
 use Rattle.interpolation.proofs.pairs.put_names.Statement.{statement}

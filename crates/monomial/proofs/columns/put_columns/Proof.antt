@@ -3,8 +3,7 @@ use mathlib.Core.Path.{_≡_, sym, ap, _∙_}
 use Prim.Native.Nat.{ℕ, _+_, _*_, _-_, _≤_}
 use native.Mathlib.Omega.{arith}
 use lib.ListN.{length}
-use Rattle.residue.specs.Layout.{fill, inPlaces}
-use Rattle.residue.proofs.Layouts.{length-fill}
+use Rattle.residue.specs.Layout.{fill, inPlaces, length-fill}
 use Rattle.residue.proofs.Replaced.{part-long, zeros-long}
 use Rattle.monomial.specs.Columns.{columnsOf}
 use Rattle.monomial.proofs.columns.Entries.{columns-none, columns-more}

@@ -7,8 +7,7 @@ use Prim.Native.Nat.{ℕ, _+_, _*_, _-_, _≤_}
 use native.Mathlib.Nat.{mul-le-mul-left}
 use native.Mathlib.Omega.{arith}
 use lib.ListN.{length, take, drop}
-use Rattle.residue.specs.Layout.{groups, fill}
-use Rattle.residue.proofs.Layouts.{length-fill}
+use Rattle.residue.specs.Layout.{groups, fill, length-fill}
 use Rattle.residue.proofs.Places.{length-groups}
 use Rattle.residue.proofs.Replaced.{zeros-long}
 use Rattle.specification.specs.Levels.{residues}

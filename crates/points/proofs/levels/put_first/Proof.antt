@@ -7,8 +7,7 @@ use native.Mathlib.Omega.{arith}
 use lib.IntN.{ℤ, pos}
 use lib.ListN.{length, getD, take}
 use Rattle.residue.specs.Level.{residueOf}
-use Rattle.residue.specs.Layout.{fill}
-use Rattle.residue.proofs.Layouts.{length-fill}
+use Rattle.residue.specs.Layout.{fill, length-fill}
 use Rattle.residue.proofs.vector.Filled.{filled, filled-none, kept-length, filled-more, filled-all}
 use Rattle.specification.specs.Levels.{residueOr0, residues}
 use Rattle.points.proofs.levels.LevelLists.{handed}

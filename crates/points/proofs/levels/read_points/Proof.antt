@@ -4,9 +4,8 @@ use mathlib.Core.List.{List, [], _∷_, _++_, map}
 use Prim.Native.Nat.{ℕ, _+_, _*_, _-_, _%_, _<_, _≤_}
 use native.Mathlib.Omega.{arith}
 use lib.ListN.{length, take, drop, length-drop, length-take, length-map}
-use Rattle.residue.specs.Layout.{fill, inPlaces, over, groups}
+use Rattle.residue.specs.Layout.{fill, inPlaces, over, groups, length-fill}
 use Rattle.residue.proofs.Places.{place-more, part-fits, no-places}
-use Rattle.residue.proofs.Layouts.{length-fill}
 use Rattle.points.proofs.levels.PointTables.{pointsAs, length-points, points-more, point-read, points-in}
 use Rattle.points.proofs.levels.read_points.Statement.{statement}
 use Rattle.points.proofs.levels.read_points.Tie as tie

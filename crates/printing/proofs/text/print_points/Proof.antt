@@ -6,14 +6,13 @@ use native.Mathlib.Omega.{arith}
 use lib.ListN.{length, take}
 use lib.Seq.{length-take-le}
 use borrow.Author.Needs.{needs}
-use Rattle.residue.specs.Layout.{groups}
+use Rattle.residue.specs.Layout.{groups, length-fill}
 use Rattle.residue.proofs.level.Moduli.{modulus-range}
-use Rattle.residue.proofs.Layouts.{length-fill}
 use Rattle.specification.specs.declared.settings.Settings.{Settings}
 use Rattle.specification.specs.Tables.{pointsIn}
 use Rattle.specification.specs.Needed.{wiringOf}
 use Rattle.specification.proofs.Wiring.{names-length}
-use Rattle.construction.specs.Drawing.{settingsOf}
+use Rattle.specification.specs.Settings.{settingsOf}
 use Rattle.construction.proofs.drawing.Given.{drawn-long}
 use Rattle.printing.specs.Appending.{Room, Put}
 use Rattle.printing.specs.Lines.{basisLines, inTable}

@@ -6,8 +6,8 @@ use native.Mathlib.Omega.{arith}
 use lib.ListN.{length}
 use borrow.Author.Needs.{needs}
 use Rattle.residue.specs.Vector.{Below}
-use Rattle.residue.specs.Layout.{fill, over}
-use Rattle.residue.proofs.Layouts.{length-fill, over-all, below-fill}
+use Rattle.residue.specs.Layout.{fill, over, length-fill}
+use Rattle.residue.proofs.Layouts.{over-all, below-fill}
 use Rattle.residue.proofs.Places.{over-zeros}
 use Rattle.interpolation.specs.Solving.{solution}
 use Rattle.printing.proofs.text.solve_bytes.Statement.{statement}

@@ -5,9 +5,8 @@ use Prim.Native.Nat.{ℕ}
 use native.Mathlib.Omega.{arith}
 use lib.ListN.{length}
 use Rattle.residue.specs.Vector.{Below}
-use Rattle.residue.specs.Layout.{fill, inPlaces, over}
+use Rattle.residue.specs.Layout.{fill, inPlaces, over, length-fill}
 use Rattle.residue.proofs.level.Moduli.{modulus-range}
-use Rattle.residue.proofs.Layouts.{length-fill}
 use Rattle.monomial.specs.Terms.{termValues}
 use Rattle.specification.specs.Refusal.{firstOf}
 use Rattle.specification.specs.Levels.{residues}

@@ -5,9 +5,8 @@ use mathlib.Core.List.{List}
 use Prim.Native.Nat.{ℕ}
 use native.Mathlib.Omega.{arith}
 use lib.ListN.{length, take}
-use Rattle.residue.specs.Layout.{groups, fill, inPlaces, over}
+use Rattle.residue.specs.Layout.{groups, fill, inPlaces, over, length-fill}
 use Rattle.residue.proofs.level.Moduli.{modulus-range}
-use Rattle.residue.proofs.Layouts.{length-fill}
 use Rattle.specification.specs.Refusal.{firstOf}
 use Rattle.specification.specs.Levels.{inRange, residues}
 use Rattle.specification.specs.Tables.{Tables, fiveTables, pointsIn, recognised}

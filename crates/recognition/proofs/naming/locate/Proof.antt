@@ -7,10 +7,9 @@ use Prim.Native.Nat.{ℕ, _≤_}
 use native.Mathlib.Omega.{arith}
 use lib.ListN.{length}
 use lib.Dec.{eqb, ltb}
-use Rattle.residue.specs.Layout.{fill, inPlaces, over}
+use Rattle.residue.specs.Layout.{fill, inPlaces, over, length-fill}
 use Rattle.residue.proofs.level.Moduli.{modulus-range}
 use Rattle.residue.proofs.Places.{over-zeros}
-use Rattle.residue.proofs.Layouts.{length-fill}
 use Rattle.specification.specs.Refusal.{firstOf}
 use Rattle.specification.specs.Levels.{inRange, residues}
 use Rattle.specification.specs.Settings.{settingsCases}

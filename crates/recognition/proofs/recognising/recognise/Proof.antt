@@ -6,15 +6,15 @@ use mathlib.Core.List.{List}
 use Prim.Native.Nat.{ℕ}
 use native.Mathlib.Omega.{arith}
 use lib.ListN.{length}
-use Rattle.residue.specs.Layout.{groups, fill, inPlaces}
+use Rattle.residue.specs.Layout.{groups, fill, inPlaces, length-fill}
 use Rattle.residue.proofs.level.Moduli.{modulus-range}
 use Rattle.residue.proofs.Tests.{of-true}
-use Rattle.residue.proofs.Layouts.{length-fill}
 use Rattle.specification.specs.declared.settings.Settings.{Settings}
 use Rattle.specification.specs.Levels.{noRepeat}
 use Rattle.specification.specs.Tables.{Tables, fiveTables, statesTable, standardTable, leadsTable, coefficientsTable, pointsIn}
-use Rattle.specification.proofs.agreement.Points.{Points}
-use Rattle.specification.proofs.agreement.Refusals.{Accepted, accepted, large-of}
+use Rattle.specification.specs.Points.{Points}
+use Rattle.specification.specs.Settings.{Accepted}
+use Rattle.specification.proofs.agreement.Refusals.{accepted, large-of}
 use Rattle.construction.specs.Drawing.{PointsGiven, DrawnUp, pivotBytes, pivotRowsUnder, pivotRowsLeft}
 use Rattle.points.proofs.levels.PointTables.{length-points, points-in}
 use Rattle.specification.proofs.Recognised.{read-each, read}

@@ -7,7 +7,7 @@ use native.Mathlib.Omega.{arith}
 use lib.ListN.{length, take, drop}
 use Rattle.residue.specs.Vector.{Below}
 use Rattle.residue.proofs.level.Moduli.{modulus-range}
-use Rattle.residue.proofs.Layouts.{length-fill}
+use Rattle.residue.specs.Layout.{length-fill}
 use Rattle.elimination.proofs.rows.Zeros.{first-most}
 use Rattle.monomial.specs.Order.{orderOf}
 use Rattle.monomial.specs.Columns.{columnOf}

@@ -7,9 +7,9 @@ use lib.ListN.{length, take, drop}
 use lib.Seq.{length-take-le}
 use Rattle.residue.specs.Vector.{Below}
 use Rattle.elimination.specs.Elimination.{eliminated, cancellations}
-use Rattle.residue.specs.Layout.{fill}
+use Rattle.residue.specs.Layout.{fill, length-fill}
 use Rattle.residue.proofs.vector.Vectors.{below-take}
-use Rattle.residue.proofs.Layouts.{below-fill, length-fill, over-all}
+use Rattle.residue.proofs.Layouts.{below-fill, over-all}
 use Rattle.residue.proofs.Replaced.{zeros-long, load}
 use Rattle.construction.proofs.drawing.turns.reduce.Statement.{statement}
 use Rattle.construction.proofs.drawing.turns.reduce.Tie as tie

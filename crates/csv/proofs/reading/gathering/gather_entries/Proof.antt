@@ -8,7 +8,7 @@ use lib.IntN.{ℤ}
 use lib.ListN.{length, take, drop}
 use borrow.Author.Tests.{not-true, not-false}
 use Rattle.residue.specs.Lists.{keyOf}
-use Rattle.residue.proofs.Layouts.{length-fill}
+use Rattle.residue.specs.Layout.{length-fill}
 use Rattle.points.proofs.gathering.Gathering.{holds-sizes}
 use Rattle.csv.specs.reading.Text.{firstFault, isOutside}
 use Rattle.csv.specs.reading.Points.{levelsAt}
