@@ -1,5 +1,5 @@
 #!/usr/bin/env python3
-"""Write the stored cases of the test program basis_test: points, and what every call must answer and leave for them.
+"""Write the stored cases of the test program basis_test: points, and what the calls must answer and leave for them.
 
 usage: tools/basis_cases.py CASES STDOUT [PATTERN]
 Writes the cases to the file CASES (crates/basis_test/data/cases) and what the program prints for them to STDOUT

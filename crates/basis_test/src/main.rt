@@ -1,5 +1,5 @@
-// Holds every call of the crate basis to stored cases (tools/basis_cases.py): what Singular and Macaulay2 computed for lists of points, and lists that are
-// refused. The cases are those of standard input, or where it has none those of the file `cases`.
+// Holds drawing up, adding, interpolants, wiring lists and remainders to stored cases (tools/basis_cases.py): what Singular and Macaulay2 computed for lists of
+// points, and lists that are refused. The cases are those of standard input, or where it has none those of the file `cases`.
 mod answered;
 mod buffers;
 mod counts;

@@ -115,7 +115,7 @@ fn try_answers(
     counts::count(counts, counts::REDUCED, second);
 }
 
-// Reads the tables of a case that is accepted and tries every call.
+// Reads the tables of a case that is accepted and tries the calls.
 fn run_basis(fd: i32, head: Head, levels: &[i8], counts: &mut [u64; 16]) {
     let mut values = [0i8; 64];
     buffers::read_levels(fd, &mut values, head.n as usize);
