@@ -67,7 +67,7 @@ withdrawing-lawful : (levels : List ℤ) → Lawful (withdrawing levels)
 unfolding outcomeOf refusalOf referenceAnswer listAfter withdrawOutcome withdrawRefusal withdrawCases firstOf
 withdrawing-lawful levels = record {
   outcome = λ s n r t. refl;
-  number = λ s fine n r t few large known. settings-pass s fine _ ∙ rw (large, known, le-ltb 64 n few);
+  number = λ s fine n r t held large known. settings-pass s fine _ ∙ rw (large, known, le-ltb 64 n held);
   entries = λ s ok L h e. entries-lowered (residues (s .modulus) levels) s L h;
   passed = λ s n r t e. let z = none-of s _ tt e in
       record { fine = z .0; few = ltb-false 64 n (z .1 .1 .1 .0); large = z .1 .0; known = not-false (recognised s n r t) (z .1 .1 .1 .1 .1 .0) };
