@@ -1,11 +1,12 @@
 // start MODE PROGRAM <TEXT: runs the program on the text. The mode says what its standard input or its standard output is; the other stays as it is here.
-//   late     input is a non-blocking pipe, and what follows the third line is sent 0.3 s after all before it was read
+//   late     input is a non-blocking pipe, and what follows the third line is sent once the program has read all before it and was found asleep often
 //   N        input is a non-blocking pipe, and N bytes are sent at a time, each time once those before were read
 //   cut      input is a terminal that gives the text and then an error, since its other end is closed
-//   slow     output is a non-blocking pipe of one page, which is read only once it is full
+//   slow     output is a non-blocking pipe of one page, which is read only once it is full and the program was found asleep often
 //   gone     output is a pipe that nobody reads, and the signal that says so is ignored
 //   killed   the same, and the signal is not ignored
-// Says on standard error if the program ended by a signal or a status, or used the processor while it waited.
+// Says on standard error if the program ended by a signal or a status, or used the processor for a quarter of the time that it waited for the late part. One
+// that never sleeps is never found asleep, so that this does not end. Other work on the machine makes waits longer and that share smaller.
 #define _GNU_SOURCE
 #include <fcntl.h>
 #include <poll.h>
@@ -61,6 +62,33 @@ static void wait_until(int fd, int bytes)
     } while (held != bytes && is_open(fd));
 }
 
+// The letter for what a process does, which stands in /proc behind its name in parentheses: S if it sleeps, Z if it has ended.
+static char state_of(pid_t pid)
+{
+    char path[64], line[512];
+    snprintf(path, sizeof path, "/proc/%d/stat", (int)pid);
+    FILE *file = fopen(path, "r");
+    need(file != NULL && fgets(line, sizeof line, file) != NULL && strrchr(line, ')') != NULL, path);
+    fclose(file);
+    return strrchr(line, ')')[2];
+}
+
+// Waits until the program was found asleep so many times, or has ended.
+static void wait_asleep(pid_t pid, int times)
+{
+    for (char state = 0; times > 0 && state != 'Z'; times -= state == 'S') {
+        wait_ms(1);
+        state = state_of(pid);
+    }
+}
+
+static long now_ms(void)
+{
+    struct timespec now;
+    need(clock_gettime(CLOCK_MONOTONIC, &now) == 0, "clock");
+    return now.tv_sec * 1000 + now.tv_nsec / 1000000;
+}
+
 // Sends the text's bytes from one place to another, and waits until they were read.
 static void send_part(int fd, size_t from, size_t to)
 {
@@ -76,11 +104,11 @@ static size_t third_line_end(void)
     return end;
 }
 
-static void send_text(int fd)
+static void send_text(int fd, pid_t pid)
 {
     if (is("late")) {
         send_part(fd, 0, third_line_end());
-        wait_ms(300);
+        wait_asleep(pid, 300);
         send_part(fd, third_line_end(), length);
     } else {
         size_t piece = strtoul(mode, NULL, 10);
@@ -119,16 +147,16 @@ static pid_t launch(char *program, int in, int out)
 }
 
 // Passes on what comes once the pipe is full.
-static void pass_on(int fd)
+static void pass_on(int fd, pid_t pid)
 {
     ssize_t got;
     wait_until(fd, 4096);
-    wait_ms(50);
+    wait_asleep(pid, 50);
     while ((got = read(fd, text, sizeof text)) > 0)
         need(write(1, text, (size_t)got) == got, "write");
 }
 
-static void report(pid_t pid)
+static void report(pid_t pid, long from)
 {
     struct rusage used;
     int status;
@@ -138,8 +166,8 @@ static void report(pid_t pid)
         fprintf(stderr, "ended by signal %d\n", WTERMSIG(status));
     else if (WEXITSTATUS(status) != 0)
         fprintf(stderr, "ended with status %d\n", WEXITSTATUS(status));
-    if (is("late") && ms > 50)
-        fprintf(stderr, "used the processor for %ld ms\n", ms);
+    if (is("late") && ms > (now_ms() - from) / 4)
+        fprintf(stderr, "used the processor for %ld of %ld ms\n", ms, now_ms() - from);
 }
 
 // The program's input is a pipe, of which the end to write to is answered.
@@ -169,6 +197,7 @@ static int drain(char *program, pid_t *pid)
 int main(int count, char **words)
 {
     pid_t pid;
+    long from = now_ms();
     if (count != 3)
         return 2;
     mode = words[1];
@@ -178,10 +207,13 @@ int main(int count, char **words)
         pid = launch(words[2], cut_terminal(), 1);
     else if (is("gone") || is("killed"))
         drain(words[2], &pid);
-    else if (is("slow"))
-        pass_on(drain(words[2], &pid));
-    else
-        send_text(feed(words[2], &pid));
-    report(pid);
+    else if (is("slow")) {
+        int end = drain(words[2], &pid);
+        pass_on(end, pid);
+    } else {
+        int end = feed(words[2], &pid);
+        send_text(end, pid);
+    }
+    report(pid, from);
     return 0;
 }
