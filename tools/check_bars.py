@@ -3,9 +3,10 @@
 
 usage: tools/check_bars.py [FOLDER]
 `rt ci` and `rt must-fail` leave what was said of crates/CRATE/must-fail/NAME.edit in FOLDER/CRATE/NAME/.log; FOLDER is
-target/must-fail if it is not given. An edit whose log is missing, has no error, or begins with one of the errors below bars
-nothing: the checker had not come to a fact about the edited code or definition, and would say the same of a right program that is
-written in another way.
+target/must-fail if it is not given. Errors that only follow from others are passed over; what is not proved of a function that
+has no proof file of its own stands in a note. An edit whose log is missing, has no error, or begins with one of the errors below
+bars nothing: the checker had not come to a fact about the edited code or definition, and would say the same of a right program
+that is written in another way.
 """
 import os
 import re
@@ -14,18 +15,18 @@ import sys
 sys.dont_write_bytecode = True
 from check_edits import ROOT, folders
 
-ERROR = re.compile(r"^.*?: error(?:\[[\w-]+\])?: (.*)")
+ERROR = re.compile(r"^(?:.*?: error(?:\[[\w-]+\])?: |note: .*?: (?=it is not proved that ))(.*)")
+FOLLOWS = "so this cannot be checked"
 SHOW_NOTHING = (
     "that can be named from here",  # the proof names a need that the edited code does not have
     "`rw`: no occurrence",  # the proof rewrites a term that the edited definition does not have
-    "so this cannot be checked",  # something before it was refused
 )
 
 
 def first_error(path):
     """The first error of a log, in one line."""
     with open(path, encoding="utf-8", errors="replace") as file:
-        return next((found[1] for found in map(ERROR.match, file) if found), None)
+        return next((found[1] for found in map(ERROR.match, file) if found and FOLLOWS not in found[1]), None)
 
 
 def fault(path):
