@@ -1,2 +1,3 @@
 -- The definitions of the crate misqafur.
 pub mod Packing
+pub mod Version

@@ -3,3 +3,4 @@ pub mod answers;
 mod packing;
 pub mod tables;
 pub mod text;
+pub mod version;

@@ -1,0 +1,14 @@
+-- The version of the library, major.minor.patch, as one number: 2.0.0 is 20000. The first of the three is the interface's.
+use Prim.Native.Nat.{ℕ, _+_, _*_}
+
+abbrev pub major : ℕ
+major = 2
+
+abbrev pub minor : ℕ
+minor = 0
+
+abbrev pub patch : ℕ
+patch = 0
+
+abbrev pub versionNumber : ℕ
+versionNumber = 10000 * major + 100 * minor + patch
