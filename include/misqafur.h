@@ -100,12 +100,15 @@
 #include <stdint.h>
 #include <string.h>
 
-/* The version; and the number in the shared library's name, which changes when a call's arguments or tables do. */
-#define MISQAFUR_VERSION_MAJOR 1
+/* The interface's number, which changes when a call's arguments or tables do; it is in the shared library's name, and the
+ * first of the version's three. */
+#define MISQAFUR_ABI 2
+#define MISQAFUR_VERSION_MAJOR 2
 #define MISQAFUR_VERSION_MINOR 0
 #define MISQAFUR_VERSION_PATCH 0
-#define MISQAFUR_VERSION "1.0.0"
-#define MISQAFUR_ABI 2
+#define MISQAFUR_VERSION "2.0.0"
+#define MISQAFUR_VERSION_NUMBER \
+    (10000 * MISQAFUR_VERSION_MAJOR + 100 * MISQAFUR_VERSION_MINOR + MISQAFUR_VERSION_PATCH)
 
 #define MISQAFUR_STATES_SIZE 512
 #define MISQAFUR_STANDARD_SIZE 512
@@ -158,6 +161,12 @@ enum misqafur_refusals {
 #ifdef __cplusplus
 extern "C" {
 #endif
+
+/* misqafur_abi_2, with the number of this header's interface in its name: a library of another interface has no such
+ * call. Answers the library's version, as MISQAFUR_VERSION_NUMBER is this header's. A host calls it as misqafur_version. */
+#define MISQAFUR_NUMBERED(number) misqafur_abi_##number
+#define MISQAFUR_ABI_CALL(number) MISQAFUR_NUMBERED(number)
+uint32_t MISQAFUR_ABI_CALL(MISQAFUR_ABI)(void);
 
 /* Adds one point to a basis. One that is there already is a replicate: its count is raised by 1, no other
  * byte changes, and n and r are answered as they were. A new one arrives last, with the count 1.
@@ -295,6 +304,7 @@ uint64_t misqafur_read_text(const uint8_t *text, size_t text_length, uint8_t *st
 #define MISQAFUR_TOLD(call, lent) __typeof__(call) call __attribute__((warn_unused_result lent))
 #pragma GCC diagnostic push
 #pragma GCC diagnostic ignored "-Wredundant-decls"
+MISQAFUR_TOLD(MISQAFUR_ABI_CALL(MISQAFUR_ABI), );
 MISQAFUR_TOLD(misqafur_add_point, MISQAFUR_LENT_TABLES(read_write, 6) MISQAFUR_LENT(read_only, 16));
 MISQAFUR_TOLD(misqafur_withdraw_point, MISQAFUR_LENT_TABLES(read_write, 6) MISQAFUR_LENT(read_only, 16));
 MISQAFUR_TOLD(misqafur_draw_up, MISQAFUR_LENT_TABLES(write_only, 4) MISQAFUR_LENT(read_only, 14));
@@ -312,7 +322,26 @@ MISQAFUR_TOLD(misqafur_read_text,
 #undef MISQAFUR_TOLD
 #undef MISQAFUR_LENT_TABLES
 #undef MISQAFUR_LENT
+
+/* Refers to misqafur_abi_2 wherever this header is included, whatever of it is used: an object compiled with the header of
+ * another interface does not link with the library, in place of handing it tables that it does not know. */
+#if defined(__has_attribute)
+#if __has_attribute(retain)
+#define MISQAFUR_KEPT __attribute__((used, retain))
 #endif
+#endif
+#ifndef MISQAFUR_KEPT
+#define MISQAFUR_KEPT __attribute__((used))
+#endif
+static uint32_t (*const misqafur_linked)(void) MISQAFUR_KEPT = MISQAFUR_ABI_CALL(MISQAFUR_ABI);
+#undef MISQAFUR_KEPT
+#endif
+
+/* The version of the library that the host is linked with, or has loaded: 20000 for 2.0.0. */
+static inline uint32_t misqafur_version(void)
+{
+    return MISQAFUR_ABI_CALL(MISQAFUR_ABI)();
+}
 
 /* A level, value or coefficient as the byte that the calls take. Any number outside -127 to 127 becomes
  * 128, which is -128: with every modulus that byte is refused with 9, as the number itself is to be. */
@@ -481,16 +510,23 @@ static inline MISQAFUR_ANSWER uint32_t misqafur_sheet_check(const struct misqafu
     return misqafur_check(MISQAFUR_SHEET_SETTINGS(sheet), sheet->n, sheet->r, MISQAFUR_SHEET_TABLES(sheet));
 }
 
-/* Makes the sheet of no points under these settings. Answers 3, 4 or 5 where no call takes them. */
+/* Makes the sheet of no points under these settings. Answers 3, 4 or 5 where no call takes them. These are looked for first,
+ * and tables of no length are refused with 6 behind them: so the settings are judged before a byte of the sheet is written. */
 static inline MISQAFUR_ANSWER uint32_t misqafur_sheet_init(struct misqafur_sheet *sheet, uint64_t modulus,
                                                            uint64_t variables, uint64_t order)
 {
+    const uint32_t refusal = misqafur_check(modulus, variables, order, 0, 1, NULL, 0, NULL, 0, NULL, 0, NULL, 0, NULL, 0);
+    if (refusal != MISQAFUR_REFUSED_SIZE)
+        return refusal;
     memset(sheet, 0, sizeof *sheet);
     sheet->modulus = modulus;
     sheet->variables = variables;
     sheet->order = order;
     sheet->r = 1;
-    return misqafur_sheet_check(sheet);
+#if !defined(__GNUC__)
+    (void)misqafur_version(); /* here the helpers refer to misqafur_abi_2 */
+#endif
+    return MISQAFUR_TAKEN;
 }
 
 static inline MISQAFUR_ANSWER uint32_t misqafur_sheet_add(struct misqafur_sheet *sheet,

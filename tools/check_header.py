@@ -2,7 +2,8 @@
 """Holds the prototypes in include/misqafur.h to the exports of crates/misqafur/src: the same names, and for each the
 same arguments in the same order, with the same types and const, and the same answer. A slice is a pointer and its
 length, signed bytes come from C as plain ones of the same bits, and the block in which compilers are told of the calls
-has to name each of them, as read or written.
+has to name each of them, as read or written. The call that has the interface's number in its name is declared by that
+number, and the header has to refer to it. What check_versions.py holds to each other is held here too.
 Says `header: N prototypes match the exports`, or each difference, and then ends with status 1.
 
 Each run first tries the comparison itself: every edit in TRIES of a small pair that matches has to be noticed.
@@ -11,12 +12,16 @@ import pathlib
 import re
 import sys
 
+import check_versions
+
 ROOT = pathlib.Path(__file__).resolve().parent.parent
 NUMBERS = {"u8": "uint8_t", "u32": "uint32_t", "u64": "uint64_t"}
 EXPORT = re.compile(r'#\[no_mangle\]\s+pub extern "C" fn (\w+)\s*\(([^)]*)\)(?:\s*->\s*([^\s{]+))?')
 PROTOTYPE = re.compile(r"([\w\s*]+?)\b(\w+)\s*\(([^)]*)\)\s*;")
 TOLD = re.compile(r"^MISQAFUR_TOLD\((\w+),([^;]*)\);", re.M)
 LENT = re.compile(r"MISQAFUR_LENT(_TABLES)?\((\w+), (\d+)\)")
+NUMBERED = "MISQAFUR_ABI_CALL(MISQAFUR_ABI)"
+LINKED = re.compile(r"^static uint32_t \(\*const misqafur_linked\)\(void\) MISQAFUR_KEPT = (\w+);", re.M)
 
 
 class Unclear(Exception):
@@ -58,6 +63,21 @@ def exports(source):
     return found
 
 
+def numbered(header):
+    """The header with the call that has the interface's number in its name written out."""
+    abi = re.search(r"^#define MISQAFUR_ABI (\d+)$", header, re.M)
+    if not abi or "#define MISQAFUR_NUMBERED(number) misqafur_abi_##number\n" not in header:
+        raise Unclear("the header does not number its interface, or no call by it")
+    return header.replace(NUMBERED, f"misqafur_abi_{abi.group(1)}")
+
+
+def unlinked(header):
+    """Whether the header does not refer to that call by itself, in every file that includes it."""
+    named = re.findall(r"^uint32_t (misqafur_abi_\d+)\(void\);", header, re.M)
+    if len(named) != 1 or LINKED.findall(header) != named:
+        yield f"the header declares {named} by the interface's number, and refers to {LINKED.findall(header)}"
+
+
 def prototypes(header):
     """Each name that the header declares, with its answer and arguments."""
     header = re.sub(r"/\*.*?\*/|//[^\n]*|\\\n", " ", header, flags=re.S)
@@ -65,12 +85,12 @@ def prototypes(header):
     header = re.sub(r"^\s*#[^\n]*", " ", header, flags=re.M)
     header = re.sub(r"static inline [^{;]*\{.*?^\}", " ", header, flags=re.S | re.M)
     header = re.sub(r"^(struct|enum) \w+ \{[^}]*\};", " ", header, flags=re.M)
-    header = TOLD.sub(" ", header)
+    header = LINKED.sub(" ", TOLD.sub(" ", header))
     found = {}
     for answer, name, arguments in PROTOTYPE.findall(header):
         if name in found:
             raise Unclear(f"{name} is declared twice in the header")
-        found[name] = (spaced(answer), [spaced(argument) for argument in pieces(arguments)])
+        found[name] = (spaced(answer), [spaced(argument) for argument in pieces(arguments) if argument != "void"])
     rest = PROTOTYPE.sub(" ", header).split()
     if rest:
         raise Unclear("the header has more than prototypes, types and inline functions: " + " ".join(rest)[:60])
@@ -105,6 +125,7 @@ def untold(given, said):
 
 def differences(source, header):
     try:
+        header = numbered(header)
         wanted, given = exports(source), prototypes(header)
     except Unclear as unclear:
         return [str(unclear)]
@@ -115,7 +136,7 @@ def differences(source, header):
     for name in wanted:
         if name in given:
             found += [f"{name}: {text}" for text in changes(wanted[name], given[name])]
-    return found + list(untold(given, told(header)))
+    return found + list(untold(given, told(header))) + list(unlinked(header))
 
 
 def changes(wanted, given):
@@ -131,6 +152,8 @@ def changes(wanted, given):
 
 SOURCE = """
 #[no_mangle]
+pub extern "C" fn misqafur_abi_7() -> u32 { 70000 }
+#[no_mangle]
 pub extern "C" fn one(order: u64, text: &[u8], out: &mut [u8]) -> u32
     ensures { it } { 0 }
 #[no_mangle]
@@ -139,6 +162,9 @@ pub extern "C" fn two(n: u64, r: u64,) -> u64 { 0 }
 pub extern "C" fn six(a: &mut [u8], b: &mut [u8], levels: &[i8]) -> u32 { 0 }
 """
 HEADER = """
+#define MISQAFUR_ABI 7
+#define MISQAFUR_NUMBERED(number) misqafur_abi_##number
+uint32_t MISQAFUR_ABI_CALL(MISQAFUR_ABI)(void);
 uint32_t one(uint64_t order, const uint8_t *text, size_t text_length,
              uint8_t *out, size_t out_length);
 uint64_t two(uint64_t n, uint64_t r);
@@ -148,6 +174,8 @@ enum kinds {
 #define MISQAFUR_LENT_TABLES(mode, at) \\
     MISQAFUR_LENT(mode, at) MISQAFUR_LENT(mode, at + 2)
 uint32_t six(uint8_t *a, size_t a_length, uint8_t *b, size_t b_length, const uint8_t *levels, size_t levels_length);
+MISQAFUR_TOLD(MISQAFUR_ABI_CALL(MISQAFUR_ABI), );
+static uint32_t (*const misqafur_linked)(void) MISQAFUR_KEPT = MISQAFUR_ABI_CALL(MISQAFUR_ABI);
 MISQAFUR_TOLD(one, MISQAFUR_LENT(read_only, 2) MISQAFUR_LENT(write_only, 4));
 MISQAFUR_TOLD(two, );
 MISQAFUR_TOLD(six, MISQAFUR_LENT_TABLES(read_write, 1) MISQAFUR_LENT(read_only, 5));
@@ -173,6 +201,11 @@ TRIES = [
     (HEADER, "TOLD(one", "TOLD(uno"), (HEADER, "MISQAFUR_TOLD(two, );", ""), (HEADER, "read_only, 2", "read_only, 3"),
     (HEADER, "read_only, 2", "write_only, 2"), (HEADER, "write_only, 4", "read_only, 4"),
     (HEADER, " MISQAFUR_LENT(write_only, 4)", ""), (HEADER, " MISQAFUR_LENT(mode, at + 2)", ""),
+    (HEADER, "MISQAFUR_ABI 7", "MISQAFUR_ABI 8"), (SOURCE, "misqafur_abi_7", "misqafur_abi_8"), (HEADER, "abi_##number", "abi##number"),
+    (HEADER, "MISQAFUR_KEPT = MISQAFUR_ABI_CALL(MISQAFUR_ABI);", "MISQAFUR_KEPT = two;"), (HEADER, " MISQAFUR_KEPT", ""),
+    (HEADER, "static uint32_t (*const misqafur_linked)(void) MISQAFUR_KEPT = MISQAFUR_ABI_CALL(MISQAFUR_ABI);", ""),
+    (HEADER, "uint32_t MISQAFUR_ABI_CALL(MISQAFUR_ABI)(void);", "uint32_t misqafur_abi_7(uint32_t old);"),
+    (HEADER, "#define MISQAFUR_ABI 7\n", ""),
 ]
 
 
@@ -191,11 +224,11 @@ def main():
     files = sorted((ROOT / "crates/misqafur/src").rglob("*.rt"))
     source = "\n".join(file.read_text(encoding="utf-8") for file in files)
     header = (ROOT / "include/misqafur.h").read_text(encoding="utf-8")
-    found = unnoticed() + differences(source, header)
+    found = unnoticed() + differences(source, header) + check_versions.found(ROOT)
     for text in found:
         print(f"header: {text}")
     if not found:
-        print(f"header: {len(prototypes(header))} prototypes match the exports")
+        print(f"header: {len(prototypes(numbered(header)))} prototypes match the exports")
     return 1 if found else 0
 
 

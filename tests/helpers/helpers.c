@@ -1,11 +1,12 @@
 /* The header's helpers over whole sheets against the plain calls: the same random call is made both ways on equal sheets,
- * and refusal, counts and every byte have to be equal afterwards. usage: helpers CALLS [SEED] */
+ * and refusal, counts and every byte have to be equal afterwards; and after a refusal every byte as it was before.
+ * usage: helpers CALLS [SEED] */
 #include "misqafur.h"
 
 #include <stdio.h>
 #include <stdlib.h>
 
-enum kind { ADD, WITHDRAW, DRAW_UP, CHECK, INTERPOLATE, REMAINDER, WIRING, KINDS };
+enum kind { ADD, WITHDRAW, DRAW_UP, CHECK, INTERPOLATE, REMAINDER, WIRING, KINDS, INIT = KINDS, HELPERS };
 
 /* What a call is handed beside the sheet, and what it answers. */
 struct terms {
@@ -18,7 +19,7 @@ struct ends {
 };
 
 static uint64_t state = 1;
-static long passed, failed, seen[KINDS][16];
+static long passed, failed, seen[HELPERS][16];
 
 static uint32_t below(uint32_t bound)
 {
@@ -114,10 +115,22 @@ static void make_terms(struct terms *t, enum kind kind, const struct misqafur_sh
         memcpy(t->levels, s->states + 8 * below(n), 8);
 }
 
+/* A helper has answered: counted by its refusal. A refused one has left the sheet, and what it answers to, byte for byte. */
+static void answered(enum kind kind, long index, const struct misqafur_sheet *sheet, const struct misqafur_sheet *was,
+                     struct ends ends, struct ends before)
+{
+    seen[kind][ends.refusal & 15]++;
+    if (ends.refusal == 0)
+        return;
+    expect(memcmp(sheet, was, sizeof *sheet) == 0, "refused, and yet the sheet has changed", index);
+    expect(ends.count == before.count && memcmp(ends.out, before.out, sizeof ends.out) == 0,
+           "refused, and yet an answer was written", index);
+}
+
 /* One call both ways; now and then the sheet handed in is a damaged copy. */
 static void try_call(long index, struct misqafur_sheet *sheet)
 {
-    static struct misqafur_sheet ours, theirs;
+    static struct misqafur_sheet ours, theirs, was;
     struct terms terms;
     struct ends before = {99, 99, {0}}, plain, helped;
     enum kind kind = below(2) == 0 ? ADD : (enum kind)below(KINDS);
@@ -131,12 +144,12 @@ static void try_call(long index, struct misqafur_sheet *sheet)
         ((uint8_t *)&ours)[offsetof(struct misqafur_sheet, n) + below(6000)] ^= 1;
     else if (damaged)
         ours.counts[below(64)] ^= 1;
-    theirs = ours;
+    theirs = was = ours;
     plain = plainly(kind, &theirs, &terms, before);
     helped = by_helper(kind, &ours, &terms, before);
     expect(memcmp(&plain, &helped, sizeof plain) == 0, "what is answered", index);
     expect(memcmp(&ours, &theirs, sizeof ours) == 0, "the sheet", index);
-    seen[kind][plain.refusal & 15]++;
+    answered(kind, index, &ours, &was, helped, before);
     if (!damaged)
         *sheet = ours;
 }
@@ -144,19 +157,26 @@ static void try_call(long index, struct misqafur_sheet *sheet)
 /* A fresh sheet: settings that are taken or not, and as document 01 has it. */
 static void begin(long index, struct misqafur_sheet *sheet)
 {
+    static struct misqafur_sheet was;
+    const struct ends before = {99, 99, {0}};
+    struct ends ends = before;
     static const uint64_t primes[] = {2, 3, 5, 7, 61, 4, 0};
     static const uint8_t zeros[MISQAFUR_COEFFICIENTS_SIZE] = {0};
     uint64_t p = primes[below(7)], m = below(10), order = below(4);
     uint32_t due = p == 4 || p == 0 ? 3 : m < 1 || m > 8 ? 4 : order > 2 ? 5 : 0;
-    memset(sheet, 170, sizeof *sheet);
-    expect(misqafur_sheet_init(sheet, p, m, order) == due, "the refusal of settings", index);
+    if (below(2) == 0)
+        memset(sheet, 170, sizeof *sheet);
+    was = *sheet;
+    ends.refusal = misqafur_sheet_init(sheet, p, m, order);
+    expect(ends.refusal == due, "the refusal of settings", index);
+    answered(INIT, index, sheet, &was, ends, before);
+    if (due != 0)
+        expect(misqafur_sheet_init(sheet, p = 5, m = 2, order = MISQAFUR_GREVLEX) == 0, "settings that are taken", index);
     expect(sheet->modulus == p && sheet->variables == m && sheet->order == order && sheet->n == 0 && sheet->r == 1 &&
                memcmp(sheet->states, zeros, 512) == 0 && memcmp(sheet->standard, zeros, 512) == 0 &&
                memcmp(sheet->leads, zeros, 3592) == 0 && memcmp(sheet->coefficients, zeros, 28736) == 0 &&
                memcmp(sheet->counts, zeros, 64) == 0,
            "the fresh sheet", index);
-    if (due != 0)
-        expect(misqafur_sheet_init(sheet, 5, 2, MISQAFUR_GREVLEX) == 0, "settings that are taken", index);
 }
 
 /* Every refusal has a sentence of its own, and every other number the last one. */
@@ -168,12 +188,12 @@ static void texts(void)
                    "the sentences of refusals", (long)a);
 }
 
-/* With enough calls, each kind was taken and refused in the ways that it can be. */
+/* With enough calls, each helper was taken and refused in the ways that it can be. */
 static void all_seen(void)
 {
-    static const int due[KINDS][6] = {{0, 7, 9, 10, 13}, {0, 7, 9, 10, 12}, {0, 7, 8, 9, 13}, {0, 10}, {0, 6, 7, 9, 10},
-                                      {0, 6, 7, 8, 9, 10}, {0, 6, 7, 9, 10}};
-    for (int kind = 0; kind < KINDS; kind++)
+    static const int due[HELPERS][6] = {{0, 7, 9, 10, 13}, {0, 7, 9, 10, 12}, {0, 7, 8, 9, 13}, {0, 10}, {0, 6, 7, 9, 10},
+                                        {0, 6, 7, 8, 9, 10}, {0, 6, 7, 9, 10}, {0, 3, 4, 5}};
+    for (int kind = 0; kind < HELPERS; kind++)
         for (int i = 0; i < 6; i++)
             expect(seen[kind][due[kind][i]] > 0, "an answer that never came", 10 * kind + due[kind][i]);
 }
@@ -189,6 +209,7 @@ int main(int count, char **words)
         try_call(i, &sheet);
     }
     texts();
+    expect(misqafur_version() == MISQAFUR_VERSION_NUMBER, "the version", 0);
     if (calls >= 20000)
         all_seen();
     printf("helpers: %ld passed, %ld failed\n", passed, failed);
