@@ -12,14 +12,18 @@
     sheet, values = misqafur.read(open("states.csv", "rb").read())
 
 On the command line `python3 -m misqafur report FILE.csv` prints a sheet for people, and `python3 -m misqafur --help` the rest.
-States, values and exponents may be lists, numpy arrays or data frames. A call that the library refuses raises Refusal and
-changes nothing. The library is looked for by the variable MISQAFUR_LIBRARY, then beside this file and in the folders above
-it (also in their lib, lib64 and target/shared), then where the system's loader looks.
+States, values and exponents may be lists, numpy arrays or data frames. Where states come with names (a data frame, a Series, a
+dict), the names decide which level is whose, in whatever order they stand; names that are not the sheet's genes are an error.
+A call that the library refuses raises Refusal and changes nothing. The library is looked for by the variable MISQAFUR_LIBRARY,
+then beside this file and in the folders above it (also in their lib, lib64 and target/shared), then where the system's loader
+looks.
 """
 import argparse
+import collections.abc
 import ctypes
 import functools
 import keyword
+import numbers
 import operator
 import os
 import pathlib
@@ -68,10 +72,15 @@ WIRING_MEANS = ("the genes that every function with these values needs: two stat
 class Refusal(ValueError):
     """What the library refused: its number, and for a text the record at fault, the header being 1."""
 
-    def __init__(self, number, record=None):
-        self.number, self.record = number, record
+    def __init__(self, number, record=None, more=None):
+        self.number, self.record, self.more = number, record, more
         self.sentence = REFUSALS[number][0]
-        super().__init__(f"refused with {number}{f' at record {record}' if record else ''}: {self.sentence}")
+        where, rest = f" at record {record}" if record else "", f". {more}" if more else ""
+        super().__init__(f"refused with {number}{where}: {self.sentence}{rest}")
+
+    def __reduce__(self):
+        """By what it was made from, so that one process can raise it for another."""
+        return Refusal, (self.number, self.record, self.more)
 
 
 # ---- The library
@@ -87,6 +96,7 @@ _CALLS = {
     "remainder": (ctypes.c_uint32, _SHEET + _BUFFER * 3),
     "wiring": (ctypes.c_uint32, _SHEET + _BUFFER * 2),
     "read_text": (ctypes.c_uint64, _BUFFER * 4),
+    f"abi_{ABI}": (ctypes.c_uint32, []),
 }
 
 
@@ -110,10 +120,19 @@ def _library():
         library = ctypes.CDLL(place)
     except OSError as error:
         raise ImportError(f"{place} cannot be loaded ({error}): install Misqafur, or set MISQAFUR_LIBRARY to the file") from error
+    if not hasattr(library, f"misqafur_abi_{ABI}"):
+        raise ImportError(f"{place} has no misqafur_abi_{ABI}: it is no library of interface {ABI}, for which this module of version "
+                          f"{__version__} is made. Install the library and the module together, or set MISQAFUR_LIBRARY to another file")
     for name, (answer, arguments) in _CALLS.items():
         call = getattr(library, "misqafur_" + name)
         call.restype, call.argtypes = answer, arguments
     return library
+
+
+def library_version():
+    """The version of the library that is loaded, as `__version__` is the module's."""
+    number = getattr(_library(), f"misqafur_abi_{ABI}")()
+    return f"{number // 10000}.{number // 100 % 100}.{number % 100}"
 
 
 def _call(name, *arguments):
@@ -129,10 +148,15 @@ def _call(name, *arguments):
 # ---- Numbers from Python
 
 def _plain(values):
-    """A sequence, an array or a data frame as a list."""
+    """A sequence, an array or a data frame as a list, in its order, by place."""
+    if isinstance(values, (set, frozenset, collections.abc.Mapping)):
+        raise TypeError(f"a list is wanted here, whose order says what is whose, and not a {type(values).__name__}")
     if hasattr(values, "to_numpy"):
         values = values.to_numpy()
-    return values.tolist() if hasattr(values, "tolist") else list(values)
+    try:
+        return list(values.tolist() if hasattr(values, "tolist") else values)
+    except TypeError:
+        raise TypeError(f"{values!r} is no list") from None
 
 
 def _integer(value):
@@ -154,6 +178,62 @@ def _levels(values):
     """Levels, values or coefficients as bytes; 128 stands for any that no modulus takes."""
     numbers = [_integer(value) for value in _plain(values)]
     return bytes(number & 255 if abs(number) < 128 else 128 for number in numbers)
+
+
+# ---- Names
+
+def _quoted(names):
+    return ", ".join(map(repr, names)) or "none"
+
+
+def _order_of(labels, genes):
+    """For each gene the place of its label: where labels are names, they decide. Whole numbers that increase, as pandas gives them
+    to columns without names, are no names, and what stands below them is taken by place; of any other labels nothing is guessed."""
+    if all(isinstance(label, numbers.Integral) for label in labels) and list(labels) == sorted(set(labels)):
+        return range(len(labels))
+    if not all(isinstance(label, str) for label in labels):
+        raise ValueError(f"the labels {_quoted(labels)} are neither names nor places in their order, so they do not say which level is whose")
+    for names in (labels, genes):
+        repeated = sorted({name for name in names if list(names).count(name) > 1})
+        if repeated:
+            raise ValueError(f"names cannot tell which level is whose: {_quoted(repeated)} stands more than once in {_quoted(names)}")
+    missing, unexpected = ([name for name in of if name not in others] for of, others in ((genes, labels), (labels, genes)))
+    if missing or unexpected:
+        raise ValueError(f"the names are not the genes: missing {_quoted(missing)}, unexpected {_quoted(unexpected)} (the genes are {_quoted(genes)}, "
+                         f"handed over were {_quoted(labels)}). Make the sheet with these names, or hand levels over without names, in the genes' order")
+    return [labels.index(gene) for gene in genes]
+
+
+def _fields(data):
+    """The names of a named tuple's fields, or of an array's; None where there are none."""
+    return getattr(data, "_fields", None) or getattr(getattr(data, "dtype", None), "names", None)
+
+
+def _state(state, genes):
+    """A number for each gene, in the genes' order: every state goes in through here, by itself or as a row of a table."""
+    if hasattr(state, "columns"):
+        rows = _states(state, genes)
+        if len(rows) != 1:
+            raise ValueError(f"one state is wanted, and this table has {len(rows)} rows")
+        return rows[0]
+    labels = state.keys() if hasattr(state, "keys") else _fields(state)
+    levels = list(state.values()) if isinstance(state, collections.abc.Mapping) else _plain(state)
+    return levels if labels is None else [levels[place] for place in _order_of(list(labels), genes)]
+
+
+def _states(table, genes):
+    """A table's states: its columns in the genes' order, or each of its rows as a state by itself."""
+    if isinstance(table, collections.abc.Mapping):
+        labels, columns = list(table), [_plain(column) for column in table.values()]
+        if len({len(column) for column in columns}) > 1:
+            raise ValueError(f"the columns {_quoted(labels)} have different lengths")
+        rows = list(zip(*columns))
+    elif hasattr(table, "columns") or _fields(table):
+        labels, rows = list(table.columns if hasattr(table, "columns") else _fields(table)), _plain(table)
+    else:
+        return [_state(row, genes) for row in _plain(table)]
+    places = _order_of(labels, genes)
+    return [[row[place] for place in places] for row in rows]
 
 
 # ---- Polynomials
@@ -188,7 +268,7 @@ class Polynomial:
         self.modulus, self.names = modulus, tuple(names)
         sums = {}
         for coefficient, exponents in terms:
-            exponents = tuple(_integer(e) for e in _plain(exponents))
+            exponents = tuple(_integer(e) for e in _state(exponents, self.names))
             if len(exponents) != len(self.names) or min(exponents, default=0) < 0:
                 raise ValueError(f"{exponents} are not {len(self.names)} exponents")
             sums[exponents] = (sums.get(exponents, 0) + _integer(coefficient)) % modulus
@@ -227,8 +307,8 @@ class Polynomial:
         return " + ".join(_term(coefficient, exponents, names, power) for coefficient, exponents in self.terms) or "0"
 
     def __call__(self, state):
-        """The value at a state, a level for each gene."""
-        levels = [_integer(level) for level in _plain(state)]
+        """The value at a state, a level for each gene, by their names where it has any."""
+        levels = [_integer(level) for level in _state(state, self.names)]
         if len(levels) != len(self.names):
             raise Refusal(7)
         total = 0
@@ -263,13 +343,15 @@ def _term(coefficient, exponents, names, power):
 class Sheet:
     """The standard monomials and the reduced Groebner basis of states of genes, modulo a prime. It begins without states.
 
+    Genes are a number, and then called g1, g2 and so on, or a list of names. States that come with names are put in the genes'
+    order by them, and by place else. A copy, also by pickle, is a sheet of its own.
     A state that comes again is a replicate: it raises the state's count, and the rest of the sheet stays as it is.
     After a drawing up `cancellations` says how many that took, which its time goes with; else it is None.
     """
 
     def __init__(self, modulus, genes, order="grevlex"):
-        if isinstance(genes, str):
-            raise TypeError("genes are a number, or a list of names")
+        if isinstance(genes, (str, set, frozenset)):
+            raise TypeError("genes are a number, or a list of names, whose order matters")
         named = hasattr(genes, "__iter__")
         self.names = tuple(str(name) for name in genes) if named else tuple(f"g{k}" for k in range(1, min(_number(genes), 99) + 1))
         self.modulus = _number(modulus)
@@ -291,15 +373,16 @@ class Sheet:
 
     def add(self, state):
         """Adds a state: a level for each gene. One that is there already is counted once more."""
-        return self._keep(_call("add_point", *self._handed(), _levels(state)))
+        return self._keep(_call("add_point", *self._handed(), _levels(_state(state, self.names))))
 
     def withdraw(self, state):
         """Takes a state out again, named by its levels: of one that was counted more than once, one replicate."""
-        return self._keep(_call("withdraw_point", *self._handed(), _levels(state)))
+        return self._keep(_call("withdraw_point", *self._handed(), _levels(_state(state, self.names))))
 
     def draw_up(self, states):
-        """Draws up all states at once, in place of those that the sheet has. States may repeat: they are counted."""
-        rows = [_plain(row) for row in _plain(states)]
+        """Draws up all states at once, in place of those that the sheet has: rows, or columns by the genes' names. States may
+        repeat: they are counted."""
+        rows = _states(states, self.names)
         if any(len(row) != len(self.names) for row in rows):
             raise Refusal(7)
         levels = _levels(level for row in rows for level in row)
@@ -312,26 +395,56 @@ class Sheet:
         _call("check", *self._handed())
         return True
 
+    def _valued(self, call, values, out):
+        """Makes a call that takes a value for each state, and says more where there are not as many."""
+        levels = _levels(values)
+        try:
+            return _call(call, *self._handed(), levels, out)
+        except Refusal as refusal:
+            if refusal.number != 7:
+                raise
+            raise Refusal(7, more=self._values_wanted(len(levels))) from None
+
+    def _values_wanted(self, given):
+        wanted, pots = len(self), sum(self.counts)
+        said = f"One value is wanted for each different state, {wanted} in the order of sheet.states, and {given} were given"
+        if wanted == pots:
+            return said
+        each = ", one for each pot" if given == pots else ""
+        return (f"{said}{each}: this sheet has replicates ({pots} pots, sheet.counts says how many of each state). Of pots and their values in the "
+                "order in which they were drawn up, [value for pot, value in dict.fromkeys(zip(pots, values))] has one for each state, where each pot "
+                "is a tuple of residues and replicates agree; of a data frame, frame.drop_duplicates([*sheet.names, target])[target] has them")
+
     def interpolate(self, values):
-        """The combination of standard monomials that has these values at the states, in their order."""
+        """The combination of standard monomials that has these values at the states, one for each different state, in their order."""
         out = (ctypes.c_uint8 * RESIDUES)()
-        _call("interpolate", *self._handed(), _levels(values), out)
+        self._valued("interpolate", values, out)
         return self._combination(out)
 
     def remainder(self, polynomial):
         """The combination of standard monomials that equals a polynomial at the states: a Polynomial, a text, or a list of terms."""
-        if isinstance(polynomial, str):
-            polynomial = Polynomial.parse(self.modulus, self.names, polynomial)
-        terms = polynomial.terms if isinstance(polynomial, Polynomial) else [(c, _plain(e)) for c, e in polynomial]
+        terms = self._terms(self.polynomial(polynomial) if isinstance(polynomial, str) else polynomial)
         out = (ctypes.c_uint8 * RESIDUES)()
         exponents = b"".join(_exponents(e, len(self.names)) for _, e in terms)
         _call("remainder", *self._handed(), _levels([c for c, _ in terms]), exponents, out)
         return self._combination(out)
 
+    def _terms(self, polynomial):
+        """A polynomial's terms with their exponents in the order of this sheet's genes."""
+        if not isinstance(polynomial, Polynomial):
+            return [(coefficient, _state(exponents, self.names)) for coefficient, exponents in polynomial]
+        if polynomial.modulus != self.modulus:
+            raise ValueError(f"the polynomial is modulo {polynomial.modulus}, and the sheet modulo {self.modulus}")
+        if polynomial.names == self.names:
+            return polynomial.terms
+        places = _order_of(polynomial.names, self.names)
+        return [(coefficient, [exponents[place] for place in places]) for coefficient, exponents in polynomial.terms]
+
     def wiring(self, values):
-        """The wiring list of these values, the genes that every function with them needs: numbers from 1, increasing."""
+        """The wiring list of these values, one for each different state: the genes that every function with them needs, as numbers
+        from 1, increasing."""
         out = (ctypes.c_uint8 * WIRING)()
-        return list(out[:_call("wiring", *self._handed(), _levels(values), out)])
+        return list(out[:self._valued("wiring", values, out)])
 
     def _rows(self, table, count):
         return [tuple(self._tables[table][8 * i:8 * i + len(self.names)]) for i in range(count)]
@@ -384,6 +497,16 @@ class Sheet:
 
     def __len__(self):
         return self._n
+
+    def __getstate__(self):
+        """What copies and pickles are made from: the bytes of the tables, so that no two sheets share them."""
+        return {**self.__dict__, "_tables": {name: bytes(table) for name, table in self._tables.items()}}
+
+    def __setstate__(self, kept):
+        tables = kept["_tables"]
+        if {name: len(table) for name, table in tables.items()} != TABLES:
+            raise ValueError("this sheet was stored by a module of another interface")
+        self.__dict__.update(kept, _tables={name: (ctypes.c_uint8 * size).from_buffer_copy(tables[name]) for name, size in TABLES.items()})
 
     def __repr__(self):
         return f"<sheet of {self._n} states of {', '.join(self.names)} modulo {self.modulus}, {self.order}>"
