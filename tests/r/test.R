@@ -1,4 +1,4 @@
-# The R package on the stored texts, on refusals and on random calls: what the program prints, made from its answers, is held
+# The R package on the stored texts, on refusals, names and copies (names.R) and on random calls: what the program prints, made from its answers, is held
 # to the stored print; a polynomial is evaluated in R at every state. usage: Rscript test.R ROOT
 library(misqafur)
 root <- commandArgs(TRUE)[1]
@@ -45,12 +45,14 @@ tries <- list(list(3, quote(sheet(4, 2))), list(3, quote(sheet(-5, 2))), list(3,
               list(9, quote(add_state(three, c(5, 0)))), list(9, quote(add_state(three, c(NA, 0)))), list(9, quote(add_state(three, c(0.5, 0)))),
               list(13, quote(add_state(often, c(-4, 2)))), list(12, quote(withdraw_state(three, c(4, 4)))), list(7, quote(interpolate(three, 1:2))),
               list(9, quote(interpolate(three, c(0, 0, 5)))), list(7, quote(draw_up(three, matrix(0, 2, 3)))),
-              list(13, quote(draw_up(three, matrix(0, 256, 2)))), list(0, quote(draw_up(three, data.frame(a = numeric(0), b = numeric(0))))),
+              list(13, quote(draw_up(three, matrix(0, 256, 2)))), list(0, quote(draw_up(three, data.frame(g2 = numeric(0), g1 = numeric(0))))),
               list(0, quote(check_sheet(three))))
 for (try in tries) expect(refusal(eval(try[[2]])) == try[[1]], deparse(try[[2]]))
 damaged <- three
 damaged$raw[100] <- as.raw(3)
 expect(refusal(check_sheet(damaged)) == 10 && refusal(basis(damaged)) == 10, "a damaged sheet")
+
+source(file.path(root, "tests/r/names.R"), local = new.env())
 
 # Replicates: the example of the requirement, one state 255 times, and pots that come and go.
 example <- draw_up(sheet(5, 1), matrix(c(4, 0, -1), 3))

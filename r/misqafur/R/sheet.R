@@ -3,25 +3,24 @@
 orders <- c("lex", "grlex", "grevlex")
 
 # Raises a refusal as a condition of class misqafur_refusal, with its number and record; else what was answered.
-taken <- function(answer, record = NULL) {
+taken <- function(answer, record = NULL, more = NULL) {
   number <- answer[[1]]
   if (number == 0) return(answer[[2]])
   where <- if (is.null(record)) "" else paste(" at record", record)
-  text <- sprintf("refused with %d%s: %s", number, where, .Call(C_refusal_text, number))
+  text <- paste0("refused with ", number, where, ": ", .Call(C_refusal_text, number), if (!is.null(more)) paste0(". ", more))
   stop(structure(class = c("misqafur_refusal", "error", "condition"),
                  list(message = text, call = NULL, number = number, record = record)))
 }
 
 # Whole numbers as integers; any that is none, or too large, becomes NA, which the library refuses.
 whole <- function(numbers) {
-  if (is.data.frame(numbers)) numbers <- as.matrix(numbers)
   if (!is.numeric(numbers) && !is.logical(numbers)) stop("levels and values are whole numbers")
   plain <- as.vector(numbers)
   plain[is.na(plain) | plain != trunc(plain) | abs(plain) > 1000] <- NA
   as.integer(plain)
 }
 
-# A sheet without states. `genes` is their number, or their names.
+# A sheet without states. `genes` is their number, and then they are called g1, g2 and so on, or their names.
 sheet <- function(modulus, genes, order = "grevlex") {
   names <- if (is.character(genes)) genes else if (genes %in% 1:8) paste0("g", seq_len(genes)) else character(0)
   number <- if (is.character(order)) match(order, orders, nomatch = 4) - 1 else order
@@ -29,22 +28,22 @@ sheet <- function(modulus, genes, order = "grevlex") {
   structure(list(raw = raw, genes = names, modulus = modulus, order = orders[number + 1]), class = "misqafur_sheet")
 }
 
-# A state as levels: a vector, or one row of a data frame. One that is there already is a replicate, and counted.
+# A state as levels: a vector, or one row of a data frame, by the genes' names where it has any. One that is there already is a
+# replicate, and counted.
 add_state <- function(sheet, state) {
-  sheet$raw <- taken(.Call(C_add, sheet$raw, whole(state)))
+  sheet$raw <- taken(.Call(C_add, sheet$raw, levels_of(sheet, one_row(state))))
   sheet
 }
 
 withdraw_state <- function(sheet, state) {
-  sheet$raw <- taken(.Call(C_withdraw, sheet$raw, whole(state)))
+  sheet$raw <- taken(.Call(C_withdraw, sheet$raw, levels_of(sheet, one_row(state))))
   sheet
 }
 
-# All states at once, in place of those that the sheet has: a data frame or a matrix with a row for each. Rows may repeat.
+# All states at once, in place of those that the sheet has: a data frame or a matrix with a row for each, its columns by the
+# genes' names where it has any. Rows may repeat.
 draw_up <- function(sheet, states) {
-  states <- as.matrix(states)
-  if (nrow(states) > 0 && ncol(states) != length(sheet$genes)) taken(list(7L))
-  sheet$raw <- taken(.Call(C_draw_up, sheet$raw, whole(t(states))))
+  sheet$raw <- taken(.Call(C_draw_up, sheet$raw, levels_of(sheet, states)))
   sheet
 }
 
@@ -54,9 +53,29 @@ check_sheet <- function(sheet) {
   TRUE
 }
 
-# The polynomial over the standard monomials that has these values at the states, as a string.
+# What a call answers that takes a value for each different state; it says more where there are not as many.
+valued <- function(call, sheet, values) {
+  if (is.data.frame(values)) values <- as.matrix(values)
+  if (sum(dim(values) != 1) > 1) wrong("values are a vector, or one column: one value for each different state")
+  numbers <- whole(values)
+  answer <- .Call(call, sheet$raw, numbers)
+  taken(answer, more = if (answer[[1]] == 7) values_wanted(sheet, length(numbers)))
+}
+
+# How many values are wanted, and how to get them; nothing of a sheet that is none.
+values_wanted <- function(sheet, given) {
+  pots <- tryCatch(counts(sheet), misqafur_refusal = function(damaged) NULL)
+  if (is.null(pots)) return(NULL)
+  said <- sprintf("One value is wanted for each different state, %d in the order of states(sheet), and %d were given", length(pots), given)
+  if (all(pots == 1)) return(said)
+  paste0(said, if (given == sum(pots)) ", one for each pot", ": this sheet has replicates (", sum(pots), " pots, counts(sheet) says how many of each ",
+         "state). Of a data frame of the pots, in the order in which they were drawn up, unique(pots[c(names(states(sheet)), target)])[[target]] ",
+         "has one for each state, where levels are residues and replicates agree")
+}
+
+# The polynomial over the standard monomials that has these values at the states, one for each different state, as a string.
 interpolate <- function(sheet, values) {
-  polynomial_text(sheet, taken(.Call(C_interpolate, sheet$raw, whole(values))), standard(sheet))
+  polynomial_text(sheet, valued(C_interpolate, sheet, values), standard(sheet))
 }
 
 # The polynomial over the standard monomials that equals a polynomial, a string, at the states.
@@ -67,9 +86,9 @@ remainder <- function(sheet, polynomial) {
   polynomial_text(sheet, residues, standard(sheet))
 }
 
-# The wiring list of these values: the genes' numbers, with their names.
+# The wiring list of these values, one for each different state: the genes' numbers, with their names.
 wiring <- function(sheet, values) {
-  list <- taken(.Call(C_wiring, sheet$raw, whole(values)))
+  list <- valued(C_wiring, sheet, values)
   structure(list, names = sheet$genes[list])
 }
 
@@ -108,6 +127,12 @@ read_sheet <- function(file) {
   names <- scan(text = sub("^\ufeff", "", text), what = "", sep = ",", quote = "\"", n = parts[[2]], quiet = TRUE, encoding = "UTF-8")
   pots <- parts[[4]][rep(seq_len(nrow(parts[[4]])), as.vector(parts[[6]])), , drop = FALSE]
   list(sheet = draw_up(sheet(parts[[1]], names, orders[parts[[3]] + 1]), pots), values = as.vector(parts[[5]]))
+}
+
+# The version of the library inside, which is the package's.
+library_version <- function() {
+  number <- .Call(C_version)
+  package_version(paste(number %/% 10000, number %/% 100 %% 100, number %% 100, sep = "."))
 }
 
 print.misqafur_sheet <- function(x, ...) {

@@ -63,9 +63,9 @@ static SEXP answered_bytes(uint32_t refusal, const uint8_t *bytes, size_t count)
 
 static SEXP init(SEXP modulus, SEXP genes, SEXP order)
 {
-    struct misqafur_sheet sheet;
+    struct misqafur_sheet sheet; /* after a refusal it holds nothing */
     const uint32_t refusal = misqafur_sheet_init(&sheet, setting(modulus), setting(genes), setting(order));
-    return answered_sheet(refusal, &sheet);
+    return refusal == 0 ? answered_sheet(refusal, &sheet) : answered(refusal, R_NilValue);
 }
 
 static SEXP add(SEXP raw, SEXP levels)
@@ -184,6 +184,11 @@ static SEXP refusal_text(SEXP number)
     return mkString(misqafur_refusal_text((uint32_t)asInteger(number)));
 }
 
+static SEXP version(void)
+{
+    return ScalarInteger((int)misqafur_version());
+}
+
 #define CALL(name, function, count) {name, (DL_FUNC)function, count}
 static const R_CallMethodDef calls[] = {
     CALL("init", init, 3),           CALL("add", add, 2),
@@ -191,7 +196,7 @@ static const R_CallMethodDef calls[] = {
     CALL("check", check, 1),         CALL("interpolate", interpolate, 2),
     CALL("remainder", remainder_of, 3), CALL("wiring", wiring, 2),
     CALL("tables", tables, 1),       CALL("read_text", read_text, 1),
-    CALL("refusal_text", refusal_text, 1), {NULL, NULL, 0}};
+    CALL("refusal_text", refusal_text, 1), CALL("version", version, 0), {NULL, NULL, 0}};
 
 void R_init_misqafur(DllInfo *library);
 void R_init_misqafur(DllInfo *library)

@@ -1,0 +1,38 @@
+# States that come with names are put in the order of the sheet's genes by them; those without names go by place.
+
+quoted <- function(names) if (length(names) == 0) "none" else paste(encodeString(names, quote = "\""), collapse = ", ")
+wrong <- function(...) stop(..., call. = FALSE)
+
+# For each gene the place of its name among those that were handed over.
+order_of <- function(names, genes) {
+  if (anyNA(names) || any(names == "")) wrong("names cannot tell which level is whose: one is missing in ", quoted(names))
+  for (each in list(names, genes)) {
+    repeated <- unique(each[duplicated(each)])
+    if (length(repeated) > 0) wrong("names cannot tell which level is whose: ", quoted(repeated), " stands more than once in ", quoted(each))
+  }
+  missing <- setdiff(genes, names)
+  unexpected <- setdiff(names, genes)
+  if (length(missing) + length(unexpected) > 0)
+    wrong("the names are not the genes: missing ", quoted(missing), ", unexpected ", quoted(unexpected), " (the genes are ", quoted(genes),
+          ", handed over were ", quoted(names), "). Make the sheet with these names, or hand levels over without names, in the genes' order")
+  match(genes, names)
+}
+
+# The levels of a table, state after state, each in the genes' order: every state goes in through here. A vector without names
+# is the states of one gene.
+levels_of <- function(sheet, states) {
+  if (is.null(dim(states)) && !is.null(names(states)))
+    wrong("a vector or list with names is no table of states: a data frame or a matrix is wanted, a row for each state")
+  table <- as.matrix(states)
+  if (!is.null(colnames(table))) table <- table[, order_of(colnames(table), sheet$genes), drop = FALSE]
+  if (nrow(table) > 0 && ncol(table) != length(sheet$genes)) taken(list(7L))
+  whole(t(table))
+}
+
+# A state as a table of one row: a vector, a list, or one already.
+one_row <- function(state) {
+  if (is.list(state) && !is.data.frame(state)) state <- unlist(state)
+  if (is.null(dim(state))) state <- matrix(state, 1, dimnames = if (!is.null(names(state))) list(NULL, names(state)))
+  if (nrow(state) != 1) wrong("one state is wanted, and this table has ", nrow(state), " rows")
+  state
+}
