@@ -318,13 +318,13 @@ MISQAFUR_TOLD(misqafur_wiring,
 MISQAFUR_TOLD(misqafur_read_text,
               MISQAFUR_LENT(read_only, 1) MISQAFUR_LENT(write_only, 3) MISQAFUR_LENT(write_only, 5)
                   MISQAFUR_LENT(write_only, 7));
-#pragma GCC diagnostic pop
 #undef MISQAFUR_TOLD
 #undef MISQAFUR_LENT_TABLES
 #undef MISQAFUR_LENT
 
 /* Refers to misqafur_abi_2 wherever this header is included, whatever of it is used: an object compiled with the header of
- * another interface does not link with the library, in place of handing it tables that it does not know. */
+ * another interface does not link with the library, in place of handing it tables that it does not know. A linker keeps the
+ * reference where the compiler's assembler can tell it to; where it cannot, the compiler would warn, and only that is lost. */
 #if defined(__has_attribute)
 #if __has_attribute(retain)
 #define MISQAFUR_KEPT __attribute__((used, retain))
@@ -333,8 +333,10 @@ MISQAFUR_TOLD(misqafur_read_text,
 #ifndef MISQAFUR_KEPT
 #define MISQAFUR_KEPT __attribute__((used))
 #endif
+#pragma GCC diagnostic ignored "-Wattributes"
 static uint32_t (*const misqafur_linked)(void) MISQAFUR_KEPT = MISQAFUR_ABI_CALL(MISQAFUR_ABI);
 #undef MISQAFUR_KEPT
+#pragma GCC diagnostic pop
 #endif
 
 /* The version of the library that the host is linked with, or has loaded: 20000 for 2.0.0. */

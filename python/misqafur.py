@@ -70,7 +70,7 @@ WIRING_MEANS = ("the genes that every function with these values needs: two stat
 
 
 class Refusal(ValueError):
-    """What the library refused: its number, and for a text the record at fault, the header being 1."""
+    """What the library refused: its number, for a text the record at fault, the header being 1, and what more there is to say."""
 
     def __init__(self, number, record=None, more=None):
         self.number, self.record, self.more = number, record, more
