@@ -114,6 +114,7 @@ def placed(tree, page, text):
 def header(tree, page, text):
     """The calls, sizes and helpers; a name that ends in _ stands for all that begin so."""
     code = re.sub(r"/\*.*?\*/", "", tree.files["include/misqafur.h"], flags=re.S)
+    code += "".join(f"misqafur_abi_{number} " for number in re.findall(r"^#define MISQAFUR_ABI (\d+)$", code, re.M))
     for name in sorted(set(re.findall(r"(?<![\w/.$-])(?:misqafur|MISQAFUR)_\w+(?![\w/-]|\.\w)", text)) - FOREIGN):
         tree.read += 1
         if not re.search(rf"\b{name}" + ("" if name.endswith("_") else r"\b"), code):
