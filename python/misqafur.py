@@ -206,17 +206,22 @@ def _order_of(labels, genes):
 
 def _fields(data):
     """The names of a named tuple's fields, or of an array's; None where there are none."""
-    return getattr(data, "_fields", None) or getattr(getattr(data, "dtype", None), "names", None)
+    return getattr(type(data), "_fields", None) or getattr(getattr(data, "dtype", None), "names", None)
+
+
+def _is_frame(data):
+    """Whether it has columns; its kind is asked, since of a Series `columns` may be a gene's level."""
+    return hasattr(type(data), "columns")
 
 
 def _state(state, genes):
     """A number for each gene, in the genes' order: every state goes in through here, by itself or as a row of a table."""
-    if hasattr(state, "columns"):
+    if _is_frame(state):
         rows = _states(state, genes)
         if len(rows) != 1:
             raise ValueError(f"one state is wanted, and this table has {len(rows)} rows")
         return rows[0]
-    labels = state.keys() if hasattr(state, "keys") else _fields(state)
+    labels = state.keys() if hasattr(type(state), "keys") else _fields(state)
     levels = list(state.values()) if isinstance(state, collections.abc.Mapping) else _plain(state)
     return levels if labels is None else [levels[place] for place in _order_of(list(labels), genes)]
 
@@ -225,11 +230,12 @@ def _states(table, genes):
     """A table's states: its columns in the genes' order, or each of its rows as a state by itself."""
     if isinstance(table, collections.abc.Mapping):
         labels, columns = list(table), [_plain(column) for column in table.values()]
-        if len({len(column) for column in columns}) > 1:
-            raise ValueError(f"the columns {_quoted(labels)} have different lengths")
+        lines = [list(column.keys()) for column in table.values() if hasattr(type(column), "keys")]
+        if len({len(column) for column in columns}) > 1 or any(line != lines[0] for line in lines):
+            raise ValueError(f"the columns {_quoted(labels)} have different lengths, or rows of different labels")
         rows = list(zip(*columns))
-    elif hasattr(table, "columns") or _fields(table):
-        labels, rows = list(table.columns if hasattr(table, "columns") else _fields(table)), _plain(table)
+    elif _is_frame(table) or _fields(table):
+        labels, rows = list(table.columns if _is_frame(table) else _fields(table)), _plain(table)
     else:
         return [_state(row, genes) for row in _plain(table)]
     places = _order_of(labels, genes)

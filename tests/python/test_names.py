@@ -164,6 +164,11 @@ class Names(unittest.TestCase):
         self.assertNames(sheet.add, frame, "one state is wanted, and this table has 5 rows")
         self.assertEqual(kept(misqafur.Sheet(5, frame.columns, "grlex").draw_up(frame[GENES[::-1]])), kept(sheet))
         self.assertEqual(len(sheet_of(frame[:0])), 0)
+        self.assertEqual(kept(sheet_of(dict(frame[GENES[::-1]].items()))), kept(sheet))
+        self.assertNames(sheet.draw_up, {**frame, "Rb": frame["Rb"][::-1]}, "rows of different labels")
+        odd = misqafur.Sheet(5, ["columns", "keys", "dtype"])
+        self.assertEqual(odd.add(pandas.Series({"dtype": 3, "columns": 1, "keys": 2})).states, [(1, 2, 3)])
+        self.assertEqual(odd.draw_up(pandas.DataFrame({"dtype": [3], "columns": [1], "keys": [2]})).states, [(1, 2, 3)])
 
 
 if __name__ == "__main__":
