@@ -5,11 +5,10 @@ usage: tools/basis_cases.py CASES STDOUT [PATTERN]
        tools/basis_cases.py --parts FOLDER
 Writes the cases to the file CASES (crates/basis_test/data/cases) and what the program prints for them to STDOUT
 (crates/basis_test/stdout); of the cases only those whose names match PATTERN, if it is given. With --parts they are cut
-into parts as tools/text_cases.py does it. They are made of
-tests/texts/vectors (NAME.csv with what the program prints for it in NAME.txt), tests/remainders (NAME.rem: the same
-points, two polynomials and their remainders) and tests/cancellations (a line for each NAME: how many cancellations
-drawing up these points takes). The bases, interpolants and remainders were computed by Singular 4.3.1 and agree with
-Macaulay2 1.21.
+into parts as tools/text_cases.py does it. They are made of tests/texts/vectors (NAME.csv with what the program prints for
+it in NAME.txt), tests/remainders (NAME.rem: the same points, two polynomials and their remainders) and
+tests/cancellations (a line for each NAME: how many cancellations drawing up these points takes). The bases, interpolants
+and remainders were computed by Singular 4.3.1 and agree with Macaulay2 1.21.
 
 A case is a head of 20 bytes and, in this order: levels and values, as signed bytes; the bytes that the tables of
 points, standard monomials, leading monomials, coefficients and counts begin with; the interpolant; 8 bytes, 1 for each
