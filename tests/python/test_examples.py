@@ -19,7 +19,7 @@ def anf(values, genes):
 
 class CellCycle(unittest.TestCase):
     def said(self, *words):
-        return subprocess.run([sys.executable, *words], capture_output=True, text=True, check=True, timeout=60).stdout
+        return subprocess.run([sys.executable, *words], capture_output=True, text=True, check=True, timeout=3600).stdout
 
     def test_data_set(self):
         self.assertEqual(self.said(str(FOLDER / "rules.py"), "--check"), "")

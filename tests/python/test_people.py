@@ -74,13 +74,13 @@ class Exports(unittest.TestCase):
     def test_singular(self):
         for order in misqafur.ORDERS:
             script = sheet_of(2, order).export("singular") + "ideal s = std(basis); vdim(s); size(s); size(reduce(s, basis));\nquit;\n"
-            said = subprocess.run(["Singular", "-q"], input=script, capture_output=True, text=True, timeout=60).stdout
+            said = subprocess.run(["Singular", "-q"], input=script, capture_output=True, text=True, timeout=3600).stdout
             self.assertEqual([line for line in said.split("\n") if line.isdigit()], ["3", str(len(sheet_of(2, order).basis)), "0"])
 
     @unittest.skipUnless(shutil.which("M2"), "Macaulay2 is not installed")
     def test_macaulay2(self):
         script = sheet_of().export("macaulay2") + 'print("degree " | toString degree basis\');\n'
-        said = subprocess.run(["M2", "--stop", "--silent", "-e", script + "exit 0"], capture_output=True, text=True, timeout=120).stdout
+        said = subprocess.run(["M2", "--stop", "--silent", "-e", script + "exit 0"], capture_output=True, text=True, timeout=3600).stdout
         self.assertIn("degree 3", said)
 
     @unittest.skipUnless(has("sympy"), "sympy is not installed")
@@ -199,7 +199,7 @@ class CommandLine(unittest.TestCase):
 
     def run_module(self, *words, **more):
         surroundings = {**os.environ, **more.pop("env", {})}
-        return subprocess.run([sys.executable, "-m", "misqafur", *words], capture_output=True, timeout=60, env=surroundings, **more)
+        return subprocess.run([sys.executable, "-m", "misqafur", *words], capture_output=True, timeout=3600, env=surroundings, **more)
 
     def test_report(self):
         good = self.run_module("report", self.file(THREE), "--svg", self.folder.name + "/a.svg", "--genes", "g2,g1")
