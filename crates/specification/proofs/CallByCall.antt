@@ -98,27 +98,29 @@ module _ (s : Settings) (ok : Accepted s) (n r : ℕ) (t : Tables) (few : n ≤ 
   pub known-basis : HoldsBasis s (heldIn s n t) t n r t
   known-basis = holds-basis s ok _ known-entries t (sym (length-held s n t)) known-rows known-tables
 
--- The basis of distinct points with counts from 1 to 255 is recognised, and nothing else is: refusal 10 is given in its case alone.
-module _ (s : Settings) (ok : Accepted s) (n r : ℕ) (t : Tables) (few : n ≤ 64) where
-  pub recognised-basis : recognised s n r t ≡ true ↔ ((L : Counted) × HoldsBasis s L t n r t)
-  recognised-basis = ((λ known. (heldIn s n t, known-basis s ok n r t few known)), λ w. told (w .0) (w .1))
+-- What holds a basis has distinct points with counts from 1 to 255.
+module _ (s : Settings) (ok : Accepted s) where
+  once : (K : List (List ℕ)) → Distinct (spaceUnder s) (pointsUnder s K) → T (noRepeat K)
+  once [] d = no-points s .once
+  once (P ∷ K) d = of-once K P (λ Q q e. d .0 _ (among-under s ok K Q q) (ap (pointOf (s .modulus - 1) (s .variables)) e)) (once K (d .1))
+
+  pub basis-entries : {lent end : Tables} {n r : ℕ} (L : Counted) → HoldsBasis s L lent n r end → Entries s L
+  basis-entries L h = record {
+    points = record {
+      points = λ P q. let w = among-map (λ X. X .0) (pointsUnder s (pointsOf L)) P (subst (Among P) (sym (h .points)) q) in
+          subst (IsPoint s) (sym (w .2)) (is-read s ok (w .0));
+      once = once (pointsOf L) (h .distinct);
+      few = omega (arith, length-map L (λ q. q .0), h .few-points);
+    };
+    counts = h .counts;
+  }
+
+  -- It is recognised, and nothing else is: refusal 10 is given in its case alone.
+  pub recognised-basis : (n r : ℕ) (t : Tables) → n ≤ 64 → recognised s n r t ≡ true ↔ ((L : Counted) × HoldsBasis s L t n r t)
+  recognised-basis n r t few = ((λ known. (heldIn s n t, known-basis s ok n r t few known)), λ w. told (w .0) (w .1))
     where
-      once : (K : List (List ℕ)) → Distinct (spaceUnder s) (pointsUnder s K) → T (noRepeat K)
-      once [] d = no-points s .once
-      once (P ∷ K) d = of-once K P (λ Q q e. d .0 _ (among-under s ok K Q q) (ap (pointOf (s .modulus - 1) (s .variables)) e)) (once K (d .1))
-
-      are-entries : (L : Counted) → HoldsBasis s L t n r t → Entries s L
-      are-entries L h = record {
-        points = record {
-          points = λ P q. let w = among-map (λ X. X .0) (pointsUnder s (pointsOf L)) P (subst (Among P) (sym (h .points)) q) in subst (IsPoint s) (sym (w .2)) (is-read s ok (w .0));
-          once = once (pointsOf L) (h .distinct);
-          few = omega (arith, length-map L (λ q. q .0), h .few-points);
-        };
-        counts = h .counts;
-      }
-
       told : (L : Counted) → HoldsBasis s L t n r t → recognised s n r t ≡ true
-      told L h = subst (λ (u : Tables). recognised s n r u ≡ true) (sym (h .tables)) (rw (h .count, h .rows) (written-recognised s ok L (are-entries L h) t))
+      told L h = subst (λ (u : Tables). recognised s n r u ≡ true) (sym (h .tables)) (rw (h .count, h .rows) (written-recognised s ok L (basis-entries L h) t))
 
 -- Drawing up leaves the basis of the distinct points offered with their counts, and answers what that cost.
 module _ (s : Settings) (t : Tables) (levels : List ℤ) where

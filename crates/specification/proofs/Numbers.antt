@@ -1,22 +1,30 @@
--- No call gives 11, whatever it is handed (request M-106).
-use mathlib.Core.Path.{sym, _∙_}
+-- What is said of every call at once, whatever it is handed: which numbers it can give, and that a refusal comes alone (request M-106; docs/SCOPE.md, 'Refused,
+-- in this order of checking').
+use mathlib.Core.Path.{_≡_, refl, sym, _∙_}
 use mathlib.Core.Bool.{Bool, true, false, not}
 use mathlib.Core.List.{List, [], _∷_}
 use mathlib.Core.Logic.{_≢_}
-use Prim.Native.Nat.{ℕ}
+use Prim.Native.Nat.{ℕ, _≤_}
 use native.Mathlib.Omega.{arith}
-use lib.Dec.{T, eqb}
-use borrow.Author.Tests.{eq-eqb}
-use Rattle.residue.specs.Lists.{every}
+use lib.Dec.{T, eqb, leb, leb→le}
+use borrow.Author.Tests.{eq-eqb, ne-eqb}
+use Rattle.residue.specs.Lists.{every, allZero}
 use Rattle.residue.proofs.Tests.{and-left, and-right}
 use Rattle.specification.specs.Refusal.{Case, firstOf}
-use Rattle.specification.specs.Settings.{settingsCases}
-use Rattle.specification.specs.Counted.{overfull}
-use Rattle.specification.specs.Adding.{addCases, addRefusal, addOutcome, drawCases, drawRefusal, drawOutcome}
+use Rattle.specification.specs.Settings.{Accepted, settingsCases}
+use Rattle.specification.specs.Counted.{Counted, overfull}
+use Rattle.specification.specs.declared.settings.Settings.{Settings}
+use Rattle.specification.specs.Tables.{Tables, tooShort}
+use Rattle.specification.specs.Adding.{refused, byRefusal, addCases, addRefusal, addOutcome, drawCases, drawRefusal, drawOutcome}
 use Rattle.specification.specs.Withdrawing.{withdrawCases, withdrawRefusal, withdrawOutcome}
 use Rattle.specification.specs.Solving.{checkRefusal, filling, listing, valuesCases, interpolateOutcome, remainderCases, remainderOutcome, wiringOutcome}
-use Rattle.specification.specs.Reference.{adding, withdrawing, outcomeOf}
-use Rattle.specification.specs.Calls.{Call, operating, drawing, checking, interpolating, dividing, wiring, numberOf}
+use Rattle.specification.specs.Reference.{adding, withdrawing, outcomeOf, referenceAnswer}
+use Rattle.specification.specs.Calls.{Request, operating, checking, interpolating, dividing, wiring, Call, drawing, handed, endingOf, numberOf}
+use Rattle.specification.specs.Calls.{tablesLent, bufferLent, Alone, valuesLeft, termsLeft, numberWith}
+use Rattle.specification.specs.CallByCall.{HoldsBasis}
+use Rattle.specification.proofs.CallByCall.{basis-entries}
+use Rattle.specification.proofs.agreement.Refusals.{not-refused, large-of}
+use Rattle.specification.proofs.agreement.Handed.{number-told}
 use Rattle.specification.proofs.agreement.Run.{number-of}
 
 -- A number that no case has is not that of the first case that holds. An answer has its number, or is one.
@@ -26,16 +34,75 @@ never number k none [] z t e = z e
 never number k none ((true, a) ∷ l) z t e = rw (eq-eqb (number a) k e) at (and-left (not (eqb (number a) k)) _ t)
 never number k none ((false, a) ∷ l) z t e = never number k none l z (and-right (not (eqb (number a) k)) _ t) e
 
-eleven : (l : List Case) → T (every (λ c. not (eqb (c .1) 11)) l) → firstOf 0 l ≢ 11
-eleven l t = never (λ k. k) 11 0 l (λ z. omega arith) t
+-- The cases that a call goes through: its number is that of the first that holds.
+abbrev Case-by-case : Call → Type 0
+Case-by-case c = (l : List Case) × (numberOf c ≡ firstOf 0 l) × T (every (λ c. not (eqb (c .1) 11)) l) × T (every (λ c. leb (c .1) 13) l)
+
+cases-of : (c : Call) → Case-by-case c
+unfolding endingOf outcomeOf addOutcome addRefusal addCases withdrawOutcome withdrawRefusal withdrawCases drawOutcome drawRefusal drawCases checkRefusal
+    interpolateOutcome remainderOutcome wiringOutcome filling listing valuesCases remainderCases settingsCases overfull
+cases-of (drawing s t levels) = (drawCases s t levels, number-of (drawRefusal s t levels) t s _, tt, tt)
+cases-of (handed (operating (adding levels)) s n r t) = (addCases s n r t levels, number-of (addRefusal s n r t levels) t s _, tt, tt)
+cases-of (handed (operating (withdrawing levels)) s n r t) = (withdrawCases s n r t levels, number-of (withdrawRefusal s n r t levels) t s _, tt, tt)
+cases-of (handed checking s n r t) = (_, refl, tt, tt)
+cases-of (handed (interpolating values buffer) s n r t) = (valuesCases 64 s n r t values buffer, refl, tt, tt)
+cases-of (handed (dividing coefficients exponents buffer) s n r t) = (remainderCases s n r t coefficients exponents buffer, refl, tt, tt)
+cases-of (handed (wiring values buffer) s n r t) = (valuesCases 8 s n r t values buffer, refl, tt, tt)
 
 pub never-eleven : (c : Call) → numberOf c ≢ 11
-unfolding numberOf outcomeOf addOutcome addRefusal addCases withdrawOutcome withdrawRefusal withdrawCases drawOutcome drawRefusal drawCases checkRefusal interpolateOutcome
-    remainderOutcome wiringOutcome filling listing valuesCases remainderCases settingsCases overfull
-never-eleven (operating (adding levels) s n r t) e = eleven (addCases s n r t levels) tt (sym (number-of (addRefusal s n r t levels) t s _) ∙ e)
-never-eleven (operating (withdrawing levels) s n r t) e = eleven (withdrawCases s n r t levels) tt (sym (number-of (withdrawRefusal s n r t levels) t s _) ∙ e)
-never-eleven (drawing s t levels) e = eleven (drawCases s t levels) tt (sym (number-of (drawRefusal s t levels) t s _) ∙ e)
-never-eleven (checking s n r t) e = eleven _ tt e
-never-eleven (interpolating s n r t values buffer) e = eleven (valuesCases 64 s n r t values buffer) tt e
-never-eleven (dividing s n r t coefficients exponents buffer) e = eleven (remainderCases s n r t coefficients exponents buffer) tt e
-never-eleven (wiring s n r t values buffer) e = eleven (valuesCases 8 s n r t values buffer) tt e
+never-eleven c e = let w = cases-of c in never (λ k. k) 11 0 (w .0) (λ z. omega arith) (w .2) (sym (w .1) ∙ e)
+
+-- every number is one of the list of refusals of these calls: 3 to 13, or 0
+pub few-numbers : (c : Call) → numberOf c ≤ 13
+unfolding firstOf
+few-numbers c = let w = cases-of c in rw (w .1) (most (w .0) (w .3))
+  where
+    most : (l : List Case) → T (every (λ c. leb (c .1) 13) l) → firstOf 0 l ≤ 13
+    most [] t = omega arith
+    most ((true, k) ∷ l) t = leb→le k 13 (and-left (leb k 13) _ t)
+    most ((false, k) ∷ l) t = most l (and-right (leb k 13) _ t)
+
+-- A refusal comes alone: the other parts of the answer are 0, and no lent byte has changed.
+pub refused-alone : (c : Call) → numberOf c ≢ 0 → Alone c
+unfolding endingOf tablesLent bufferLent outcomeOf addOutcome withdrawOutcome drawOutcome byRefusal refused interpolateOutcome remainderOutcome wiringOutcome
+    filling listing allZero
+refused-alone (drawing s t levels) h =
+    let k = drawRefusal s t levels in
+    let e = ne-eqb k 0 (λ z. h (number-of k t s _ ∙ z)) in record { parts = rw e tt; tables = rw e refl; buffer = refl }
+refused-alone (handed (operating (adding levels)) s n r t) h =
+    let k = addRefusal s n r t levels in
+    let e = ne-eqb k 0 (λ z. h (number-of k t s _ ∙ z)) in record { parts = rw e tt; tables = rw e refl; buffer = refl }
+refused-alone (handed (operating (withdrawing levels)) s n r t) h =
+    let k = withdrawRefusal s n r t levels in
+    let e = ne-eqb k 0 (λ z. h (number-of k t s _ ∙ z)) in record { parts = rw e tt; tables = rw e refl; buffer = refl }
+refused-alone (handed checking s n r t) h = record { parts = tt; tables = refl; buffer = refl }
+refused-alone (handed (interpolating values buffer) s n r t) h =
+    let e = ne-eqb (firstOf 0 (valuesCases 64 s n r t values buffer)) 0 h in record { parts = tt; tables = refl; buffer = rw e refl }
+refused-alone (handed (dividing coefficients exponents buffer) s n r t) h =
+    let e = ne-eqb (firstOf 0 (remainderCases s n r t coefficients exponents buffer)) 0 h in record { parts = tt; tables = refl; buffer = rw e refl }
+refused-alone (handed (wiring values buffer) s n r t) h =
+    let e = ne-eqb (firstOf 0 (valuesCases 8 s n r t values buffer)) 0 h in record { parts = rw e tt; tables = refl; buffer = rw e refl }
+
+-- Checking and every other call, the other way: handed n, r and tables that are the basis of at most 64 points with their counts, laid out in tables long
+-- enough, under settings that no call refuses.
+module _ (s : Settings) (ok : Accepted s) (L : Counted) (lent : Tables) (large : tooShort lent ≡ false) where
+  module _ (n r : ℕ) (t : Tables) (h : HoldsBasis s L lent n r t) where
+    pub basis-numbers : (q : Request) → numberOf (handed q s n r t) ≡ numberWith q s L
+    basis-numbers q = rw (h .count, h .rows, h .tables) (number-told s (not-refused s ok) L (basis-entries s ok L h) lent (large-of lent large) q)
+
+    pub never-ten : (q : Request) → numberOf (handed q s n r t) ≢ 10
+    unfolding numberWith referenceAnswer overfull valuesLeft termsLeft
+    never-ten q e = other q (sym (basis-numbers q) ∙ e)
+      where
+        other : (q : Request) → numberWith q s L ≢ 10
+        other (operating (adding levels)) = never (λ k. k) 10 0 _ (λ z. omega arith) tt
+        other (operating (withdrawing levels)) = never (λ k. k) 10 0 _ (λ z. omega arith) tt
+        other checking = λ z. omega arith
+        other (interpolating values buffer) = never (λ k. k) 10 0 _ (λ z. omega arith) tt
+        other (dividing coefficients exponents buffer) = never (λ k. k) 10 0 _ (λ z. omega arith) tt
+        other (wiring values buffer) = never (λ k. k) 10 0 _ (λ z. omega arith) tt
+
+    -- checking answers 0
+    pub check-taken : checkRefusal s n r t ≡ 0
+    unfolding endingOf numberWith
+    check-taken = basis-numbers checking

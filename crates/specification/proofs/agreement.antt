@@ -5,5 +5,6 @@ pub mod Operations
 pub mod Run
 pub mod Values
 pub mod Drawings
+pub mod Handed
 pub mod Arrangements
 pub mod Claim

@@ -10,7 +10,6 @@ use lib.Dec.{T}
 use Rattle.residue.specs.Lists.{Among, every}
 use Rattle.residue.specs.Layout.{fill, over, begins}
 use Rattle.specification.specs.declared.settings.Settings.{Settings}
-use Rattle.specification.specs.Refusal.{firstOf}
 use Rattle.specification.specs.Levels.{inRange, residues}
 use Rattle.specification.specs.Counted.{Counted, pointsOf, countsOf, isCount, countOf, timesIn}
 use Rattle.specification.specs.Polynomial.{eval}
@@ -20,9 +19,11 @@ use Rattle.specification.specs.Tables.{Tables, rowCount, tablesOf, writt
 use Rattle.specification.specs.Tables.{spaceUnder, pointsUnder, standardUnder, leadsUnder, rowsUnder}
 use Rattle.specification.specs.Tables.{statesSize, standardSize, leadsSize, coefficientsSize, countsSize}
 use Rattle.specification.specs.Adding.{DrawOutcome, pointsOffered, drawOutcome}
-use Rattle.specification.specs.Solving.{valuesCases, polynomialUnder, remainderCases, remainderOutcome, Listed, wiringOutcome}
+use Rattle.specification.specs.Solving.{interpolateOutcome, polynomialUnder, remainderOutcome, Listed, wiringOutcome}
 use Rattle.specification.specs.Needed.{Needed, Names}
 use Rattle.specification.specs.Reference.{Event, Held, numbers, due}
+use Rattle.specification.specs.Calls.{Request, handed, numberOf, numberWith}
+use Rattle.specification.specs.CallByCall.{Interpolates}
 use Rattle.residue.specs.Level.{residueOf}
 
 -- Fresh tables: none is shorter than its size, and every byte of the sizes is 0.
@@ -54,8 +55,8 @@ pub record SameValues (s : Settings) (K L : List (List ℕ)) (v w : List ℤ) : 
   pub equal : (P : List ℕ) (y z : ℤ) → Among (P, y) (zip K v) → Among (P, z) (zip L w) → residueOf (s .modulus) y ≡ residueOf (s .modulus) z
 
 -- A drawing up agrees with what the list holds: n, r and the three tables are equal in each byte of their sizes. (Its cancellations depend on the order of
--- its points, and the list has none.) The remainder call, handed the same terms, and the wiring call, handed values that are equal at each point, each desk's
--- in the order of its own points, answer the same with either tables, and leave equal buffers where they were lent buffers of equal bytes.
+-- its points, and the list has none.) The remainder call, handed the same terms, and the interpolant and wiring calls, handed values that are equal at each
+-- point, each desk's in the order of its own points, answer the same with either tables, and leave equal buffers where they were lent buffers of equal bytes.
 pub record SameAs (s : Settings) (h : Held) (o : DrawOutcome) : Type 0 where
   pub count : o .answer .n ≡ h .n
   pub rows : o .answer .r ≡ h .r
@@ -65,6 +66,8 @@ pub record SameAs (s : Settings) (h : Held) (o : DrawOutcome) : Type 0 where
   pub remainder : (terms : List ℤ) (exponents buffer : List ℕ)
       → remainderOutcome s (o .answer .n) (o .answer .r) (o .tables) terms exponents buffer
       ≡ remainderOutcome s (h .n) (h .r) (h .tables) terms exponents buffer
+  pub interpolant : (v w : List ℤ) (buffer : List ℕ) → SameValues s (pointsIn s (o .answer .n) (o .tables .states)) (pointsIn s (h .n) (h .tables .states)) v w
+      → interpolateOutcome s (o .answer .n) (o .answer .r) (o .tables) v buffer ≡ interpolateOutcome s (h .n) (h .r) (h .tables) w buffer
   pub wiring : (v w : List ℤ) (buffer : List ℕ) → SameValues s (pointsIn s (o .answer .n) (o .tables .states)) (pointsIn s (h .n) (h .tables .states)) v w
       → wiringOutcome s (o .answer .n) (o .answer .r) (o .tables) v buffer ≡ wiringOutcome s (h .n) (h .r) (h .tables) w buffer
 
@@ -110,13 +113,11 @@ pub record Agrees (s : Settings) (start : Tables) (es : List Event) (L : Counted
   -- every drawing up of its points that returns 0; every drawing up of its points with its counts into tables none of which is shorter than its size
   pub drawn : (t : Tables) (levels : List ℤ) → SameSet s L levels → drawOutcome s t levels .answer .refusal ≡ 0 → SameAs s h (drawOutcome s t levels)
   pub arranged : (t : Tables) (levels : List ℤ) → tooShort t ≡ false → Arranges s L levels → SameCounts s h (drawOutcome s t levels)
-  -- remainders and wiring lists: the number is that of the list of refusals; where it is 0, the buffer holds what is due
-  pub remainder-numbers : (terms : List ℤ) (exponents buffer : List ℕ)
-      → remainderOutcome s (h .n) (h .r) (h .tables) terms exponents buffer .refusal
-      ≡ firstOf 0 (remainderCases s (h .n) (h .r) (h .tables) terms exponents buffer)
+  -- every call that is handed what is held: its number is told by the reference list and its other arguments. Where it is 0, the buffer holds what is due
+  pub requests : (q : Request) → numberOf (handed q s (h .n) (h .r) (h .tables)) ≡ numberWith q s L
+  pub interpolants : (values : List ℤ) (buffer : List ℕ) → interpolateOutcome s (h .n) (h .r) (h .tables) values buffer .refusal ≡ 0
+      → Interpolates s (pointsOf L) values buffer (interpolateOutcome s (h .n) (h .r) (h .tables) values buffer .buffer)
   pub remainders : (terms : List ℤ) (exponents buffer : List ℕ) → remainderOutcome s (h .n) (h .r) (h .tables) terms exponents buffer .refusal ≡ 0
       → Remains s (pointsOf L) terms exponents buffer (remainderOutcome s (h .n) (h .r) (h .tables) terms exponents buffer .buffer)
-  pub wiring-numbers : (values : List ℤ) (buffer : List ℕ)
-      → wiringOutcome s (h .n) (h .r) (h .tables) values buffer .answer .refusal ≡ firstOf 0 (valuesCases 8 s (h .n) (h .r) (h .tables) values buffer)
   pub wirings : (values : List ℤ) (buffer : List ℕ) → wiringOutcome s (h .n) (h .r) (h .tables) values buffer .answer .refusal ≡ 0
       → Wires s (pointsOf L) values buffer (wiringOutcome s (h .n) (h .r) (h .tables) values buffer)

@@ -19,7 +19,7 @@ pub mod Withdrawing
 pub mod Needed
 pub mod Solving
 pub mod Reference
-pub mod Agreement
-pub mod CallByCall
 pub mod Calls
+pub mod CallByCall
+pub mod Agreement
 pub mod Examples

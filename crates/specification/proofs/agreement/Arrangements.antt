@@ -1,6 +1,6 @@
 -- Drawing up the points of a list in any order, with replicates or without, gives the same basis, the same remainders and the same wiring lists; and for
 -- equal multisets it is not refused, and gives the same counts.
-use mathlib.Core.Path.{_≡_, refl, sym, _∙_, ap, ap₂, subst}
+use mathlib.Core.Path.{_≡_, refl, sym, _∙_, ap, subst}
 use mathlib.Core.Bool.{Bool, true, false, cond}
 use mathlib.Core.List.{List, [], _∷_}
 use Prim.Native.Nat.{ℕ, _%_, _≤_}
@@ -11,7 +11,7 @@ use lib.ListN.{length, take, length-map}
 use lib.Dec.{T, ltb}
 use borrow.Author.Tests.{eq-eqb, le-ltb}
 use Rattle.residue.specs.Lists.{Among, some, sameList}
-use Rattle.residue.specs.Layout.{over, length-fill}
+use Rattle.residue.specs.Layout.{fill, over, length-fill}
 use Rattle.residue.proofs.Tests.{true-of, of-true}
 use Rattle.residue.proofs.bytes.Equality.{same-is, same-self}
 use Rattle.residue.proofs.Layouts.{take-over}
@@ -21,19 +21,25 @@ use Rattle.specification.specs.Settings.{Accepted, settingsCases}
 use Rattle.specification.specs.Levels.{inRange, residues, noRepeat}
 use Rattle.specification.specs.Polynomial.{Distinct}
 use Rattle.specification.specs.Counted.{Counted, pointsOf, countsOf, gathered, overfull, countOf}
-use Rattle.specification.specs.Tables.{Tables, spaceUnder, pointsUnder, rowCount, standardTable, leadsTable, coefficientsTable, tablesOf, written, tooShort}
+use Rattle.specification.specs.Tables.{Tables, spaceUnder, pointsUnder, rowCount, standardTable, leadsTable, coefficientsTable, tablesOf, written}
+use Rattle.specification.specs.Tables.{tooShort}
 use Rattle.specification.specs.Tables.{standardSize, leadsSize, coefficientsSize}
 use Rattle.specification.specs.Adding.{holding, byRefusal, pointsOffered, drawCases, drawRefusal, drawOutcome}
-use Rattle.specification.specs.Solving.{polynomialUnder}
+use Rattle.specification.specs.BasisOf.{interpolantOf}
+use Rattle.specification.specs.Solving.{filling, polynomialUnder, listing}
+use Rattle.specification.specs.Calls.{valuesLeft, termsLeft}
 use Rattle.specification.specs.Needed.{wiringOf}
 use Rattle.specification.specs.Reference.{Held}
-use Rattle.specification.specs.Agreement.{SameSet, Arranges, SameAs, SameCounts}
+use Rattle.specification.specs.Agreement.{SameSet, Arranges, SameValues, SameAs, SameCounts}
 use Rattle.specification.specs.Points.{IsPoint}
 use Rattle.specification.proofs.agreement.Points.{once-of}
-use Rattle.specification.proofs.counted.Gathered.{Entries, of-parts, positive-of, positive-gathered, once-gathered, among-gathered, count-gathered, count-some, some-count, count-few}
+use Rattle.specification.proofs.counted.Gathered.{Entries, of-parts, positive-of, positive-gathered, once-gathered, among-gathered, count-gathered}
+use Rattle.specification.proofs.counted.Gathered.{count-some, some-count, count-few}
 use Rattle.specification.proofs.agreement.Refusals.{settings-pass, Large, large-of, written-held, written-points}
 use Rattle.specification.proofs.agreement.Values.{same-range}
-use Rattle.specification.proofs.agreement.Drawings.{distinct-under, distinct-points, same-rows, same-length, same-remainder, same-standard, same-leads, same-coefficients, told, remainder-told, wired, wiring-told, same-wired}
+use Rattle.specification.proofs.agreement.Drawings.{distinct-under, distinct-points, same-rows, same-length, same-remainder, same-interpolant}
+use Rattle.specification.proofs.agreement.Drawings.{same-standard, same-leads, same-coefficients}
+use Rattle.specification.proofs.agreement.Handed.{interpolate-told, remainder-told, wiring-told, as-many-values, same-left, same-filling, same-listing}
 use Rattle.specification.proofs.needed.Arranged.{wiring-arranged}
 
 -- no count is above 255 where each point's is not
@@ -119,16 +125,37 @@ module _ (s : Settings) (ok : Accepted s) (fine : firstOf 0 (settingsCases s) �
         standard = sized standardSize (standardTable s K) (standardTable s (pointsOf L)) (same-standard s ok (pointsOf L) K dL dK to from) (t .standard) (start .standard) (standard-size s K) ∙ ap (λ (u : Tables). take standardSize (u .standard)) (sym et);
         leads = sized leadsSize (leadsTable s K) (leadsTable s (pointsOf L)) (same-leads s ok (pointsOf L) K dL dK to from) (t .leads) (start .leads) (leads-size s K) ∙ ap (λ (u : Tables). take leadsSize (u .leads)) (sym et);
         coefficients = sized coefficientsSize (coefficientsTable s K) (coefficientsTable s (pointsOf L)) (same-coefficients s ok (pointsOf L) K dL dK to from) (t .coefficients) (start .coefficients) (coefficients-size s K) ∙ ap (λ (u : Tables). take coefficientsSize (u .coefficients)) (sym et);
-        remainder = λ terms exponents buffer. remainder-told s ok terms exponents buffer G hG t big
-            ∙ ap₂ (told s ok terms exponents buffer) as-many (same-remainder s ok (pointsOf L) K dL dK to from (polynomialUnder s terms exponents))
-            ∙ sym (rw (en, er, et) (remainder-told s ok terms exponents buffer L hL start large));
+        remainder = λ terms exponents buffer. remainder-told s fine G hG t big terms exponents buffer
+            ∙ ap (λ (l : List ℕ). filling (firstOf 0 (termsLeft s terms exponents buffer)) (fill 64 l) buffer)
+            (same-remainder s ok (pointsOf L) K dL dK to from (polynomialUnder s terms exponents))
+            ∙ sym (rw (en, er, et) (remainder-told s fine L hL start large terms exponents buffer));
+        interpolant = λ v w buffer same. let e = rw (written-points s ok G hG t, en, et, written-points s ok L hL start) at same in
+            interpolate-told s fine G hG t big v buffer
+            ∙ one-number 64 v w buffer e (λ k a. filling k (fill 64 a) buffer)
+            (interpolantOf (spaceUnder s) (pointsUnder s K) (residues (s .modulus) v))
+            ∙ same-filling _ _ _ buffer (λ z. ap (fill 64) (let l = as-many-values s 64 (length L) buffer w z in
+            same-interpolant s ok (pointsOf L) K dL dK to from v w (here v w e l) (l ∙ sym (length-map L (λ q. q .0))) e))
+            ∙ sym (rw (en, er, et) (interpolate-told s fine L hL start large w buffer));
         wiring = λ v w buffer same. let e = rw (written-points s ok G hG t, en, et, written-points s ok L hL start) at same in
-            wiring-told s ok fine buffer v G hG t big
-            ∙ ap₂ (λ (n k : ℕ). wired s ok fine buffer n k (inRange (s .modulus) v) (wiringOf (s .variables) K (residues (s .modulus) v))) as-many (e .count)
-            ∙ same-wired s ok fine buffer (length L) (length w) _ _ _ _ (λ l. let k : length v ≡ length K = e .count ∙ l ∙ sym as-many ∙ sym (length-map G (λ q. q .0)) in let m : length w ≡ length (pointsOf L) = l ∙ sym (length-map L (λ q. q .0)) in (same-range s K (pointsOf L) v w k m to from e, wiring-arranged s K (pointsOf L) v w k m to from e (s .variables)))
-            ∙ sym (rw (en, er, et) (wiring-told s ok fine buffer w L hL start large));
+            wiring-told s fine G hG t big v buffer
+            ∙ one-number 8 v w buffer e (λ k a. listing k a buffer) (wiringOf (s .variables) K (residues (s .modulus) v))
+            ∙ same-listing _ _ _ buffer (λ z. let l = as-many-values s 8 (length L) buffer w z in
+            wiring-arranged s K (pointsOf L) v w (here v w e l) (l ∙ sym (length-map L (λ q. q .0))) to from e (s .variables))
+            ∙ sym (rw (en, er, et) (wiring-told s fine L hL start large w buffer));
       })
         where
+          -- as many values as points, by the one basis and by the other
+          here : (v w : List ℤ) → SameValues s K (pointsOf L) v w → length w ≡ length L → length v ≡ length K
+          here v w e l = e .count ∙ l ∙ sym as-many ∙ sym (length-map G (λ q. q .0))
+
+          -- one number for both
+          one-number : {A : Type 0} (size : ℕ) (v w : List ℤ) (buffer : List ℕ) → SameValues s K (pointsOf L) v w → (f : ℕ → List ℕ → A) (a : List ℕ)
+              → f (firstOf 0 (valuesLeft size s (length G) v buffer)) a ≡ f (firstOf 0 (valuesLeft size s (length L) w buffer)) a
+          one-number size v w buffer e f a =
+              ap (λ (k : ℕ). f k a) (ap (λ (n : ℕ). firstOf 0 (valuesLeft size s n v buffer)) as-many
+              ∙ same-left s size (length L) buffer v w (e .count)
+              (λ l. same-range s K (pointsOf L) v w (here v w e l) (l ∙ sym (length-map L (λ q. q .0))) to from e))
+
           -- two tables of one layout agree in each byte of its size
           sized : (k : ℕ) (a b : List ℕ) → a ≡ b → (u v : List ℕ) → length a ≡ k → take k (over a u) ≡ take k (over b v)
           sized k a b e u v l = ap (λ (j : ℕ). take j (over a u)) (sym l) ∙ take-over a u ∙ e ∙ sym (ap (λ (j : ℕ). take j (over b v)) (sym (ap length (sym e) ∙ l)) ∙ take-over b v)

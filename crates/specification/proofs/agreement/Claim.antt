@@ -16,17 +16,19 @@ use Rattle.specification.specs.BasisOf.{basisOf}
 use Rattle.specification.specs.Counted.{Counted, pointsOf}
 use Rattle.specification.specs.Tables.{Tables, spaceUnder, pointsUnder, rowCount, statesTable, standardTable, leadsTable, coefficientsTable, tablesOf, written, pointsIn, heldIn}
 use Rattle.specification.specs.Tables.{statesSize, standardSize, leadsSize, coefficientsSize, countsSize}
-use Rattle.specification.specs.Solving.{filling, remainderOutcome, listing, wiringOutcome}
+use Rattle.specification.specs.Solving.{interpolateOutcome, remainderOutcome, wiringOutcome}
 use Rattle.specification.specs.Reference.{Event, Held, numbers, heldAtEnd, referenceAtEnd, due, Refuses}
 use Rattle.specification.specs.Agreement.{Fresh, freshly, Remains, Agrees, Wires}
+use Rattle.specification.specs.CallByCall.{Interpolates}
 use Rattle.specification.proofs.ideal.Basis.{basis-is}
 use Rattle.specification.proofs.counted.Gathered.{no-entries}
 use Rattle.specification.proofs.counted.Held.{points-held}
 use Rattle.specification.proofs.agreement.Refusals.{accepted, Large, large-of, over-begins}
 use Rattle.specification.proofs.agreement.Run.{same-tables, At, held-list, run}
 use Rattle.specification.proofs.agreement.Drawings.{laws-under, distinct-points, standard-count, few-rows}
+use Rattle.specification.proofs.agreement.Handed.{number-told}
 use Rattle.specification.proofs.agreement.Arrangements.{drawn-same, arranged-same}
-use Rattle.specification.proofs.CallByCall.{drawn-points, drawn-number, remainder-leaves}
+use Rattle.specification.proofs.CallByCall.{drawn-points, drawn-number, interpolate-leaves, remainder-leaves}
 use Rattle.specification.proofs.needed.Calls.{wiring-leaves}
 
 -- zeros filled up are zeros
@@ -66,7 +68,6 @@ module _ (s : Settings) (fine : firstOf 0 (settingsCases s) ≡ 0) (start : Tabl
 -- For all settings that adding does not refuse, all fresh tables, and every list of operations with refused calls between them.
 pub agreement : (s : Settings) → firstOf 0 (settingsCases s) ≡ 0 → (start : Tables) → Fresh start → (es : List Event) → Refuses s (freshly start) es
     → Agrees s start es (referenceAtEnd s [] es) (heldAtEnd s (freshly start) es)
-unfolding remainderOutcome filling wiringOutcome listing
 agreement s fine start fresh es refuses = record {
   answers = end .0;
   count = at .count;
@@ -81,10 +82,12 @@ agreement s fine start fresh es refuses = record {
   drawn = λ t levels same zero. let k = sym (drawn-number s t levels) ∙ zero in let o = drawn-points s t levels k in
       drawn-same s good fine L (at .entries) levels same (o .small) start big h (at .count) (at .rows) (at .tables) t (large-of t (o .large)) k;
   arranged = λ t levels short a. arranged-same s good fine L (at .entries) levels a start big h (at .count) (at .rows) (at .tables) t short;
-  remainder-numbers = λ terms exponents buffer. refl;
+  requests = λ q. rw (at .count, at .rows, at .tables) (number-told s fine L (at .entries) start big q);
+  interpolants = λ values buffer e.
+      subst (λ (K : List (List ℕ)). Interpolates s K values buffer (interpolateOutcome s (h .n) (h .r) (h .tables) values buffer .buffer)) points
+      (interpolate-leaves s (h .n) (h .r) (h .tables) values buffer e .1);
   remainders = λ terms exponents buffer e. subst (λ (K : List (List ℕ)). Remains s K terms exponents buffer (remainderOutcome s (h .n) (h .r) (h .tables) terms exponents buffer .buffer)) points
       (remainder-leaves s (h .n) (h .r) (h .tables) terms exponents buffer e .1);
-  wiring-numbers = λ values buffer. refl;
   wirings = λ values buffer e. subst (λ (K : List (List ℕ)). Wires s K values buffer (wiringOutcome s (h .n) (h .r) (h .tables) values buffer)) points
       (wiring-leaves s (h .n) (h .r) (h .tables) values buffer e .1);
 }

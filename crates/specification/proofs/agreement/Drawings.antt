@@ -1,44 +1,40 @@
--- The same points in any order have the same basis, and calls that are handed the tables of points are told by the points.
-use mathlib.Core.Path.{_≡_, refl, sym, _∙_, ap, ap₂, subst}
-use mathlib.Core.Bool.{Bool, true, false, not, cond, _&&_, _||_}
-use mathlib.Core.List.{List, [], _∷_, _++_, zipWith, zip}
+-- The same points in any order have the same basis, the same remainders and, for values that are equal at each point, the same interpolants.
+use mathlib.Core.Path.{_≡_, refl, sym, _∙_, ap, subst}
+use mathlib.Core.Bool.{true}
+use mathlib.Core.List.{List, [], _∷_, zipWith, zip}
 use mathlib.Core.Logic.{inl, inr, _≢_}
 use Prim.Native.Nat.{ℕ, suc, _+_, _-_, _*_, _≤_}
 use native.Mathlib.Nat.{mul-le-mul-left}
-use native.Mathlib.Decide.{ℕ-discrete}
 use native.Mathlib.Omega.{arith}
 use lib.IntN.{ℤ}
 use lib.ListN.{length, length-map}
-use lib.Dec.{T, eqb, ltb}
-use borrow.Author.Tests.{ne-eqb}
+use lib.Dec.{T}
 use Rattle.residue.specs.Lists.{Among}
 use Rattle.residue.specs.Level.{residueOf}
+use Rattle.residue.specs.Congruence.{Mod}
+use Rattle.residue.proofs.Congruence.{of}
 use Rattle.residue.specs.Modulus.{isModulus}
-use Rattle.residue.specs.Layout.{groups, fill}
 use Rattle.residue.proofs.level.Moduli.{modulus-range}
 use Rattle.residue.proofs.Tests.{cond-so, cond-not}
 use Rattle.monomial.specs.Order.{orderOf}
 use Rattle.specification.specs.declared.settings.Settings.{Settings}
-use Rattle.specification.specs.Refusal.{firstOf}
-use Rattle.specification.specs.Settings.{Accepted, settingsCases}
-use Rattle.specification.specs.Levels.{inRange, residues, noRepeat, residueOr0}
+use Rattle.specification.specs.Settings.{Accepted}
+use Rattle.specification.specs.Levels.{residues, noRepeat, residueOr0}
 use Rattle.specification.specs.Polynomial.{Polynomial, Distinct}
-use Rattle.specification.specs.BasisOf.{valueAt, remainderOf}
+use Rattle.specification.specs.BasisOf.{valueAt, interpolantOf, remainderOf}
+use Rattle.specification.specs.Agreement.{SameValues}
 use Rattle.specification.specs.Instance.{Point, pointOf}
-use Rattle.specification.specs.Tables.{Tables, spaceUnder, pointsUnder, standardUnder, leadsUnder, rowsUnder, rowCount, standardTable, leadsTable, coefficientsTable, tablesOf, written}
-use Rattle.specification.specs.Counted.{Counted, pointsOf}
-use Rattle.specification.specs.Solving.{Filled, filling, withinVariables, polynomialUnder, remainderIn, remainderCases, remainderOutcome, valuesCases, Listed, listing, wiringOutcome}
-use Rattle.specification.specs.Needed.{wiringOf}
+use Rattle.specification.specs.Tables.{spaceUnder, pointsUnder, standardUnder, leadsUnder, rowsUnder, rowCount, standardTable, leadsTable}
+use Rattle.specification.specs.Tables.{coefficientsTable}
 use Rattle.specification.proofs.Instance.{laws}
 use Rattle.specification.proofs.ideal.Laws.{Laws, point-told}
 use Rattle.specification.proofs.ideal.Lists.{among-map, map-among}
 use Rattle.specification.proofs.ideal.Counts.{standard-length, leads-length}
-use Rattle.specification.proofs.ideal.Permutation.{basis-permuted, remainder-permuted}
+use Rattle.specification.proofs.ideal.Basis.{interpolant-agree}
+use Rattle.specification.proofs.ideal.Permutation.{basis-permuted, interpolant-permuted, remainder-permuted}
 use Rattle.specification.specs.Points.{Points, IsPoint}
 use Rattle.specification.proofs.agreement.Points.{point-same, once-of}
-use Rattle.specification.proofs.counted.Gathered.{Entries}
-use Rattle.specification.proofs.agreement.Refusals.{settings-pass, Large, not-short, written-large, written-points, written-recognised}
-use Rattle.specification.proofs.agreement.Values.{point-of}
+use Rattle.specification.proofs.agreement.Values.{point-of, value-there}
 
 module _ (s : Settings) (ok : Accepted s) where
   -- the space under these settings obeys the laws
@@ -106,6 +102,27 @@ module _ (s : Settings) (ok : Accepted s) where
     pub same-remainder : (f : Polynomial (spaceUnder s)) → remainderOf (spaceUnder s) (pointsUnder s K) f ≡ remainderOf (spaceUnder s) (pointsUnder s L) f
     same-remainder = remainder-permuted (spaceUnder s) laws-under (pointsUnder s K) (pointsUnder s L) dK dL (carried K L to) (carried L K from)
 
+    -- values that are equal at each point
+    pub same-interpolant : (v w : List ℤ) → length v ≡ length K → length w ≡ length L → SameValues s K L v w
+        → interpolantOf (spaceUnder s) (pointsUnder s K) (residues (s .modulus) v) ≡ interpolantOf (spaceUnder s) (pointsUnder s L) (residues (s .modulus) w)
+    same-interpolant v w k l e =
+        interpolant-permuted (spaceUnder s) laws-under (pointsUnder s K) (pointsUnder s L) dK dL (carried K L to) (carried L K from) φ
+        ∙ interpolant-agree (spaceUnder s) laws-under (pointsUnder s L) dL φ ψ agree
+      where
+        φ : Point (suc (s .modulus - 1)) (s .variables) → ℕ
+        φ = valueAt (spaceUnder s) (pointsUnder s K) (residues (s .modulus) v)
+
+        ψ : Point (suc (s .modulus - 1)) (s .variables) → ℕ
+        ψ = valueAt (spaceUnder s) (pointsUnder s L) (residues (s .modulus) w)
+
+        agree : (X : Point (suc (s .modulus - 1)) (s .variables)) → Among X (pointsUnder s L) → Mod (suc (s .modulus - 1)) (φ X) (ψ X)
+        agree X q =
+            let c = among-map pt L X q in
+            let y = value-there K v k (c .0) (from (c .0) (c .1)) in
+            let z = value-there L w l (c .0) (c .1) in
+            of (ap φ (c .2) ∙ value-told K dK v (c .0) (y .0) (y .1) ∙ ap residueOr0 (e .equal (c .0) (y .0) (z .0) (y .1) (z .1))
+            ∙ sym (ap ψ (c .2) ∙ value-told L dL w (c .0) (z .0) (z .1)))
+
     pub same-standard : standardTable s K ≡ standardTable s L
     unfolding standardTable
     same-standard = rw (same-basis .0)
@@ -117,40 +134,3 @@ module _ (s : Settings) (ok : Accepted s) where
     pub same-coefficients : coefficientsTable s K ≡ coefficientsTable s L
     unfolding coefficientsTable
     same-coefficients = rw (same-basis .2)
-
-  -- The remainder call, handed the basis of A, is told by how many points there are and by the remainder.
-  module _ (terms : List ℤ) (exponents buffer : List ℕ) where
-    unfoldable pub told : ℕ → List ℕ → Filled
-    told n l = filling (firstOf 0 (settingsCases s
-        ++ ((false || ltb (length buffer) 64, 6) ∷ (not (eqb (length exponents) (8 * length terms)), 7) ∷ (ltb 64 n || ltb 256 (length terms), 8)
-        ∷ (not (inRange (s .modulus) terms && withinVariables (s .variables) (groups 8 (length terms) exponents)), 9) ∷ (false, 10) ∷ []))) (fill 64 l) buffer
-
-    pub remainder-told : (A : Counted) → Entries s A → (t : Tables) → Large t
-        → remainderOutcome s (length A) (rowCount s (pointsOf A)) (written (tablesOf s A) t) terms exponents buffer ≡ told (length A) (remainderOf (spaceUnder s) (pointsUnder s (pointsOf A)) (polynomialUnder s terms exponents))
-    unfolding remainderOutcome remainderCases remainderIn told
-    remainder-told A h t large =
-        rw (not-short (written (tablesOf s A) t) (written-large s A t large), written-recognised s ok A h t, written-points s ok A h t)
-
-  -- The wiring call is told by how many points and values there are, by whether these are in range, and by the list.
-  module _ (fine : firstOf 0 (settingsCases s) ≡ 0) (buffer : List ℕ) where
-    unfoldable pub wired : ℕ → ℕ → Bool → List ℕ → Listed
-    wired n count range names = listing (firstOf 0 ((ltb (length buffer) 8, 6) ∷ (not (eqb count n), 7) ∷ (ltb 64 n, 8) ∷ (not range, 9) ∷ [])) names buffer
-
-    pub wiring-told : (v : List ℤ) (A : Counted) → Entries s A → (t : Tables) → Large t
-        → wiringOutcome s (length A) (rowCount s (pointsOf A)) (written (tablesOf s A) t) v buffer ≡ wired (length A) (length v) (inRange (s .modulus) v) (wiringOf (s .variables) (pointsOf A) (residues (s .modulus) v))
-    unfolding wiringOutcome valuesCases wired firstOf
-    wiring-told v A h t large =
-        rw (settings-pass s fine _, not-short (written (tablesOf s A) t) (written-large s A t large), written-recognised s ok A h t, written-points s ok A h t)
-
-    -- values that are not as many as the points are refused, whatever they are
-    pub same-wired : (n count : ℕ) (a b : Bool) (k l : List ℕ) → (count ≡ n → (a ≡ b) × (k ≡ l)) → wired n count a k ≡ wired n count b l
-    unfolding wired firstOf listing
-    same-wired n count a b k l h = go (ℕ-discrete count n)
-      where
-        alone : (c : Bool) → listing (cond c 6 7) k buffer ≡ listing (cond c 6 7) l buffer
-        alone true = refl
-        alone false = refl
-
-        go : Dec (count ≡ n) → wired n count a k ≡ wired n count b l
-        go (yes e) = ap₂ (wired n count) (h e .0) (h e .1)
-        go (no e) = rw (ne-eqb count n e) (alone (ltb (length buffer) 8))

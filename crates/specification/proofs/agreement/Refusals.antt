@@ -6,7 +6,7 @@ use Prim.Native.Nat.{ℕ, _≤_}
 use native.Mathlib.Omega.{arith}
 use lib.ListN.{length, take, drop, take-append-drop}
 use lib.Dec.{T, eqb, leb, ltb, leb→le, eqb-refl}
-use borrow.Author.Tests.{le-ltb, ltb-false, not-false}
+use borrow.Author.Tests.{le-leb, le-ltb, ltb-false, not-false}
 use Rattle.residue.specs.Lists.{every}
 use Rattle.residue.specs.Modulus.{isModulus}
 use Rattle.residue.specs.Layout.{fill, over, begins, length-fill}
@@ -35,6 +35,10 @@ accepted s e =
       few = leb→le (s .variables) 8 (and-right (leb 1 (s .variables)) (leb (s .variables) 8) v);
       order = ltb-false 2 (s .order) (n .1 .1 .0);
     }
+
+pub not-refused : (s : Settings) → Accepted s → firstOf 0 (settingsCases s) ≡ 0
+unfolding settingsCases firstOf
+not-refused s ok = simp (ok .modulus, le-leb 1 (s .variables) (ok .some), le-leb (s .variables) 8 (ok .few), le-ltb 2 (s .order) (ok .order))
 
 -- the cases behind those of the settings decide
 pub settings-pass : (s : Settings) → firstOf 0 (settingsCases s) ≡ 0 → (l : List Case) → firstOf 0 (settingsCases s ++ l) ≡ firstOf 0 l
