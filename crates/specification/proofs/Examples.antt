@@ -139,7 +139,7 @@ ranged : (p m order : ℕ) (k l : List ℤ) → firstOf 0 (settingsCases (settin
 unfolding due dueAt fed referenceAnswer referenceAfter listAfter entered overfull firstOf
 ranged p m order k l f ek el rk rl = added (settingsOf p m order) (k ∷ l ∷ []) f ∙ simp (eq-eqb (length k) m ek, eq-eqb (length l) m el, rk, rl)
 
-abbrev All : List Example → Type 0
+abbrev pub All : List Example → Type 0
 All [] = Unit {0}
 All (e ∷ l) = Holds e × All l
 
@@ -176,7 +176,7 @@ all = (under-each 5 2 (1 ∷ []) A _ _ _ tt, (under-each 5 2 (0 ∷ []) A _ _ _ 
         (range-append 5 before (negsuc 3 ∷ behind) ∙ simp (true-of (inRange 5 before) h, true-of (inRange 5 behind) k))
         (range-append 5 before (negsuc 4 ∷ behind) ∙ and-false (inRange 5 before))
 
-each-of : (l : List Example) → All l → (e : Example) → Among e l → Holds e
+pub each-of : (l : List Example) → All l → (e : Example) → Among e l → Holds e
 each-of (a ∷ l) h e (inl q) = subst Holds (sym q) (h .0)
 each-of (a ∷ l) h e (inr q) = each-of l (h .1) e q
 

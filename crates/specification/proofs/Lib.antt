@@ -15,3 +15,4 @@ pub mod Withdrawing
 pub mod Replicates
 pub mod Numbers
 pub mod Examples
+pub mod OrderExamples

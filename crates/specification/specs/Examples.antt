@@ -99,7 +99,51 @@ examples =
     -- p=5: level -4 is taken, -5 refused with 9
     ∷ range 5 (negsuc 3) (negsuc 4) ∷ []
 
--- Beside them, docs/SCOPE.md, 'Cancellations' (request M-105): what the examination of points finds, and the cancellations that it counts.
+-- Beside them, p=3 and three variables x, y and z: points whose standard monomials are other ones, or in another sequence, under each order (docs/SCOPE.md,
+-- 'Monomial orders'). In two variables grlex and grevlex are one order, so that the marked examples do not tell them apart.
+abbrev pub B : List (List ℕ)
+B = (0 ∷ 0 ∷ 0 ∷ []) ∷ (0 ∷ 0 ∷ 1 ∷ []) ∷ (0 ∷ 1 ∷ 0 ∷ []) ∷ (1 ∷ 0 ∷ 1 ∷ []) ∷ (1 ∷ 2 ∷ 0 ∷ []) ∷ []
+
+-- lex: standard 1, z, y, y², x; rows z²+2z, yz, y³+2y, xz+y+2y²+2x, xy+y+2y², x²+2x
+abbrev pub lexStandard : List (List ℕ)
+lexStandard = (0 ∷ 0 ∷ 0 ∷ []) ∷ (0 ∷ 0 ∷ 1 ∷ []) ∷ (0 ∷ 1 ∷ 0 ∷ []) ∷ (0 ∷ 2 ∷ 0 ∷ []) ∷ (1 ∷ 0 ∷ 0 ∷ []) ∷ []
+
+abbrev pub lexLeads : List (List ℕ)
+lexLeads = (0 ∷ 0 ∷ 2 ∷ []) ∷ (0 ∷ 1 ∷ 1 ∷ []) ∷ (0 ∷ 3 ∷ 0 ∷ []) ∷ (1 ∷ 0 ∷ 1 ∷ []) ∷ (1 ∷ 1 ∷ 0 ∷ []) ∷ (2 ∷ 0 ∷ 0 ∷ []) ∷ []
+
+abbrev pub lexRows : List (List ℕ)
+lexRows =
+    (0 ∷ 2 ∷ 0 ∷ 0 ∷ 0 ∷ []) ∷ (0 ∷ 0 ∷ 0 ∷ 0 ∷ 0 ∷ []) ∷ (0 ∷ 0 ∷ 2 ∷ 0 ∷ 0 ∷ [])
+    ∷ (0 ∷ 0 ∷ 1 ∷ 2 ∷ 2 ∷ []) ∷ (0 ∷ 0 ∷ 1 ∷ 2 ∷ 0 ∷ []) ∷ (0 ∷ 0 ∷ 0 ∷ 0 ∷ 2 ∷ []) ∷ []
+
+-- grlex: standard 1, z, y, x, y²; rows z²+2z, yz, xz+y+2x+2y², xy+y+2y², x²+2x, y³+2y
+abbrev pub grlexStandard : List (List ℕ)
+grlexStandard = (0 ∷ 0 ∷ 0 ∷ []) ∷ (0 ∷ 0 ∷ 1 ∷ []) ∷ (0 ∷ 1 ∷ 0 ∷ []) ∷ (1 ∷ 0 ∷ 0 ∷ []) ∷ (0 ∷ 2 ∷ 0 ∷ []) ∷ []
+
+abbrev pub grlexLeads : List (List ℕ)
+grlexLeads = (0 ∷ 0 ∷ 2 ∷ []) ∷ (0 ∷ 1 ∷ 1 ∷ []) ∷ (1 ∷ 0 ∷ 1 ∷ []) ∷ (1 ∷ 1 ∷ 0 ∷ []) ∷ (2 ∷ 0 ∷ 0 ∷ []) ∷ (0 ∷ 3 ∷ 0 ∷ []) ∷ []
+
+abbrev pub grlexRows : List (List ℕ)
+grlexRows =
+    (0 ∷ 2 ∷ 0 ∷ 0 ∷ 0 ∷ []) ∷ (0 ∷ 0 ∷ 0 ∷ 0 ∷ 0 ∷ [])
+    ∷ (0 ∷ 0 ∷ 1 ∷ 2 ∷ 2 ∷ []) ∷ (0 ∷ 0 ∷ 1 ∷ 0 ∷ 2 ∷ []) ∷ (0 ∷ 0 ∷ 0 ∷ 2 ∷ 0 ∷ []) ∷ (0 ∷ 0 ∷ 2 ∷ 0 ∷ 0 ∷ []) ∷ []
+
+-- grevlex: standard 1, z, y, x, xz; rows z²+2z, yz, y²+2y+x+2xz, xy+x+2xz, x²+2x
+abbrev pub grevlexStandard : List (List ℕ)
+grevlexStandard = (0 ∷ 0 ∷ 0 ∷ []) ∷ (0 ∷ 0 ∷ 1 ∷ []) ∷ (0 ∷ 1 ∷ 0 ∷ []) ∷ (1 ∷ 0 ∷ 0 ∷ []) ∷ (1 ∷ 0 ∷ 1 ∷ []) ∷ []
+
+abbrev pub grevlexLeads : List (List ℕ)
+grevlexLeads = (0 ∷ 0 ∷ 2 ∷ []) ∷ (0 ∷ 1 ∷ 1 ∷ []) ∷ (0 ∷ 2 ∷ 0 ∷ []) ∷ (1 ∷ 1 ∷ 0 ∷ []) ∷ (2 ∷ 0 ∷ 0 ∷ []) ∷ []
+
+abbrev pub grevlexRows : List (List ℕ)
+grevlexRows = (0 ∷ 2 ∷ 0 ∷ 0 ∷ 0 ∷ []) ∷ (0 ∷ 0 ∷ 0 ∷ 0 ∷ 0 ∷ []) ∷ (0 ∷ 0 ∷ 2 ∷ 1 ∷ 2 ∷ []) ∷ (0 ∷ 0 ∷ 0 ∷ 1 ∷ 2 ∷ []) ∷ (0 ∷ 0 ∷ 0 ∷ 2 ∷ 0 ∷ []) ∷ []
+
+unfoldable pub orderExamples : List Example
+orderExamples =
+    basis 3 3 (0 ∷ []) B lexStandard lexLeads lexRows ∷ basis 3 3 (1 ∷ []) B grlexStandard grlexLeads grlexRows
+    ∷ basis 3 3 (2 ∷ []) B grevlexStandard grevlexLeads grevlexRows ∷ []
+
+-- And docs/SCOPE.md, 'Cancellations' (request M-105): what the examination of points finds, and the cancellations that it counts.
 pub record Examined (s : Settings) (S standard leads : List (List ℕ)) (count : ℕ) : Type 0 where
   pub standard-are : map (λ a. a .0) (examinedAll (spaceUnder s) (pointsUnder s S) .standard) ≡ standard
   pub leads-are : map (λ a. a .0) (examinedAll (spaceUnder s) (pointsUnder s S) .leads) ≡ leads
