@@ -19,11 +19,13 @@ use Rattle.specification.specs.Basis.{IsBasis}
 use Rattle.specification.specs.BasisOf.{remainderOf, interpolantOf, valueAt}
 use Rattle.specification.specs.Instance.{pointOf}
 use Rattle.specification.specs.Counted.{Counted, pointsOf, countsOf, entered, lowered, gathered, overfull, countOf, timesIn}
-use Rattle.specification.specs.Tables.{Tables, spaceUnder, pointsUnder, standardUnder, leadsUnder, rowsUnder, rowCount, tablesOf, written, tooShort, pointsIn, heldIn, recognised}
+use Rattle.specification.specs.Tables.{Tables, spaceUnder, pointsUnder, standardUnder, leadsUnder, rowsUnder, rowCount, tablesOf, written, tooShort}
+use Rattle.specification.specs.Tables.{pointsIn, heldIn, recognised}
 use Rattle.specification.specs.Adding.{Outcome, holding, byRefusal, pointsOffered, addOutcome, drawCases, drawRefusal, drawOutcome}
 use Rattle.specification.specs.Withdrawing.{withdrawOutcome}
 use Rattle.specification.specs.Reference.{Operation, adding, withdrawing, outcomeOf, refusalOf, referenceAnswer, listAfter}
-use Rattle.specification.specs.Solving.{checkRefusal, filling, valuesCases, interpolantIn, interpolateOutcome, polynomialUnder, remainderCases, remainderIn, remainderOutcome}
+use Rattle.specification.specs.Solving.{checkRefusal, filling, valuesCases, interpolantIn, interpolateOutcome, polynomialUnder, remainderCases}
+use Rattle.specification.specs.Solving.{remainderIn, remainderOutcome}
 use Rattle.specification.specs.Agreement.{Remains}
 use Rattle.specification.specs.CallByCall.{HoldsBasis, Interpolates, Costs}
 use Rattle.residue.proofs.Tests.{of-true, neither}
@@ -38,7 +40,7 @@ use Rattle.specification.specs.Settings.{Accepted}
 use Rattle.specification.proofs.agreement.Refusals.{accepted, over-begins, written-held, written-recognised}
 use Rattle.specification.proofs.agreement.Operations.{lawful}
 use Rattle.specification.proofs.agreement.Run.{number-of, same-tables}
-use Rattle.specification.proofs.agreement.Drawings.{laws-under, among-under, distinct-points, few-rows}
+use Rattle.specification.proofs.agreement.Drawings.{laws-under, among-under, distinct-points, few-rows, most-rows}
 use Rattle.specification.proofs.cancellations.Under.{costs}
 use Rattle.specification.proofs.Recognised.{none-of, offered, is-read, read, Parts, recognised-parts}
 
@@ -64,6 +66,7 @@ module _ (s : Settings) (ok : Accepted s) (L : Counted) (h : Entries s L) where
     tables = et;
     few-points = omega (arith, length-map L (λ q. q .0), h .points .few);
     few-rows = few-rows s ok S (h .points);
+    most-rows = rw (er, en ∙ sym (length-map L (λ q. q .0))) (most-rows s ok S (h .points));
   }
     where
       is : IsBasis (spaceUnder s) (pointsUnder s S) (standardUnder s S) (leadsUnder s S) (rowsUnder s S)

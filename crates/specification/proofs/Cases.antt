@@ -2,6 +2,7 @@
 use mathlib.Core.Path.{_≡_, refl, sym, _∙_}
 use mathlib.Core.Bool.{Bool, true, false, not, _&&_}
 use mathlib.Core.List.{List, [], _∷_, _++_}
+use mathlib.Core.Logic.{_≢_}
 use Prim.Native.Nat.{ℕ, _*_, _/_, _%_}
 use native.Mathlib.Decide.{ℕ-discrete}
 use native.Mathlib.Omega.{arith}
@@ -39,6 +40,14 @@ unfolding firstOf
 first-on [] r n = refl
 first-on ((true, k) ∷ l) r n = absurd (let z : _≡_ {A = ℕ} 0 1 = cc in omega arith)
 first-on ((false, k) ∷ l) r n = first-on l r (n .1)
+
+-- a last case whose number is not given does not matter
+pub but-last : (l : List Case) (b : Bool) (k : ℕ) → firstOf 0 (l ++ ((b, k) ∷ [])) ≢ k → firstOf 0 (l ++ ((b, k) ∷ [])) ≡ firstOf 0 l
+unfolding firstOf
+but-last [] true k n = absurd (n refl)
+but-last [] false k n = refl
+but-last ((true, j) ∷ l) b k n = refl
+but-last ((false, j) ∷ l) b k n = but-last l b k n
 
 -- the refusals on numbers, each test by what it comes to
 pub sizes-are : (l : List Case) {a b c a′ b′ c′ : Bool} → a ≡ a′ → b ≡ b′ → c ≡ c′

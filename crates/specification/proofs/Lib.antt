@@ -14,5 +14,7 @@ pub mod CallByCall
 pub mod Withdrawing
 pub mod Replicates
 pub mod Numbers
+pub mod Capacity
+pub mod Records
 pub mod Examples
 pub mod OrderExamples

@@ -4,4 +4,5 @@ pub mod Gathered
 pub mod Lowered
 pub mod Held
 pub mod Room
+pub mod Once
 pub mod Saturated

@@ -3,7 +3,7 @@ use mathlib.Core.Path.{_≡_}
 use mathlib.Core.Bool.{false}
 use mathlib.Core.List.{List, [], zip}
 use mathlib.Core.Logic.{_↔_}
-use Prim.Native.Nat.{ℕ, suc, _-_, _%_, _≤_}
+use Prim.Native.Nat.{ℕ, suc, _+_, _*_, _-_, _%_, _≤_}
 use lib.IntN.{ℤ}
 use lib.ListN.{length, take}
 use lib.Dec.{T}
@@ -110,6 +110,7 @@ pub record Agrees (s : Settings) (start : Tables) (es : List Event) (L : Counted
   pub few-points : length L ≤ 64
   pub few-replicates : T (every isCount (countsOf L))
   pub few-rows : rowCount s (pointsOf L) ≤ 449
+  pub most-rows : h .r ≤ 1 + h .n * (s .variables - 1)
   -- every drawing up of its points that returns 0; every drawing up of its points with its counts into tables none of which is shorter than its size
   pub drawn : (t : Tables) (levels : List ℤ) → SameSet s L levels → drawOutcome s t levels .answer .refusal ≡ 0 → SameAs s h (drawOutcome s t levels)
   pub arranged : (t : Tables) (levels : List ℤ) → tooShort t ≡ false → Arranges s L levels → SameCounts s h (drawOutcome s t levels)

@@ -2,7 +2,7 @@
 use mathlib.Core.Path.{_≡_}
 use mathlib.Core.List.{List, map}
 use Prim.Native.Nat.{ℕ, suc, _+_, _*_, _-_, _≤_, _<_}
-use lib.IntN.{ℤ}
+use lib.IntN.{ℤ, pos}
 use lib.ListN.{length, getD, set}
 use lib.Dec.{T}
 use Rattle.residue.specs.Lists.{every}
@@ -10,7 +10,7 @@ use Rattle.residue.specs.Congruence.{Mod}
 use Rattle.specification.specs.declared.settings.Settings.{Settings}
 use Rattle.specification.specs.Levels.{residues}
 use Rattle.specification.specs.Counted.{Counted, pointsOf, countsOf, isCount}
-use Rattle.residue.specs.Layout.{fill, over}
+use Rattle.residue.specs.Layout.{fill, inPlaces, over}
 use Rattle.specification.specs.Polynomial.{eval, Distinct, terms}
 use Rattle.specification.specs.Basis.{IsBasis, Fits}
 use Rattle.specification.specs.Ideal.{rowPolynomials, ReducedGroebner}
@@ -18,8 +18,9 @@ use Rattle.specification.specs.BasisOf.{valueAt}
 use Rattle.specification.specs.Cancellations.{Found}
 use Rattle.specification.specs.Examination.{Examination}
 use Rattle.specification.specs.Instance.{Point}
-use Rattle.specification.specs.Adding.{Outcome}
+use Rattle.specification.specs.Adding.{Outcome, DrawOutcome}
 use Rattle.specification.specs.Tables.{Tables, fiveTables, spaceUnder, pointsUnder, standardUnder, leadsUnder, rowsUnder, rowCount, tablesOf, written}
+use Rattle.specification.specs.Tables.{countsSize}
 
 -- n, r and the tables at exit are the basis of the points of L by definition with their counts, laid out in the sizes of the lent tables.
 pub record HoldsBasis (s : Settings) (L : Counted) (lent : Tables) (n r : ℕ) (end : Tables) : Type 0 where
@@ -37,6 +38,8 @@ pub record HoldsBasis (s : Settings) (L : Counted) (lent : Tables) (n r : ℕ) (
   pub tables : end ≡ written (tablesOf s L) lent
   pub few-points : length L ≤ 64
   pub few-rows : rowCount s (pointsOf L) ≤ 449
+  -- 'The number r of rows is 1 + n(m-1) at most'
+  pub most-rows : r ≤ 1 + n * (s .variables - 1)
 
 -- The buffer holds 'the interpolant of n values (as levels, in state order)' over the standard monomials: it has the i-th value at the i-th point.
 pub record Interpolates (s : Settings) (S : List (List ℕ)) (values : List ℤ) (buffer end : List ℕ) : Type 0 where
@@ -58,6 +61,15 @@ pub record Costs (s : Settings) (S : List (List ℕ)) (cancellations : ℕ) : Ty
   pub standard : found .standard ≡ standardUnder s S
   pub leads : found .leads ≡ leadsUnder s S
   pub most : cancellations ≤ length S * (length S * s .variables + 1)
+
+-- Points as levels that offer them: their residues, one point after the other, as misqafur_pack_levels (include/misqafur.h) has them.
+unfoldable pub levelsOf : Settings → List (List ℕ) → List ℤ
+levelsOf s K = map pos (inPlaces (s .variables) K)
+
+-- Counts written over those of a drawing up, and nothing else.
+unfoldable pub counting : List ℕ → DrawOutcome → DrawOutcome
+counting c o = let t = o .tables in
+    record { answer = o .answer; tables = fiveTables (t .states) (t .standard) (t .leads) (t .coefficients) (over (fill countsSize c) (t .counts)) }
 
 -- A replicate, request M-106: the sheet of n and r in the tables t, of whose counts the i-th is now k, and nothing else has changed.
 unfoldable pub recounted : ℕ → ℕ → Tables → ℕ → ℕ → Outcome

@@ -14,7 +14,8 @@ use Rattle.specification.specs.Settings.{Accepted, settingsCases}
 use Rattle.specification.specs.Polynomial.{Distinct}
 use Rattle.specification.specs.BasisOf.{basisOf}
 use Rattle.specification.specs.Counted.{Counted, pointsOf}
-use Rattle.specification.specs.Tables.{Tables, spaceUnder, pointsUnder, rowCount, statesTable, standardTable, leadsTable, coefficientsTable, tablesOf, written, pointsIn, heldIn}
+use Rattle.specification.specs.Tables.{Tables, spaceUnder, pointsUnder, rowCount, statesTable, standardTable, leadsTable, coefficientsTable, tablesOf}
+use Rattle.specification.specs.Tables.{written, pointsIn, heldIn}
 use Rattle.specification.specs.Tables.{statesSize, standardSize, leadsSize, coefficientsSize, countsSize}
 use Rattle.specification.specs.Solving.{interpolateOutcome, remainderOutcome, wiringOutcome}
 use Rattle.specification.specs.Reference.{Event, Held, numbers, heldAtEnd, referenceAtEnd, due, Refuses}
@@ -25,7 +26,7 @@ use Rattle.specification.proofs.counted.Gathered.{no-entries}
 use Rattle.specification.proofs.counted.Held.{points-held}
 use Rattle.specification.proofs.agreement.Refusals.{accepted, Large, large-of, over-begins}
 use Rattle.specification.proofs.agreement.Run.{same-tables, At, held-list, run}
-use Rattle.specification.proofs.agreement.Drawings.{laws-under, distinct-points, standard-count, few-rows}
+use Rattle.specification.proofs.agreement.Drawings.{laws-under, distinct-points, standard-count, few-rows, most-rows}
 use Rattle.specification.proofs.agreement.Handed.{number-told}
 use Rattle.specification.proofs.agreement.Arrangements.{drawn-same, arranged-same}
 use Rattle.specification.proofs.CallByCall.{drawn-points, drawn-number, interpolate-leaves, remainder-leaves}
@@ -79,6 +80,7 @@ agreement s fine start fresh es refuses = record {
   few-points = omega (arith, length-map L (λ q. q .0), at .entries .points .few);
   few-replicates = at .entries .counts;
   few-rows = few-rows s good S (at .entries .points);
+  most-rows = rw (at .rows, at .count ∙ sym (length-map L (λ q. q .0))) (most-rows s good S (at .entries .points));
   drawn = λ t levels same zero. let k = sym (drawn-number s t levels) ∙ zero in let o = drawn-points s t levels k in
       drawn-same s good fine L (at .entries) levels same (o .small) start big h (at .count) (at .rows) (at .tables) t (large-of t (o .large)) k;
   arranged = λ t levels short a. arranged-same s good fine L (at .entries) levels a start big h (at .count) (at .rows) (at .tables) t short;

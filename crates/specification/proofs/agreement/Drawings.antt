@@ -4,7 +4,7 @@ use mathlib.Core.Bool.{true}
 use mathlib.Core.List.{List, [], _∷_, zipWith, zip}
 use mathlib.Core.Logic.{inl, inr, _≢_}
 use Prim.Native.Nat.{ℕ, suc, _+_, _-_, _*_, _≤_}
-use native.Mathlib.Nat.{mul-le-mul-left}
+use native.Mathlib.Nat.{mul-le-mul-left, mul-suc}
 use native.Mathlib.Omega.{arith}
 use lib.IntN.{ℤ}
 use lib.ListN.{length, length-map}
@@ -76,13 +76,20 @@ module _ (s : Settings) (ok : Accepted s) where
   standard-count K d = standard-length (spaceUnder s) laws-under (pointsUnder s K) d ∙ length-map K pt
 
   -- at most 1 + n(m-1) rows, so at most 449
-  pub few-rows : (K : List (List ℕ)) → Points s K → rowCount s K ≤ 449
+  pub most-rows : (K : List (List ℕ)) → Points s K → rowCount s K ≤ 1 + length K * (s .variables - 1)
   unfolding rowCount
-  few-rows K h = bound (length (leadsUnder s K)) (length K) (s .variables) (h .few) (ok .few)
-      (subst (λ (n : ℕ). length (leadsUnder s K) + n ≤ 1 + n * s .variables) (length-map K pt) (leads-length (spaceUnder s) laws-under (pointsUnder s K) (distinct-points K h)))
+  most-rows K h = bound (length (leadsUnder s K)) (length K) (s .variables) (ok .some)
+      (subst (λ (n : ℕ). length (leadsUnder s K) + n ≤ 1 + n * s .variables) (length-map K pt)
+      (leads-length (spaceUnder s) laws-under (pointsUnder s K) (distinct-points K h)))
     where
-      bound : (r n m : ℕ) → n ≤ 64 → m ≤ 8 → r + n ≤ 1 + n * m → r ≤ 449
-      bound r n m a b c = let k : n * m ≤ n * 8 = mul-le-mul-left n b in omega arith
+      bound : (r n m : ℕ) → 1 ≤ m → r + n ≤ 1 + n * m → r ≤ 1 + n * (m - 1)
+      bound r n (suc m) a c = let d : suc m - 1 ≡ m = omega arith in rw d (omega (arith, mul-suc n m))
+
+  pub few-rows : (K : List (List ℕ)) → Points s K → rowCount s K ≤ 449
+  few-rows K h = bound (rowCount s K) (length K) (s .variables) (h .few) (ok .few) (most-rows K h)
+    where
+      bound : (r n m : ℕ) → n ≤ 64 → m ≤ 8 → r ≤ 1 + n * (m - 1) → r ≤ 449
+      bound r n m a b c = let k : n * (m - 1) ≤ n * 7 = mul-le-mul-left n (omega arith) in omega arith
 
   -- Another arrangement of the same points.
   module _ (L K : List (List ℕ)) (dL : Distinct (spaceUnder s) (pointsUnder s L)) (dK : Distinct (spaceUnder s) (pointsUnder s K)) (to : (P : List ℕ) → Among P K → Among P L) (from : (P : List ℕ) → Among P L → Among P K) where

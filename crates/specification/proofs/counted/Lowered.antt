@@ -1,5 +1,5 @@
 -- The points that are left when one is lowered: where its count was 1, it is gone.
-use mathlib.Core.Path.{_≡_, refl}
+use mathlib.Core.Path.{_≡_, refl, ap}
 use mathlib.Core.Logic.{inl, inr}
 use mathlib.Core.Bool.{Bool, true, false, cond}
 use mathlib.Core.List.{List, [], _∷_}
@@ -7,12 +7,12 @@ use Prim.Native.Nat.{ℕ, suc, _-_, _≤_}
 use native.Mathlib.Omega.{arith}
 use lib.ListN.{length}
 use lib.Dec.{T, eqb, leb}
-use borrow.Author.Tests.{eqb-false, le-leb, leb-true}
+use borrow.Author.Tests.{eq-eqb, eqb-false, le-leb, leb-true}
 use Rattle.residue.specs.Lists.{Among, every, sameList}
 use Rattle.residue.proofs.Tests.{of-true, true-of, and-left, and-right, and-both}
 use Rattle.specification.specs.declared.settings.Settings.{Settings}
 use Rattle.specification.specs.Levels.{noRepeat}
-use Rattle.specification.specs.Counted.{Counted, pointsOf, countsOf, isCount, lowered}
+use Rattle.specification.specs.Counted.{Counted, pointsOf, countsOf, isCount, lowered, countOf}
 use Rattle.specification.proofs.agreement.Points.{once-of, of-once}
 use Rattle.specification.proofs.counted.Gathered.{Entries}
 
@@ -47,6 +47,17 @@ module _ (P : List ℕ) where
       go true true f = omega arith
       go true false f = omega arith
       go false c f = omega arith
+
+  -- a point whose count was 1 is gone
+  pub left-one : (L : Counted) → countOf P L ≡ 1 → suc (length (lowered P L)) ≡ length L
+  unfolding lowered countOf
+  left-one [] e = absurd (omega arith)
+  left-one (q ∷ L) e = go (sameList P (q .0)) e (λ f. left-one L f)
+    where
+      go : (b : Bool) → cond b (q .1) (countOf P L) ≡ 1 → (countOf P L ≡ 1 → suc (length (lowered P L)) ≡ length L)
+          → suc (length (cond b (cond (eqb (q .1 - 1) 0) L ((q .0, q .1 - 1) ∷ L)) (q ∷ lowered P L))) ≡ suc (length L)
+      go true e f = rw (eq-eqb (q .1 - 1) 0 (omega arith)) refl
+      go false e f = ap suc (f e)
 
   -- a count that is lowered and not 0 is still one
   still : (k : ℕ) → T (isCount k) → eqb (k - 1) 0 ≡ false → T (isCount (k - 1))

@@ -1,39 +1,43 @@
--- The wiring call whose number is 0: what it leaves, that no order matters to it, and that its variables occur in the interpolant.
+-- The wiring call: what it leaves where its number is 0, that its variables then occur in the interpolant, and that no order matters to it.
 use mathlib.Core.Path.{_≡_, refl, sym, _∙_, ap, ap₂, subst}
-use mathlib.Core.Logic.{inl, inr, _↔_}
-use mathlib.Core.List.{List, _∷_, map, zip}
-use Prim.Native.Nat.{ℕ, suc, _-_, _%_}
+use mathlib.Core.Logic.{inl, inr, _↔_, _≢_}
+use mathlib.Core.Bool.{not, _||_}
+use mathlib.Core.List.{List, [], _∷_, _++_, map, zip}
+use Prim.Native.Nat.{ℕ, suc, _-_, _%_, _≤_}
 use native.Mathlib.Nat.{suc-inj}
+use native.Mathlib.Decide.{ℕ-discrete}
 use native.Mathlib.Omega.{arith}
 use lib.IntN.{ℤ}
 use lib.ListN.{length, length-map}
-use lib.Dec.{T}
-use borrow.Author.Tests.{eqb-true, ltb-false, not-false}
+use lib.Dec.{T, eqb, ltb}
+use borrow.Author.Tests.{eqb-true, ne-eqb, le-ltb, ltb-false, not-false}
 use Rattle.residue.specs.Lists.{Among}
 use Rattle.residue.specs.Layout.{fill, over}
 use Rattle.residue.proofs.level.Moduli.{modulus-range}
 use Rattle.residue.proofs.Tests.{of-true}
 use Rattle.monomial.specs.Order.{orderOf}
 use Rattle.specification.specs.declared.settings.Settings.{Settings}
-use Rattle.specification.specs.Refusal.{firstOf}
+use Rattle.specification.specs.Refusal.{Case, firstOf}
 use Rattle.specification.specs.Levels.{inRange, residues}
 use Rattle.specification.specs.Basis.{Fits}
 use Rattle.specification.specs.BasisOf.{valueAt}
 use Rattle.specification.specs.Instance.{Point}
-use Rattle.specification.specs.Tables.{Tables, spaceUnder, pointsUnder, standardUnder, pointsIn, heldIn, recognised}
+use Rattle.specification.specs.Tables.{Tables, tooShort, spaceUnder, pointsUnder, standardUnder, pointsIn, heldIn, recognised}
 use Rattle.specification.specs.Needed.{Needed, wiringOf, Names, occurs}
 use Rattle.specification.specs.Solving.{valuesCases, Listed, listing, wiringOutcome}
 use Rattle.specification.specs.Agreement.{SameValues, Wires}
 use Rattle.specification.specs.CallByCall.{HoldsBasis}
 use Rattle.specification.proofs.Instance.{point-of as point-read}
+use Rattle.specification.proofs.Cases.{but-last}
 use Rattle.specification.proofs.Recognised.{none-of}
 use Rattle.specification.proofs.CallByCall.{same-points, known-points, known-basis}
 use Rattle.specification.proofs.Wiring.{names-length, list-accepted}
 use Rattle.specification.specs.Points.{Points}
 use Rattle.specification.proofs.agreement.Points.{read-count, residues-same, length-residues}
-use Rattle.specification.specs.Settings.{Accepted}
+use Rattle.specification.specs.Settings.{Accepted, settingsCases}
 use Rattle.specification.proofs.agreement.Refusals.{accepted}
-use Rattle.specification.proofs.agreement.Values.{value-of, level-there}
+use Rattle.specification.proofs.agreement.Values.{value-of, level-there, same-range}
+use Rattle.specification.proofs.agreement.Handed.{same-listing}
 use Rattle.specification.proofs.agreement.Drawings.{distinct-points, value-told}
 use Rattle.specification.proofs.needed.Pairs.{Valued, wiring-needed}
 use Rattle.specification.proofs.needed.Arranged.{wiring-arranged}
@@ -124,19 +128,51 @@ module _ (s : Settings) (n r : ℕ) (t : Tables) (values : List ℤ) (buffer : L
         needed-occurs (s .modulus - 1) (s .variables) (orderOf (s .order)) k pts φ
         (subst (Needed (suc (s .modulus - 1)) (s .variables) pts φ) (sym (suc-inj (w .1))) (w .3)) cs (standardUnder s S) (fits .values)
 
--- Request M-107: 'The order no longer matters'. Two calls whose number is 0 under settings that differ in the order alone, over the same points in any
--- order, with values that are equal at each: one outcome.
-pub wiring-any-order : (s s′ : Settings) → s .modulus ≡ s′ .modulus → s .variables ≡ s′ .variables → (n r n′ r′ : ℕ) (t t′ : Tables) (v w : List ℤ) (buffer : List ℕ)
-    → wiringOutcome s n r t v buffer .answer .refusal ≡ 0 → wiringOutcome s′ n′ r′ t′ w buffer .answer .refusal ≡ 0
-    → ((P : List ℕ) → Among P (pointsIn s n (t .states)) ↔ Among P (pointsIn s′ n′ (t′ .states)))
-    → SameValues s (pointsIn s n (t .states)) (pointsIn s′ n′ (t′ .states)) v w
-    → wiringOutcome s n r t v buffer ≡ wiringOutcome s′ n′ r′ t′ w buffer
-unfolding wiringOutcome listing
-wiring-any-order s s′ p m n r n′ r′ t t′ v w buffer e e′ members same =
-    let K = pointsIn s n (t .states) in
-    let L = pointsIn s′ n′ (t′ .states) in
-    let one = wiring-arranged s K L v w (stands s n r t v buffer e .long) (stands s′ n′ r′ t′ w buffer e′ .long) (λ P. members P .0) (λ P. members P .1) same (s .variables)
-    ∙ ap₂ (λ (i j : ℕ). wiringOf i L (residues j w)) m p in
-    ap (λ (k : ℕ). listing k (wiringOf (s .variables) K (residues (s .modulus) v)) buffer) e
-    ∙ ap (λ (l : List ℕ). listing 0 l buffer) one
-    ∙ sym (ap (λ (k : ℕ). listing k (wiringOf (s′ .variables) L (residues (s′ .modulus) w)) buffer) e′)
+-- Request M-107: 'The order no longer matters'. Two calls under settings that differ in the order alone, over the same points in any order, with values that
+-- are equal at each: where neither is refused with 10, which looks at the tables of its own order, they have one outcome, be it a refusal. They claim one n,
+-- and their tables are long enough both or neither.
+module _ (s s′ : Settings) (p : s .modulus ≡ s′ .modulus) (m : s .variables ≡ s′ .variables) (low : s .order ≤ 2) (low′ : s′ .order ≤ 2) where
+  module _ (n : ℕ) (t t′ : Tables) (large : tooShort t ≡ tooShort t′) (v w : List ℤ) (buffer : List ℕ) where
+    abbrev here : List (List ℕ)
+    here = pointsIn s n (t .states)
+
+    abbrev there : List (List ℕ)
+    there = pointsIn s′ n (t′ .states)
+
+    module _ (members : (P : List ℕ) → Among P here ↔ Among P there) (same : SameValues s here there v w) where
+      -- the cases before 10
+      abbrev cases-before : Settings → Tables → List ℤ → List Case
+      cases-before u x y = settingsCases u
+          ++ ((tooShort x || ltb (length buffer) 8, 6) ∷ (not (eqb (length y) n), 7) ∷ (ltb 64 n, 8) ∷ (not (inRange (u .modulus) y), 9) ∷ [])
+
+      -- as many values as points
+      many-here : length w ≡ n → length v ≡ length here
+      many-here e = same .count ∙ e ∙ sym (read-count s n (t .states))
+
+      many-there : length w ≡ n → length w ≡ length there
+      many-there e = e ∙ sym (read-count s′ n (t′ .states))
+
+      one-number : firstOf 0 (cases-before s t v) ≡ firstOf 0 (cases-before s′ t′ w)
+      unfolding settingsCases firstOf
+      one-number = go (ℕ-discrete (length w) n)
+        where
+          go : Dec (length w ≡ n) → firstOf 0 (cases-before s t v) ≡ firstOf 0 (cases-before s′ t′ w)
+          go (yes e) =
+              let range = same-range s here there v w (many-here e) (many-there e) (λ P. members P .0) (λ P. members P .1) same in
+              rw (range, p, m, le-ltb 2 (s .order) low, le-ltb 2 (s′ .order) low′, large, same .count)
+          go (no e) = rw (same .count, ne-eqb (length w) n e, p, m, le-ltb 2 (s .order) low, le-ltb 2 (s′ .order) low′, large)
+
+      pub wiring-any-order : (r r′ : ℕ) → wiringOutcome s n r t v buffer .answer .refusal ≢ 10 → wiringOutcome s′ n r′ t′ w buffer .answer .refusal ≢ 10
+          → wiringOutcome s n r t v buffer ≡ wiringOutcome s′ n r′ t′ w buffer
+      unfolding wiringOutcome listing valuesCases settingsCases
+      wiring-any-order r r′ x x′ =
+          let k = but-last (cases-before s t v) (not (recognised s n r t)) 10 x ∙ one-number in
+          ap (λ (j : ℕ). listing j (wiringOf (s .variables) here (residues (s .modulus) v)) buffer) k
+          ∙ same-listing (firstOf 0 (cases-before s′ t′ w)) _ _ buffer (λ z. let e = many z in
+          wiring-arranged s here there v w (many-here e) (many-there e) (λ P. members P .0) (λ P. members P .1) same (s .variables)
+          ∙ ap₂ (λ (i j : ℕ). wiringOf i there (residues j w)) m p)
+          ∙ ap (λ (j : ℕ). listing j (wiringOf (s′ .variables) there (residues (s′ .modulus) w)) buffer)
+          (sym (but-last (cases-before s′ t′ w) (not (recognised s′ n r′ t′)) 10 x′))
+        where
+          many : firstOf 0 (cases-before s′ t′ w) ≡ 0 → length w ≡ n
+          many z = eqb-true (length w) n (not-false _ (none-of s′ _ tt z .1 .1 .0))
