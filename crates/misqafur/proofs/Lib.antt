@@ -1,2 +1,5 @@
 -- The lemmas of the crate misqafur.
 pub mod Packed
+pub mod Unpacked
+pub mod ReadBack
+pub mod Bytes
