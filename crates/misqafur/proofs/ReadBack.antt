@@ -8,14 +8,14 @@ use Prim.Native.Nat.{ℕ, suc, _≤_}
 use native.Mathlib.Omega.{arith}
 use native.Mathlib.Decide.{ℕ-discrete}
 use lib.ListN.{length}
-use lib.Dec.{T, eqb, leb, ltb, leb→le}
+use lib.Dec.{eqb, leb, ltb, leb→le}
 use borrow.Author.Tests.{eqb-true, eq-eqb, ne-eqb, not-false}
-use Rattle.residue.specs.Lists.{every}
 use Rattle.residue.specs.Modulus.{isModulus}
 use Rattle.residue.proofs.level.Moduli.{modulus-range}
-use Rattle.residue.proofs.Tests.{of-true, and-left, and-right}
+use Rattle.residue.proofs.Tests.{of-true, and-right}
 use Rattle.specification.specs.Refusal.{firstOf}
 use Rattle.specification.specs.Counted.{enteredAll, gathered}
+use Rattle.specification.proofs.Numbers.{at-most}
 use Rattle.notation.specs.Fields.{recordsOf}
 use Rattle.notation.specs.Forms.{Header}
 use Rattle.csv.specs.declared.reading.Refusal.{Refusal}
@@ -28,15 +28,7 @@ use Rattle.csv.proofs.reading.FirstValues.{few-points}
 use Rattle.csv.proofs.reading.AcceptedPoints.{in-small, or-small}
 use Rattle.csv.proofs.reading.WholeText.{text-never-eleven}
 use Rattle.misqafur.specs.Packing.{packed, packedRead}
-use Rattle.misqafur.specs.Unpacking.{refusalFrom, pointsFrom, recordFrom, modulusFrom, variablesFrom, orderFrom}
-
--- numbers that no case exceeds
-at-most : {A : Type 0} (number : A → ℕ) (k : ℕ) (none : A) (l : List (Bool × A)) → number none ≤ k
-    → T (every (λ c. leb (number (c .1)) k) l) → number (firstOf none l) ≤ k
-unfolding firstOf
-at-most number k none [] z t = z
-at-most number k none ((true, a) ∷ l) z t = leb→le (number a) k (and-left (leb (number a) k) _ t)
-at-most number k none ((false, a) ∷ l) z t = at-most number k none l z (and-right (leb (number a) k) _ t)
+use Rattle.misqafur.specs.Unpacking.{refusalFrom, pointsFrom, faultFrom, modulusFrom, variablesFrom, orderFrom}
 
 -- the parts of an answer that is not refused, each within a byte
 settings-back : (n p m o : ℕ) → n ≤ 255 → p ≤ 255 → m ≤ 255 → o ≤ 255 → let k = packed (0 ∷ n ∷ p ∷ m ∷ o ∷ []) in
@@ -45,8 +37,8 @@ unfolding refusalFrom pointsFrom modulusFrom variablesFrom orderFrom
 settings-back n p m o a b c d = (omega arith, omega arith, omega arith, omega arith, omega arith)
 
 -- and of one that is
-record-back : (a b : ℕ) → a ≤ 255 → (refusalFrom (packed (a ∷ b ∷ [])) ≡ a) × (recordFrom (packed (a ∷ b ∷ [])) ≡ b)
-unfolding refusalFrom recordFrom
+record-back : (a b : ℕ) → a ≤ 255 → (refusalFrom (packed (a ∷ b ∷ [])) ≡ a) × (faultFrom (packed (a ∷ b ∷ [])) ≡ b)
+unfolding refusalFrom faultFrom
 record-back a b h = (omega arith, omega arith)
 
 module _ (text states values counts : List ℕ) where
@@ -130,7 +122,7 @@ module _ (text states values counts : List ℕ) where
           parts-back z .0 ∙ sym z
       go false e = record-back (r .refusal) (r .at) (omega (arith, refusal-few)) .0
 
-  pub read-record : r .refusal ≢ 0 → recordFrom (packedRead r) ≡ r .at
+  pub read-record : r .refusal ≢ 0 → faultFrom (packedRead r) ≡ r .at
   read-record n = rw (ne-eqb (r .refusal) 0 n) (record-back (r .refusal) (r .at) (omega (arith, refusal-few)) .1)
 
   pub read-settings : r .refusal ≡ 0 → let k = packedRead r in

@@ -27,7 +27,7 @@ use Rattle.specification.proofs.Numbers.{few-numbers, never-eleven, refused-alo
 use Rattle.specification.proofs.CallByCall.{drawn-number, drawn-points, draw-leaves, draw-costs, operation-leaves}
 use Rattle.specification.proofs.agreement.Claim.{agreement}
 use Rattle.misqafur.specs.Packing.{packed, packedAnswer, packedDrawn, packedOutcome, packedDrawing, packedList}
-use Rattle.misqafur.specs.Unpacking.{refusalFrom, pointsFrom, elementsFrom, cancellationsFrom, countFrom, returned, partsFrom, kept, keptAfter}
+use Rattle.misqafur.specs.Unpacking.{refusalFrom, pointsFrom, elementsFrom, cancellationsFrom, countFrom, returned, partsFrom, sheetKept, keptAfter}
 use Rattle.misqafur.specs.Unpacking.{refusalsRead, keptAtEnd}
 
 -- Parts within a byte, or two, are read back from the number that holds them.
@@ -148,8 +148,8 @@ pub export-never-eleven : (c : Call) → refusalFrom (returned c) ≢ 11
 export-never-eleven c e = never-eleven c (sym (refusal-read c) ∙ e)
 
 -- A host that keeps what it reads holds what the list of calls holds, and reads the numbers of the list.
-kept-as : (h : Held) (o : Operation) (s : Settings) (n r : ℕ) (t : Tables) → kept h (packedOutcome (outcomeOf o s n r t)) ≡ keeping h (outcomeOf o s n r t)
-unfolding kept keeping packedOutcome
+kept-as : (h : Held) (o : Operation) (s : Settings) (n r : ℕ) (t : Tables) → sheetKept h (packedOutcome (outcomeOf o s n r t)) ≡ keeping h (outcomeOf o s n r t)
+unfolding sheetKept keeping packedOutcome
 kept-as h o s n r t = let p = answer-read o s n r t in rw (p .0, p .1, p .2)
 
 pub kept-after : (s : Settings) (h : Held) (e : Event) → keptAfter s h e ≡ heldAfter s h e

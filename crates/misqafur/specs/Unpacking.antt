@@ -31,8 +31,8 @@ unfoldable pub countFrom : ℕ → ℕ
 countFrom a = a / 256
 
 -- misqafur_read_record: answer >> 8
-unfoldable pub recordFrom : ℕ → ℕ
-recordFrom a = a / 256
+unfoldable pub faultFrom : ℕ → ℕ
+faultFrom a = a / 256
 
 -- misqafur_read_modulus: (answer >> 16) & 255
 unfoldable pub modulusFrom : ℕ → ℕ
@@ -64,14 +64,14 @@ partsFrom (handed (dividing coefficients exponents buffer) s n r t) a = []
 partsFrom (handed (wiring values buffer) s n r t) a = countFrom a ∷ []
 
 -- misqafur_sheet_keep: what a host holds after a call of adding or withdrawing
-unfoldable pub kept : Held → Left → Held
-kept h l =
+unfoldable pub sheetKept : Held → Left → Held
+sheetKept h l =
     cond (eqb (refusalFrom (l .number)) 0) (record { n = pointsFrom (l .number); r = elementsFrom (l .number); tables = l .tables })
     (record { n = h .n; r = h .r; tables = l .tables })
 
 -- A list of calls (specs/Reference) through the exports: the refusals that C reads, and what it holds at the end. Of an interposed call it keeps nothing.
 unfoldable pub keptAfter : Settings → Held → Event → Held
-keptAfter s h (own o) = kept h (packedOutcome (outcomeAt s h (own o)))
+keptAfter s h (own o) = sheetKept h (packedOutcome (outcomeAt s h (own o)))
 keptAfter s h (interposed u n r a b c d e o) = heldAfter s h (interposed u n r a b c d e o)
 
 unfoldable pub refusalsRead : Settings → Held → List Event → List ℕ

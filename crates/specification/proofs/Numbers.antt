@@ -34,6 +34,14 @@ never number k none [] z t e = z e
 never number k none ((true, a) ∷ l) z t e = rw (eq-eqb (number a) k e) at (and-left (not (eqb (number a) k)) _ t)
 never number k none ((false, a) ∷ l) z t e = never number k none l z (and-right (not (eqb (number a) k)) _ t) e
 
+-- Numbers that no case exceeds.
+pub at-most : {A : Type 0} (number : A → ℕ) (k : ℕ) (none : A) (l : List (Bool × A)) → number none ≤ k → T (every (λ c. leb (number (c .1)) k) l)
+    → number (firstOf none l) ≤ k
+unfolding firstOf
+at-most number k none [] z t = z
+at-most number k none ((true, a) ∷ l) z t = leb→le (number a) k (and-left (leb (number a) k) _ t)
+at-most number k none ((false, a) ∷ l) z t = at-most number k none l z (and-right (leb (number a) k) _ t)
+
 -- The cases that a call goes through: its number is that of the first that holds.
 abbrev Case-by-case : Call → Type 0
 Case-by-case c = (l : List Case) × (numberOf c ≡ firstOf 0 l) × T (every (λ c. not (eqb (c .1) 11)) l) × T (every (λ c. leb (c .1) 13) l)
@@ -54,13 +62,7 @@ never-eleven c e = let w = cases-of c in never (λ k. k) 11 0 (w .0) (λ z. omeg
 
 -- every number is one of the list of refusals of these calls: 3 to 13, or 0
 pub few-numbers : (c : Call) → numberOf c ≤ 13
-unfolding firstOf
-few-numbers c = let w = cases-of c in rw (w .1) (most (w .0) (w .3))
-  where
-    most : (l : List Case) → T (every (λ c. leb (c .1) 13) l) → firstOf 0 l ≤ 13
-    most [] t = omega arith
-    most ((true, k) ∷ l) t = leb→le k 13 (and-left (leb k 13) _ t)
-    most ((false, k) ∷ l) t = most l (and-right (leb k 13) _ t)
+few-numbers c = let w = cases-of c in rw (w .1) (at-most (λ k. k) 13 0 (w .0) (omega arith) (w .3))
 
 -- A refusal comes alone: the other parts of the answer are 0, and no lent byte has changed.
 pub refused-alone : (c : Call) → numberOf c ≢ 0 → Alone c

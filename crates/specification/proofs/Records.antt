@@ -26,7 +26,7 @@ use Rattle.specification.specs.Levels.{isResidue, residueOr0, inRange, r
 use Rattle.specification.specs.Counted.{Counted, pointsOf, countsOf, gathered, overfull}
 use Rattle.specification.specs.Tables.{Tables, tablesOf, written, countsSize}
 use Rattle.specification.specs.Adding.{pointsOffered, drawCases, drawRefusal, holding, byRefusal, drawOutcome}
-use Rattle.specification.specs.CallByCall.{levelsOf, counting}
+use Rattle.specification.specs.CallByCall.{asLevels, counting}
 use Rattle.specification.proofs.agreement.Refusals.{not-refused, settings-pass}
 use Rattle.specification.proofs.counted.Gathered.{once-gathered}
 use Rattle.specification.proofs.counted.Once.{each-once, gathered-once, points-once, length-once, few-once}
@@ -65,20 +65,20 @@ module _ (s : Settings) (ok : Accepted s) where
   exact (P ∷ K) h = ap₂ (λ (Q : List ℕ) (l : List (List ℕ)). Q ∷ l) (fill-exact (s .variables) P (h P (inl refl) .long)) (exact K (λ Q q. h Q (inr q)))
 
   module _ (K : List (List ℕ)) (h : (P : List ℕ) → Among P K → IsPoint s P) where
-    many : length (levelsOf s K) ≡ s .variables * length K
-    unfolding levelsOf
+    many : length (asLevels s K) ≡ s .variables * length K
+    unfolding asLevels
     many = length-map (inPlaces (s .variables) K) pos ∙ length-places (s .variables) K
 
-    pub whole-of : length (levelsOf s K) % s .variables ≡ 0
+    pub whole-of : length (asLevels s K) % s .variables ≡ 0
     whole-of = ap (λ (k : ℕ). k % s .variables) many ∙ mul-mod-right (s .variables) (length K)
 
-    pub range-of : T (inRange p (levelsOf s K))
-    unfolding levelsOf
+    pub range-of : T (inRange p (asLevels s K))
+    unfolding asLevels
     range-of = own-levels (inPlaces (s .variables) K) (placed K h) .0
 
     -- read as points they are these
-    pub offered-of : pointsOffered s (levelsOf s K) ≡ K
-    unfolding pointsOffered levelsOf
+    pub offered-of : pointsOffered s (asLevels s K) ≡ K
+    unfolding pointsOffered asLevels
     offered-of =
         ap₂ (λ (k : ℕ) (l : List ℕ). groups (s .variables) k l) (ap (λ (k : ℕ). k / s .variables) many ∙ count)
         (own-levels (inPlaces (s .variables) K) (placed K h) .1)
@@ -106,7 +106,7 @@ module _ (s : Settings) (t : Tables) (levels : List ℤ) (e : drawOutcome s t le
   each = offer .entries .points .points
 
   abbrev once : List ℤ
-  once = levelsOf s K
+  once = asLevels s K
 
   is-once : gathered (pointsOffered s once) ≡ each-once K
   is-once = ap gathered (offered-of s (offer .ok) K each) ∙ gathered-once K (once-gathered (pointsOffered s levels))

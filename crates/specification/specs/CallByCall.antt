@@ -63,8 +63,8 @@ pub record Costs (s : Settings) (S : List (List ℕ)) (cancellations : ℕ) : Ty
   pub most : cancellations ≤ length S * (length S * s .variables + 1)
 
 -- Points as levels that offer them: their residues, one point after the other, as misqafur_pack_levels (include/misqafur.h) has them.
-unfoldable pub levelsOf : Settings → List (List ℕ) → List ℤ
-levelsOf s K = map pos (inPlaces (s .variables) K)
+unfoldable pub asLevels : Settings → List (List ℕ) → List ℤ
+asLevels s K = map pos (inPlaces (s .variables) K)
 
 -- Counts written over those of a drawing up, and nothing else.
 unfoldable pub counting : List ℕ → DrawOutcome → DrawOutcome

@@ -39,19 +39,19 @@ pub record Ending : Type 0 where
   pub tables : Tables
   pub buffer : List ℕ
 
-abbrev pub ending : ℕ → List ℕ → Tables → List ℕ → Ending
-ending k parts t buffer = record { number = k; parts = parts; tables = t; buffer = buffer }
+abbrev pub leaving : ℕ → List ℕ → Tables → List ℕ → Ending
+leaving k parts t buffer = record { number = k; parts = parts; tables = t; buffer = buffer }
 
 unfoldable pub endingOf : Call → Ending
 endingOf (drawing s t levels) = let o = drawOutcome s t levels in
-    ending (o .answer .refusal) (o .answer .n ∷ o .answer .r ∷ o .answer .cancellations ∷ []) (o .tables) []
-endingOf (handed (operating o) s n r t) = let w = outcomeOf o s n r t in ending (w .answer .refusal) (w .answer .n ∷ w .answer .r ∷ []) (w .tables) []
-endingOf (handed checking s n r t) = ending (checkRefusal s n r t) [] t []
-endingOf (handed (interpolating values buffer) s n r t) = let o = interpolateOutcome s n r t values buffer in ending (o .refusal) [] t (o .buffer)
+    leaving (o .answer .refusal) (o .answer .n ∷ o .answer .r ∷ o .answer .cancellations ∷ []) (o .tables) []
+endingOf (handed (operating o) s n r t) = let w = outcomeOf o s n r t in leaving (w .answer .refusal) (w .answer .n ∷ w .answer .r ∷ []) (w .tables) []
+endingOf (handed checking s n r t) = leaving (checkRefusal s n r t) [] t []
+endingOf (handed (interpolating values buffer) s n r t) = let o = interpolateOutcome s n r t values buffer in leaving (o .refusal) [] t (o .buffer)
 endingOf (handed (dividing coefficients exponents buffer) s n r t) = let o = remainderOutcome s n r t coefficients exponents buffer in
-    ending (o .refusal) [] t (o .buffer)
+    leaving (o .refusal) [] t (o .buffer)
 endingOf (handed (wiring values buffer) s n r t) = let o = wiringOutcome s n r t values buffer in
-    ending (o .answer .refusal) (o .answer .count ∷ []) t (o .buffer)
+    leaving (o .answer .refusal) (o .answer .count ∷ []) t (o .buffer)
 
 abbrev pub numberOf : Call → ℕ
 numberOf c = endingOf c .number
