@@ -6,20 +6,29 @@ ghost use lib.ListN.{length, drop};
 ghost use Rattle.notation.specs.Fields.{isPlain, front, fieldOf, quoted};
 ghost use Rattle.notation.specs.Spans.{closing, EndRead, SpanRead};
 
+// The bytes that mean something.
+const QUOTE: u8 = 34;
+
+const COMMA: u8 = 44;
+
+const LF: u8 = 10;
+
+const CR: u8 = 13;
+
 // A byte that an unquoted field may hold.
 fn is_plain(b: u8) -> bool
     ensures { λ r. ⌜ r ≡ isPlain b ⌝ }
 {
-    if b == 44 {
+    if b == COMMA {
         return false;
     }
-    if b == 34 {
+    if b == QUOTE {
         return false;
     }
-    if b == 13 {
+    if b == CR {
         return false;
     }
-    b != 10
+    b != LF
 }
 
 // Where the bytes from `at` on that an unquoted field may hold end.
@@ -44,14 +53,14 @@ fn quote_end(text: &[u8], at: usize) -> usize
 {
     let mut i = at;
     while i < text.len() {
-        if text[i] != 34 {
+        if text[i] != QUOTE {
             i += 1;
             continue;
         }
         if i + 1 == text.len() {
             return i;
         }
-        if text[i + 1] != 34 {
+        if text[i + 1] != QUOTE {
             return i;
         }
         i += 2;
@@ -76,25 +85,25 @@ fn read_end(text: &[u8], at: usize) -> End
         };
     }
     let b = text[at];
-    if b == 44 {
+    if b == COMMA {
         return End::At {
             more: true,
             next: at + 1,
         };
     }
-    if b == 10 {
+    if b == LF {
         return End::At {
             more: false,
             next: at + 1,
         };
     }
-    if b != 13 {
+    if b != CR {
         return End::Broken;
     }
     if at + 1 == text.len() {
         return End::Broken;
     }
-    if text[at + 1] != 10 {
+    if text[at + 1] != LF {
         return End::Broken;
     }
     End::At {
@@ -114,7 +123,7 @@ pub fn content_end(text: &[u8], at: usize, quotes: bool) -> End
     if at == text.len() {
         return End::Broken;
     }
-    if text[at] != 34 {
+    if text[at] != QUOTE {
         return End::Broken;
     }
     read_end(text, at + 1)
@@ -154,7 +163,7 @@ pub fn read_field(text: &[u8], at: usize) -> Span
     ensures { λ r. ⌜ SpanRead (now (text .entry)) (fieldOf (drop at (now (text .entry)))) r ⌝ }
 {
     if at < text.len() {
-        if text[at] == 34 {
+        if text[at] == QUOTE {
             return read_quoted(text, at + 1);
         }
     }

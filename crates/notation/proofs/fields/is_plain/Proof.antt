@@ -4,7 +4,7 @@ use mathlib.Core.Bool.{not}
 use Prim.Native.Nat.{ℕ}
 use lib.Dec.{eqb}
 use borrow.Author.Tests.{eq-eqb, ne-eqb}
-use Rattle.notation.specs.Fields.{isPlain}
+use Rattle.notation.specs.Fields.{quote, comma, lf, cr, isPlain}
 use Rattle.notation.proofs.fields.is_plain.Statement.{statement}
 use Rattle.notation.proofs.fields.is_plain.Tie as tie
 
@@ -20,9 +20,9 @@ returns-3 : tie.Need-returns-3
 unfolding isPlain
 returns-3 c = simp (ne-eqb _ _ (c .before .before .if1 .left), ne-eqb _ _ (c .before .if2 .left), eq-eqb _ _ (c .if3 .taken))
 
-last : (b : ℕ) → (b ≡ 44 → ⊥) → (b ≡ 34 → ⊥) → (b ≡ 13 → ⊥) → not (eqb b 10) ≡ isPlain b
+last : (b : ℕ) → (b ≡ comma → ⊥) → (b ≡ quote → ⊥) → (b ≡ cr → ⊥) → not (eqb b lf) ≡ isPlain b
 unfolding isPlain
-last b h k l = simp (ne-eqb b 44 h, ne-eqb b 34 k, ne-eqb b 13 l)
+last b h k l = simp (ne-eqb b comma h, ne-eqb b quote k, ne-eqb b cr l)
 
 returns-4 : tie.Need-returns-4
 returns-4 c = last _ (c .before .before .if1 .left) (c .before .if2 .left) (c .if3 .left)
