@@ -78,7 +78,7 @@ many-told b q = by-test (ltb 64 (length G))
     G = gathered A
 
 -- the counts of points of which none repeats
-count-there : (L : Counted) → T (noRepeat (pointsOf L)) → (q : List ℕ × ℕ) → Among q L → countOf (q .0) L ≡ q .1
+pub count-there : (L : Counted) → T (noRepeat (pointsOf L)) → (q : List ℕ × ℕ) → Among q L → countOf (q .0) L ≡ q .1
 unfolding noRepeat countOf
 count-there (x ∷ L) t q (inl e) = rw e (rw (true-of (sameList (x .0) (x .0)) (same-self (x .0))) refl)
 count-there (x ∷ L) t q (inr w) = go (sameList (q .0) (x .0)) refl (count-there L (and-right (not (isAmong (x .0) (pointsOf L))) (noRepeat (pointsOf L)) t) q w)

@@ -160,10 +160,10 @@ module _ (text : List ℕ) (s v c : ℕ) where
 
 -- what is decided, with its number and record
 module _ (r : Refusal) (e : Contents) (s v c : List ℕ) where
-  abbrev outcome : TextOutcome
+  abbrev pub outcome : TextOutcome
   outcome = textDecided r (textAccepted e s v c) s v c
 
-  same-number : outcome .answer .refusal ≡ r .refusal
+  pub same-number : outcome .answer .refusal ≡ r .refusal
   unfolding textDecided textAccepted textRefused
   same-number = go (eqb (r .refusal) 0) refl
     where

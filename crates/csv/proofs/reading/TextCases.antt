@@ -63,7 +63,7 @@ pub record Allowed (p m s v k : ℕ) : Type 0 where
   pub values : 64 ≤ v
   pub counts : 64 ≤ k
 
-unless : (a b : ℕ) → (a < b → ⊥) → b ≤ a
+pub unless : (a b : ℕ) → (a < b → ⊥) → b ≤ a
 unless a b n = omega (arith, n)
 
 module _ (p m s v k : ℕ) (r : Refusal) (h : r ≡ firstOf notRefused (headerCases p m s v k)) (z : r .refusal ≡ 0) where
