@@ -2,3 +2,4 @@
 pub mod DrawnTables
 pub mod PointsPrinted
 pub mod AcceptedText
+pub mod ExamplesPrinted
