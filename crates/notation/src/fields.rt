@@ -4,7 +4,7 @@ ghost use mathlib.Core.Bool.{false};
 ghost use Prim.Native.Nat.{_+_, _≤_};
 ghost use lib.ListN.{length, drop};
 ghost use Rattle.notation.specs.Fields.{isPlain, front, fieldOf, quoted};
-ghost use Rattle.notation.specs.Spans.{closing, EndRead, SpanRead};
+ghost use Rattle.notation.specs.Spans.{closing, opening, contentLength, EndRead, SpanRead};
 
 // The bytes that mean something.
 const QUOTE: u8 = 34;
@@ -143,7 +143,8 @@ pub enum Span {
 // A quoted field whose content begins at `from`, behind the opening quote.
 fn read_quoted(text: &[u8], from: usize) -> Span
     requires { ⌜ from ≤ length (now text) ⌝ }
-    ensures { λ r. ⌜ SpanRead (now (text .entry)) (quoted (drop from (now (text .entry)))) r ⌝ }
+    ensures { λ r. ⌜ SpanRead (now (text .entry)) (quoted (drop from (now (text .entry))))
+        from (from + closing (drop from (now (text .entry)))) r ⌝ }
 {
     let to = quote_end(text, from);
     let End::At { more, next } = content_end(text, to, true) else {
@@ -160,7 +161,9 @@ fn read_quoted(text: &[u8], from: usize) -> Span
 // The field that begins at `at`.
 pub fn read_field(text: &[u8], at: usize) -> Span
     requires { ⌜ at ≤ length (now text) ⌝ }
-    ensures { λ r. ⌜ SpanRead (now (text .entry)) (fieldOf (drop at (now (text .entry)))) r ⌝ }
+    ensures { λ r. ⌜ SpanRead (now (text .entry)) (fieldOf (drop at (now (text .entry))))
+        (at + opening (drop at (now (text .entry))))
+        (at + opening (drop at (now (text .entry))) + contentLength (drop at (now (text .entry)))) r ⌝ }
 {
     if at < text.len() {
         if text[at] == QUOTE {

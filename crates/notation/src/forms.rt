@@ -2,10 +2,8 @@
 use crate::digits::Leading;
 use crate::digits::read_leading;
 use residue::bytes::same;
-ghost use mathlib.Core.Path.{_≡_};
-ghost use Prim.Native.Nat.{ℕ};
-ghost use Rattle.notation.specs.Forms.{orderWord, modulusAndOrder, lastField};
-ghost use Rattle.notation.specs.Said.{orderSaid, lastSaid};
+ghost use Rattle.notation.specs.Forms.{modulusAndOrder, lastField};
+ghost use Rattle.notation.specs.Said.{OrderRead, LastRead};
 
 pub enum Word {
     Order(u8),
@@ -17,7 +15,7 @@ const DEFAULT_ORDER: u8 = 2;
 
 // The order's number, by what stands behind the digits.
 fn read_order(word: &[u8]) -> Word
-    ensures { λ r. ⌜ orderSaid r ≡ orderWord (now (word .entry)) ⌝ }
+    ensures { λ r. ⌜ OrderRead (now (word .entry)) r ⌝ }
 {
     if word.len() == 0 {
         return Word::Order(DEFAULT_ORDER);
@@ -41,7 +39,7 @@ pub enum Last {
 
 // Digits, and the order word if there is one.
 fn read_settings(content: &[u8]) -> Last
-    ensures { λ r. ⌜ ((m : ℕ) → lastSaid m r ≡ modulusAndOrder m (now (content .entry))) ⌝ }
+    ensures { λ r. ⌜ LastRead (λ m. modulusAndOrder m (now (content .entry))) r ⌝ }
 {
     let Leading::Number { size, count } = read_leading(content) else {
         return Last::Broken;
@@ -57,7 +55,7 @@ fn read_settings(content: &[u8]) -> Last
 
 // The last field of the header.
 pub fn read_last(content: &[u8]) -> Last
-    ensures { λ r. ⌜ ((m : ℕ) → lastSaid m r ≡ lastField m (now (content .entry))) ⌝ }
+    ensures { λ r. ⌜ LastRead (λ m. lastField m (now (content .entry))) r ⌝ }
 {
     if content.len() < 4 {
         return Last::Broken;

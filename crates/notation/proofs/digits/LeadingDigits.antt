@@ -16,6 +16,7 @@ use Rattle.notation.specs.declared.digits.Leading.{Leading}
 use Rattle.notation.specs.declared.digits.Leading.the-variants as G
 use Rattle.notation.proofs.digits.NumberDigits.{number-none, number-long, number-few}
 use Rattle.notation.proofs.fields.FieldSpans.{front-le}
+use Rattle.notation.proofs.Numbers.{leading-says}
 
 abbrev pub digits : List ℕ → List ℕ
 digits l = take (front isDigit l) l
@@ -36,9 +37,9 @@ module _ (t : List ℕ) (v i : ℕ) where
 -- all of them, at most three, and more than three
 leading-read : (t : List ℕ) (v i : ℕ) → i ≤ 3 → i ≡ front isDigit t → digitsFrom 0 (digits t) ≡ some v → LeadingRead t (leadingOf v i)
 unfolding leadingOf leadingSaid
-leading-read t v zero h e d = record { said = sym (number-none (digits t) (omega (arith, digits-count t, e))); ends = tt }
+leading-read t v zero h e d = leading-says (sym (number-none (digits t) (omega (arith, digits-count t, e)))) tt
 leading-read t v (suc i) h e d =
-    rw (eqb·suc-zero i) (record { said = sym d ∙ number-few (digits t) (omega (arith, digits-count t, e)) (omega (arith, digits-count t, e, h)); ends = e })
+    rw (eqb·suc-zero i) (leading-says (sym d ∙ number-few (digits t) (omega (arith, digits-count t, e)) (omega (arith, digits-count t, e, h))) e)
 
 pub leading-done : (t : List ℕ) (v i : ℕ) → i ≤ 3 → i ≡ i + front isDigit (drop i t) → i + front isDigit (drop i t) ≡ front isDigit t
     → digitsFrom v (digits (drop i t)) ≡ digitsFrom 0 (digits t) → {r : Leading} → r ≡ leadingOf v i → LeadingRead t r
@@ -46,4 +47,4 @@ leading-done t v i h e f d g = subst (LeadingRead t) (sym g) (leading-read t v i
 
 pub leading-long : (t : List ℕ) → 3 < front isDigit t → LeadingRead t G.Broken
 unfolding leadingSaid
-leading-long t h = record { said = sym (number-long (digits t) (omega (arith, digits-count t, h))); ends = tt }
+leading-long t h = leading-says (sym (number-long (digits t) (omega (arith, digits-count t, h)))) tt

@@ -12,6 +12,7 @@ use Rattle.notation.specs.Fields.{quote, comma, lf, cr, field, broken, a
 use Rattle.notation.specs.Spans.{closed, endedBy, EndRead}
 use Rattle.notation.specs.declared.fields.End.{End}
 use Rattle.notation.specs.declared.fields.End.the-variants as E
+use Rattle.notation.proofs.Numbers.{end-says}
 use Rattle.notation.proofs.fields.Searches.{cells}
 
 module _ (content : List ℕ) where
@@ -83,17 +84,17 @@ tested {t = t} {at = at} {r = r} e = subst (λ (q : Bool). EndRead t at q r) (sy
 module _ (t : List ℕ) (at : ℕ) where
   pub never-closed : length t ≤ at → EndRead t at true E.Broken
   unfolding endedBy closed
-  never-closed h = record { said = λ content. rw (drop-of-length-le t h) refl; within = tt }
+  never-closed h = end-says (λ content. rw (drop-of-length-le t h) refl) tt
 
   module _ (h : at < length t) where
     pub not-closed : (getD t at 0 ≡ quote → ⊥) → EndRead t at true E.Broken
     unfolding endedBy closed
-    not-closed n = record { said = λ content. rw (drop-cons t at 0 h) (simp (ne-eqb (getD t at 0) quote n)); within = tt }
+    not-closed n = end-says (λ content. rw (drop-cons t at 0 h) (simp (ne-eqb (getD t at 0) quote n))) tt
 
     pub closed-here : (r : End) → getD t at 0 ≡ quote → EndRead t (at + 1) false r → EndRead t at true r
     unfolding closed
     closed-here r e b =
-        record { said = λ content. b .said content ∙ rw (add-one, drop-cons t at 0 h) (simp (eq-eqb (getD t at 0) quote e)); within = b .within }
+        end-says (λ content. b .said content ∙ rw (add-one, drop-cons t at 0 h) (simp (eq-eqb (getD t at 0) quote e))) (b .within)
 
 -- a function of one of two
 pub chosen : {A B : Type 0} (f : A → B) (t : Bool) (x y : A) → f (cond t x y) ≡ cond t (f x) (f y)

@@ -11,7 +11,7 @@ use lib.Seq.{drop-cons, drop-drop, getD-drop, take-all}
 use lib.Dec.{eqb}
 use borrow.Author.Tests.{eq-eqb, ne-eqb, eqb-true, eqb-false}
 use Rattle.notation.specs.Fields.{quote, broken, front, isPlain, ending, with, quoted, unquoted, fieldOf}
-use Rattle.notation.specs.Spans.{closing, undoubled, closed, endingIn, endedBy}
+use Rattle.notation.specs.Spans.{closing, undoubled, closed, endingIn, endedBy, opening, contentLength}
 use Rattle.notation.specs.declared.fields.End.{End}
 use Rattle.notation.proofs.fields.FieldEnds.{with-closed}
 
@@ -146,3 +146,19 @@ module _ (t : List ℕ) (at : ℕ) where
 
   pub field-plain : (at < length t → getD t at 0 ≡ quote → ⊥) → unquoted (drop at t) ≡ fieldOf (drop at t)
   field-plain n = plain (drop at t) (begins-otherwise quote n)
+
+  -- the places of its content
+  pub places-quoted : at < length t → getD t at 0 ≡ quote
+      → (at + 1 ≡ at + opening (drop at t)) × (at + 1 + closing (drop (at + 1) t) ≡ at + opening (drop at t) + contentLength (drop at t))
+  unfolding opening contentLength
+  places-quoted h e = rw (add-one, drop-cons t at 0 h) (simp (eq-eqb (getD t at 0) quote e) (omega arith, omega arith))
+
+  pub places-plain : (at < length t → getD t at 0 ≡ quote → ⊥)
+      → (at ≡ at + opening (drop at t)) × (at + front isPlain (drop at t) ≡ at + opening (drop at t) + contentLength (drop at t))
+  unfolding opening contentLength front
+  places-plain n = go (drop at t) (begins-otherwise quote n)
+    where
+      go : (l : List ℕ) → (0 < length l → getD l 0 0 ≡ quote → ⊥)
+          → (at ≡ at + opening l) × (at + front isPlain l ≡ at + opening l + contentLength l)
+      go [] k = (omega arith, omega arith)
+      go (b ∷ l) k = simp (ne-eqb b quote (k (omega arith))) (omega arith, omega arith)

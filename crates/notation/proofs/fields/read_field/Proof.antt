@@ -3,14 +3,20 @@ use borrow.Author.Needs.{needs}
 use mathlib.Core.Path.{_≡_, sym, ap, _∙_, subst}
 use mathlib.Core.Logic.{⊎-elim}
 use mathlib.Core.List.{List}
-use Prim.Native.Nat.{ℕ, _-_, _≤_}
+use Prim.Native.Nat.{ℕ, _-_, _<_, _≤_}
 use native.Mathlib.Omega.{arith}
-use lib.ListN.{length, take, drop, length-drop}
-use Rattle.notation.specs.Fields.{isPlain, fieldOf}
-use Rattle.notation.specs.Spans.{undoubled, endedBy, EndWithin, spanned}
-use Rattle.notation.proofs.fields.FieldSpans.{front-le, span-plain, field-quoted, field-plain}
+use lib.ListN.{length, getD, take, drop, length-drop}
+use Rattle.notation.specs.Fields.{quote, isPlain, fieldOf}
+use Rattle.notation.specs.Spans.{undoubled, endedBy, EndWithin, spanned, SpanAt}
+use Rattle.notation.specs.declared.fields.Span.{Span}
+use Rattle.notation.proofs.Numbers.{span-says}
+use Rattle.notation.proofs.fields.FieldSpans.{front-le, span-plain, field-quoted, field-plain, places-quoted, places-plain}
 use Rattle.notation.proofs.fields.read_field.Statement.{statement}
 use Rattle.notation.proofs.fields.read_field.Tie as tie
+
+-- places by equal numbers
+placed : (r : Span) {a b c d : ℕ} → a ≡ c → b ≡ d → SpanAt a b r → SpanAt c d r
+placed r {b = b} {c = c} e f p = subst (λ (x : ℕ). SpanAt c x r) f (subst (λ (x : ℕ). SpanAt x b r) e p)
 
 abbrev text : tie.Start → List ℕ
 text s = s .args .text .now
@@ -24,10 +30,14 @@ within c =
 abbrev content : tie.After-plain-end → List ℕ
 content c = undoubled (take (c .plain-end .result - c .before .before .before .args .at) (drop (c .before .before .before .args .at) (text (c .before .before .before))))
 
+-- the field begins with no quote
+otherwise : (c : tie.After-read-end) → let s = c .before .before .before .before in s .args .at < length (text s) → getD (text s) (s .args .at) 0 ≡ quote → ⊥
+otherwise c = ⊎-elim (λ w h. w .2 .left) (λ w h e. omega arith) (c .before .before .if1 .came)
+
 ended : (c : tie.After-read-end) → endedBy (text (c .before .before .before .before)) (content (c .before)) (c .read-end .result) ≡ fieldOf (drop (c .before .before .before .before .args .at) (text (c .before .before .before .before)))
 ended c =
     span-plain (text (c .before .before .before .before)) (c .before .before .before .before .args .at) (c .before .plain-end .result) (c .read-end .result) (c .before .plain-end .ensures) (c .read-end .ensures .said)
-    ∙ field-plain (text (c .before .before .before .before)) (c .before .before .before .before .args .at) (⊎-elim (λ w h. w .2 .left) (λ w h e. omega arith) (c .before .before .if1 .came))
+    ∙ field-plain (text (c .before .before .before .before)) (c .before .before .before .before .args .at) (otherwise c)
 
 shared-slice-read-if2 : tie.Need-shared-slice-read-if2
 shared-slice-read-if2 c = search needs
@@ -40,7 +50,10 @@ read-quoted-requires c κs = search needs
 
 returns : tie.Need-returns
 returns c =
-    record { said = c .read-quoted .ensures .said ∙ field-quoted (text (c .before .before .before .before .before)) (c .before .before .before .before .before .args .at) (c .before .before .before .if1 .taken) (c .before .if2 .taken); within = c .read-quoted .ensures .within }
+    let s = c .before .before .before .before .before in
+    let r = c .read-quoted .ensures in
+    let p = places-quoted (text s) (s .args .at) (c .before .before .before .if1 .taken) (c .before .if2 .taken) in
+    span-says (r .said ∙ field-quoted (text s) (s .args .at) (c .before .before .before .if1 .taken) (c .before .if2 .taken)) (placed (c .read-quoted .result) (p .0) (p .1) (r .places)) (r .within)
 
 plain-end-requires : tie.Need-plain-end-requires
 plain-end-requires c κs = search needs
@@ -58,14 +71,18 @@ returns-2 : tie.Need-returns-2
 unfolding spanned endedBy
 returns-2 c =
     let d = c .before .before in
-    record { said = ap (endedBy (text (d .before .before .before .before)) (content (d .before))) (sym (c .enum-told .given .1)) ∙ ended d; within = tt }
+    span-says (ap (endedBy (text (d .before .before .before .before)) (content (d .before))) (sym (c .enum-told .given .1)) ∙ ended d) tt tt
 
 returns-3 : tie.Need-returns-3
 unfolding spanned endedBy
 returns-3 c =
     let d = c .before .before .before in
+    let s = d .before .before .before .before in
     let h = within (d .before) in
-    let e = d .before .plain-end .ensures in record { said = ap (endedBy (text (d .before .before .before .before)) (content (d .before))) (sym (c .before .more .given .1)) ∙ ended d; within = (omega arith, h, subst (EndWithin (length (text (d .before .before .before .before)))) (c .before .more .given .1) (d .read-end .ensures .within)) }
+    let e = d .before .plain-end .ensures in
+    let p = places-plain (text s) (s .args .at) (otherwise d) in
+    span-says (ap (endedBy (text s) (content (d .before))) (sym (c .before .more .given .1)) ∙ ended d) (p .0, e ∙ p .1)
+    (omega arith, h, subst (EndWithin (length (text s))) (c .before .more .given .1) (d .read-end .ensures .within))
 
 pub read-field-spec : {M : Type 1} → statement M
 read-field-spec =

@@ -1,12 +1,13 @@
 -- `fields::read_quoted` meets its contract: what stands at the closing quote ends the field.
 use borrow.Author.Needs.{needs}
-use mathlib.Core.Path.{_≡_, sym, ap, _∙_, subst}
+use mathlib.Core.Path.{_≡_, refl, sym, ap, _∙_, subst}
 use mathlib.Core.List.{List}
 use Prim.Native.Nat.{ℕ, _-_, _≤_}
 use native.Mathlib.Omega.{arith}
 use lib.ListN.{length, take, drop, length-drop}
 use Rattle.notation.specs.Fields.{quoted}
 use Rattle.notation.specs.Spans.{undoubled, endedBy, EndWithin, spanned}
+use Rattle.notation.proofs.Numbers.{span-says}
 use Rattle.notation.proofs.fields.FieldSpans.{closing-le, span-quoted}
 use Rattle.notation.proofs.fields.read_quoted.Statement.{statement}
 use Rattle.notation.proofs.fields.read_quoted.Tie as tie
@@ -45,17 +46,15 @@ returns : tie.Need-returns
 unfolding spanned endedBy
 returns c =
     let d = c .before .before in
-    record { said = ap (endedBy (text (d .before)) (content (d .before))) (sym (c .enum-told .given .1)) ∙ ended d; within = tt }
+    span-says (ap (endedBy (text (d .before)) (content (d .before))) (sym (c .enum-told .given .1)) ∙ ended d) tt tt
 
 returns-2 : tie.Need-returns-2
 unfolding spanned endedBy
 returns-2 c =
     let d = c .before .before .before in
     let q = d .before in
-    record {
-      said = ap (endedBy (text q) (content q)) (sym (c .before .more .given .1)) ∙ ended d;
-      within = (omega (arith, q .quote-end .ensures), within q, subst (EndWithin (length (text q))) (c .before .more .given .1) (d .content-end .ensures .within));
-    }
+    span-says (ap (endedBy (text q) (content q)) (sym (c .before .more .given .1)) ∙ ended d) (refl, q .quote-end .ensures)
+    (omega (arith, q .quote-end .ensures), within q, subst (EndWithin (length (text q))) (c .before .more .given .1) (d .content-end .ensures .within))
 
 pub read-quoted-spec : {M : Type 1} → statement M
 read-quoted-spec =

@@ -4,13 +4,14 @@ use mathlib.Core.Path.{sym, _∙_}
 use borrow.Author.Tests.{not-true, not-false}
 use lib.Seq.{length-take-le}
 use Rattle.notation.specs.Said.{lastSaid}
+use Rattle.notation.proofs.Numbers.{last-says}
 use Rattle.notation.proofs.forms.LastField.{last-short, last-other, last-mod}
 use Rattle.notation.proofs.forms.read_last.Statement.{statement}
 use Rattle.notation.proofs.forms.read_last.Tie as tie
 
 returns : tie.Need-returns
 unfolding lastSaid
-returns c m = sym (last-short m _ (c .if1 .taken))
+returns c = last-says (λ m. sym (last-short m _ (c .if1 .taken)))
 
 slice-aggregate-same : tie.Need-slice-aggregate-same
 slice-aggregate-same c = sym (length-take-le 4 (c .before .before .before .args .content .now) (c .before .if1 .left))
@@ -23,7 +24,7 @@ same-requires c κs = search needs
 
 returns-2 : tie.Need-returns-2
 unfolding lastSaid
-returns-2 c m = sym (last-other m _ (sym (c .before .same .ensures) ∙ not-true _ (c .if2 .taken)))
+returns-2 c = last-says (λ m. sym (last-other m _ (sym (c .before .same .ensures) ∙ not-true _ (c .if2 .taken))))
 
 sub-read-settings : tie.Need-sub-read-settings
 sub-read-settings c = search needs
@@ -38,7 +39,7 @@ read-settings-requires : tie.Need-read-settings-requires
 read-settings-requires c κs = search needs
 
 returns-3 : tie.Need-returns-3
-returns-3 c m = c .read-settings .ensures m ∙ last-mod m _ (sym (c .before .before .before .same .ensures) ∙ not-false _ (c .before .before .if2 .left))
+returns-3 c = last-says (λ m. c .read-settings .ensures .said m ∙ last-mod m _ (sym (c .before .before .before .same .ensures) ∙ not-false _ (c .before .before .if2 .left)))
 
 pub read-last-spec : {M : Type 1} → statement M
 read-last-spec =

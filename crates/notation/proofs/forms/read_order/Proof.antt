@@ -2,6 +2,7 @@
 use borrow.Author.Needs.{needs}
 use mathlib.Core.Path.{sym, _∙_}
 use Rattle.notation.specs.Said.{orderSaid}
+use Rattle.notation.proofs.Numbers.{order-says}
 use Rattle.notation.proofs.forms.LastField.{word-none, word-lex, word-grlex, word-grevlex, word-other}
 use Rattle.notation.proofs.forms.read_order.Statement.{statement}
 use Rattle.notation.proofs.forms.read_order.Tie as tie
@@ -15,7 +16,7 @@ not-lex c = c .before .before .before
 
 returns : tie.Need-returns
 unfolding orderSaid
-returns c = sym (word-none _ (c .if1 .taken))
+returns c = order-says (sym (word-none _ (c .if1 .taken)))
 
 slice-aggregate-same : tie.Need-slice-aggregate-same
 slice-aggregate-same c = search needs
@@ -25,7 +26,7 @@ same-requires c κs = search needs
 
 returns-2 : tie.Need-returns-2
 unfolding orderSaid
-returns-2 c = sym (word-lex _ (c .before .before .before .if1 .left) (sym (c .before .same .ensures) ∙ c .if2 .taken))
+returns-2 c = order-says (sym (word-lex _ (c .before .before .before .if1 .left) (sym (c .before .same .ensures) ∙ c .if2 .taken)))
 
 slice-aggregate-same-2 : tie.Need-slice-aggregate-same-2
 slice-aggregate-same-2 c = search needs
@@ -37,7 +38,7 @@ returns-3 : tie.Need-returns-3
 unfolding orderSaid
 returns-3 c =
     let e₂ = c .before .before .before in
-    sym (word-grlex _ (some-word e₂ .if1 .left) (sym (e₂ .before .same .ensures) ∙ e₂ .if2 .left) (sym (c .before .same2 .ensures) ∙ c .if3 .taken))
+    order-says (sym (word-grlex _ (some-word e₂ .if1 .left) (sym (e₂ .before .same .ensures) ∙ e₂ .if2 .left) (sym (c .before .same2 .ensures) ∙ c .if3 .taken)))
 
 slice-aggregate-same-3 : tie.Need-slice-aggregate-same-3
 slice-aggregate-same-3 c = search needs
@@ -50,16 +51,16 @@ unfolding orderSaid
 returns-4 c =
     let e₃ = c .before .before .before in
     let e₂ = not-lex e₃ in
-    sym (word-grevlex _ (some-word e₂ .if1 .left) (sym (e₂ .before .same .ensures) ∙ e₂ .if2 .left) (sym (e₃ .before .same2 .ensures) ∙ e₃ .if3 .left)
-    (sym (c .before .same3 .ensures) ∙ c .if4 .taken))
+    order-says (sym (word-grevlex _ (some-word e₂ .if1 .left) (sym (e₂ .before .same .ensures) ∙ e₂ .if2 .left) (sym (e₃ .before .same2 .ensures) ∙ e₃ .if3 .left)
+    (sym (c .before .same3 .ensures) ∙ c .if4 .taken)))
 
 returns-5 : tie.Need-returns-5
 unfolding orderSaid
 returns-5 c =
     let e₃ = c .before .before .before in
     let e₂ = not-lex e₃ in
-    sym (word-other _ (some-word e₂ .if1 .left) (sym (e₂ .before .same .ensures) ∙ e₂ .if2 .left) (sym (e₃ .before .same2 .ensures) ∙ e₃ .if3 .left)
-    (sym (c .before .same3 .ensures) ∙ c .if4 .left))
+    order-says (sym (word-other _ (some-word e₂ .if1 .left) (sym (e₂ .before .same .ensures) ∙ e₂ .if2 .left) (sym (e₃ .before .same2 .ensures) ∙ e₃ .if3 .left)
+    (sym (c .before .same3 .ensures) ∙ c .if4 .left)))
 
 pub read-order-spec : {M : Type 1} → statement M
 read-order-spec =

@@ -9,6 +9,7 @@ use Rattle.notation.specs.Digits.{isDigit}
 use Rattle.notation.specs.Forms.{header}
 use Rattle.notation.specs.Said.{LeadingRead, orderSaid, lastSaid}
 use Rattle.notation.specs.declared.digits.Leading.the-variants as G
+use Rattle.notation.proofs.Numbers.{last-says}
 use Rattle.notation.proofs.fields.FieldSpans.{front-le}
 use Rattle.notation.proofs.forms.LastField.{no-digits, digits-and}
 use Rattle.notation.proofs.forms.read_settings.Statement.{statement}
@@ -42,7 +43,7 @@ enum-told c = search needs
 
 returns : tie.Need-returns
 unfolding lastSaid
-returns c m = no-digits m _ (subst (LeadingRead _) (c .enum-told .given .1) (c .before .before .read-leading .ensures))
+returns c = last-says (λ m. no-digits m _ (subst (LeadingRead _) (c .enum-told .given .1) (c .before .before .read-leading .ensures)))
 
 sub-read-order : tie.Need-sub-read-order
 sub-read-order c = within c
@@ -64,11 +65,11 @@ enum-told-2 c = search needs
 
 returns-2 : tie.Need-returns-2
 unfolding lastSaid orderSaid header
-returns-2 c m = let w = c .before .before in digits-and m _ _ _ _ (found (known w)) (ap orderSaid (sym (c .enum-told2 .given .1)) ∙ w .read-order .ensures)
+returns-2 c = let w = c .before .before in last-says (λ m. digits-and m _ _ _ _ (found (known w)) (ap orderSaid (sym (c .enum-told2 .given .1)) ∙ w .read-order .ensures .said))
 
 returns-3 : tie.Need-returns-3
 unfolding lastSaid orderSaid header
-returns-3 c m = let w = c .before .before .before in digits-and m _ _ _ _ (found (known w)) (ap orderSaid (sym (c .before .order .given .1)) ∙ w .read-order .ensures)
+returns-3 c = let w = c .before .before .before in last-says (λ m. digits-and m _ _ _ _ (found (known w)) (ap orderSaid (sym (c .before .order .given .1)) ∙ w .read-order .ensures .said))
 
 pub read-settings-spec : {M : Type 1} → statement M
 read-settings-spec =

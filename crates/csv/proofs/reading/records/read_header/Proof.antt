@@ -63,7 +63,7 @@ here c more e =
 last : (c : tie.After-read-last Inv-loop μ-loop) → kept (lastSaid (turn (known c) .loop .variables) (c .read-last .result)) (rest (known c)) ≡ headerPart (text (start (turn (known c))))
 last c =
     head-last (turn (known c) .loop .variables) (drop (turn (known c) .loop .at) (text (start (turn (known c))))) (raw (known c)) (rest (known c)) (c .read-last .result)
-    (here (known c) _ (not-true _ (c .before .before .if1 .taken))) (c .read-last .ensures (turn (known c) .loop .variables))
+    (here (known c) _ (not-true _ (c .before .before .if1 .taken))) (c .read-last .ensures .said (turn (known c) .loop .variables))
     ∙ turn (known c) .loop .inv .2
 
 next : (c : tie.Else1 Inv-loop μ-loop) → turn (c .before) .loop .at < c .before .before .from .given .0 .1 .1 .1 .0
