@@ -8,7 +8,8 @@ use lib.ListN.{length, take, drop}
 use Rattle.notation.specs.Digits.{isDigit, decimalNumber}
 use Rattle.notation.specs.Fields.{Field, front}
 use Rattle.notation.specs.Forms.{orderWord, Header}
-use Rattle.notation.specs.Said.{formNumber, leadingSaid, leadingNumber, LeadingEnds, LeadingRead, orderSaid, orderNumber, OrderRead, lastSaid, lastNumber, LastRead}
+use Rattle.notation.specs.Said.{formNumber, leadingSaid, leadingNumber, LeadingEnds, LeadingRead}
+use Rattle.notation.specs.Said.{orderSaid, orderNumber, OrderRead, lastSaid, lastNumber, LastRead}
 use Rattle.notation.specs.Spans.{fieldNumber, endedBy, endNumber, EndWithin, endingIn, EndRead, spanned, spanNumber, SpanWithin, SpanAt, SpanRead}
 use Rattle.notation.specs.declared.digits.Leading.{Leading}
 use Rattle.notation.specs.declared.digits.Leading.the-variants as G

@@ -19,7 +19,8 @@ pub record Example : Type 0 where
 
 -- into every buffer that is long enough: these lines, and no other byte changes
 unfoldable pub Prints : Example → Type 0
-Prints e = (buffer : List ℕ) → 131072 ≤ length buffer → printOutcome (inLines (e .text)) buffer ≡ printed (length (inLines (e .prints))) (over (inLines (e .prints)) buffer)
+Prints e = (buffer : List ℕ) → 131072 ≤ length buffer → let lines = inLines (e .prints) in
+    printOutcome (inLines (e .text)) buffer ≡ printed (length lines) (over lines buffer)
 
 -- the text of docs/SCOPE.md
 abbrev pub stated : Example

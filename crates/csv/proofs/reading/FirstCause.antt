@@ -67,7 +67,10 @@ module _ (X : Cause → ℕ → Type 0) where
       → ((k : ℕ) → FirstAt Fault l k → X c (suc (suc k))) → ((at : ℕ) → X c at → (k : ℕ) × FirstAt Fault l k × (at ≡ suc (suc k)))
       → Told c (not (eqb place 0)) (suc place)
   entry-tells {Fault = Fault} {l = l} {c = c} zero first make apart =
-      record { holds = λ e. absurd (let z : _≡_ {A = ℕ} 0 1 = cc in omega arith); only = λ at x. absurd (let (k, f, e) = apart at x in let p = first k .0 f in omega arith) }
+      record {
+        holds = λ e. absurd (let z : _≡_ {A = ℕ} 0 1 = cc in omega arith);
+        only = λ at x. absurd (let (k, f, e) = apart at x in let p = first k .0 f in omega arith);
+      }
   entry-tells (suc j) first make apart =
       record {
         holds = λ e. make j (first j .1 refl);
@@ -87,7 +90,8 @@ module _ (X : Cause → ℕ → Type 0) where
     where
       go : (before : List Cause) → c₀ ∷ l ≡ before ++ (c ∷ f .after) → ((d : Cause) (j : ℕ) → Among d before → ¬ X d j) → (u : Bool) → b ≡ u
           → (b ≡ false → FirstCause X l c at → (firstOf notRefused cs .refusal ≡ causeNumber c) × (firstOf notRefused cs .at ≡ at))
-          → (cond u (refusalAt (causeNumber c₀) k) (firstOf notRefused cs) .refusal ≡ causeNumber c) × (cond u (refusalAt (causeNumber c₀) k) (firstOf notRefused cs) .at ≡ at)
+          → (cond u (refusalAt (causeNumber c₀) k) (firstOf notRefused cs) .refusal ≡ causeNumber c)
+          × (cond u (refusalAt (causeNumber c₀) k) (firstOf notRefused cs) .at ≡ at)
       go [] e n true i rec =
           let s : c ≡ c₀ = cc in
           (ap causeNumber (sym s), sym (t .only at (subst (λ (x : Cause). X x at) s (f .holds)) .1))
@@ -157,7 +161,8 @@ module _ (X : Cause → ℕ → Type 0) where
       )
 
   -- each other number is that of a cause
-  pub some-cause : {l : List Cause} {cs : List TextCase} → Tells l cs → firstOf notRefused cs .refusal ≢ 0 → (c : Cause) × (firstOf notRefused cs .refusal ≡ causeNumber c)
+  pub some-cause : {l : List Cause} {cs : List TextCase} → Tells l cs → firstOf notRefused cs .refusal ≢ 0
+      → (c : Cause) × (firstOf notRefused cs .refusal ≡ causeNumber c)
   unfolding firstOf
   some-cause none n = absurd (n refl)
   some-cause (more {c = c₀} {b = b} {at = k} {cs = cs} t r) n = go b refl n (λ i m. some-cause (r i) m)

@@ -39,7 +39,10 @@ came-next seen L R k = go (entering R L)
 
     go : Entering R L → Came (seen ++ (R ∷ [])) (pointsOf (entered R L))
     go (there w e) = subst (Came (seen ++ (R ∷ []))) (sym e) (record {
-      same = λ P. ((λ q. snoc-in seen R P (inl (k .same P .0 q))), λ q. elim (snoc-of seen R P q) [ inl z ↦ k .same P .1 z | inr z ↦ subst (λ (X : List ℕ). Among X (pointsOf L)) (sym z) w ]);
+      same = λ P. (
+        λ q. snoc-in seen R P (inl (k .same P .0 q)),
+        λ q. elim (snoc-of seen R P q) [ inl z ↦ k .same P .1 z | inr z ↦ subst (λ (X : List ℕ). Among X (pointsOf L)) (sym z) w ],
+      );
       order = λ a P b f. let (c, d, g, h) = k .order a P b f in
           (c, d ++ (R ∷ []), ap (λ (l : List (List ℕ)). l ++ (R ∷ [])) g ∙ append-assoc c (P ∷ d) (R ∷ []), h);
     })
@@ -53,8 +56,12 @@ came-next seen L R k = go (entering R L)
       where
         ordered : (a : List (List ℕ)) (P : List ℕ) (b : List (List ℕ)) → ((a ≡ pointsOf L) × (P ≡ R)) ⊎ ((d : List (List ℕ)) × (pointsOf L ≡ a ++ (P ∷ d)))
             → (c : List (List ℕ)) × (d : List (List ℕ)) × (seen ++ (R ∷ []) ≡ c ++ (P ∷ d)) × ((Q : List ℕ) → Among Q c ↔ Among Q a)
-        ordered a P b (inl (e, f)) =
-            (seen, [], ap (λ (X : List ℕ). seen ++ (X ∷ [])) (sym f), λ Q. subst (λ (l : List (List ℕ)). Among Q seen ↔ Among Q l) (sym e) (k .same Q .1, k .same Q .0))
+        ordered a P b (inl (e, f)) = (
+          seen,
+          [],
+          ap (λ (X : List ℕ). seen ++ (X ∷ [])) (sym f),
+          λ Q. subst (λ (l : List (List ℕ)). Among Q seen ↔ Among Q l) (sym e) (k .same Q .1, k .same Q .0),
+        )
         ordered a P b (inr (d, e)) = let (c, x, g, h) = k .order a P d e in
             (c, x ++ (R ∷ []), ap (λ (l : List (List ℕ)). l ++ (R ∷ [])) g ∙ append-assoc c (P ∷ x) (R ∷ []), h)
 

@@ -69,7 +69,8 @@ pub many-told : (b : List Valued) (q : Valued) → Decides (TooMany b q) (tooMan
 unfolding tooMany
 many-told b q = by-test (ltb 64 (length G))
     (λ e. (pointsOf G, omega (arith, ltb-true 64 (length G) e, length-map G (λ (x : Valued). x .0)), once-gathered A, λ P w. among-gathered A P .0 w))
-    (λ w. lt-ltb 64 (length G) (omega (arith, w .1, few (w .0) (pointsOf G) (w .2) (λ P y. among-gathered A P .1 (w .3 P y)), length-map G (λ (x : Valued). x .0))))
+    (λ w. let h = few (w .0) (pointsOf G) (w .2) (λ P y. among-gathered A P .1 (w .3 P y)) in
+    lt-ltb 64 (length G) (omega (arith, w .1, h, length-map G (λ (x : Valued). x .0))))
   where
     A : List (List ℕ)
     A = pointsTo b q
@@ -84,7 +85,10 @@ count-there (x ∷ L) t q (inl e) = rw e (rw (true-of (sameList (x .0) (x .0)) (
 count-there (x ∷ L) t q (inr w) = go (sameList (q .0) (x .0)) refl (count-there L (and-right (not (isAmong (x .0) (pointsOf L))) (noRepeat (pointsOf L)) t) q w)
   where
     go : (b : Bool) → sameList (q .0) (x .0) ≡ b → countOf (q .0) L ≡ q .1 → cond b (x .1) (countOf (q .0) L) ≡ q .1
-    go true e r = absurd (again (isAmong (x .0) (pointsOf L)) (is-among (x .0) (pointsOf L) (subst (λ (P : List ℕ). Among P (pointsOf L)) (same-is (q .0) (x .0) (of-true e)) (map-among (λ (y : List ℕ × ℕ). y .0) L q w)))
+    go true e r =
+        let z : Among (x .0) (pointsOf L) =
+        subst (λ (P : List ℕ). Among P (pointsOf L)) (same-is (q .0) (x .0) (of-true e)) (map-among (λ (y : List ℕ × ℕ). y .0) L q w) in
+        absurd (again (isAmong (x .0) (pointsOf L)) (is-among (x .0) (pointsOf L) z)
         (and-left (not (isAmong (x .0) (pointsOf L))) (noRepeat (pointsOf L)) t))
     go false e r = r
 
@@ -118,7 +122,8 @@ often-told b q = by-test (Lists.some (ltb 255) (countsOf G)) found read
     read : TooOften b q → Lists.some (ltb 255) (countsOf G) ≡ true
     read (P, h) =
         let e = count-gathered P A in
-        true-of _ (of-one (ltb 255) (countsOf G) (countOf P G) (there-count P G (some-count P G (omega (arith, e, h)))) (of-true (lt-ltb 255 (countOf P G) (omega (arith, e, h)))))
+        let w = there-count P G (some-count P G (omega (arith, e, h))) in
+        true-of _ (of-one (ltb 255) (countsOf G) (countOf P G) w (of-true (lt-ltb 255 (countOf P G) (omega (arith, e, h)))))
 
 -- 14: the value of the first entry with a point
 module _ (P : List ℕ) (v : ℕ) where

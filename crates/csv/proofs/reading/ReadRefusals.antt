@@ -2,7 +2,7 @@
 use mathlib.Core.Path.{_≡_, refl, sym, ap, _∙_, subst}
 use mathlib.Core.Bool.{Bool, true, false, not, cond, _&&_, _||_}
 use mathlib.Core.List.{List, [], _∷_, _++_}
-use mathlib.Core.Logic.{_≢_, _⊎_, inl, inr}
+use mathlib.Core.Logic.{_≢_, _⊎_, inl, inr, _↔_}
 use mathlib.Core.Option.{Option}
 use Prim.Native.Nat.{ℕ, zero, suc, _<_}
 use native.Mathlib.Omega.{arith}
@@ -19,10 +19,11 @@ use Rattle.specification.specs.Refusal.{firstOf}
 use Rattle.notation.specs.Fields.{recordsOf}
 use Rattle.notation.specs.Forms.{Header}
 use Rattle.csv.specs.declared.reading.Refusal.{Refusal}
-use Rattle.csv.specs.reading.Text.{headerIn, formFault, Contents, valuedPoints, isOutside, firstOutside, firstAfter, tooMany, tooOften, otherValue, notRefused}
+use Rattle.csv.specs.reading.Text.{headerIn, formFault, Contents, Valued, valuedPoints, isOutside, firstOutside, firstAfter}
+use Rattle.csv.specs.reading.Text.{tooMany, tooOften, otherValue, notRefused}
 use Rattle.csv.specs.reading.Text.{headerCases, pointsCases, entriesCases, readCases, TextOutcome, textAccepted, textRefused, textDecided, readOutcome}
 use Rattle.csv.specs.reading.Faults.{FirstAt, Says, FaultAt, empty, no-header, no-entry, TextFault}
-use Rattle.csv.specs.reading.Causes.{OutOfRange, TooMany, TooOften, OtherValue, causeNumber, causes, HoldsAt, ReadRefusals}
+use Rattle.csv.specs.reading.Causes.{OutOfRange, TooMany, TooOften, OtherValue, causeNumber, causes, AtEntry, HoldsAt, ReadRefusals}
 use Rattle.csv.specs.reading.Causes.{Cause, length-of-text, form, modulus, variables, buffers, range, points, replicates, values}
 use Rattle.csv.proofs.reading.FirstFault.{first-at, first-alone}
 use Rattle.csv.proofs.reading.FormFaults.{form-faults, fault-read, text-faults}
@@ -87,7 +88,9 @@ module _ (text : List ℕ) (s v c : ℕ) where
 
   form-told : Told X form (not (eqb fault 0)) fault
   unfolding HoldsAt
-  form-told = tells X (some-told fault) (λ n. go fault refl n) (λ k x. let f = text-faults text k .0 x in let q = fault-read f in (λ z. fault-some f (sym q ∙ z), sym q))
+  form-told =
+      tells X (some-told fault) (λ n. go fault refl n)
+      (λ k x. let f = text-faults text k .0 x in let q = fault-read f in (λ z. fault-some f (sym q ∙ z), sym q))
     where
       go : (k : ℕ) → fault ≡ k → fault ≢ 0 → TextFault text fault
       go zero q n = absurd (n q)
@@ -102,47 +105,48 @@ module _ (text : List ℕ) (s v c : ℕ) where
     only : (P : Contents → Type 0) (h : Header) (E : List (List ℤ)) → Says text h E → P (said h E) → P e
     only P h E g x = subst P (sym (says-read text h E g .1)) x
 
-    modulus-tells : Told X modulus (not (isModulus (e .header .modulus))) 1
+    header-modulus : Told X modulus (not (isModulus (e .header .modulus))) 1
     unfolding HoldsAt
-    modulus-tells = tells X (modulus-told (e .header .modulus)) (λ n. (e .header, e .entries, says, n, refl))
+    header-modulus = tells X (modulus-told (e .header .modulus)) (λ n. (e .header, e .entries, says, n, refl))
         (λ k x. let (h, E, g, n, q) = x in (only (λ y. ¬ Among (y .header .modulus) primes) h E g n, q))
 
-    variables-tells : Told X variables (not (leb 1 (e .header .variables) && leb (e .header .variables) 8)) 1
+    header-variables : Told X variables (not (leb 1 (e .header .variables) && leb (e .header .variables) 8)) 1
     unfolding HoldsAt
-    variables-tells = tells X (variables-told (e .header .variables)) (λ n. (e .header, e .entries, says, n, refl))
+    header-variables = tells X (variables-told (e .header .variables)) (λ n. (e .header, e .entries, says, n, refl))
         (λ k x. let (h, E, g, n, q) = x in (only (λ y. (y .header .variables < 1) ⊎ (8 < y .header .variables)) h E g n, q))
 
-    buffers-tells : Told X buffers (ltb s 512 || ltb v 64 || ltb c 64) 0
+    buffers-told : Told X buffers (ltb s 512 || ltb v 64 || ltb c 64) 0
     unfolding HoldsAt
-    buffers-tells = tells X (any-told (lt-told s 512) (lt-told v 64) (lt-told c 64)) (λ w. (w, refl)) (λ k x. x)
+    buffers-told = tells X (any-told (lt-told s 512) (lt-told v 64) (lt-told c 64)) (λ w. (w, refl)) (λ k x. x)
 
-    range-tells : Told X range (not (eqb (firstOutside e) 0)) (suc (firstOutside e))
+    range-first : Told X range (not (eqb (firstOutside e) 0)) (suc (firstOutside e))
     unfolding HoldsAt firstOutside
-    range-tells =
-        entry-tells X (firstOutside e) (first-alone (OutOfRange (e .header .modulus) []) (isOutside (e .header .modulus)) (range-told (e .header .modulus)) (e .entries))
+    range-first =
+        let p = e .header .modulus in
+        entry-tells X (firstOutside e) (first-alone (OutOfRange p []) (isOutside p) (range-told p) (e .entries))
         (λ k f. (e .header, e .entries, k, says, f, refl))
         (λ at x. let (h, E, k, g, f, q) = x in (k, only (λ y. FirstAt (OutOfRange (y .header .modulus)) (y .entries) k) h E g f, q))
 
-    points-tells : Told X points (not (eqb (firstAfter tooMany [] (valuedPoints e)) 0)) (suc (firstAfter tooMany [] (valuedPoints e)))
-    unfolding HoldsAt valuedPoints
-    points-tells =
-        entry-tells X (firstAfter tooMany [] (valuedPoints e)) (first-at TooMany tooMany many-told (valuedPoints e))
-        (λ k f. (e .header, e .entries, k, says, f, refl))
-        (λ at x. let (h, E, k, g, f, q) = x in (k, only (λ y. FirstAt TooMany (valuedPoints y) k) h E g f, q))
+    -- 8, 13 and 14
+    entry-told : {c : Cause} (Fault : List Valued → Valued → Type 0) (f : List Valued → Valued → Bool) → ((b : List Valued) (q : Valued) → Decides (Fault b q) (f b q))
+        → ((at : ℕ) → AtEntry text Fault at ↔ X c at) → Told X c (not (eqb (firstAfter f [] (valuedPoints e)) 0)) (suc (firstAfter f [] (valuedPoints e)))
+    unfolding valuedPoints
+    entry-told Fault f told is =
+        entry-tells X (firstAfter f [] (valuedPoints e)) (first-at Fault f told (valuedPoints e))
+        (λ k g. is (suc (suc k)) .0 (e .header, e .entries, k, says, g, refl))
+        (λ at x. let (h, E, k, g, i, q) = is at .1 x in (k, only (λ y. FirstAt Fault (valuedPoints y) k) h E g i, q))
 
-    replicates-tells : Told X replicates (not (eqb (firstAfter tooOften [] (valuedPoints e)) 0)) (suc (firstAfter tooOften [] (valuedPoints e)))
-    unfolding HoldsAt valuedPoints
-    replicates-tells =
-        entry-tells X (firstAfter tooOften [] (valuedPoints e)) (first-at TooOften tooOften often-told (valuedPoints e))
-        (λ k f. (e .header, e .entries, k, says, f, refl))
-        (λ at x. let (h, E, k, g, f, q) = x in (k, only (λ y. FirstAt TooOften (valuedPoints y) k) h E g f, q))
+    points-told : Told X points (not (eqb (firstAfter tooMany [] (valuedPoints e)) 0)) (suc (firstAfter tooMany [] (valuedPoints e)))
+    unfolding HoldsAt
+    points-told = entry-told TooMany tooMany many-told (λ at. ((λ x. x), λ x. x))
 
-    values-tells : Told X values (not (eqb (firstAfter otherValue [] (valuedPoints e)) 0)) (suc (firstAfter otherValue [] (valuedPoints e)))
-    unfolding HoldsAt valuedPoints
-    values-tells =
-        entry-tells X (firstAfter otherValue [] (valuedPoints e)) (first-at OtherValue otherValue other-told (valuedPoints e))
-        (λ k f. (e .header, e .entries, k, says, f, refl))
-        (λ at x. let (h, E, k, g, f, q) = x in (k, only (λ y. FirstAt OtherValue (valuedPoints y) k) h E g f, q))
+    replicates-told : Told X replicates (not (eqb (firstAfter tooOften [] (valuedPoints e)) 0)) (suc (firstAfter tooOften [] (valuedPoints e)))
+    unfolding HoldsAt
+    replicates-told = entry-told TooOften tooOften often-told (λ at. ((λ x. x), λ x. x))
+
+    values-told : Told X values (not (eqb (firstAfter otherValue [] (valuedPoints e)) 0)) (suc (firstAfter otherValue [] (valuedPoints e)))
+    unfolding HoldsAt
+    values-told = entry-told OtherValue otherValue other-told (λ at. ((λ x. x), λ x. x))
 
   all-tell : Tells X causes (readCases text fault e s v c)
   unfolding readCases headerCases entriesCases pointsCases causeNumber
@@ -150,13 +154,13 @@ module _ (text : List ℕ) (s v c : ℕ) where
       more long-told
       (λ _. more form-told
       (λ i. let z = eqb-true fault 0 (not-false _ i) in
-      more (modulus-tells z)
-      (λ _. more (variables-tells z)
-      (λ _. more (buffers-tells z)
-      (λ _. more (range-tells z)
-      (λ _. more (points-tells z)
-      (λ _. more (replicates-tells z)
-      (λ _. more (values-tells z) (λ _. none)))))))))
+      more (header-modulus z)
+      (λ _. more (header-variables z)
+      (λ _. more (buffers-told z)
+      (λ _. more (range-first z)
+      (λ _. more (points-told z)
+      (λ _. more (replicates-told z)
+      (λ _. more (values-told z) (λ _. none)))))))))
 
 -- what is decided, with its number and record
 module _ (r : Refusal) (e : Contents) (s v c : List ℕ) where

@@ -77,7 +77,8 @@ module _ (text : List ℕ) where
       let i = header-grammar (s .first) h .0 (s .header) in
       let e = entries-read m (s .each) in
       let n = none-wrong E in (
-        ap (λ (x : Records). formFault (headerIn x) x) r ∙ fault-under h (s .first) t i ∙ ap (λ (x : List (Option (List ℤ))). further (firstFault isNone x)) e ∙ ap further (n .0),
+        ap (λ (x : Records). formFault (headerIn x) x) r ∙ fault-under h (s .first) t i
+            ∙ ap (λ (x : List (Option (List ℤ))). further (firstFault isNone x)) e ∙ ap further (n .0),
         ap saidBy r ∙ said-under h (s .first) t i ∙ ap (λ (x : List (List ℤ)). record { header = h; entries = x }) (ap told e ∙ n .1),
       )
 

@@ -14,7 +14,7 @@ use Rattle.residue.specs.Lists.{Among, sameList}
 use Rattle.residue.specs.Layout.{fill, inPlaces, over, rowAt}
 use Rattle.residue.proofs.Layouts.{length-fill, fill-at, length-places}
 use Rattle.residue.proofs.Places.{table-groups, groups-at}
-use Rattle.residue.proofs.Tests.{true-of, told-false}
+use Rattle.residue.proofs.Tests.{Decides, true-of, told-false}
 use Rattle.residue.proofs.bytes.Equality.{same-self}
 use Rattle.residue.proofs.vector.Vectors.{map-at}
 use Rattle.specification.specs.Counted.{Counted, pointsOf, countsOf, enteredAll, gathered, countOf, timesIn}
@@ -23,10 +23,11 @@ use Rattle.specification.proofs.ideal.Lists.{getD-among}
 use Rattle.specification.proofs.counted.Gathered.{among-gathered, once-gathered, count-gathered}
 use Rattle.notation.specs.Fields.{recordsOf}
 use Rattle.specification.specs.Refusal.{firstOf}
-use Rattle.csv.specs.reading.Text.{headerIn, formFault, Contents, Valued, valuedPoints, firstAfter, tooMany, tooOften, firstValue, firstValues, otherValue}
+use Rattle.csv.specs.reading.Text.{headerIn, formFault, Contents, Valued, valuedPoints, firstAfter}
+use Rattle.csv.specs.reading.Text.{tooMany, tooOften, firstValue, firstValues, otherValue}
 use Rattle.csv.specs.reading.Text.{notRefused, readCases, textAccepted, textRefused, textDecided, readOutcome}
 use Rattle.csv.specs.reading.Faults.{Says}
-use Rattle.csv.specs.reading.Causes.{TooMany, TooOften, OtherValue, Cause, form, points, replicates, values, HoldsAt}
+use Rattle.csv.specs.reading.Causes.{TooMany, TooOften, OtherValue, Cause, form, points, replicates, values, AtEntry, HoldsAt}
 use Rattle.csv.specs.reading.Taken.{Taken, ReadTaken}
 use Rattle.csv.proofs.reading.PointFaults.{many-told, count-there, often-told, other-told}
 use Rattle.csv.proofs.reading.TextCases.{unless}
@@ -49,7 +50,8 @@ module _ (k : ℕ) (l t : List ℕ) where
   unfolding over
   laid-beyond =
       let e = length-fill k l in
-      ap (λ (n : ℕ). drop n (fill k l ++ drop (length (fill k l)) t)) (sym e) ∙ drop-append-seam (fill k l) (drop (length (fill k l)) t) ∙ ap (λ (n : ℕ). drop n t) e
+      let r = drop (length (fill k l)) t in
+      ap (λ (n : ℕ). drop n (fill k l ++ r)) (sym e) ∙ drop-append-seam (fill k l) r ∙ ap (λ (n : ℕ). drop n t) e
 
   laid-row : (i : ℕ) → 8 * i + 8 ≤ k → rowAt 8 i (over (fill k l) t) ≡ rowAt 8 i (fill k l)
   unfolding over
@@ -120,20 +122,24 @@ module _ (text s v k : List ℕ) (taken : readOutcome text s v k .answer .refusa
       ap (λ (b : Bool). cond b (textAccepted e s v k) (textRefused r s v k)) (eq-eqb (r .refusal) 0 (sym (same-number r e s v k) ∙ taken))
 
   -- no entry has a fault
-  none-many : (b : List Valued) (q : Valued) (c : List Valued) → E ≡ b ++ (q ∷ c) → ¬ TooMany b q
-  unfolding HoldsAt valuedPoints
-  none-many = none-at TooMany tooMany many-told E
-      (no-place (firstAfter tooMany [] E) (λ j q. free points (suc (suc j)) (e .header, e .entries, j, says, first-at TooMany tooMany many-told E j .1 q, refl)))
+  none-of : (c : Cause) (Fault : List Valued → Valued → Type 0) (f : List Valued → Valued → Bool) → ((b : List Valued) (q : Valued) → Decides (Fault b q) (f b q))
+      → ((at : ℕ) → AtEntry text Fault at → HoldsAt text (length s) (length v) (length k) c at)
+      → (b : List Valued) (q : Valued) (d : List Valued) → E ≡ b ++ (q ∷ d) → ¬ Fault b q
+  unfolding valuedPoints
+  none-of c Fault f told is = none-at Fault f told E
+      (no-place (firstAfter f [] E) (λ j q. free c (suc (suc j)) (is (suc (suc j)) (e .header, e .entries, j, says, first-at Fault f told E j .1 q, refl))))
 
-  none-often : (b : List Valued) (q : Valued) (c : List Valued) → E ≡ b ++ (q ∷ c) → ¬ TooOften b q
-  unfolding HoldsAt valuedPoints
-  none-often = none-at TooOften tooOften often-told E
-      (no-place (firstAfter tooOften [] E) (λ j q. free replicates (suc (suc j)) (e .header, e .entries, j, says, first-at TooOften tooOften often-told E j .1 q, refl)))
+  none-many : (b : List Valued) (q : Valued) (d : List Valued) → E ≡ b ++ (q ∷ d) → ¬ TooMany b q
+  unfolding HoldsAt
+  none-many = none-of points TooMany tooMany many-told (λ at x. x)
 
-  none-other : (b : List Valued) (q : Valued) (c : List Valued) → E ≡ b ++ (q ∷ c) → ¬ OtherValue b q
-  unfolding HoldsAt valuedPoints
-  none-other = none-at OtherValue otherValue other-told E
-      (no-place (firstAfter otherValue [] E) (λ j q. free values (suc (suc j)) (e .header, e .entries, j, says, first-at OtherValue otherValue other-told E j .1 q, refl)))
+  none-often : (b : List Valued) (q : Valued) (d : List Valued) → E ≡ b ++ (q ∷ d) → ¬ TooOften b q
+  unfolding HoldsAt
+  none-often = none-of replicates TooOften tooOften often-told (λ at x. x)
+
+  none-other : (b : List Valued) (q : Valued) (d : List Valued) → E ≡ b ++ (q ∷ d) → ¬ OtherValue b q
+  unfolding HoldsAt
+  none-other = none-of values OtherValue otherValue other-told (λ at x. x)
 
   few : length S ≤ 64
   unfolding gathered enteredAll
@@ -169,7 +175,8 @@ module _ (text s v k : List ℕ) (taken : readOutcome text s v k .answer .refusa
 
     count-at : getD (countsOf L) i 0 ≡ timesIn (getD S i []) (pointsOf E)
     count-at =
-        map-at (λ (x : List ℕ × ℕ). x .1) L ([], 0) 0 i (omega (arith, h, points-many)) ∙ sym (count-there L (once-gathered (pointsOf E)) (getD L i ([], 0)) entry)
+        map-at (λ (x : List ℕ × ℕ). x .1) L ([], 0) 0 i (omega (arith, h, points-many))
+        ∙ sym (count-there L (once-gathered (pointsOf E)) (getD L i ([], 0)) entry)
         ∙ ap (λ (P : List ℕ). countOf P L) (sym point-at) ∙ count-gathered (getD S i []) (pointsOf E)
 
     value-at : (w : ℕ) → Among (getD S i [], w) E → getD (firstValues S E) i 0 ≡ w
@@ -191,7 +198,8 @@ module _ (text s v k : List ℕ) (taken : readOutcome text s v k .answer .refusa
     points = S;
     firsts = gathered-firsts (pointsOf E);
     few = few;
-    answer = ap (λ (n : ℕ). record { refusal = 0; at = 0; modulus = e .header .modulus; variables = e .header .variables; order = e .header .order; n = n }) (sym points-many);
+    answer = let h = e .header in
+        ap (λ (n : ℕ). record { refusal = 0; at = 0; modulus = h .modulus; variables = h .variables; order = h .order; n = n }) (sym points-many);
     state = λ i h. laid-row 512 (inPlaces 8 S) s i (omega (arith, within i h)) ∙ row-at i h;
     value = λ i h w q. laid-at 64 (firstValues S E) v i (within i h) ∙ value-at i h w q;
     count = λ i h. laid-at 64 (countsOf L) k i (within i h) ∙ count-at i h;

@@ -73,8 +73,11 @@ causes = length-of-text ∷ form ∷ modulus ∷ variables ∷ buffers ∷ range
 abbrev pub valuedBy : Header → List (List ℤ) → List Valued
 valuedBy h E = map (valuedPoint (h .modulus) (h .variables)) E
 
--- A cause holds of a text and of the lengths of the buffers for states, values and counts, at a record. The header is record 1, so the entry with k others
--- before it is record k + 2; record 0 is none.
+-- at the first entry with this fault, by the points and values of those before it; the header is record 1, so the entry with k others before it is record k + 2
+abbrev pub AtEntry : List ℕ → (List Valued → Valued → Type 0) → ℕ → Type 0
+AtEntry text Fault at = (h : Header) × (E : List (List ℤ)) × (k : ℕ) × Says text h E × FirstAt Fault (valuedBy h E) k × (at ≡ suc (suc k))
+
+-- A cause holds of a text and of the lengths of the buffers for states, values and counts, at a record; record 0 is none.
 unfoldable pub HoldsAt : List ℕ → (states values counts : ℕ) → Cause → ℕ → Type 0
 HoldsAt text s v c length-of-text at = (16384 < length text) × (at ≡ 0)
 HoldsAt text s v c form at = TextFault text at
@@ -82,9 +85,9 @@ HoldsAt text s v c modulus at = (h : Header) × (E : List (List ℤ)) × Says te
 HoldsAt text s v c variables at = (h : Header) × (E : List (List ℤ)) × Says text h E × ((h .variables < 1) ⊎ (8 < h .variables)) × (at ≡ 1)
 HoldsAt text s v c buffers at = ((s < 512) ⊎ (v < 64) ⊎ (c < 64)) × (at ≡ 0)
 HoldsAt text s v c range at = (h : Header) × (E : List (List ℤ)) × (k : ℕ) × Says text h E × FirstAt (OutOfRange (h .modulus)) E k × (at ≡ suc (suc k))
-HoldsAt text s v c points at = (h : Header) × (E : List (List ℤ)) × (k : ℕ) × Says text h E × FirstAt TooMany (valuedBy h E) k × (at ≡ suc (suc k))
-HoldsAt text s v c replicates at = (h : Header) × (E : List (List ℤ)) × (k : ℕ) × Says text h E × FirstAt TooOften (valuedBy h E) k × (at ≡ suc (suc k))
-HoldsAt text s v c values at = (h : Header) × (E : List (List ℤ)) × (k : ℕ) × Says text h E × FirstAt OtherValue (valuedBy h E) k × (at ≡ suc (suc k))
+HoldsAt text s v c points at = AtEntry text TooMany at
+HoldsAt text s v c replicates at = AtEntry text TooOften at
+HoldsAt text s v c values at = AtEntry text OtherValue at
 
 -- The first cause of a list that holds: it does so at this record, and none before it does at any.
 pub record FirstCause (X : Cause → ℕ → Type 0) (l : List Cause) (c : Cause) (at : ℕ) : Type 0 where

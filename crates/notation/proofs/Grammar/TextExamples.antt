@@ -2,7 +2,8 @@
 use mathlib.Core.Path.{refl}
 use mathlib.Core.List.{[], _∷_}
 use Rattle.notation.specs.Words.{bytesOf}
-use Rattle.notation.specs.Fields.{recordsOf, recordsFrom, behindRecord, recordOf, recordFrom, behindField, withFirst, fieldOf, unquoted, quoted, with, ending, afterCr, front, isPlain}
+use Rattle.notation.specs.Fields.{recordsOf, recordsFrom, behindRecord, recordOf, recordFrom, behindField, withFirst}
+use Rattle.notation.specs.Fields.{fieldOf, unquoted, quoted, with, ending, afterCr, front, isPlain}
 use Rattle.notation.specs.Grammar.{IsText, BreaksAfter}
 use Rattle.notation.proofs.Grammar.TextFound.{text-grammar, text-breaks}
 

@@ -23,35 +23,45 @@ use Rattle.specification.specs.Counted.{entered, enteredAll, gathered}
 use Rattle.specification.specs.Tables.{statesTable, pointsIn}
 use Rattle.specification.specs.Needed.{alike, apart, contrary, pairIn, wiringOf}
 use Rattle.notation.specs.Digits.{isDigit, digitsFrom, decimalNumber}
-use Rattle.notation.specs.Fields.{afterCr, ending, front, isPlain, unquoted, with, quoted, fieldOf, withFirst, behindField, recordFrom, recordOf, behindRecord, recordsFrom, recordsOf}
+use Rattle.notation.specs.Fields.{afterCr, ending, front, isPlain, unquoted, with, quoted, fieldOf}
+use Rattle.notation.specs.Fields.{withFirst, behindField, recordFrom, recordOf, behindRecord, recordsFrom, recordsOf}
 use Rattle.notation.specs.Forms.{negative, levelOf, together, levelsOf, entryOf, orderWord, header, modulusAndOrder, lastField, headerFrom, headerOf}
-use Rattle.csv.specs.reading.Text.{further, firstFault, isNone, headerIn, entryIn, entriesIn, formFault, contentsOf, entryPoint, entryValue, isOutside, valuedPoint, valuedPoints}
+use Rattle.csv.specs.reading.Text.{further, firstFault, isNone, headerIn, entryIn, entriesIn, formFault, contentsOf}
+use Rattle.csv.specs.reading.Text.{entryPoint, entryValue, isOutside, valuedPoint, valuedPoints}
 use Rattle.csv.specs.reading.Text.{firstOutside, firstAfter, tooMany, tooOften, firstValue, otherValue, headerCases, pointsCases, entriesCases, readCases}
 use Rattle.csv.specs.reading.Text.{firstValues, textAccepted, textRefused, textDecided, readOutcome}
 use Rattle.printing.specs.Decimal.{digitsOf, decimal}
 use Rattle.printing.specs.Lines.{spaced, spacedNumbers, line, labelled, firstLine, standardLines, rowLine, rowLines, basisLines, refusalLine}
-use Rattle.printing.specs.Text.{linesOf, linesRead, linesFor, printed, printOutcome}
+use Rattle.printing.specs.Text.{linesOf, linesRead, linesFor, Printed, printed, printOutcome}
 use Rattle.printing.specs.Examples.{inLines, Example, Prints, examples, PrintedExamples}
 
--- the lines that are printed into a buffer that is long enough, tested
+-- the lines of an example, and whether they are those that it prints
+read : Example → List ℕ
+read e = linesRead (readOutcome (inLines (e .text)) (replicate 512 0) (replicate 64 0) (replicate 64 0))
+
 tested : Example → Bool
-tested e = sameList (linesRead (readOutcome (inLines (e .text)) (replicate 512 0) (replicate 64 0) (replicate 64 0))) (inLines (e .prints))
+tested e = sameList (read e) (inLines (e .prints))
 
 of-test : (e : Example) → T (tested e) → Prints e
-unfolding tested Prints printOutcome linesFor
+unfolding read tested Prints printOutcome linesFor
 of-test e t buffer h =
-    ap (λ (b : Bool). let lines = cond b [] (linesRead (readOutcome (inLines (e .text)) (replicate 512 0) (replicate 64 0) (replicate 64 0))) in printed (length lines) (over lines buffer))
-    (le-ltb (length buffer) 131072 h)
-    ∙ ap (λ (lines : List ℕ). printed (length lines) (over lines buffer)) (same-is _ (inLines (e .prints)) t)
+    ap (λ (b : Bool). put (cond b [] (read e))) (le-ltb (length buffer) 131072 h) ∙ ap put (same-is (read e) (inLines (e .prints)) t)
+  where
+    put : List ℕ → Printed
+    put lines = printed (length lines) (over lines buffer)
 
 all : T (every tested examples)
-unfolding tested linesRead linesOf spaced spacedNumbers line labelled firstLine standardLines rowLine rowLines basisLines refusalLine digitsOf decimal
-    firstValues textAccepted textRefused textDecided readOutcome firstOutside firstAfter tooMany tooOften firstValue otherValue headerCases pointsCases entriesCases readCases
+unfolding read tested linesRead linesOf spaced spacedNumbers line labelled firstLine standardLines rowLine rowLines basisLines refusalLine digitsOf decimal
+    firstValues textAccepted textRefused textDecided readOutcome
+    firstOutside firstAfter tooMany tooOften firstValue otherValue headerCases pointsCases entriesCases readCases
     further firstFault isNone headerIn entryIn entriesIn formFault contentsOf entryPoint entryValue isOutside valuedPoint valuedPoints
     negative levelOf together levelsOf entryOf orderWord header modulusAndOrder lastField headerFrom headerOf
-    afterCr ending front isPlain unquoted with quoted fieldOf withFirst behindField recordFrom recordOf behindRecord recordsFrom recordsOf isDigit digitsFrom decimalNumber
-    alike apart contrary pairIn wiringOf statesTable pointsIn entered enteredAll gathered monomialOf pointOf basisOf valueAt slot minus without divided extended gap first newton grow
-    isResidue residueOr0 inRange residues firstOf orderOf cmp groups fill inPlaces over residueOf inverseBelow inverseOf primes isOneOf isModulus sameList flatten zipWith zip
+    afterCr ending front isPlain unquoted with quoted fieldOf withFirst behindField recordFrom recordOf
+    behindRecord recordsFrom recordsOf isDigit digitsFrom decimalNumber
+    alike apart contrary pairIn wiringOf statesTable pointsIn entered enteredAll gathered
+    monomialOf pointOf basisOf valueAt slot minus without divided extended gap first newton grow
+    isResidue residueOr0 inRange residues firstOf orderOf cmp groups fill inPlaces over residueOf
+    inverseBelow inverseOf primes isOneOf isModulus sameList flatten zipWith zip
 all = tt
 
 pub printed-examples : PrintedExamples

@@ -10,7 +10,9 @@ use Rattle.notation.proofs.fields.read_end.Tie as tie
 
 returns : tie.Need-returns
 unfolding endedBy
-returns c = end-says (λ content. sym (end-text content (c .before .args .text .now) (c .before .args .at) (omega arith))) (omega arith)
+returns c =
+    let a = c .before .args in
+    end-says (λ content. sym (end-text content (a .text .now) (a .at) (omega arith))) (omega arith)
 
 shared-slice-read-b : tie.Need-shared-slice-read-b
 shared-slice-read-b c = search needs
@@ -20,27 +22,35 @@ add-t8 c = search needs
 
 returns-2 : tie.Need-returns-2
 unfolding endedBy
-returns-2 c = end-says (λ content. sym (end-comma content (c .before .before .before .args .text .now) (c .before .before .before .args .at) (omega arith) (c .if2 .taken))) (omega arith)
+returns-2 c =
+    let a = c .before .before .before .args in
+    end-says (λ content. sym (end-comma content (a .text .now) (a .at) (omega arith) (c .if2 .taken))) (omega arith)
 
 add-t9 : tie.Need-add-t9
 add-t9 c = search needs
 
 returns-3 : tie.Need-returns-3
 unfolding endedBy
-returns-3 c = end-says (λ content. sym (end-lf content (c .before .before .before .before .args .text .now) (c .before .before .before .before .args .at) (omega arith) (c .before .if2 .left) (c .if3 .taken))) (omega arith)
+returns-3 c =
+    let a = c .before .before .before .before .args in
+    end-says (λ content. sym (end-lf content (a .text .now) (a .at) (omega arith) (c .before .if2 .left) (c .if3 .taken))) (omega arith)
 
 returns-4 : tie.Need-returns-4
 unfolding endedBy
 returns-4 c =
-    end-says (λ content. sym (end-other content (c .before .before .before .before .before .args .text .now) (c .before .before .before .before .before .args .at) (omega arith) (c .before .before .if2 .left) (c .before .if3 .left) (c .if4 .taken))) (tt)
+    let a = c .before .before .before .before .before .args in
+    end-says (λ content. sym (end-other content (a .text .now) (a .at) (omega arith) (c .before .before .if2 .left) (c .before .if3 .left) (c .if4 .taken))) tt
 
 add-if5 : tie.Need-add-if5
 add-if5 c = search needs
 
 returns-5 : tie.Need-returns-5
 unfolding endedBy
-returns-5 c = end-says (λ content. sym (end-cr content (c .before .before .before .before .before .before .args .text .now) (c .before .before .before .before .before .before .args .at) (omega arith) (c .before .before .before .if2 .left) (c .before .before .if3 .left) (c .before .if4 .left)
-    (c .if5 .taken))) (tt)
+returns-5 c =
+    let d = c .before in
+    let a = d .before .before .before .before .before .args in
+    end-says (λ content. sym (end-cr content (a .text .now) (a .at) (omega arith) (d .before .before .if2 .left) (d .before .if3 .left) (d .if4 .left)
+    (c .if5 .taken))) tt
 
 add-if6 : tie.Need-add-if6
 add-if6 c = search needs
@@ -50,15 +60,21 @@ shared-slice-read-if6 c = search needs
 
 returns-6 : tie.Need-returns-6
 unfolding endedBy
-returns-6 c = end-says (λ content. sym (end-cr-other content (c .before .before .before .before .before .before .before .before .args .text .now) (c .before .before .before .before .before .before .before .before .args .at) (omega arith) (c .before .before .before .before .before .if2 .left) (c .before .before .before .before .if3 .left) (c .before .before .before .if4 .left)
-    (omega arith) (c .if6 .taken))) (tt)
+returns-6 c =
+    let d = c .before .before .before in
+    let a = d .before .before .before .before .before .args in
+    end-says (λ content. sym (end-cr-other content (a .text .now) (a .at) (omega arith) (d .before .before .if2 .left) (d .before .if3 .left) (d .if4 .left)
+    (omega arith) (c .if6 .taken))) tt
 
 add-t10 : tie.Need-add-t10
 add-t10 c = search needs
 
 returns-7 : tie.Need-returns-7
 unfolding endedBy
-returns-7 c = end-says (λ content. sym (end-crlf content (c .before .before .before .before .before .before .before .before .args .text .now) (c .before .before .before .before .before .before .before .before .args .at) (omega arith) (c .before .before .before .before .before .if2 .left) (c .before .before .before .before .if3 .left) (c .before .before .before .if4 .left)
+returns-7 c =
+    let d = c .before .before .before in
+    let a = d .before .before .before .before .before .args in
+    end-says (λ content. sym (end-crlf content (a .text .now) (a .at) (omega arith) (d .before .before .if2 .left) (d .before .if3 .left) (d .if4 .left)
     (omega arith) (c .if6 .left))) (omega arith)
 
 pub read-end-spec : {M : Type 1} → statement M

@@ -28,16 +28,18 @@ within c =
     omega (arith, c .plain-end .ensures)
 
 abbrev content : tie.After-plain-end → List ℕ
-content c = undoubled (take (c .plain-end .result - c .before .before .before .args .at) (drop (c .before .before .before .args .at) (text (c .before .before .before))))
+content c = let s = c .before .before .before in undoubled (take (c .plain-end .result - s .args .at) (drop (s .args .at) (text s)))
 
 -- the field begins with no quote
 otherwise : (c : tie.After-read-end) → let s = c .before .before .before .before in s .args .at < length (text s) → getD (text s) (s .args .at) 0 ≡ quote → ⊥
 otherwise c = ⊎-elim (λ w h. w .2 .left) (λ w h e. omega arith) (c .before .before .if1 .came)
 
-ended : (c : tie.After-read-end) → endedBy (text (c .before .before .before .before)) (content (c .before)) (c .read-end .result) ≡ fieldOf (drop (c .before .before .before .before .args .at) (text (c .before .before .before .before)))
+ended : (c : tie.After-read-end)
+    → let s = c .before .before .before .before in endedBy (text s) (content (c .before)) (c .read-end .result) ≡ fieldOf (drop (s .args .at) (text s))
 ended c =
-    span-plain (text (c .before .before .before .before)) (c .before .before .before .before .args .at) (c .before .plain-end .result) (c .read-end .result) (c .before .plain-end .ensures) (c .read-end .ensures .said)
-    ∙ field-plain (text (c .before .before .before .before)) (c .before .before .before .before .args .at) (otherwise c)
+    let s = c .before .before .before .before in
+    let p = c .before .plain-end in
+    span-plain (text s) (s .args .at) (p .result) (c .read-end .result) (p .ensures) (c .read-end .ensures .said) ∙ field-plain (text s) (s .args .at) (otherwise c)
 
 shared-slice-read-if2 : tie.Need-shared-slice-read-if2
 shared-slice-read-if2 c = search needs
@@ -52,8 +54,10 @@ returns : tie.Need-returns
 returns c =
     let s = c .before .before .before .before .before in
     let r = c .read-quoted .ensures in
-    let p = places-quoted (text s) (s .args .at) (c .before .before .before .if1 .taken) (c .before .if2 .taken) in
-    span-says (r .said ∙ field-quoted (text s) (s .args .at) (c .before .before .before .if1 .taken) (c .before .if2 .taken)) (placed (c .read-quoted .result) (p .0) (p .1) (r .places)) (r .within)
+    let h = c .before .before .before .if1 .taken in
+    let q = c .before .if2 .taken in
+    let p = places-quoted (text s) (s .args .at) h q in
+    span-says (r .said ∙ field-quoted (text s) (s .args .at) h q) (placed (c .read-quoted .result) (p .0) (p .1) (r .places)) (r .within)
 
 plain-end-requires : tie.Need-plain-end-requires
 plain-end-requires c κs = search needs

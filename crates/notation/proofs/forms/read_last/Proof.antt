@@ -39,7 +39,9 @@ read-settings-requires : tie.Need-read-settings-requires
 read-settings-requires c κs = search needs
 
 returns-3 : tie.Need-returns-3
-returns-3 c = last-says (λ m. c .read-settings .ensures .said m ∙ last-mod m _ (sym (c .before .before .before .same .ensures) ∙ not-false _ (c .before .before .if2 .left)))
+returns-3 c =
+    let e = sym (c .before .before .before .same .ensures) ∙ not-false _ (c .before .before .if2 .left) in
+    last-says (λ m. c .read-settings .ensures .said m ∙ last-mod m _ e)
 
 pub read-last-spec : {M : Type 1} → statement M
 read-last-spec =

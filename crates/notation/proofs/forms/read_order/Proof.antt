@@ -38,7 +38,8 @@ returns-3 : tie.Need-returns-3
 unfolding orderSaid
 returns-3 c =
     let e₂ = c .before .before .before in
-    order-says (sym (word-grlex _ (some-word e₂ .if1 .left) (sym (e₂ .before .same .ensures) ∙ e₂ .if2 .left) (sym (c .before .same2 .ensures) ∙ c .if3 .taken)))
+    order-says (sym (word-grlex _ (some-word e₂ .if1 .left) (sym (e₂ .before .same .ensures) ∙ e₂ .if2 .left)
+    (sym (c .before .same2 .ensures) ∙ c .if3 .taken)))
 
 slice-aggregate-same-3 : tie.Need-slice-aggregate-same-3
 slice-aggregate-same-3 c = search needs
@@ -51,7 +52,8 @@ unfolding orderSaid
 returns-4 c =
     let e₃ = c .before .before .before in
     let e₂ = not-lex e₃ in
-    order-says (sym (word-grevlex _ (some-word e₂ .if1 .left) (sym (e₂ .before .same .ensures) ∙ e₂ .if2 .left) (sym (e₃ .before .same2 .ensures) ∙ e₃ .if3 .left)
+    order-says (sym (word-grevlex _ (some-word e₂ .if1 .left) (sym (e₂ .before .same .ensures) ∙ e₂ .if2 .left)
+    (sym (e₃ .before .same2 .ensures) ∙ e₃ .if3 .left)
     (sym (c .before .same3 .ensures) ∙ c .if4 .taken)))
 
 returns-5 : tie.Need-returns-5

@@ -65,11 +65,15 @@ enum-told-2 c = search needs
 
 returns-2 : tie.Need-returns-2
 unfolding lastSaid orderSaid header
-returns-2 c = let w = c .before .before in last-says (λ m. digits-and m _ _ _ _ (found (known w)) (ap orderSaid (sym (c .enum-told2 .given .1)) ∙ w .read-order .ensures .said))
+returns-2 c =
+    let w = c .before .before in
+    last-says (λ m. digits-and m _ _ _ _ (found (known w)) (ap orderSaid (sym (c .enum-told2 .given .1)) ∙ w .read-order .ensures .said))
 
 returns-3 : tie.Need-returns-3
 unfolding lastSaid orderSaid header
-returns-3 c = let w = c .before .before .before in last-says (λ m. digits-and m _ _ _ _ (found (known w)) (ap orderSaid (sym (c .before .order .given .1)) ∙ w .read-order .ensures .said))
+returns-3 c =
+    let w = c .before .before .before in
+    last-says (λ m. digits-and m _ _ _ _ (found (known w)) (ap orderSaid (sym (c .before .order .given .1)) ∙ w .read-order .ensures .said))
 
 pub read-settings-spec : {M : Type 1} → statement M
 read-settings-spec =
