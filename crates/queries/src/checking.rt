@@ -1,13 +1,12 @@
 // Checking lent tables.
-use recognition::recognising::recognise;
-use recognition::settings::check_sizes;
-use recognition::settings::too_short;
+use recognition::looking::Faults;
+use recognition::looking::look;
 use specification::settings::Settings;
 ghost use mathlib.Core.Path.{_≡_};
 ghost use Rattle.specification.specs.Tables.{fiveTables};
 ghost use Rattle.specification.specs.Solving.{checkRefusal};
 
-// Checking lent tables.
+// Checking lent tables: the look at them alone.
 pub fn check(
     settings: Settings,
     n: u64,
@@ -21,35 +20,28 @@ pub fn check(
     ensures { λ k. ⌜ k ≡ checkRefusal settings n r
         (fiveTables (now (states .entry)) (now (standard .entry)) (now (leads .entry)) (now (coefficients .entry)) (now (counts .entry))) ⌝ }
 {
-    let short = too_short(
-        states.len(),
-        standard.len(),
-        leads.len(),
-        coefficients.len(),
-        counts.len(),
-    );
-    let refusal = check_sizes(settings, short, n);
-    if refusal != 0 {
-        return refusal;
-    }
     let mut points = [0u8; 512];
     let mut rows = [0u8; 73728];
     let mut pivots = [0u8; 64];
-    let known = recognise(
+    let faults = Faults {
+        short: false,
+        wrong: false,
+        many: false,
+    };
+    look(
         settings,
-        n as usize,
+        n,
         r,
         states,
         standard,
         leads,
         coefficients,
         counts,
+        faults,
+        &[],
+        &[],
         &mut points,
         &mut rows,
         &mut pivots,
-    );
-    if known {
-        return 0;
-    }
-    10
+    )
 }

@@ -2,76 +2,14 @@
 use interpolation::pairs;
 use interpolation::solving;
 use points::levels;
-use recognition::recognising::recognise;
-use recognition::settings::too_short;
-use recognition::settings::values_sizes;
+use recognition::looking::Faults;
+use recognition::looking::look;
 use residue::bytes;
 use specification::answers::Wired;
 use specification::settings::Settings;
 ghost use mathlib.Core.Path.{_≡_};
-ghost use lib.ListN.{replicate};
-ghost use Rattle.specification.specs.Refusal.{firstOf};
-ghost use Rattle.specification.specs.Tables.{fiveTables, statesSize};
-ghost use Rattle.specification.specs.Solving.{answering, valuesCases, interpolateOutcome, listed, wiringOutcome};
-ghost use Rattle.construction.specs.Drawing.{RowsLong};
-ghost use Rattle.recognition.specs.Looking.{Looked};
-
-// The refusal of a call that answers n values in an output of so many bytes, or 0. Where the tables are looked at, their points and pivot rows are left in
-// working arrays.
-fn values_refusal(
-    settings: Settings,
-    n: u64,
-    r: u64,
-    states: &[u8],
-    standard: &[u8],
-    leads: &[u8],
-    coefficients: &[u8],
-    counts: &[u8],
-    values: &[i8],
-    size: usize,
-    out: &[u8],
-    points: &mut [u8],
-    rows: &mut [u8],
-    pivots: &mut [u8],
-) -> u8
-    requires { ⌜ (now points ≡ replicate statesSize 0) × RowsLong (now rows) (now pivots) ⌝ }
-    ensures { λ k. ⌜ k ≡ firstOf 0 (valuesCases size settings n r
-        (fiveTables (now (states .entry)) (now (standard .entry)) (now (leads .entry)) (now (coefficients .entry)) (now (counts .entry)))
-        (now (values .entry)) (now (out .entry))) ⌝ }
-    ensures { λ k. ⌜ Looked settings n (now (states .entry)) k (now (points .entry)) (now (rows .entry)) (now (pivots .entry))
-        (now (points .exit)) (now (rows .exit)) (now (pivots .exit)) ⌝ }
-{
-    let short = too_short(
-        states.len(),
-        standard.len(),
-        leads.len(),
-        coefficients.len(),
-        counts.len(),
-    );
-    let refusal = values_sizes(settings, short, out.len(), size, values.len(), n);
-    if refusal != 0 {
-        return refusal;
-    }
-    if !levels::in_range(settings.modulus as u8, values) {
-        return 9;
-    }
-    if !recognise(
-        settings,
-        n as usize,
-        r,
-        states,
-        standard,
-        leads,
-        coefficients,
-        counts,
-        points,
-        rows,
-        pivots,
-    ) {
-        return 10;
-    }
-    0
-}
+ghost use Rattle.specification.specs.Tables.{fiveTables};
+ghost use Rattle.specification.specs.Solving.{answering, interpolateOutcome, listed, wiringOutcome};
 
 // The interpolant of n values, in the order of the points.
 pub fn interpolate(
@@ -94,7 +32,12 @@ pub fn interpolate(
     let mut points = [0u8; 512];
     let mut rows = [0u8; 73728];
     let mut pivots = [0u8; 64];
-    let refusal = values_refusal(
+    let faults = Faults {
+        short: out.len() < 64,
+        wrong: values.len() as u64 != n,
+        many: false,
+    };
+    let refusal = look(
         settings,
         n,
         r,
@@ -103,9 +46,9 @@ pub fn interpolate(
         leads,
         coefficients,
         counts,
+        faults,
         values,
-        64,
-        out,
+        &[],
         &mut points,
         &mut rows,
         &mut pivots,
@@ -145,7 +88,12 @@ pub fn wiring(
     let mut points = [0u8; 512];
     let mut rows = [0u8; 73728];
     let mut pivots = [0u8; 64];
-    let refusal = values_refusal(
+    let faults = Faults {
+        short: out.len() < 8,
+        wrong: values.len() as u64 != n,
+        many: false,
+    };
+    let refusal = look(
         settings,
         n,
         r,
@@ -154,9 +102,9 @@ pub fn wiring(
         leads,
         coefficients,
         counts,
+        faults,
         values,
-        8,
-        out,
+        &[],
         &mut points,
         &mut rows,
         &mut pivots,

@@ -1,3 +1,2 @@
--- A named point: what refuses the call that names it, and what is at hand where nothing does.
-pub mod NamingTests
+-- A named point: what is at hand where nothing refuses the call that names it.
 pub mod PointAtHand

@@ -1,13 +1,30 @@
--- What a call leaves in the arrays lent for looking at its tables, by its number. No public promise names these: the arrays are a public call's own.
+-- What refuses a call that is lent tables, up to 10, and what looking at them leaves in the arrays lent for it, by the number. No public promise names these:
+-- each public call has its own list of cases, which begins so, and the arrays are its own.
 use mathlib.Core.Path.{_≡_}
-use mathlib.Core.Bool.{Bool, cond, _||_}
-use mathlib.Core.List.{List}
-use Prim.Native.Nat.{ℕ}
-use lib.Dec.{eqb}
-use Rattle.residue.specs.Layout.{fill, inPlaces}
+use mathlib.Core.Bool.{Bool, not, cond, _&&_, _||_}
+use mathlib.Core.List.{List, [], _∷_, _++_}
+use Prim.Native.Nat.{ℕ, _/_}
+use lib.IntN.{ℤ}
+use lib.ListN.{length}
+use lib.Dec.{eqb, ltb}
+use Rattle.residue.specs.Layout.{groups, fill, inPlaces}
 use Rattle.specification.specs.declared.settings.Settings.{Settings}
-use Rattle.specification.specs.Tables.{pointsIn, statesSize}
+use Rattle.specification.specs.Refusal.{Case}
+use Rattle.specification.specs.Settings.{settingsCases}
+use Rattle.specification.specs.Levels.{inRange}
+use Rattle.specification.specs.Tables.{Tables, tooShort, pointsIn, recognised, statesSize}
+use Rattle.specification.specs.Solving.{withinVariables}
 use Rattle.construction.specs.Drawing.{Solves, pivotBytes, pivotRowsLeft}
+use Rattle.recognition.specs.declared.looking.Faults.{Faults}
+
+-- In each case what only some calls have stands first: for a call that has none it is computed away.
+unfoldable pub lookCases : Settings → ℕ → ℕ → Tables → Faults → List ℤ → List ℕ → List Case
+lookCases s n r t f numbers exponents = settingsCases s
+    ++ ((f .short || tooShort t, 6)
+    ∷ (f .wrong, 7)
+    ∷ (f .many || ltb 64 n, 8)
+    ∷ (not (withinVariables (s .variables) (groups 8 (length exponents / 8) exponents) && inRange (s .modulus) numbers), 9)
+    ∷ (not (recognised s n r t), 10) ∷ [])
 
 -- A call with this number has looked at its tables: it is refused for them, or nothing refuses it up to there.
 unfoldable pub lookedAt : ℕ → Bool

@@ -1,32 +1,28 @@
 -- What a call is refused with, up to 10, that names a point by its levels, and what looking for the point leaves. No public promise names these: adding and
 -- withdrawing have their own lists of cases, which begin so.
 use mathlib.Core.Path.{_≡_}
-use mathlib.Core.Bool.{not, cond}
-use mathlib.Core.List.{List, [], _∷_, _++_}
+use mathlib.Core.Bool.{not, false, cond}
+use mathlib.Core.List.{List, []}
 use Prim.Native.Nat.{ℕ}
 use lib.IntN.{ℤ}
 use lib.ListN.{length}
-use lib.Dec.{eqb, ltb}
+use lib.Dec.{eqb}
 use Rattle.residue.specs.Layout.{fill}
 use Rattle.specification.specs.declared.settings.Settings.{Settings}
-use Rattle.specification.specs.Refusal.{Case, firstOf}
-use Rattle.specification.specs.Settings.{settingsCases}
-use Rattle.specification.specs.Levels.{inRange, residues}
+use Rattle.specification.specs.Refusal.{firstOf}
+use Rattle.specification.specs.Levels.{residues}
 use Rattle.specification.specs.Counted.{placeIn}
-use Rattle.specification.specs.Tables.{Tables, tooShort, pointsIn, recognised}
-use Rattle.recognition.specs.Looking.{Looked}
+use Rattle.specification.specs.Tables.{Tables, pointsIn}
+use Rattle.recognition.specs.Looking.{lookCases, Looked}
+use Rattle.recognition.specs.declared.looking.Faults.{Faults}
 use Rattle.recognition.specs.declared.naming.Located.{Located}
 
-abbrev pub namingCases : Settings → ℕ → ℕ → Tables → List ℤ → List Case
-namingCases s n r t levels = settingsCases s
-    ++ ((tooShort t, 6)
-    ∷ (not (eqb (length levels) (s .variables)), 7)
-    ∷ (ltb 64 n, 8)
-    ∷ (not (inRange (s .modulus) levels), 9)
-    ∷ (not (recognised s n r t), 10) ∷ [])
+-- a point has a level for each variable
+abbrev pub namingFaults : Settings → List ℤ → Faults
+namingFaults s levels = record { short = false; wrong = not (eqb (length levels) (s .variables)); many = false }
 
-unfoldable pub namingRefusal : Settings → ℕ → ℕ → Tables → List ℤ → ℕ
-namingRefusal s n r t levels = firstOf 0 (namingCases s n r t levels)
+abbrev pub namingRefusal : Settings → ℕ → ℕ → Tables → List ℤ → ℕ
+namingRefusal s n r t levels = firstOf 0 (lookCases s n r t (namingFaults s levels) levels [])
 
 -- The answer of looking for a point, and the arrays lent for it: what looking at the tables leaves, and the point itself where nothing refuses.
 pub record LocatedAs (s : Settings) (n r : ℕ) (t : Tables) (levels : List ℤ) (points₀ rows₀ pivots₀ point₀ : List ℕ) (a : Located)

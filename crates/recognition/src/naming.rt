@@ -1,9 +1,6 @@
-// A point that a call names by its levels: what refuses the call up to 10, and where the point stands among those of the tables. Adding and withdrawing begin
-// so.
-use crate::recognising::recognise;
-use crate::settings::point_sizes;
-use crate::settings::too_short;
-use points::levels::in_range;
+// A point that a call names by its levels: the look at the tables, and where the point stands among theirs. Adding and withdrawing begin so.
+use crate::looking::Faults;
+use crate::looking::look;
 use points::levels::put_residues;
 use points::places::place_of;
 use specification::settings::Settings;
@@ -17,13 +14,6 @@ ghost use Rattle.recognition.specs.Naming.{LocatedAs};
 pub struct Located {
     pub refusal: u8,
     pub place: usize,
-}
-
-// A refusal.
-fn unlocated(refusal: u8) -> Located
-    ensures { λ a. ⌜ a ≡ record { refusal = refusal; place = 0 } ⌝ }
-{
-    Located { refusal, place: 0 }
 }
 
 // Where the point of these levels stands; the points of the tables, their pivot rows and the point are left in working arrays.
@@ -48,40 +38,33 @@ pub fn locate(
         (now (levels .entry)) (now (points .entry)) (now (rows .entry)) (now (pivots .entry)) (now (point .entry)) a
         (now (points .exit)) (now (rows .exit)) (now (pivots .exit)) (now (point .exit)) ⌝ }
 {
-    let short = too_short(
-        states.len(),
-        standard.len(),
-        leads.len(),
-        coefficients.len(),
-        counts.len(),
-    );
-    let refusal = point_sizes(settings, short, levels.len(), n);
-    if refusal != 0 {
-        return unlocated(refusal);
-    }
-    let p = settings.modulus as u8;
-    if !in_range(p, levels) {
-        return unlocated(9);
-    }
-    let count = n as usize;
-    if !recognise(
+    let faults = Faults {
+        short: false,
+        wrong: levels.len() as u64 != settings.variables,
+        many: false,
+    };
+    let refusal = look(
         settings,
-        count,
+        n,
         r,
         states,
         standard,
         leads,
         coefficients,
         counts,
+        faults,
+        levels,
+        &[],
         points,
         rows,
         pivots,
-    ) {
-        return unlocated(10);
+    );
+    if refusal != 0 {
+        return Located { refusal, place: 0 };
     }
-    put_residues(p, levels, point);
+    put_residues(settings.modulus as u8, levels, point);
     Located {
-        refusal: 0,
-        place: place_of(count, points, point),
+        refusal,
+        place: place_of(n as usize, points, point),
     }
 }

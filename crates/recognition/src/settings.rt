@@ -4,10 +4,10 @@ use specification::answers::Answer;
 use specification::answers::Drawn;
 use specification::settings::Settings;
 ghost use mathlib.Core.Path.{_≡_};
-ghost use mathlib.Core.Bool.{not, false, _||_};
+ghost use mathlib.Core.Bool.{not, false};
 ghost use mathlib.Core.List.{[], _∷_, _++_};
-ghost use Prim.Native.Nat.{_*_, _%_};
-ghost use lib.Dec.{eqb, ltb};
+ghost use Prim.Native.Nat.{_%_};
+ghost use lib.Dec.{eqb};
 ghost use Rattle.specification.specs.Refusal.{firstOf};
 ghost use Rattle.specification.specs.Settings.{settingsCases};
 ghost use Rattle.specification.specs.Tables.{shortLengths};
@@ -91,7 +91,7 @@ pub fn too_short(
 }
 
 // A table or buffer is too short, a length is wrong, there are too many points or terms.
-fn by_sizes(settings: Settings, short: bool, wrong: bool, many: bool) -> u8
+pub(crate) fn by_sizes(settings: Settings, short: bool, wrong: bool, many: bool) -> u8
     ensures { λ k. ⌜ k ≡ firstOf 0 (settingsCases settings ++ ((short, 6) ∷ (wrong, 7) ∷ (many, 8) ∷ [])) ⌝ }
 {
     let k = settings_refusal(settings);
@@ -120,15 +120,7 @@ fn modulo(k: usize, m: u64) -> usize
     k % m as usize
 }
 
-// Adding a point of this many levels to n points, or withdrawing it; `short` is whether a lent table is too short, here and below.
-pub fn point_sizes(settings: Settings, short: bool, levels: usize, n: u64) -> u8
-    ensures { λ k. ⌜ k ≡ firstOf 0 (settingsCases settings
-        ++ ((short, 6) ∷ (not (eqb levels (settings .variables)), 7) ∷ (ltb 64 n, 8) ∷ [])) ⌝ }
-{
-    by_sizes(settings, short, levels as u64 != settings.variables, 64 < n)
-}
-
-// Drawing up from this many levels, of any number of points: 8 counts the distinct ones, and comes later.
+// Drawing up from this many levels, of any number of points; `short` is whether a lent table is too short. 8 counts the distinct ones, and comes later.
 pub fn draw_sizes(settings: Settings, short: bool, levels: usize) -> u8
     ensures { λ k. ⌜ k ≡ firstOf 0 (settingsCases settings
         ++ ((short, 6) ∷ (not (eqb (levels % settings .variables) 0), 7) ∷ (false, 8) ∷ [])) ⌝ }
@@ -138,48 +130,5 @@ pub fn draw_sizes(settings: Settings, short: bool, levels: usize) -> u8
         short,
         modulo(levels, settings.variables) != 0,
         false,
-    )
-}
-
-// Checking the tables of n points.
-pub fn check_sizes(settings: Settings, short: bool, n: u64) -> u8
-    ensures { λ k. ⌜ k ≡ firstOf 0 (settingsCases settings ++ ((short, 6) ∷ (false, 7) ∷ (ltb 64 n, 8) ∷ [])) ⌝ }
-{
-    by_sizes(settings, short, false, 64 < n)
-}
-
-// An answer of the given size, from this many values at n points.
-pub fn values_sizes(
-    settings: Settings,
-    short: bool,
-    buffer: usize,
-    size: usize,
-    values: usize,
-    n: u64,
-) -> u8
-    ensures { λ k. ⌜ k ≡ firstOf 0 (settingsCases settings
-        ++ ((short || ltb buffer size, 6) ∷ (not (eqb values n), 7) ∷ (ltb 64 n, 8) ∷ [])) ⌝ }
-{
-    by_sizes(settings, short || buffer < size, values as u64 != n, 64 < n)
-}
-
-// The remainder of a polynomial of so many terms and exponents.
-pub fn remainder_sizes(
-    settings: Settings,
-    short: bool,
-    buffer: usize,
-    terms: usize,
-    exponents: usize,
-    n: u64,
-) -> u8
-    ensures { λ k. ⌜ k ≡ firstOf 0 (settingsCases settings
-        ++ ((short || ltb buffer 64, 6) ∷ (not (eqb exponents (8 * terms)), 7) ∷ (ltb 64 n || ltb 256 terms, 8) ∷ [])) ⌝ }
-{
-    let whole = exponents / 8 == terms && exponents % 8 == 0;
-    by_sizes(
-        settings,
-        short || buffer < 64,
-        !whole,
-        64 < n || 256 < terms,
     )
 }

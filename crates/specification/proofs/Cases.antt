@@ -1,13 +1,12 @@
 -- The first case that holds, along a list of cases that is judged part after part.
-use mathlib.Core.Path.{_≡_, refl, sym, _∙_}
+use mathlib.Core.Path.{_≡_, refl}
 use mathlib.Core.Bool.{Bool, true, false, not, _&&_}
 use mathlib.Core.List.{List, [], _∷_, _++_}
 use mathlib.Core.Logic.{_≢_}
-use Prim.Native.Nat.{ℕ, _*_, _/_, _%_}
-use native.Mathlib.Decide.{ℕ-discrete}
+use Prim.Native.Nat.{ℕ}
 use native.Mathlib.Omega.{arith}
 use lib.Dec.{T, eqb}
-use borrow.Author.Tests.{eq-eqb, ne-eqb}
+use borrow.Author.Tests.{eq-eqb}
 use Rattle.residue.proofs.Tests.{and-left, and-right}
 use Rattle.specification.specs.Refusal.{Case, firstOf}
 
@@ -53,14 +52,3 @@ but-last ((false, j) ∷ l) b k n = but-last l b k n
 pub sizes-are : (l : List Case) {a b c a′ b′ c′ : Bool} → a ≡ a′ → b ≡ b′ → c ≡ c′
     → firstOf 0 (l ++ ((a, 6) ∷ (b, 7) ∷ (c, 8) ∷ [])) ≡ firstOf 0 (l ++ ((a′, 6) ∷ (b′, 7) ∷ (c′, 8) ∷ []))
 sizes-are l e f g = rw (e, f, g)
-
--- a length that is 8 times another
-pub eight-fold : (e k : ℕ) → e / 8 ≡ k → eqb (e % 8) 0 ≡ eqb e (8 * k)
-eight-fold e k h = go (ℕ-discrete (e % 8) 0)
-  where
-    go : Dec (e % 8 ≡ 0) → eqb (e % 8) 0 ≡ eqb e (8 * k)
-    go (yes z) = eq-eqb (e % 8) 0 z ∙ sym (eq-eqb e (8 * k) (omega arith))
-    go (no z) = ne-eqb (e % 8) 0 z ∙ sym (ne-eqb e (8 * k) (λ y. z (omega arith)))
-
-pub not-eight-fold : (e k : ℕ) → (e / 8 ≡ k → ⊥) → eqb e (8 * k) ≡ false
-not-eight-fold e k h = ne-eqb e (8 * k) (λ y. h (omega arith))

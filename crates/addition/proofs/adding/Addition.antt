@@ -11,7 +11,7 @@ use lib.ListN.{length, take, getD, set}
 use lib.Dec.{eqb, ltb}
 use borrow.Author.Tests.{eq-eqb, ne-eqb, lt-ltb, le-ltb}
 use Rattle.residue.specs.Vector.{Below}
-use Rattle.residue.specs.Layout.{fill, begins}
+use Rattle.residue.specs.Layout.{groups, fill, begins}
 use Rattle.residue.proofs.level.Moduli.{modulus-range}
 use Rattle.residue.proofs.Tests.{of-true}
 use Rattle.residue.proofs.Layouts.{take-fill, below-fill}
@@ -22,6 +22,7 @@ use Rattle.specification.specs.Levels.{residues, isAmong}
 use Rattle.specification.specs.Counted.{Counted, pointsOf, entered, overfull, placeIn}
 use Rattle.specification.specs.Tables.{Tables, tooShort, pointsIn, heldIn, countsSize}
 use Rattle.specification.specs.Adding.{ended, addCases, addRefusal, addOutcome, holdingBoth}
+use Rattle.specification.specs.Solving.{withinVariables}
 use Rattle.specification.specs.CallByCall.{recounted}
 use Rattle.specification.proofs.CallByCall.{known-entries}
 use Rattle.specification.proofs.Replicates.{same-count, add-raises, add-new}
@@ -35,10 +36,9 @@ use Rattle.construction.specs.Drawing.{PointsGiven, DrawnUp}
 use Rattle.growth.specs.Growing.{allPoints, NewPoint}
 use Rattle.construction.proofs.drawing.Given.{given, drawn-of}
 use Rattle.points.proofs.levels.LevelLists.{residues-below}
-use Rattle.recognition.specs.Naming.{namingRefusal}
-use Rattle.recognition.proofs.naming.NamingTests.{Open, open-of, naming-first, naming-then}
-use Rattle.recognition.proofs.naming.PointAtHand.{AtHand, rows-held, among-old}
-use Rattle.recognition.proofs.recognising.Recognised as Recognised
+use Rattle.recognition.specs.Naming.{namingFaults, namingRefusal}
+use Rattle.recognition.proofs.looking.Looks.{Open, look-first, look-then}
+use Rattle.recognition.proofs.naming.PointAtHand.{AtHand, opened, named-long, rows-held, among-old}
 use Rattle.recognition.proofs.recognising.Recognised.{parts, standard-there, leads-there, coefficients-there}
 
 -- what refuses a point by its place among n others: there too often, or new beside 64 others
@@ -67,13 +67,13 @@ module _ (s : Settings) (n r : ℕ) (t : Tables) (levels : List ℤ) where
   last = overfull (entered new held)
 
   first : (k : ℕ) → k ≡ namingRefusal s n r t levels → (k ≡ 0 → ⊥) → k ≡ addRefusal s n r t levels
-  unfolding addRefusal addCases
-  first k e z = naming-first s n r t levels last k e z
+  unfolding addRefusal addCases withinVariables groups
+  first k e z = look-first s n r t (namingFaults s levels) levels [] last k e z
 
   -- None of those holds: the room decides.
   module _ (e : namingRefusal s n r t levels ≡ 0) where
-    w : Open s n r t levels
-    w = open-of s n r t levels e
+    w : Open s n r t (namingFaults s levels) levels []
+    w = opened s n r t levels e
 
     among-held : (b : Bool) → isAmong new old ≡ b → isAmong new (pointsOf held) ≡ b
     among-held b f = ap (isAmong new) (points-held s n t) ∙ f
@@ -90,8 +90,8 @@ module _ (s : Settings) (n r : ℕ) (t : Tables) (levels : List ℤ) where
             ∙ sym (room-new s new held (known-entries s (w .settings) n r t (w .few) (w .known)) (among-held false f))
 
     told : roomAt n place (t .counts) ≡ addRefusal s n r t levels
-    unfolding addRefusal addCases
-    told = full ∙ naming-then s n r t levels e last
+    unfolding addRefusal addCases withinVariables groups
+    told = full ∙ look-then s n r t (namingFaults s levels) levels [] last e
 
   pub add-told : (before at k : ℕ) → before ≡ namingRefusal s n r t levels → (before ≡ 0 → at ≡ place) → k ≡ cond (eqb before 0) (roomAt n at (t .counts)) before
       → k ≡ addRefusal s n r t levels
@@ -111,8 +111,8 @@ module _ (s : Settings) (n r : ℕ) (t : Tables) (levels : List ℤ) where
         go (yes z) = z
         go (no z) = absurd (z (first _ refl z ∙ e))
 
-    o : Open s n r t levels
-    o = open-of s n r t levels none-before
+    o : Open s n r t (namingFaults s levels) levels []
+    o = opened s n r t levels none-before
 
     room-left : roomAt n place (t .counts) ≡ 0
     room-left = told none-before ∙ e
@@ -174,7 +174,7 @@ module _ (s : Settings) (n r : ℕ) (t : Tables) (levels : List ℤ) where
     positive = omega (arith, modulus-range (s .modulus) (o e .settings .modulus))
 
     is-new : IsPoint s new
-    is-new = levels-point s levels positive (o e .long) (of-true (o e .range))
+    is-new = levels-point s levels positive (named-long s n r t levels (none-before e)) (of-true (o e .range))
 
     cut : take (s .variables) point ≡ new
     cut = ap (take (s .variables)) (h .residue) ∙ take-fill (s .variables) 8 new (is-new .long) (o e .settings .few)
@@ -188,15 +188,15 @@ module _ (s : Settings) (n r : ℕ) (t : Tables) (levels : List ℤ) where
       given = h .given-points;
       drawn = drawn-of (sym (h .again)) (record {
         tabled = record {
-          row-count = parts s (o e .settings) n r t (o e .few) (o e .known) .rows;
-          standard-table = standard-there s (o e .settings) n r t (o e .few) (o e .known);
-          leads-table = leads-there s (o e .settings) n r t (o e .few) (o e .known);
-          coefficients-table = coefficients-there s (o e .settings) n r t (o e .few) (o e .known);
+          row-count = parts (o e) .rows;
+          standard-table = standard-there (o e);
+          leads-table = leads-there (o e);
+          coefficients-table = coefficients-there (o e);
         };
         pivot-rows = h .solves;
       });
       room = room;
-      counts = parts s (o e .settings) n r t (o e .few) (o e .known) .counts;
+      counts = parts (o e) .counts;
       new-point = record {
         filled = h .residue ∙ ap (fill 8) (sym cut);
         below = subst (Below (s .modulus)) (sym (h .residue)) (below-fill (s .modulus) 8 new positive (residues-below (s .modulus) levels positive (of-true (o e .range))));

@@ -9,7 +9,7 @@ use lib.IntN.{ℤ}
 use lib.ListN.{length, take, drop, replicate, getD}
 use lib.Dec.{eqb, ltb}
 use borrow.Author.Tests.{le-ltb, lt-ltb, eq-eqb, ltb-true, ltb-false}
-use Rattle.residue.specs.Layout.{fill, inPlaces, over, length-fill}
+use Rattle.residue.specs.Layout.{groups, fill, inPlaces, over, length-fill}
 use Rattle.residue.proofs.Layouts.{fill-cut, fill-twice}
 use Rattle.residue.proofs.Places.{over-zeros}
 use Rattle.monomial.specs.Insert.{takenOut, removedAt}
@@ -20,6 +20,7 @@ use Rattle.specification.specs.Levels.{residues, isAmong}
 use Rattle.specification.specs.Counted.{pointsOf, countOf, placeIn}
 use Rattle.specification.specs.Tables.{Tables, pointsIn, heldIn}
 use Rattle.specification.specs.Adding.{Outcome, refused, holdingBoth}
+use Rattle.specification.specs.Solving.{withinVariables}
 use Rattle.specification.specs.Withdrawing.{withdrawCases, withdrawRefusal, withdrawOutcome}
 use Rattle.specification.specs.CallByCall.{recounted}
 use Rattle.specification.proofs.Recognised.{length-read}
@@ -33,9 +34,9 @@ use Rattle.construction.specs.Drawing.{PointsGiven, PivotBytes, pivotRowsUnder}
 use Rattle.construction.proofs.drawing.Given.{given, given-count, table-points}
 use Rattle.points.proofs.places.PointPlaces.{place-le}
 use Rattle.recognition.proofs.settings.ByNumber.{when-refused}
-use Rattle.recognition.specs.Naming.{namingRefusal}
-use Rattle.recognition.proofs.naming.NamingTests.{Open, open-of, naming-first, naming-then}
-use Rattle.recognition.proofs.naming.PointAtHand.{among-old}
+use Rattle.recognition.specs.Naming.{namingFaults, namingRefusal}
+use Rattle.recognition.proofs.looking.Looks.{Open, look-first, look-then}
+use Rattle.recognition.proofs.naming.PointAtHand.{opened, among-old}
 
 -- What is left without the point at a place.
 -- bytes are rows of width 1
@@ -111,17 +112,17 @@ module _ (s : Settings) (n r : ℕ) (t : Tables) (levels : List ℤ) where
   on f = rw (points-held s n t, f) refl
 
   pub withdraw-refused : (k : ℕ) → k ≡ namingRefusal s n r t levels → (k ≡ 0 → ⊥) → refused k t ≡ withdrawOutcome s n r t levels
-  unfolding withdrawOutcome withdrawRefusal withdrawCases
-  withdraw-refused k e z = when-refused t _ _ k (naming-first s n r t levels last k e z) z
+  unfolding withdrawOutcome withdrawRefusal withdrawCases withinVariables groups
+  withdraw-refused k e z = when-refused t _ _ k (look-first s n r t (namingFaults s levels) levels [] last k e z) z
 
   -- None of those holds.
   module _ (e : namingRefusal s n r t levels ≡ 0) where
-    o : Open s n r t levels
-    o = open-of s n r t levels e
+    o : Open s n r t (namingFaults s levels) levels []
+    o = opened s n r t levels e
 
     decides : firstOf 0 last ≡ withdrawRefusal s n r t levels
-    unfolding withdrawRefusal withdrawCases
-    decides = naming-then s n r t levels e last
+    unfolding withdrawRefusal withdrawCases withinVariables groups
+    decides = look-then s n r t (namingFaults s levels) levels [] last e
 
     module _ (place : ℕ) (ep : place ≡ placeIn named old) where
       pub withdraw-absent : place ≡ n → refused 12 t ≡ withdrawOutcome s n r t levels

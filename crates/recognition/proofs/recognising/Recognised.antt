@@ -4,6 +4,7 @@ use mathlib.Core.Bool.{true}
 use mathlib.Core.List.{List}
 use Prim.Native.Nat.{ℕ, suc, _*_, _-_, _<_, _≤_}
 use native.Mathlib.Omega.{arith}
+use lib.IntN.{ℤ}
 use lib.ListN.{length, take, getD}
 use Rattle.residue.specs.Vector.{Below}
 use Rattle.elimination.specs.Elimination.{Multiplied}
@@ -13,13 +14,14 @@ use Rattle.residue.proofs.Tests.{of-true}
 use Rattle.residue.proofs.bytes.Equality.{same-is}
 use Rattle.residue.proofs.Layouts.{below-fill}
 use Rattle.specification.specs.declared.settings.Settings.{Settings}
-use Rattle.specification.specs.Tables.{Tables, standardTable, leadsTable, coefficientsTable, recognised}
+use Rattle.specification.specs.Tables.{Tables, standardTable, leadsTable, coefficientsTable}
 use Rattle.specification.specs.Points.{Points, IsPoint}
-use Rattle.specification.specs.Settings.{Accepted}
 use Rattle.specification.proofs.Recognised.{read, Parts, recognised-parts, readIn, length-read}
 use Rattle.construction.specs.Drawing.{Solves}
 use Rattle.construction.proofs.drawing.Grounds.{places-below}
 use Rattle.points.proofs.levels.LevelLists.{below-reduced}
+use Rattle.recognition.specs.declared.looking.Faults.{Faults}
+use Rattle.recognition.proofs.looking.Looks.{Open}
 
 -- what a lent table begins with
 front : (k : ℕ) (l t : List ℕ) → begins (fill k l) t ≡ true → take k t ≡ fill k l
@@ -27,21 +29,21 @@ unfolding begins
 front k l t e = sym (same-is _ _ (of-true e) ∙ ap (λ (j : ℕ). take j t) (length-fill k l))
 
 -- Recognised tables.
-module _ (s : Settings) (ok : Accepted s) (n r : ℕ) (t : Tables) (few : n ≤ 64) (known : recognised s n r t ≡ true) where
+module _ {s : Settings} {n r : ℕ} {t : Tables} {f : Faults} {numbers : List ℤ} {exponents : List ℕ} (o : Open s n r t f numbers exponents) where
   abbrev pub S : List (List ℕ)
   S = readIn s n r t
 
   pub count : length S ≡ n
-  count = length-read s ok n (t .states)
+  count = length-read s (o .settings) n (t .states)
 
   pub parts : Parts s n r t
-  parts = recognised-parts s n r t known
+  parts = recognised-parts s n r t (o .known)
 
   pub points : Points s S
-  points = read s ok n (t .states) few (of-true (parts .once))
+  points = read s (o .settings) n (t .states) (o .few) (of-true (parts .once))
 
   pub positive : 0 < s .modulus
-  positive = omega (arith, modulus-range (s .modulus) (ok .modulus))
+  positive = omega (arith, modulus-range (s .modulus) (o .settings .modulus))
 
   pub table-below : Below (s .modulus) (fill 512 (inPlaces 8 S))
   table-below = below-fill (s .modulus) 512 (inPlaces 8 S) positive (places-below (s .modulus) 8 S positive (λ P q. low P (points .points P q)))
@@ -63,9 +65,9 @@ module _ (s : Settings) (ok : Accepted s) (n r : ℕ) (t : Tables) (few : n ≤ 
   coefficients-there = front 28736 _ (t .coefficients) (parts .coefficients)
 
   -- what elimination asks of the pivot rows
-  module _ (rows pivots : List ℕ) (e : Solves s S rows pivots) where
+  module _ {rows pivots : List ℕ} (e : Solves s S rows pivots) where
     pub rows-long : (1152 * n ≤ length rows) × (n ≤ length pivots)
-    rows-long = let a = e .long-rows in let b = e .long-pivots in (omega (arith, few), omega (arith, few))
+    rows-long = let a = e .long-rows in let b = e .long-pivots in (omega (arith, o .few), omega (arith, o .few))
 
     pub rows-multiplied : Multiplied (s .modulus) n rows
     rows-multiplied = subst (λ (j : ℕ). Multiplied (s .modulus) j rows) count (e .multiples)

@@ -1,23 +1,18 @@
--- Refusal 10 test by test, and the number of a check.
-use mathlib.Core.Path.{_≡_, refl, sym, _∙_}
-use mathlib.Core.Bool.{Bool, true, false, _&&_, and-assoc, not}
-use mathlib.Core.List.{List, [], _∷_, _++_}
+-- Refusal 10 test by test: the points, the row count, four tables and the counts.
+use mathlib.Core.Path.{_≡_, sym, _∙_}
+use mathlib.Core.Bool.{Bool, true, false, _&&_, and-assoc}
+use mathlib.Core.List.{List}
 use Prim.Native.Nat.{ℕ}
-use lib.Dec.{eqb, ltb}
+use lib.Dec.{eqb}
 use borrow.Author.Tests.{eq-eqb, ne-eqb}
 use Rattle.residue.specs.Lists.{every}
 use Rattle.residue.specs.Layout.{fill, begins}
 use Rattle.specification.specs.declared.settings.Settings.{Settings}
-use Rattle.specification.specs.Refusal.{firstOf}
-use Rattle.specification.specs.Settings.{settingsCases}
 use Rattle.specification.specs.Levels.{noRepeat}
 use Rattle.specification.specs.Counted.{isCount}
-use Rattle.specification.specs.Tables.{Tables, rowCount, statesTable, standardTable, leadsTable, coefficientsTable, countsSize, recognised, tooShort}
-use Rattle.specification.specs.Solving.{checkRefusal}
+use Rattle.specification.specs.Tables.{Tables, rowCount, statesTable, standardTable, leadsTable, coefficientsTable, countsSize, recognised}
 use Rattle.specification.proofs.Recognised.{readIn, recognised-tests}
-use Rattle.recognition.proofs.settings.BySize.{sizes, by-size, by-rest}
 
--- Refusal 10, test by test: the points, the row count, four tables and the counts.
 module _ (s : Settings) (n r : ℕ) (t : Tables) where
   abbrev pub sameTables : List ℕ → List ℕ → List ℕ → List ℕ → Bool
   sameTables a b c d = begins a (t .states) && (begins b (t .standard) && (begins c (t .leads) && (begins d (t .coefficients)
@@ -38,19 +33,3 @@ module _ (s : Settings) (n r : ℕ) (t : Tables) where
   pub by-tables : noRepeat S ≡ true → r ≡ rowCount s S → (a b c d : List ℕ) → a ≡ statesTable S → b ≡ standardTable s S → c ≡ leadsTable s S → d ≡ coefficientsTable s S
       → sameTables a b c d ≡ recognised s n r t
   by-tables e f a b c d g h i j = rw (g, h, i, j) (sym (recognised-is ∙ simp (e, eq-eqb r (rowCount s S) f)))
-
--- Checking.
-module _ (s : Settings) (n r : ℕ) (t : Tables) where
-  abbrev pub checkSizes : ℕ
-  checkSizes = firstOf 0 (settingsCases s ++ sizes s (tooShort t) false (ltb 64 n))
-
-  -- a case that never holds is none
-  whole : firstOf 0 (settingsCases s ++ (sizes s (tooShort t) false (ltb 64 n) ++ ((not (recognised s n r t), 10) ∷ []))) ≡ checkRefusal s n r t
-  unfolding firstOf settingsCases checkRefusal
-  whole = refl
-
-  pub check-size : (k : ℕ) → k ≡ checkSizes → (k ≡ 0 → ⊥) → k ≡ checkRefusal s n r t
-  check-size k e z = by-size s (tooShort t) false (ltb 64 n) _ k e z ∙ whole
-
-  pub check-told : checkSizes ≡ 0 → (k : ℕ) → k ≡ firstOf 0 ((not (recognised s n r t), 10) ∷ []) → k ≡ checkRefusal s n r t
-  check-told e k f = f ∙ by-rest s (tooShort t) false (ltb 64 n) _ e ∙ whole

@@ -1,39 +1,39 @@
 -- The number of a call: the refusals by settings and sizes first, then its own tests.
-use mathlib.Core.Path.{_≡_, refl, sym, _∙_, ap}
-use mathlib.Core.Bool.{Bool, true, false, _&&_}
+use mathlib.Core.Path.{_≡_, sym, _∙_, ap}
+use mathlib.Core.Bool.{Bool, true, false, not, _&&_}
 use mathlib.Core.List.{List, [], _∷_, _++_, append-assoc}
-use Prim.Native.Nat.{ℕ, _≤_}
-use native.Mathlib.Decide.{ℕ-discrete}
+use Prim.Native.Nat.{ℕ}
 use native.Mathlib.Omega.{arith}
-use lib.Dec.{T, leb}
-use borrow.Author.Tests.{leb-true}
-use Rattle.residue.proofs.Tests.{true-of, and-left, and-right}
+use lib.Dec.{T, eqb}
+use borrow.Author.Tests.{eq-eqb}
+use Rattle.residue.proofs.Tests.{and-left, and-right}
 use Rattle.specification.specs.declared.settings.Settings.{Settings}
 use Rattle.specification.specs.Refusal.{Case, firstOf}
 use Rattle.specification.specs.Settings.{Accepted, settingsCases}
-use Rattle.specification.proofs.Cases.{numbered, None, none-holds, first-stop, first-on}
+use Rattle.specification.proofs.Cases.{first-stop, first-on}
 use Rattle.specification.proofs.agreement.Refusals.{accepted, settings-pass}
 use Rattle.specification.proofs.Recognised.{none-of}
 
--- no case has a number above b
-abbrev upTo : ℕ → List Case → Bool
-upTo b [] = true
-upTo b (c ∷ l) = leb (c .1) b && upTo b l
+-- no case has the number j
+abbrev lacks : ℕ → List Case → Bool
+lacks j [] = true
+lacks j (c ∷ l) = not (eqb (c .1) j) && lacks j l
 
-first-at-most : (b : ℕ) (l : List Case) → T (upTo b l) → firstOf 0 l ≤ b
+first-lacks : (j : ℕ) (l : List Case) → (j ≡ 0 → ⊥) → T (lacks j l) → firstOf 0 l ≡ j → ⊥
 unfolding firstOf
-first-at-most b [] t = omega arith
-first-at-most b ((true, k) ∷ l) t = leb-true k b (true-of (leb k b) (and-left (leb k b) (upTo b l) t))
-first-at-most b ((false, k) ∷ l) t = first-at-most b l (and-right (leb k b) (upTo b l) t)
+first-lacks j [] z t e = z (sym e)
+first-lacks j ((true, k) ∷ l) z t e = absurd (rw (eq-eqb k j e) at (and-left (not (eqb k j)) (lacks j l) t))
+first-lacks j ((false, k) ∷ l) z t e = first-lacks j l z (and-right (not (eqb k j)) (lacks j l) t) e
 
 module _ (s : Settings) (short wrong many : Bool) where
   -- the cases that look at numbers alone
   abbrev pub sizes : List Case
   sizes = (short, 6) ∷ (wrong, 7) ∷ (many, 8) ∷ []
 
-  pub sizes-at-most-8 : firstOf 0 (settingsCases s ++ sizes) ≤ 8
+  -- 10 is the tables' alone
+  pub sizes-not-10 : firstOf 0 (settingsCases s ++ sizes) ≡ 10 → ⊥
   unfolding settingsCases
-  sizes-at-most-8 = first-at-most 8 (settingsCases s ++ sizes) tt
+  sizes-not-10 = first-lacks 10 (settingsCases s ++ sizes) (λ z. omega arith) tt
 
   -- what it says that none of them holds
   pub record Passed : Type 0 where
@@ -57,11 +57,3 @@ module _ (s : Settings) (short wrong many : Bool) where
     -- none does: the call's own tests decide
     pub by-rest : firstOf 0 (settingsCases s ++ sizes) ≡ 0 → firstOf 0 rest ≡ firstOf 0 (settingsCases s ++ (sizes ++ rest))
     by-rest e = let n = none-of s sizes tt e in first-on sizes rest (n .1) ∙ sym (settings-pass s (n .0) (sizes ++ rest))
-
-    -- neither one of them nor a test of the call's own
-    pub none-behind : T (numbered rest) → firstOf 0 (settingsCases s ++ (sizes ++ rest)) ≡ 0 → (firstOf 0 (settingsCases s ++ sizes) ≡ 0) × None rest
-    none-behind t e = go (ℕ-discrete (firstOf 0 (settingsCases s ++ sizes)) 0)
-      where
-        go : Dec (firstOf 0 (settingsCases s ++ sizes) ≡ 0) → (firstOf 0 (settingsCases s ++ sizes) ≡ 0) × None rest
-        go (yes z) = (z, none-holds rest t (by-rest z ∙ e))
-        go (no z) = absurd (z (by-size (firstOf 0 (settingsCases s ++ sizes)) refl z ∙ e))

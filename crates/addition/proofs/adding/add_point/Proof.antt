@@ -8,8 +8,7 @@ use Rattle.specification.specs.Tables.{Tables, fiveTables}
 use Rattle.specification.specs.Adding.{addRefusal, addOutcome}
 use Rattle.specification.proofs.agreement.Refusals.{large-of}
 use Rattle.recognition.proofs.settings.ByNumber.{alone, when-refused}
-use Rattle.recognition.proofs.naming.NamingTests.{open-of}
-use Rattle.recognition.proofs.naming.PointAtHand.{AtHand, at-hand}
+use Rattle.recognition.proofs.naming.PointAtHand.{opened, AtHand, at-hand}
 use Rattle.addition.proofs.adding.Addition.{add-told, none-before, Raised, raised, Ready, ready}
 use Rattle.addition.proofs.adding.add_point.Statement.{statement}
 use Rattle.addition.proofs.adding.add_point.Tie as tie
@@ -109,7 +108,7 @@ add-refusal-requires : tie.Need-add-refusal-requires
 add-refusal-requires c κs z =
     let d = c .before .before .before .before .before in
     let s = start d in
-    let o = open-of (s .args .settings) (s .args .n) (s .args .r) (tables s) (s .args .levels .now) (sym (d .locate .ensures .refusal) ∙ z) in
+    let o = opened (s .args .settings) (s .args .n) (s .args .r) (tables s) (s .args .levels .now) (sym (d .locate .ensures .refusal) ∙ z) in
     omega (arith, o .few, large-of (tables s) (o .long-tables) .counts)
 
 refused-requires : tie.Need-refused-requires

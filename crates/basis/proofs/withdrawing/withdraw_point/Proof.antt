@@ -14,8 +14,7 @@ use Rattle.specification.specs.Adding.{holdingBoth}
 use Rattle.specification.specs.Points.{Points}
 use Rattle.recognition.proofs.settings.ByNumber.{alone}
 use Rattle.recognition.specs.Naming.{namingRefusal}
-use Rattle.recognition.proofs.naming.NamingTests.{Open, open-of}
-use Rattle.recognition.proofs.naming.PointAtHand.{AtHand, at-hand, rows-held}
+use Rattle.recognition.proofs.naming.PointAtHand.{opened, AtHand, at-hand, rows-held}
 use Rattle.basis.proofs.withdrawing.Withdrawal.{withdraw-refused, withdraw-absent, before-end, points-left, withdraw-done}
 use Rattle.basis.proofs.withdrawing.withdraw_point.Statement.{statement}
 use Rattle.basis.proofs.withdrawing.withdraw_point.Tie as tie
@@ -41,9 +40,6 @@ module _ (e : tie.Else1) where
 
   none : namingRefusal (s .args .settings) (s .args .n) (s .args .r) (tables s) (s .args .levels .now) ≡ 0
   none = sym (w .locate .ensures .refusal) ∙ e .if1 .left
-
-  good : Open (s .args .settings) (s .args .n) (s .args .r) (tables s) (s .args .levels .now)
-  good = open-of (s .args .settings) (s .args .n) (s .args .r) (tables s) (s .args .levels .now) none
 
   abbrev place : ℕ
   place = w .locate .result .place
@@ -171,7 +167,7 @@ withdraw-accepted-requires c κs =
       (
         (λ one. subst (λ (S : List (List ℕ)). Points (s .args .settings) (removedAt (place e) S)) (sym (hand e .again))
             (points-left (s .args .settings) (s .args .n) (s .args .r) (tables s) (s .args .levels .now) (none e) (place e) (hand e .placed) (low f) one)),
-        (good e .long-tables, (w e .locate .kept .1 .1 .1 .1 .1 .1 .1 .1 .1 .1 .0, w e .locate .kept .1 .1 .1 .1 .1 .1 .1 .1 .1 .1 .1 .0)),
+        (opened (s .args .settings) (s .args .n) (s .args .r) (tables s) (s .args .levels .now) (none e) .long-tables, (w e .locate .kept .1 .1 .1 .1 .1 .1 .1 .1 .1 .1 .0, w e .locate .kept .1 .1 .1 .1 .1 .1 .1 .1 .1 .1 .1 .0)),
       ),
     )
 

@@ -1,26 +1,22 @@
--- `naming::locate` meets its contract: at each return the tests that led there decide the number.
-use borrow.Author.Tests.{ltb-false, eqb-true, not-true, not-false}
+-- `naming::locate` meets its contract: it is refused with the number of the look, or the point and its place are found.
 use mathlib.Core.Path.{_≡_, refl, sym, ap, _∙_}
-use mathlib.Core.Bool.{Bool, true, not}
-use mathlib.Core.List.{List, _++_}
-use Prim.Native.Nat.{ℕ, _≤_}
+use mathlib.Core.Bool.{Bool, false, cond}
+use mathlib.Core.List.{List, []}
+use Prim.Native.Nat.{ℕ}
 use native.Mathlib.Omega.{arith}
 use lib.ListN.{length}
-use lib.Dec.{eqb, ltb}
+use lib.Dec.{eqb}
+use borrow.Author.Tests.{ne-eqb}
 use Rattle.residue.specs.Layout.{fill, inPlaces, over, length-fill}
 use Rattle.residue.proofs.level.Moduli.{modulus-range}
 use Rattle.residue.proofs.Places.{over-zeros}
-use Rattle.specification.specs.Refusal.{firstOf}
-use Rattle.specification.specs.Levels.{inRange, residues}
-use Rattle.specification.specs.Settings.{settingsCases}
+use Rattle.specification.specs.Levels.{residues}
 use Rattle.specification.specs.Counted.{placeIn}
-use Rattle.specification.specs.Tables.{Tables, fiveTables, pointsIn, tooShort}
+use Rattle.specification.specs.Tables.{Tables, fiveTables, pointsIn}
 use Rattle.specification.proofs.agreement.Points.{length-residues}
-use Rattle.specification.proofs.Cases.{sizes-are}
-use Rattle.recognition.proofs.settings.BySize.{sizes, Passed, passed}
-use Rattle.recognition.proofs.recognising.Looks.{told-size, told-outside, told-unknown, told-known}
-use Rattle.recognition.proofs.recognising.Named.{place-is}
-use Rattle.recognition.proofs.naming.NamingTests.{located, located-nowhere}
+use Rattle.recognition.specs.Naming.{namingFaults, namingRefusal}
+use Rattle.recognition.proofs.looking.Looks.{Open, points-there}
+use Rattle.recognition.proofs.naming.PointAtHand.{opened, named-long, place-is}
 use Rattle.recognition.proofs.naming.locate.Statement.{statement}
 use Rattle.recognition.proofs.naming.locate.Tie as tie
 
@@ -28,215 +24,132 @@ use Rattle.recognition.proofs.naming.locate.Tie as tie
 abbrev tables : tie.Start → Tables
 tables s = fiveTables (s .args .states .now) (s .args .standard .now) (s .args .leads .now) (s .args .coefficients .now) (s .args .counts .now)
 
--- the points of the tables, and the named one
+-- the named point, and the points of the tables
+abbrev named : tie.Start → List ℕ
+named s = residues (s .args .settings .modulus) (s .args .levels .now)
+
 abbrev olds : tie.Start → List (List ℕ)
 olds s = pointsIn (s .args .settings) (s .args .n) (s .args .states .now)
 
-abbrev newOne : tie.Start → List ℕ
-newOne s = residues (s .args .settings .modulus) (s .args .levels .now)
+-- the look at the tables
+abbrev start : tie.After-look → tie.Start
+start d = d .before .before .before .before .before .before .before .before .before .before .before .before .before .before .before
 
--- the refusals on numbers
-abbrev start : tie.After-point-sizes → tie.Start
-start d = d .before .before .before .before .before .before .before .before .before .before .before
+abbrev look : tie.After-slice-known7 → tie.After-look
+look c = c .before .before .before .before .before .before
 
-abbrev wrong : tie.Start → Bool
-wrong s = not (eqb (length (s .args .levels .now)) (s .args .settings .variables))
-
-abbrev Fine : tie.Start → ℕ
-Fine s = firstOf 0 (settingsCases (s .args .settings) ++ sizes (s .args .settings) (tooShort (tables s)) (wrong s) (ltb 64 (s .args .n)))
-
-sized : (d : tie.After-point-sizes) → d .point-sizes .result ≡ Fine (start d)
-unfolding tooShort
-sized d = d .point-sizes .ensures ∙ sizes-are (settingsCases (start d .args .settings)) (d .before .too-short .ensures) refl refl
-
--- behind them: whether the levels are in range
-abbrev inside : tie.Start → Bool
-inside s = inRange (s .args .settings .modulus) (s .args .levels .now)
-
--- none of those on numbers holds
+-- nothing refuses
 module _ (e : tie.Else1) where
+  abbrev d : tie.After-look
+  d = look (e .before)
+
   abbrev s : tie.Start
-  s = start (e .before)
+  s = start d
 
-  fine : Fine s ≡ 0
-  fine = sym (sized (e .before)) ∙ e .if1 .left
+  none : namingRefusal (s .args .settings) (s .args .n) (s .args .r) (tables s) (s .args .levels .now) ≡ 0
+  none = sym (d .look .ensures .0) ∙ e .if1 .left
 
-  room : Passed (s .args .settings) (tooShort (tables s)) (wrong s) (ltb 64 (s .args .n))
-  room = passed _ _ _ _ fine
+  good : Open (s .args .settings) (s .args .n) (s .args .r) (tables s) (namingFaults (s .args .settings) (s .args .levels .now)) (s .args .levels .now) []
+  good = opened (s .args .settings) (s .args .n) (s .args .r) (tables s) (s .args .levels .now) none
 
   long : length (s .args .levels .now) ≡ s .args .settings .variables
-  long = eqb-true _ _ (not-false _ (room .right))
+  long = named-long (s .args .settings) (s .args .n) (s .args .r) (tables s) (s .args .levels .now) none
 
-  few : s .args .n ≤ 64
-  few = ltb-false 64 _ (room .few)
+  table : d .look .last .1 .1 .1 .1 .1 .1 .1 .1 .1 .1 .1 .0 ≡ fill 512 (inPlaces 8 (olds s))
+  table = points-there (d .look .ensures .1) (e .if1 .left)
 
--- the levels are in range
-module _ (f : tie.Else2) where
-  abbrev e : tie.Else1
-  e = f .before .before .before
-
-  range : inside (s e) ≡ true
-  range = sym (f .before .in-range .ensures) ∙ not-false _ (f .if2 .left)
-
--- the tables are recognised
-module _ (g : tie.Else3) where
-  abbrev k : tie.After-recognise
-  k = g .before .before .before .before .before .before .before
-
-  abbrev f : tie.Else2
-  f = k .before .before .before .before
-
-  abbrev o : tie.Start
-  o = s (e f)
-
-  table : k .recognise .last .1 .1 .1 .1 .1 .1 .1 .1 .0 ≡ fill 512 (inPlaces 8 (olds o))
-  table = k .recognise .ensures .1 .0
-
--- the new point is in its place
+-- the point is in its place
 module _ (w : tie.After-put-residues) where
-  abbrev g : tie.Else3
-  g = w .before .before
+  abbrev e : tie.Else1
+  e = w .before .before .before
 
-  put : w .put-residues .last .1 .1 .0 ≡ fill 8 (newOne (o g))
+  put : w .put-residues .last .1 .1 .0 ≡ fill 8 (named (s e))
   put =
-      w .put-residues .ensures ∙ ap (over (newOne (o g))) (o g .pre .1 .1)
-      ∙ over-zeros (newOne (o g)) 8 (omega (arith, length-residues (o g .args .settings .modulus) (o g .args .levels .now), long (e (f g)), room (e (f g)) .settings .few))
+      w .put-residues .ensures ∙ ap (over (named (s e))) (s e .pre .1 .1)
+      ∙ over-zeros (named (s e)) 8 (omega (arith, length-residues (s e .args .settings .modulus) (s e .args .levels .now), long e, good e .settings .few))
 
--- where the new point stands
-module _ (a : tie.After-place-of) where
-  abbrev w : tie.After-put-residues
-  w = a .before .before .before .before .before
+abbrev written : tie.After-place-of → tie.After-put-residues
+written c = c .before .before .before .before .before
 
-  abbrev h : tie.Else3
-  h = g w
+slice-aggregate-look : tie.Need-slice-aggregate-look
+slice-aggregate-look c = refl
 
-  abbrev x : tie.Else1
-  x = e (f h)
+look-requires : tie.Need-look-requires
+look-requires c κs = let s = c .before .before .before .before .before .before .before .before .before .before .before .before .before .before in (s .pre .0, s .pre .1 .0)
 
-  placed : a .place-of .result ≡ placeIn (newOne (o h)) (olds (o h))
-  placed =
-      a .place-of .ensures
-      ∙ place-is (o h .args .settings) (room x .settings) (o h .args .n) (few x) (o h .args .states .now) (o h .args .levels .now) (long x) _ _ (table h) (put w)
+same-length : tie.Need-same-length
+same-length c = look (c .before) .look .kept .1 .1 .1 .1 .1 .1 .1 .1 .1 .1 .1 .0
 
-too-short-requires : tie.Need-too-short-requires
-too-short-requires c κs = tt
+same-length-2 : tie.Need-same-length-2
+same-length-2 c = look (c .before) .look .kept .1 .1 .1 .1 .1 .1 .1 .1 .1 .1 .1 .1 .0
 
-point-sizes-requires : tie.Need-point-sizes-requires
-point-sizes-requires c κs = tt
-
-unlocated-requires : tie.Need-unlocated-requires
-unlocated-requires c κs = tt
+same-length-3 : tie.Need-same-length-3
+same-length-3 c = look (c .before) .look .kept .1 .1 .1 .1 .1 .1 .1 .1 .1 .1 .1 .1 .1 .0
 
 returns : tie.Need-returns
 returns c =
-    let d = c .before .before in
+    let d = look (c .before) in
     let s = start d in
-    located-nowhere (s .args .settings) (s .args .n) (s .args .r) (tables s) (s .args .levels .now)
-    (told-size (s .args .settings) (s .args .n) (s .args .r) (tables s) (tooShort (tables s)) (wrong s) (ltb 64 (s .args .n)) (inside s) (s .args .points .now) (s .args .rows .now) (s .args .pivots .now)
-    (d .point-sizes .result) (sized d) (c .before .if1 .taken))
-    (c .unlocated .ensures) (c .before .if1 .taken)
+    let no : false ≡ eqb (d .look .result) 0 = sym (ne-eqb _ _ (c .if1 .taken)) in
+    record {
+      refusal = d .look .ensures .0;
+      place = ap (λ (b : Bool). cond b (placeIn (named s) (olds s)) 0) no;
+      looked = d .look .ensures .1;
+      residue = ap (λ (b : Bool). cond b (fill 8 (named s)) (s .args .point .now)) no;
+    }
 
-cast-p : tie.Need-cast-p
-cast-p c = omega (arith, modulus-range (s (c .before) .args .settings .modulus) (room (c .before) .settings .modulus))
-
-in-range-requires : tie.Need-in-range-requires
-in-range-requires c κs = tt
-
-unlocated-requires-2 : tie.Need-unlocated-requires-2
-unlocated-requires-2 c κs = tt
-
-returns-2 : tie.Need-returns-2
-returns-2 c =
-    let q = c .before .before in
-    let x = q .before .before in
-    let s = s x in
-    located-nowhere (s .args .settings) (s .args .n) (s .args .r) (tables s) (s .args .levels .now)
-    (told-outside (s .args .settings) (s .args .n) (s .args .r) (tables s) (tooShort (tables s)) (wrong s) (ltb 64 (s .args .n)) (inside s) (s .args .points .now) (s .args .rows .now) (s .args .pivots .now)
-    (fine x) (sym (q .in-range .ensures) ∙ not-true _ (c .before .if2 .taken)))
-    (c .unlocated2 .ensures) (λ z. omega arith)
-
-recognise-requires : tie.Need-recognise-requires
-recognise-requires c κs =
-    let x = e (c .before .before .before) in
-    ((room x .none, few x), (room x .long, (s x .pre .0, s x .pre .1 .0)))
-
-unlocated-requires-3 : tie.Need-unlocated-requires-3
-unlocated-requires-3 c κs = tt
-
--- the tables are not recognised
-abbrev unknown : tie.After-unlocated3 → tie.After-recognise
-unknown c = c .before .before .before .before .before .before .before .before
-
-same-length : tie.Need-same-length
-same-length c = unknown c .recognise .kept .1 .1 .1 .1 .1 .1 .1 .1 .0
-
-same-length-2 : tie.Need-same-length-2
-same-length-2 c = unknown c .recognise .kept .1 .1 .1 .1 .1 .1 .1 .1 .1 .0
-
-same-length-3 : tie.Need-same-length-3
-same-length-3 c = unknown c .recognise .kept .1 .1 .1 .1 .1 .1 .1 .1 .1 .1 .0
-
-returns-3 : tie.Need-returns-3
-returns-3 c =
-    let k = unknown c in
-    let h = k .before .before .before .before in
-    let s = s (e h) in
-    located-nowhere (s .args .settings) (s .args .n) (s .args .r) (tables s) (s .args .levels .now)
-    (told-unknown (s .args .settings) (s .args .n) (s .args .r) (tables s) (tooShort (tables s)) (wrong s) (ltb 64 (s .args .n)) (inside s) (s .args .points .now) (s .args .rows .now) (s .args .pivots .now)
-    (fine (e h)) (range h) (k .recognise .ensures) (not-true _ (c .before .if3 .taken)))
-    (c .unlocated3 .ensures) (λ z. omega arith)
+cast-put-residues : tie.Need-cast-put-residues
+cast-put-residues c = let e = c .before in omega (arith, modulus-range (s e .args .settings .modulus) (good e .settings .modulus))
 
 put-residues-requires : tie.Need-put-residues-requires
-put-residues-requires c κs = let x = e (f (c .before)) in omega (arith, long x, room x .settings .few, ap length (s x .pre .1 .1))
+put-residues-requires c κs = let e = c .before .before in omega (arith, long e, good e .settings .few, ap length (s e .pre .1 .1))
 
 place-of-requires : tie.Need-place-of-requires
 place-of-requires c κs =
     let w = c .before .before .before .before in
-    let h = g w in
-    (omega (arith, few (e (f h)), ap length (table h) ∙ length-fill 512 _), ap length (put w) ∙ length-fill 8 _)
+    (omega (arith, good (e w) .few, ap length (table (e w)) ∙ length-fill 512 _), ap length (put w) ∙ length-fill 8 _)
 
 same-length-4 : tie.Need-same-length-4
-same-length-4 c = k (h c) .recognise .kept .1 .1 .1 .1 .1 .1 .1 .1 .0
+same-length-4 c = d (e (written c)) .look .kept .1 .1 .1 .1 .1 .1 .1 .1 .1 .1 .1 .0
 
 same-length-5 : tie.Need-same-length-5
-same-length-5 c = k (h c) .recognise .kept .1 .1 .1 .1 .1 .1 .1 .1 .1 .0
+same-length-5 c = d (e (written c)) .look .kept .1 .1 .1 .1 .1 .1 .1 .1 .1 .1 .1 .1 .0
 
 same-length-6 : tie.Need-same-length-6
-same-length-6 c = k (h c) .recognise .kept .1 .1 .1 .1 .1 .1 .1 .1 .1 .1 .0
+same-length-6 c = d (e (written c)) .look .kept .1 .1 .1 .1 .1 .1 .1 .1 .1 .1 .1 .1 .1 .0
 
 same-length-7 : tie.Need-same-length-7
-same-length-7 c = w c .put-residues .kept .1 .1 .0
+same-length-7 c = written c .put-residues .kept .1 .1 .0
 
-returns-4 : tie.Need-returns-4
-returns-4 c =
-    let s = o (h c) in
-    located (s .args .settings) (s .args .n) (s .args .r) (tables s) (s .args .levels .now)
-    (told-known (s .args .settings) (s .args .n) (s .args .r) (tables s) (tooShort (tables s)) (wrong s) (ltb 64 (s .args .n)) (inside s) (s .args .points .now) (s .args .rows .now) (s .args .pivots .now)
-    (fine (x c)) (range (f (h c))) (k (h c) .recognise .ensures) (not-false _ (h c .if3 .left)))
-    refl (placed c) (put (w c))
+returns-2 : tie.Need-returns-2
+returns-2 c =
+    let w = written c in
+    let x = e w in
+    let s = s x in
+    record {
+      refusal = d x .look .ensures .0;
+      place =
+          c .place-of .ensures ∙ place-is (s .args .settings) (s .args .n) (s .args .r) (tables s) (s .args .levels .now) (none x) (table x) (put w)
+          ∙ sym (ap (λ (j : ℕ). cond (eqb j 0) (placeIn (named s) (olds s)) 0) (x .if1 .left));
+      looked = d x .look .ensures .1;
+      residue = put w ∙ sym (ap (λ (j : ℕ). cond (eqb j 0) (fill 8 (named s)) (s .args .point .now)) (x .if1 .left));
+    }
 
 pub locate-spec : {M : Type 1} → statement M
 locate-spec =
     tie.close
     (tie.spec
-    too-short-requires
-    point-sizes-requires
-    unlocated-requires
-    returns
-    cast-p
-    in-range-requires
-    unlocated-requires-2
-    returns-2
-    recognise-requires
-    unlocated-requires-3
+    slice-aggregate-look
+    look-requires
     same-length
     same-length-2
     same-length-3
-    returns-3
+    returns
+    cast-put-residues
     put-residues-requires
     place-of-requires
     same-length-4
     same-length-5
     same-length-6
     same-length-7
-    returns-4)
+    returns-2)

@@ -1,4 +1,4 @@
--- `remainders::within_variables` meets its contract: the terms from i on are in the first m variables exactly where all are.
+-- `looking::within_variables` meets its contract: the terms from i on are in the first m variables exactly where all are.
 use mathlib.Core.Path.{_≡_, sym, ap, _∙_}
 use mathlib.Core.List.{List}
 use Prim.Native.Nat.{ℕ, _+_, _*_, _-_, _≤_}
@@ -9,9 +9,9 @@ use lib.Seq.{length-take-le, take-all}
 use Rattle.residue.specs.Layout.{groups}
 use Rattle.residue.specs.Lists.{allZero}
 use Rattle.specification.specs.Solving.{withinVariables}
-use Rattle.interpolation.proofs.Terms.{within-on, within-stop, within-end}
-use Rattle.queries.proofs.remainders.within_variables.Statement.{statement}
-use Rattle.queries.proofs.remainders.within_variables.Tie as tie
+use Rattle.recognition.proofs.looking.Variables.{within-on, within-stop, within-end}
+use Rattle.recognition.proofs.looking.within_variables.Statement.{statement}
+use Rattle.recognition.proofs.looking.within_variables.Tie as tie
 
 abbrev Inv-loop : tie.InvT-loop
 Inv-loop m k exponents i₀ i = (i ≤ k) × (withinVariables m (groups 8 (k - i) (drop (8 * i) exponents)) ≡ withinVariables m (groups 8 k exponents))
