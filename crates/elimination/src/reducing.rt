@@ -10,7 +10,7 @@ ghost use Rattle.residue.specs.Vector.{Below, addScaled};
 ghost use Rattle.elimination.specs.Elimination.{cancelled, eliminated, counted, cancellations, multiplesOf, Multiplied, ZeroFrom, wholeWidth, ZeroBehind};
 
 // Adds a row, which is 0 from `width` on.
-pub fn gain(p: u8, width: usize, dst: &mut [u8], row: &[u8])
+pub(crate) fn gain(p: u8, width: usize, dst: &mut [u8], row: &[u8])
     requires { ⌜ (2 ≤ p) × (p ≤ 61) ⌝ }
     requires { ⌜ (width ≤ 128) × (length (now dst) ≡ 128) × (length (now row) ≡ 128) ⌝ }
     requires { ⌜ Below p (now dst) × Below p (now row) ⌝ }

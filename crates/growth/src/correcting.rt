@@ -11,7 +11,7 @@ ghost use Rattle.residue.specs.Layout.{inPlaces, over};
 ghost use Rattle.growth.specs.Growing.{rowValueAt, valueOfRow, firstFrom, factorOf, correctedBy, correctedRow, correctedRows};
 
 // The value of a row at a point where the standard monomials have these values.
-pub fn row_value(p: u8, point: &[u8], values: &[u8], lead: &[u8], coefficients: &[u8]) -> u8
+pub(crate) fn row_value(p: u8, point: &[u8], values: &[u8], lead: &[u8], coefficients: &[u8]) -> u8
     requires { ⌜ (2 ≤ p) × (p ≤ 61) ⌝ }
     requires { ⌜ (length (now point) ≡ 8) × (length (now lead) ≡ 8) ⌝ }
     requires { ⌜ (length (now coefficients) ≡ length (now values)) × (length (now coefficients) ≤ 256) ⌝ }
@@ -27,7 +27,7 @@ pub fn row_value(p: u8, point: &[u8], values: &[u8], lead: &[u8], coefficients: 
 }
 
 // The first of r rows, in increasing order, whose value at the point is not 0, or r.
-pub fn first_row(
+pub(crate) fn first_row(
     p: u8,
     n: usize,
     r: usize,
@@ -93,7 +93,7 @@ fn put_corrected(
 }
 
 // A row corrected, from its lead and its coefficients.
-pub fn correct(
+pub(crate) fn correct(
     p: u8,
     place: usize,
     inverse: u8,
@@ -121,7 +121,7 @@ pub fn correct(
 }
 
 // The first k rows corrected, each in its part of the table of coefficients.
-pub fn correct_rows(
+pub(crate) fn correct_rows(
     p: u8,
     place: usize,
     inverse: u8,

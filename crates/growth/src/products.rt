@@ -113,7 +113,7 @@ fn add_product(
 }
 
 // The products of the lost lead with the m variables. Answers how many leads there are then; before, the k others alone.
-pub fn add_products(
+pub(crate) fn add_products(
     settings: Settings,
     n: usize,
     points: &[u8],

@@ -6,7 +6,7 @@ ghost use Rattle.residue.specs.Layout.{fill, inPlaces, over};
 ghost use Rattle.monomial.specs.Columns.{columnOf, columnsOf};
 
 // One coordinate of each point.
-pub fn put_column(n: usize, k: usize, points: &[u8], column: &mut [u8])
+pub(crate) fn put_column(n: usize, k: usize, points: &[u8], column: &mut [u8])
     requires { ⌜ (n ≤ length (now column)) × ((k < 8) × ((length (now points) ≡ 512) × (n ≤ 64))) ⌝ }
     ensures { λ _. ⌜ now (column .exit) ≡ over (columnOf k n (now (points .entry))) (now (column .entry)) ⌝ }
 {

@@ -4,7 +4,7 @@ ghost use lib.ListN.{length};
 ghost use Rattle.monomial.specs.Monomial.{degree, divides};
 
 // The total degree.
-pub fn degree(a: &[u8]) -> u64
+pub(crate) fn degree(a: &[u8]) -> u64
     requires { ⌜ length (now a) ≡ 8 ⌝ }
     ensures { λ r. ⌜ r ≡ degree (now (a .entry)) ⌝ }
 {
@@ -16,7 +16,7 @@ pub fn degree(a: &[u8]) -> u64
 }
 
 // Whether a divides b.
-pub fn divides(a: &[u8], b: &[u8]) -> bool
+pub(crate) fn divides(a: &[u8], b: &[u8]) -> bool
     requires { ⌜ (length (now a) ≡ 8) × (length (now b) ≡ 8) ⌝ }
     ensures { λ r. ⌜ r ≡ divides (now (a .entry)) (now (b .entry)) ⌝ }
 {

@@ -34,7 +34,7 @@ const VARIABLES: [u64; 24] = [
 ];
 
 // The rank of x_(k+1).
-pub fn variable_rank(order: u8, k: usize) -> u64
+fn variable_rank(order: u8, k: usize) -> u64
     requires { ⌜ (order ≤ 2) × (k < 8) ⌝ }
     ensures { λ r. ⌜ r ≡ variableRank (orderOf order) k ⌝ }
 {

@@ -60,7 +60,7 @@ fn put_first(p: u8, m: usize, levels: &[i8], to: &mut [u8])
 }
 
 // The point whose m levels begin at a place, in 8 bytes of zeros. Where 8 levels are left, some of them of later points, they are read at once.
-pub fn put_point(p: u8, m: usize, from: usize, levels: &[i8], to: &mut [u8])
+pub(crate) fn put_point(p: u8, m: usize, from: usize, levels: &[i8], to: &mut [u8])
     requires { ⌜ (m ≤ 8) × (from + m ≤ length (now levels)) × (now to ≡ replicate 8 0) ⌝ }
     ensures { λ _. ⌜ now (to .exit) ≡ fill 8 (take m (drop from (residues p (now (levels .entry))))) ⌝ }
 {

@@ -38,7 +38,7 @@ pub fn place_of(n: usize, states: &[u8], point: &[u8]) -> usize
 }
 
 // Whether a point is among the first n of a table.
-pub fn is_among(n: usize, states: &[u8], point: &[u8]) -> bool
+fn is_among(n: usize, states: &[u8], point: &[u8]) -> bool
     requires { ⌜ 8 * n ≤ length (now states) ⌝ }
     requires { ⌜ length (now point) ≡ 8 ⌝ }
     ensures { λ r. ⌜ r ≡ isAmong (now (point .entry)) (groups 8 n (now (states .entry))) ⌝ }

@@ -82,7 +82,7 @@ fn agree(
 }
 
 // Whether lent tables are the basis of their points. The points are left as a table, and where none repeats their pivot rows.
-pub fn recognise(
+pub(crate) fn recognise(
     settings: Settings,
     n: usize,
     r: u64,

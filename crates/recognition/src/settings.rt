@@ -36,7 +36,7 @@ pub fn refused_drawing(refusal: u8) -> Drawn
 }
 
 // The refusals that look at the settings alone.
-pub fn settings_refusal(settings: Settings) -> u8
+fn settings_refusal(settings: Settings) -> u8
     ensures { λ k. ⌜ k ≡ firstOf 0 (settingsCases settings) ⌝ }
 {
     if level::is_modulus(settings.modulus) {
@@ -55,7 +55,7 @@ pub fn settings_refusal(settings: Settings) -> u8
 }
 
 // The sizes of the lent tables in bytes.
-pub const STATES: usize = 512;
+const STATES: usize = 512;
 
 pub const STANDARD: usize = 512;
 
@@ -63,7 +63,7 @@ pub const LEADS: usize = 3592;
 
 pub const COEFFICIENTS: usize = 28736;
 
-pub const COUNTS: usize = 64;
+const COUNTS: usize = 64;
 
 // Whether one of the lent tables, of these lengths, is shorter than its size.
 pub fn too_short(

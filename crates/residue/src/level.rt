@@ -5,7 +5,7 @@ ghost use Rattle.residue.specs.Modulus.{isModulus};
 ghost use Rattle.residue.specs.Level.{residueOf, signedOf};
 
 // The moduli, in the order in which the table of inverses has them.
-pub const PRIMES: [u8; 18] = [
+pub(crate) const PRIMES: [u8; 18] = [
     2,
     3,
     5,

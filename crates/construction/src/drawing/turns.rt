@@ -13,7 +13,7 @@ ghost use Rattle.specification.specs.Tables.{standardSize, leadsSize, coefficie
 ghost use Rattle.construction.specs.Drawing.{emptyRow, rowWith, RowsLong, productValues};
 
 // The working row of given values after it met the pivot rows, and how many cancellations that took.
-pub fn reduce(
+pub(crate) fn reduce(
     p: u8,
     n: usize,
     found: usize,
@@ -36,7 +36,7 @@ pub fn reduce(
 }
 
 // Keeps the monomial as a lead, with its row of coefficients.
-pub fn keep_lead(
+pub(crate) fn keep_lead(
     n: usize,
     found: usize,
     r: usize,
@@ -59,7 +59,7 @@ pub fn keep_lead(
 }
 
 // Keeps the monomial as a standard one, with its values.
-pub fn keep_standard(
+pub(crate) fn keep_standard(
     found: usize,
     exponents: &[u8],
     own: &[u8],
@@ -79,7 +79,7 @@ pub fn keep_standard(
 }
 
 // The exponents of x_(k+1) times standard monomial t.
-pub fn put_exponents(k: usize, t: usize, standard: &[u8], exponents: &mut [u8])
+pub(crate) fn put_exponents(k: usize, t: usize, standard: &[u8], exponents: &mut [u8])
     requires { ⌜ (k < 8) × ((t < 64) × ((length (now standard) ≡ standardSize) × (length (now exponents) ≡ 8))) ⌝ }
     requires { ⌜ getD (now standard) (8 * t + k) 0 < 255 ⌝ }
     ensures { λ _. ⌜ now (exponents .exit) ≡ timesVariable k (take 8 (drop (8 * t) (now (standard .entry)))) ⌝ }
@@ -90,7 +90,7 @@ pub fn put_exponents(k: usize, t: usize, standard: &[u8], exponents: &mut [u8])
 }
 
 // Its values.
-pub fn put_values(
+pub(crate) fn put_values(
     p: u8,
     n: usize,
     k: usize,
