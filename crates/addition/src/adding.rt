@@ -3,6 +3,7 @@ use growth::growing::add_tables;
 use recognition::naming::locate;
 use recognition::settings::refused;
 use residue::bytes;
+use residue::sizes;
 use specification::answers::Answer;
 use specification::settings::Settings;
 ghost use mathlib.Core.Path.{_≡_};
@@ -11,8 +12,9 @@ ghost use mathlib.Core.List.{[], _∷_, _++_};
 ghost use Prim.Native.Nat.{_+_, _<_, _≤_};
 ghost use lib.Dec.{eqb, ltb};
 ghost use lib.ListN.{length, take, getD, set};
+ghost use Rattle.residue.specs.Sizes.{mostRows, statesSize, standardSize, leadsSize, coefficientsSize, countsSize};
 ghost use Rattle.residue.specs.Layout.{fill, withPlace, begins};
-ghost use Rattle.specification.specs.Tables.{fiveTables, tooShort, pointsIn, countsSize};
+ghost use Rattle.specification.specs.Tables.{fiveTables, tooShort, pointsIn};
 ghost use Rattle.specification.specs.Adding.{ended, addOutcome, holdingBoth};
 ghost use Rattle.construction.specs.Drawing.{PointsGiven, DrawnUp};
 ghost use Rattle.growth.specs.Growing.{allPoints, NewPoint};
@@ -41,7 +43,7 @@ fn add_refusal(before: u8, n: usize, place: usize, counts: &[u8]) -> u8
 
 // A point that is there, counted once more: one byte is written.
 fn raise(n: usize, r: usize, place: usize, counts: &mut [u8]) -> Answer
-    requires { ⌜ (n ≤ 64) × (r ≤ 449) ⌝ }
+    requires { ⌜ (n ≤ 64) × (r ≤ mostRows) ⌝ }
     requires { ⌜ (place < length (now counts)) × (getD (now counts) place 0 ≡ 255 → ⊥) ⌝ }
     ensures { λ a. ⌜ a ≡ record { refusal = 0; n = n; r = r } ⌝ }
     ensures { λ _. ⌜ now (counts .exit) ≡ set (now (counts .entry)) place (getD (now (counts .entry)) place 0 + 1) ⌝ }
@@ -56,7 +58,7 @@ fn raise(n: usize, r: usize, place: usize, counts: &mut [u8]) -> Answer
 
 // The table of the points with the new one behind them.
 fn add_state(n: usize, points: &[u8], point: &[u8], states: &mut [u8])
-    requires { ⌜ (n < 64) × ((length (now points) ≡ 512) × ((length (now point) ≡ 8) × (length (now states) ≡ 512))) ⌝ }
+    requires { ⌜ (n < 64) × ((length (now points) ≡ statesSize) × ((length (now point) ≡ 8) × (length (now states) ≡ statesSize))) ⌝ }
     ensures { λ _. ⌜ now (states .exit) ≡ withPlace 8 n (now (point .entry)) (now (points .entry)) ⌝ }
 {
     bytes::copy(points, states);
@@ -81,15 +83,15 @@ fn add_accepted(
 ) -> Answer
     requires { ⌜ PointsGiven settings n (now points) ⌝ }
     requires { ⌜ tooShort (fiveTables (now states) (now standard) (now leads) (now coefficients) (now counts)) ≡ false ⌝ }
-    requires { ⌜ DrawnUp settings (pointsIn settings n (now points)) r (take 512 (now standard)) (take 3592 (now leads)) (take 28736 (now coefficients))
-        (now rows) (now pivots) ⌝ }
+    requires { ⌜ DrawnUp settings (pointsIn settings n (now points)) r (take standardSize (now standard)) (take leadsSize (now leads))
+        (take coefficientsSize (now coefficients)) (now rows) (now pivots) ⌝ }
     requires { ⌜ (n < 64) × (begins (fill countsSize (fill n (now counts))) (now counts) ≡ true) ⌝ }
     requires { ⌜ NewPoint settings (pointsIn settings n (now points)) (now point) ⌝ }
     ensures { λ a. ⌜ ended a (now (states .exit)) (now (standard .exit)) (now (leads .exit)) (now (coefficients .exit)) (now (counts .exit))
         ≡ holdingBoth settings (allPoints settings n (now (points .entry)) (now (point .entry))) (fill n (now (counts .entry)) ++ (1 ∷ []))
         (fiveTables (now (states .entry)) (now (standard .entry)) (now (leads .entry)) (now (coefficients .entry)) (now (counts .entry))) ⌝ }
 {
-    add_state(n, points, point, &mut states[..512]);
+    add_state(n, points, point, &mut states[..sizes::STATES]);
     let k = add_tables(
         settings,
         n,
@@ -98,9 +100,9 @@ fn add_accepted(
         rows,
         pivots,
         point,
-        &mut standard[..512],
-        &mut leads[..3592],
-        &mut coefficients[..28736],
+        &mut standard[..sizes::STANDARD],
+        &mut leads[..sizes::LEADS],
+        &mut coefficients[..sizes::COEFFICIENTS],
     );
     counts[n] = 1;
     Answer {
@@ -127,9 +129,9 @@ pub fn add_point(
         (fiveTables (now (states .entry)) (now (standard .entry)) (now (leads .entry)) (now (coefficients .entry)) (now (counts .entry)))
         (now (levels .entry)) ⌝ }
 {
-    let mut points = [0u8; 512];
-    let mut rows = [0u8; 73728];
-    let mut pivots = [0u8; 64];
+    let mut points = [0u8; sizes::STATES];
+    let mut rows = [0u8; sizes::PIVOT_ROWS];
+    let mut pivots = [0u8; sizes::POINTS];
     let mut point = [0u8; 8];
     let named = locate(
         settings,

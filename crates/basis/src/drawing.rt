@@ -3,13 +3,11 @@ use construction::drawing::draw_anew;
 use points::gathering::Gathered;
 use points::gathering::gather;
 use points::levels::in_range;
-use recognition::settings::COEFFICIENTS;
-use recognition::settings::LEADS;
-use recognition::settings::STANDARD;
 use recognition::settings::draw_sizes;
 use recognition::settings::refused_drawing;
 use recognition::settings::too_short;
 use residue::bytes;
+use residue::sizes;
 use specification::answers::Drawn;
 use specification::settings::Settings;
 ghost use mathlib.Core.Path.{_≡_};
@@ -18,12 +16,13 @@ ghost use mathlib.Core.List.{_∷_, _++_};
 ghost use Prim.Native.Nat.{_%_};
 ghost use lib.ListN.{length, replicate};
 ghost use lib.Dec.{eqb};
+ghost use Rattle.residue.specs.Sizes.{statesSize, countsSize};
 ghost use Rattle.residue.specs.Layout.{fill};
 ghost use Rattle.specification.specs.Refusal.{firstOf};
 ghost use Rattle.specification.specs.Settings.{settingsCases};
 ghost use Rattle.specification.specs.Levels.{inRange};
 ghost use Rattle.specification.specs.Counted.{pointsOf, countsOf, gathered, overfull};
-ghost use Rattle.specification.specs.Tables.{pointsIn, fiveTables, tooShort, statesTable, statesSize, countsSize};
+ghost use Rattle.specification.specs.Tables.{pointsIn, fiveTables, tooShort, statesTable};
 ghost use Rattle.specification.specs.Adding.{drawEnded, costing, cancellationsUnder, pointsOffered, drawOutcome, holdingBoth};
 ghost use Rattle.construction.specs.Drawing.{RowsLong, PointsGiven, pivotBytes, pivotRowsUnder};
 
@@ -58,9 +57,9 @@ pub(crate) fn draw_points(
         settings,
         n,
         points,
-        &mut standard[..STANDARD],
-        &mut leads[..LEADS],
-        &mut coefficients[..COEFFICIENTS],
+        &mut standard[..sizes::STANDARD],
+        &mut leads[..sizes::LEADS],
+        &mut coefficients[..sizes::COEFFICIENTS],
         rows,
         pivots,
     );
@@ -124,14 +123,14 @@ pub fn draw_up(
         coefficients.len(),
         counts.len(),
     );
-    let mut points = [0u8; 512];
-    let mut times = [0u8; 64];
+    let mut points = [0u8; sizes::STATES];
+    let mut times = [0u8; sizes::COUNTS];
     let found = draw_refusal(settings, short, levels, &mut points, &mut times);
     if found.refusal != 0 {
         return refused_drawing(found.refusal);
     }
-    let mut rows = [0u8; 73728];
-    let mut pivots = [0u8; 64];
+    let mut rows = [0u8; sizes::PIVOT_ROWS];
+    let mut pivots = [0u8; sizes::POINTS];
     draw_points(
         settings,
         found.n,

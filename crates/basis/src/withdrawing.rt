@@ -4,6 +4,7 @@ use crate::drawing::draw_points;
 use monomial::insert::take_out;
 use recognition::naming::locate;
 use recognition::settings::refused;
+use residue::sizes;
 use specification::answers::Answer;
 use specification::settings::Settings;
 ghost use mathlib.Core.Path.{_≡_};
@@ -60,8 +61,8 @@ fn withdraw_accepted(
             r,
         };
     }
-    let mut left = [0u8; 512];
-    let mut times = [0u8; 64];
+    let mut left = [0u8; sizes::STATES];
+    let mut times = [0u8; sizes::COUNTS];
     take_out(8, n, place, points, &mut left);
     take_out(1, n, place, counts, &mut times);
     let drawn = draw_points(
@@ -101,9 +102,9 @@ pub fn withdraw_point(
         (fiveTables (now (states .entry)) (now (standard .entry)) (now (leads .entry)) (now (coefficients .entry)) (now (counts .entry)))
         (now (levels .entry)) ⌝ }
 {
-    let mut points = [0u8; 512];
-    let mut rows = [0u8; 73728];
-    let mut pivots = [0u8; 64];
+    let mut points = [0u8; sizes::STATES];
+    let mut rows = [0u8; sizes::PIVOT_ROWS];
+    let mut pivots = [0u8; sizes::POINTS];
     let mut point = [0u8; 8];
     let named = locate(
         settings,

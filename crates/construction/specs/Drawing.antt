@@ -6,6 +6,7 @@ use mathlib.Core.List.{List, [], _∷_, _++_, map}
 use Prim.Native.Nat.{ℕ, suc, _+_, _-_, _%_, _<_, _≤_}
 use lib.ListN.{length, getD, set, take, replicate}
 use lib.Dec.{T}
+use Rattle.residue.specs.Sizes.{statesSize, workSize, blockSize, pivotRowsSize}
 use Rattle.residue.specs.Inverse.{inverseOf}
 use Rattle.residue.specs.Vector.{Below, pointwise}
 use Rattle.elimination.specs.Elimination.{eliminated, multiplesOf, Multiplied}
@@ -15,19 +16,19 @@ use Rattle.specification.specs.declared.settings.Settings.{Settings}
 use Rattle.specification.specs.Levels.{noRepeat}
 use Rattle.specification.specs.BasisOf.{interpolantOf}
 use Rattle.specification.specs.Cancellations.{valueColumn}
-use Rattle.specification.specs.Tables.{spaceUnder, pointsUnder, standardUnder, rowCount, standardTable, leadsTable, coefficientsTable, pointsIn, statesSize}
+use Rattle.specification.specs.Tables.{spaceUnder, pointsUnder, standardUnder, rowCount, standardTable, leadsTable, coefficientsTable, pointsIn}
 use Rattle.specification.specs.Settings.{Accepted}
 
 -- A working row: empty, and with values at its front.
 abbrev pub emptyRow : List ℕ
-emptyRow = replicate 128 0
+emptyRow = replicate workSize 0
 
 abbrev pub rowWith : List ℕ → List ℕ
-rowWith values = fill 128 values
+rowWith values = fill workSize values
 
 -- The pivot rows and their pivots: of their sizes.
 abbrev pub RowsLong : List ℕ → List ℕ → Type 0
-RowsLong rows pivots = (length rows ≡ 73728) × (length pivots ≡ 64)
+RowsLong rows pivots = (length rows ≡ pivotRowsSize) × (length pivots ≡ 64)
 
 -- the values of a variable times a monomial, from the n of the variable and those of the monomial
 unfoldable pub productValues : ℕ → ℕ → List ℕ → List ℕ → List ℕ
@@ -42,7 +43,7 @@ pub record PointsGiven (s : Settings) (n : ℕ) (points : List ℕ) : Type 0 whe
 
 -- Pivot rows for all the standard monomials: elimination leaves of any n values the negatives of their interpolant's coefficients.
 pub record Solves (s : Settings) (S : List (List ℕ)) (rows pivots : List ℕ) : Type 0 where
-  pub long-rows : length rows ≡ 73728
+  pub long-rows : length rows ≡ pivotRowsSize
   pub long-pivots : length pivots ≡ 64
   pub multiples : Multiplied (s .modulus) (length S) rows
   pub inside : (t : ℕ) → t < length S → getD pivots t 0 < length S
@@ -73,7 +74,7 @@ pivotBytes rows pivots = record { rows = rows; pivots = pivots }
 -- with a working row kept as pivot row t, with its multiples: its pivot is the place of its first value that is not 0, which becomes 1
 unfoldable pub withRow : ℕ → ℕ → ℕ → List ℕ → PivotBytes → PivotBytes
 withRow p n t work kept = let at = firstNonzero n work in
-    pivotBytes (withPlace 1152 t (multiplesOf p (pivotRow p (n + t) (inverseOf p (getD work at 0)) work)) (kept .rows)) (set (kept .pivots) t at)
+    pivotBytes (withPlace blockSize t (multiplesOf p (pivotRow p (n + t) (inverseOf p (getD work at 0)) work)) (kept .rows)) (set (kept .pivots) t at)
 
 -- with n values kept: the working row is what elimination by the t rows before leaves of them
 unfoldable pub withColumn : ℕ → ℕ → ℕ → List ℕ → PivotBytes → PivotBytes

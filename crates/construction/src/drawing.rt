@@ -13,10 +13,12 @@ use monomial::candidate::next;
 use monomial::columns::put_columns;
 use monomial::rank::put_steps;
 use residue::bytes;
+use residue::sizes;
 use specification::settings::Settings;
 ghost use mathlib.Core.Path.{_≡_};
 ghost use lib.ListN.{length, replicate};
-ghost use Rattle.specification.specs.Tables.{pointsIn, standardSize, leadsSize, coefficientsSize};
+ghost use Rattle.residue.specs.Sizes.{standardSize, leadsSize, coefficientsSize};
+ghost use Rattle.specification.specs.Tables.{pointsIn};
 ghost use Rattle.specification.specs.Adding.{cancellationsUnder};
 ghost use Rattle.construction.specs.Drawing.{RowsLong, PointsGiven, Tabled, DrawnUp, pivotBytes, pivotRowsUnder};
 
@@ -49,19 +51,19 @@ pub fn draw(
     let p = settings.modulus as u8;
     let mut steps = [0u64; 8];
     put_steps(settings.order as u8, &mut steps);
-    let mut columns = [0u8; 512];
+    let mut columns = [0u8; sizes::COLUMNS];
     put_columns(n, points, &mut columns);
-    let mut values = [0u8; 4096];
-    let mut ranks = [0u64; 64];
+    let mut values = [0u8; sizes::VALUES];
+    let mut ranks = [0u64; sizes::POINTS];
     let mut at = [0u8; 8];
     let mut found = 0;
     let mut r = 0;
     let mut cancellations = 0;
     let mut exponents = [0u8; 8];
     let mut rank = 0u64;
-    let mut own = [1u8; 64];
+    let mut own = [1u8; sizes::POINTS];
     loop {
-        let mut work = [0u8; 128];
+        let mut work = [0u8; sizes::WORK];
         cancellations += reduce(p, n, found, &own, rows, pivots, &mut work);
         let q = rows::first_nonzero(&work, n);
         if q == n {

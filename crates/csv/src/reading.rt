@@ -3,6 +3,7 @@ mod entries;
 mod gathering;
 mod records;
 
+use residue::sizes;
 ghost use mathlib.Core.Path.{_≡_};
 ghost use Prim.Native.Nat.{_≤_};
 ghost use lib.ListN.{length, drop};
@@ -50,13 +51,13 @@ fn settings_refusal(
     if 8 < variables {
         return Refusal { refusal: 4, at: 1 };
     }
-    if states < 512 {
+    if states < sizes::STATES {
         return Refusal { refusal: 6, at: 0 };
     }
-    if values < 64 {
+    if values < sizes::POINTS {
         return Refusal { refusal: 6, at: 0 };
     }
-    if counts < 64 {
+    if counts < sizes::COUNTS {
         return Refusal { refusal: 6, at: 0 };
     }
     Refusal { refusal: 0, at: 0 }
@@ -99,9 +100,9 @@ fn read_entries(
         return refused(refusal, first.at);
     }
     let p = modulus as u8;
-    let mut rows = [0u8; 512];
-    let mut times = [0u8; 64];
-    let mut residues = [0u8; 64];
+    let mut rows = [0u8; sizes::STATES];
+    let mut times = [0u8; sizes::COUNTS];
+    let mut residues = [0u8; sizes::POINTS];
     let all = gathering::gather_entries(
         text,
         from,

@@ -5,6 +5,7 @@ use mathlib.Core.Path.{_≡_}
 use Prim.Native.Nat.{ℕ, zero, suc, _+_, _*_, _-_, _/_, _<_, _≤_}
 use lib.ListN.{getD, take, drop}
 use lib.Dec.{eqb, ltb}
+use Rattle.residue.specs.Sizes.{workSize, blockSize}
 use Rattle.residue.specs.Vector.{addScaled, scaled}
 
 -- the row w with its entry at the given place cancelled, by adding a multiple of a row that is 1 there
@@ -14,7 +15,7 @@ cancelled p row at w = cond (eqb (getD w at 0) 0) w (addScaled p (p - getD w at 
 -- the row w after it met the first t pivot rows, in the order in which they were found
 unfoldable pub eliminated : ℕ → List ℕ → List ℕ → ℕ → List ℕ → List ℕ
 eliminated p rows pivots zero w = w
-eliminated p rows pivots (suc t) w = cancelled p (take 128 (drop (1152 * t) rows)) (getD pivots t 0) (eliminated p rows pivots t w)
+eliminated p rows pivots (suc t) w = cancelled p (take workSize (drop (blockSize * t) rows)) (getD pivots t 0) (eliminated p rows pivots t w)
 
 -- whether a cancellation is made, as a number: the entry is not 0
 unfoldable pub counted : ℕ → ℕ
@@ -39,11 +40,11 @@ multiplesOf p row = multiplesBy p row factors
 
 -- the blocks of the rows found hold the multiples of their rows
 abbrev pub Multiplied : ℕ → ℕ → List ℕ → Type 0
-Multiplied p found rows = (t : ℕ) → t < found → take 1152 (drop (1152 * t) rows) ≡ multiplesOf p (take 128 (drop (1152 * t) rows))
+Multiplied p found rows = (t : ℕ) → t < found → take blockSize (drop (blockSize * t) rows) ≡ multiplesOf p (take workSize (drop (blockSize * t) rows))
 
 -- a row is 0 from the given entry on
 abbrev pub ZeroFrom : ℕ → List ℕ → Type 0
-ZeroFrom width row = (i : ℕ) → width ≤ i → i < 128 → getD row i 0 ≡ 0
+ZeroFrom width row = (i : ℕ) → width ≤ i → i < workSize → getD row i 0 ≡ 0
 
 -- how many entries are looked at of a row that is 0 from `end` on: whole vectors of 16, of which a row has 8
 unfoldable pub wholeWidth : ℕ → ℕ
@@ -51,4 +52,4 @@ wholeWidth end = cond (ltb 112 end) 128 ((end + 15) / 16 * 16)
 
 -- row t of those found is 0 behind entry n + t
 abbrev pub ZeroBehind : ℕ → ℕ → List ℕ → Type 0
-ZeroBehind n found rows = (t j : ℕ) → t < found → t < j → n + j < 128 → getD rows (1152 * t + (n + j)) 0 ≡ 0
+ZeroBehind n found rows = (t j : ℕ) → t < found → t < j → n + j < workSize → getD rows (blockSize * t + (n + j)) 0 ≡ 0

@@ -4,10 +4,12 @@ use crate::reducing::gain;
 use residue::bytes::all_zero;
 use residue::bytes::copy;
 use residue::inverse::inverse;
+use residue::sizes;
 use residue::vector::scale;
 ghost use mathlib.Core.Path.{_≡_};
 ghost use Prim.Native.Nat.{_+_, _*_, _<_, _≤_};
 ghost use lib.ListN.{length, getD, set};
+ghost use Rattle.residue.specs.Sizes.{workSize, blockSize};
 ghost use Rattle.residue.specs.Inverse.{inverseOf};
 ghost use Rattle.residue.specs.Vector.{Below};
 ghost use Rattle.residue.specs.Layout.{withPlace};
@@ -51,20 +53,20 @@ fn normalise(p: u8, own: usize, at: usize, work: &mut [u8])
 // Fills a block with the multiples of a row: each is the one before and the first of its three.
 fn put_multiples(p: u8, row: &[u8], block: &mut [u8])
     requires { ⌜ (2 ≤ p) × (p ≤ 61) ⌝ }
-    requires { ⌜ (length (now row) ≡ 128) × (length (now block) ≡ 1152) ⌝ }
+    requires { ⌜ (length (now row) ≡ workSize) × (length (now block) ≡ blockSize) ⌝ }
     requires { ⌜ Below p (now row) ⌝ }
     ensures { λ _. ⌜ now (block .exit) ≡ multiplesOf p (now (row .entry)) ⌝ }
 {
-    let mut first = [0u8; 128];
-    let mut last = [0u8; 128];
+    let mut first = [0u8; sizes::WORK];
+    let mut last = [0u8; sizes::WORK];
     copy(row, &mut last);
     for k in 0..9 {
         if k % 3 == 0 {
             copy(&last, &mut first);
         }
-        let from = 128 * k;
-        copy(&last, &mut block[from..from + 128]);
-        gain(p, 128, &mut last, &first);
+        let from = sizes::WORK * k;
+        copy(&last, &mut block[from..from + sizes::WORK]);
+        gain(p, sizes::WORK, &mut last, &first);
     }
 }
 
@@ -79,17 +81,17 @@ pub fn keep(
     pivots: &mut [u8],
 )
     requires { ⌜ (2 ≤ p) × (p ≤ 61) ⌝ }
-    requires { ⌜ (at < n) × ((n + found < 128) × (length (now work) ≡ 128)) ⌝ }
-    requires { ⌜ (1152 * found + 1152 ≤ length (now rows)) × (found < length (now pivots)) ⌝ }
+    requires { ⌜ (at < n) × ((n + found < workSize) × (length (now work) ≡ workSize)) ⌝ }
+    requires { ⌜ (blockSize * found + blockSize ≤ length (now rows)) × (found < length (now pivots)) ⌝ }
     requires { ⌜ Below p (now work) ⌝ }
     ensures { λ _. ⌜ now (work .exit) ≡ pivotRow p (n + found) (inverseOf p (getD (now (work .entry)) at 0)) (now (work .entry)) ⌝ }
     ensures { λ _. ⌜ now (rows .exit)
-        ≡ withPlace 1152 found (multiplesOf p (pivotRow p (n + found) (inverseOf p (getD (now (work .entry)) at 0)) (now (work .entry))))
+        ≡ withPlace blockSize found (multiplesOf p (pivotRow p (n + found) (inverseOf p (getD (now (work .entry)) at 0)) (now (work .entry))))
         (now (rows .entry)) ⌝ }
     ensures { λ _. ⌜ now (pivots .exit) ≡ set (now (pivots .entry)) found at ⌝ }
 {
     normalise(p, n + found, at, work);
-    let from = 1152 * found;
-    put_multiples(p, work, &mut rows[from..from + 1152]);
+    let from = sizes::BLOCK * found;
+    put_multiples(p, work, &mut rows[from..from + sizes::BLOCK]);
     pivots[found] = at as u8;
 }

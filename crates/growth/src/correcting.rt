@@ -2,10 +2,12 @@
 use monomial::value::value;
 use residue::arithmetic;
 use residue::bytes;
+use residue::sizes;
 use residue::vector;
 ghost use mathlib.Core.Path.{_≡_};
 ghost use Prim.Native.Nat.{_*_, _<_, _≤_};
 ghost use lib.ListN.{length};
+ghost use Rattle.residue.specs.Sizes.{mostPoints};
 ghost use Rattle.residue.specs.Vector.{Below, addScaled};
 ghost use Rattle.residue.specs.Layout.{inPlaces, over};
 ghost use Rattle.growth.specs.Growing.{rowValueAt, valueOfRow, firstFrom, factorOf, correctedBy, correctedRow, correctedRows};
@@ -79,7 +81,7 @@ fn put_corrected(
 )
     requires { ⌜ (2 ≤ p) × (p ≤ 61) ⌝ }
     requires { ⌜ (place < 64) × (factor < p) ⌝ }
-    requires { ⌜ (length (now gone) ≡ 64) × (length (now coefficients) ≡ 64) × (length (now row) ≡ 64) ⌝ }
+    requires { ⌜ (length (now gone) ≡ mostPoints) × (length (now coefficients) ≡ mostPoints) × (length (now row) ≡ mostPoints) ⌝ }
     requires { ⌜ Below p (now gone) ⌝ }
     requires { ⌜ Below p (now coefficients) ⌝ }
     ensures { λ _. ⌜ now (coefficients .exit) ≡ addScaled p factor (now (coefficients .entry)) (now (gone .entry)) ⌝ }
@@ -105,8 +107,8 @@ pub(crate) fn correct(
     row: &mut [u8],
 )
     requires { ⌜ (2 ≤ p) × (p ≤ 61) × (place < 64) × (inverse < p) ⌝ }
-    requires { ⌜ (length (now point) ≡ 8) × (length (now lead) ≡ 8) × (length (now values) ≡ 64) ⌝ }
-    requires { ⌜ (length (now gone) ≡ 64) × (length (now coefficients) ≡ 64) × (length (now row) ≡ 64) ⌝ }
+    requires { ⌜ (length (now point) ≡ 8) × (length (now lead) ≡ 8) × (length (now values) ≡ mostPoints) ⌝ }
+    requires { ⌜ (length (now gone) ≡ mostPoints) × (length (now coefficients) ≡ mostPoints) × (length (now row) ≡ mostPoints) ⌝ }
     requires { ⌜ Below p (now point) × Below p (now values) ⌝ }
     requires { ⌜ Below p (now gone) × Below p (now coefficients) ⌝ }
     ensures { λ _. ⌜ now (coefficients .exit)
@@ -133,7 +135,7 @@ pub(crate) fn correct_rows(
     table: &mut [u8],
 )
     requires { ⌜ (2 ≤ p) × (p ≤ 61) × (place < 64) × (inverse < p) ⌝ }
-    requires { ⌜ (length (now gone) ≡ 64) × (length (now point) ≡ 8) × (length (now values) ≡ 64) ⌝ }
+    requires { ⌜ (length (now gone) ≡ mostPoints) × (length (now point) ≡ 8) × (length (now values) ≡ mostPoints) ⌝ }
     requires { ⌜ (8 * k ≤ length (now leads)) × (64 * k ≤ length (now table)) ⌝ }
     requires { ⌜ Below p (now gone) × Below p (now point) × Below p (now values) ⌝ }
     requires { ⌜ Below p (now table) ⌝ }
@@ -142,7 +144,7 @@ pub(crate) fn correct_rows(
         k)) (now (table .entry)) ⌝ }
 {
     for i in 0..k {
-        let mut coefficients = [0u8; 64];
+        let mut coefficients = [0u8; sizes::POINTS];
         let from = 8 * i;
         let first = 64 * i;
         bytes::copy(&table[first..first + 64], &mut coefficients);

@@ -5,10 +5,12 @@ use monomial::insert;
 use monomial::value::values_at;
 use residue::bytes;
 use residue::inverse::inverse;
+use residue::sizes;
 use specification::settings::Settings;
 ghost use mathlib.Core.Path.{_≡_};
 ghost use Prim.Native.Nat.{ℕ, _+_, _<_, _≤_};
 ghost use lib.ListN.{length, getD, replicate};
+ghost use Rattle.residue.specs.Sizes.{mostPoints, mostRows, statesSize, standardSize, leadsSize, coefficientsSize, pivotRowsSize};
 ghost use Rattle.residue.specs.Vector.{Below};
 ghost use Rattle.elimination.specs.Elimination.{Multiplied};
 ghost use Rattle.residue.specs.Layout.{rowAt};
@@ -33,10 +35,10 @@ fn keep_others(
     new_coefficients: &mut [u8],
 )
     requires { ⌜ (2 ≤ p) × (p ≤ 61) × (place < 64) × (inverse < p) ⌝ }
-    requires { ⌜ (length (now gone) ≡ 64) × (length (now point) ≡ 8) × (length (now values) ≡ 64) ⌝ }
-    requires { ⌜ (j < r) × (r ≤ 449) × (length (now leads) ≡ 3592) × (length (now coefficients) ≡ 28736) ⌝ }
+    requires { ⌜ (length (now gone) ≡ mostPoints) × (length (now point) ≡ 8) × (length (now values) ≡ mostPoints) ⌝ }
+    requires { ⌜ (j < r) × (r ≤ mostRows) × (length (now leads) ≡ leadsSize) × (length (now coefficients) ≡ coefficientsSize) ⌝ }
     requires { ⌜ Below p (now gone) × Below p (now point) × Below p (now values) × Below p (now coefficients) ⌝ }
-    requires { ⌜ (now «new_leads» ≡ replicate 3592 0) × (now «new_coefficients» ≡ replicate 28736 0) ⌝ }
+    requires { ⌜ (now «new_leads» ≡ replicate leadsSize 0) × (now «new_coefficients» ≡ replicate coefficientsSize 0) ⌝ }
     ensures { λ _. ⌜ now («new_leads» .exit) ≡ othersOf r j (now (leads .entry)) ⌝ }
     ensures { λ _. ⌜ now («new_coefficients» .exit)
         ≡ othersCorrected p place inverse (now (gone .entry)) (now (point .entry)) (now (values .entry)) r j (now (leads .entry))
@@ -76,14 +78,15 @@ fn grow(
     new_coefficients: &mut [u8],
 ) -> usize
     requires { ⌜ Accepted settings × (n < 64) ⌝ }
-    requires { ⌜ (j < r) × (r ≤ 449) × (r + settings .variables ≤ 450) × (length (now points) ≡ 512) × (length (now rows) ≡ 73728) ⌝ }
-    requires { ⌜ (length (now standard) ≡ 512) × (length (now leads) ≡ 3592) × (length (now coefficients) ≡ 28736) × (length (now point) ≡ 8)
-        × (length (now values) ≡ 64) ⌝ }
+    requires { ⌜ (j < r) × (r ≤ mostRows) × (r + settings .variables ≤ 450) × (length (now points) ≡ statesSize) × (length (now rows) ≡ pivotRowsSize) ⌝ }
+    requires { ⌜ (length (now standard) ≡ standardSize) × (length (now leads) ≡ leadsSize) × (length (now coefficients) ≡ coefficientsSize)
+        × (length (now point) ≡ 8) × (length (now values) ≡ mostPoints) ⌝ }
     requires { ⌜ Below (settings .modulus) (now points) × Below (settings .modulus) (now coefficients) × Multiplied (settings .modulus) n (now rows)
         × Below (settings .modulus) (now point) × Below (settings .modulus) (now values) ⌝ }
-    requires { ⌜ (length (now pivots) ≡ 64) × ((t : ℕ) → t < n → getD (now pivots) t 0 < n) ⌝ }
+    requires { ⌜ (length (now pivots) ≡ mostPoints) × ((t : ℕ) → t < n → getD (now pivots) t 0 < n) ⌝ }
     requires { ⌜ ((i : ℕ) → getD (now leads) i 0 < 255) ⌝ }
-    requires { ⌜ (now «new_standard» ≡ replicate 512 0) × (now «new_leads» ≡ replicate 3592 0) × (now «new_coefficients» ≡ replicate 28736 0) ⌝ }
+    requires { ⌜ (now «new_standard» ≡ replicate standardSize 0) × (now «new_leads» ≡ replicate leadsSize 0)
+        × (now «new_coefficients» ≡ replicate coefficientsSize 0) ⌝ }
     ensures { λ _. ⌜ now («new_standard» .exit) ≡ standardGrown (settings .order) n (now (standard .entry)) (rowAt 8 j (now (leads .entry))) ⌝ }
     ensures { λ k. ⌜ grown k (now («new_leads» .exit)) (now («new_coefficients» .exit))
         ≡ grownBy (settings .modulus) (settings .variables) (settings .order) n r (now (points .entry)) (now (standard .entry)) (now (leads .entry))
@@ -92,7 +95,7 @@ fn grow(
     let p = settings.modulus as u8;
     let order = settings.order as u8;
     let lead = &leads[8 * j..8 * j + 8];
-    let mut gone = [0u8; 64];
+    let mut gone = [0u8; sizes::POINTS];
     bytes::copy(&coefficients[64 * j..64 * j + 64], &mut gone);
     let i = inverse(p, correcting::row_value(p, point, values, lead, &gone));
     bytes::copy(standard, new_standard);
@@ -149,12 +152,13 @@ fn add_to(
     requires { ⌜ DrawnUp settings (pointsIn settings n (now points)) r (now standard) (now leads) (now coefficients) (now rows) (now pivots) ⌝ }
     requires { ⌜ n < 64 ⌝ }
     requires { ⌜ NewPoint settings (pointsIn settings n (now points)) (now point) ⌝ }
-    requires { ⌜ (now «new_standard» ≡ replicate 512 0) × (now «new_leads» ≡ replicate 3592 0) × (now «new_coefficients» ≡ replicate 28736 0) ⌝ }
+    requires { ⌜ (now «new_standard» ≡ replicate standardSize 0) × (now «new_leads» ≡ replicate leadsSize 0)
+        × (now «new_coefficients» ≡ replicate coefficientsSize 0) ⌝ }
     ensures { λ k. ⌜ Tabled settings (allPoints settings n (now (points .entry)) (now (point .entry))) k (now («new_standard» .exit)) (now («new_leads» .exit))
         (now («new_coefficients» .exit)) ⌝ }
 {
     let p = settings.modulus as u8;
-    let mut values = [0u8; 64];
+    let mut values = [0u8; sizes::POINTS];
     values_at(p, n, standard, point, &mut values);
     let j = correcting::first_row(p, n, r, point, &values, leads, coefficients);
     grow(
@@ -196,9 +200,9 @@ pub fn add_tables(
     ensures { λ k. ⌜ Tabled settings (allPoints settings n (now (points .entry)) (now (point .entry))) k (now (standard .exit)) (now (leads .exit))
         (now (coefficients .exit)) ⌝ }
 {
-    let mut new_standard = [0u8; 512];
-    let mut new_leads = [0u8; 3592];
-    let mut new_coefficients = [0u8; 28736];
+    let mut new_standard = [0u8; sizes::STANDARD];
+    let mut new_leads = [0u8; sizes::LEADS];
+    let mut new_coefficients = [0u8; sizes::COEFFICIENTS];
     let k = add_to(
         settings,
         n,

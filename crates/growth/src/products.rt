@@ -4,10 +4,12 @@ use elimination::reducing::eliminate;
 use monomial::insert;
 use monomial::terms::put_term_values;
 use residue::bytes;
+use residue::sizes;
 use specification::settings::Settings;
 ghost use mathlib.Core.Path.{_≡_};
 ghost use Prim.Native.Nat.{ℕ, _+_, _*_, _<_, _≤_};
 ghost use lib.ListN.{length, getD};
+ghost use Rattle.residue.specs.Sizes.{mostPoints, mostRows, statesSize, leadsSize, coefficientsSize, pivotRowsSize};
 ghost use Rattle.residue.specs.Vector.{Below};
 ghost use Rattle.elimination.specs.Elimination.{Multiplied};
 ghost use Rattle.monomial.specs.Insert.{withRowAt};
@@ -32,8 +34,8 @@ fn put_row(
     table: &mut [u8],
 )
     requires { ⌜ (2 ≤ p) × (p ≤ 61) × (n < 64) × (place < 64) × (inverse < p) ⌝ }
-    requires { ⌜ (length (now points) ≡ 512) × (length (now rows) ≡ 73728) × (length (now pivots) ≡ 64) ⌝ }
-    requires { ⌜ (length (now gone) ≡ 64) × (length (now point) ≡ 8) × (length (now values) ≡ 64) × (length (now a) ≡ 8) ⌝ }
+    requires { ⌜ (length (now points) ≡ statesSize) × (length (now rows) ≡ pivotRowsSize) × (length (now pivots) ≡ mostPoints) ⌝ }
+    requires { ⌜ (length (now gone) ≡ mostPoints) × (length (now point) ≡ 8) × (length (now values) ≡ mostPoints) × (length (now a) ≡ 8) ⌝ }
     requires { ⌜ (i ≤ k) × (k ≤ 448) × (64 * k + 64 ≤ length (now table)) ⌝ }
     requires { ⌜ Below p (now points) × Multiplied p n (now rows) × Below p (now gone) × Below p (now point) × Below p (now values) ⌝ }
     requires { ⌜ ((t : ℕ) → t < n → getD (now pivots) t 0 < n) ⌝ }
@@ -41,9 +43,9 @@ fn put_row(
         (correctedRow p place inverse (now (gone .entry)) (now (point .entry)) (now (values .entry)) (now (a .entry))
         (reducedRow p n (now (points .entry)) (now (rows .entry)) (now (pivots .entry)) (now (a .entry)))) (now (table .entry)) ⌝ }
 {
-    let mut work = [0u8; 128];
+    let mut work = [0u8; sizes::WORK];
     put_term_values(p, &[1u8], a, n, points, &mut work);
-    eliminate(p, 128, n, rows, pivots, &mut work);
+    eliminate(p, sizes::WORK, n, rows, pivots, &mut work);
     let from = 64 * i;
     insert::move_on(64, from, 64 * k, table);
     correcting::correct(
@@ -80,9 +82,9 @@ fn add_product(
     coefficients: &mut [u8],
 ) -> usize
     requires { ⌜ (2 ≤ p) × (p ≤ 61) × (n < 64) × (place < 64) × (inverse < p) ⌝ }
-    requires { ⌜ (length (now points) ≡ 512) × (length (now rows) ≡ 73728) × (length (now pivots) ≡ 64) ⌝ }
-    requires { ⌜ (length (now gone) ≡ 64) × (length (now point) ≡ 8) × (length (now values) ≡ 64) × (length (now a) ≡ 8) ⌝ }
-    requires { ⌜ (8 * k ≤ length (now others)) × (count ≤ 448) × (length (now leads) ≡ 3592) × (length (now coefficients) ≡ 28736) ⌝ }
+    requires { ⌜ (length (now points) ≡ statesSize) × (length (now rows) ≡ pivotRowsSize) × (length (now pivots) ≡ mostPoints) ⌝ }
+    requires { ⌜ (length (now gone) ≡ mostPoints) × (length (now point) ≡ 8) × (length (now values) ≡ mostPoints) × (length (now a) ≡ 8) ⌝ }
+    requires { ⌜ (8 * k ≤ length (now others)) × (count ≤ 448) × (length (now leads) ≡ leadsSize) × (length (now coefficients) ≡ coefficientsSize) ⌝ }
     requires { ⌜ Below p (now points) × Multiplied p n (now rows) × Below p (now gone) × Below p (now point) × Below p (now values) ⌝ }
     requires { ⌜ ((t : ℕ) → t < n → getD (now pivots) t 0 < n) ⌝ }
     ensures { λ r. ⌜ grown r (now (leads .exit)) (now (coefficients .exit))
@@ -130,9 +132,9 @@ pub(crate) fn add_products(
     coefficients: &mut [u8],
 ) -> usize
     requires { ⌜ Accepted settings × ((n < 64) × (place < 64) × (inverse < settings .modulus)) ⌝ }
-    requires { ⌜ (length (now points) ≡ 512) × (length (now rows) ≡ 73728) × (length (now pivots) ≡ 64) ⌝ }
-    requires { ⌜ (length (now gone) ≡ 64) × (length (now point) ≡ 8) × (length (now values) ≡ 64) × (length (now lead) ≡ 8) ⌝ }
-    requires { ⌜ (k + settings .variables ≤ 449) × (length (now leads) ≡ 3592) × (length (now coefficients) ≡ 28736) ⌝ }
+    requires { ⌜ (length (now points) ≡ statesSize) × (length (now rows) ≡ pivotRowsSize) × (length (now pivots) ≡ mostPoints) ⌝ }
+    requires { ⌜ (length (now gone) ≡ mostPoints) × (length (now point) ≡ 8) × (length (now values) ≡ mostPoints) × (length (now lead) ≡ 8) ⌝ }
+    requires { ⌜ (k + settings .variables ≤ mostRows) × (length (now leads) ≡ leadsSize) × (length (now coefficients) ≡ coefficientsSize) ⌝ }
     requires { ⌜ Below (settings .modulus) (now points) × Multiplied (settings .modulus) n (now rows) × Below (settings .modulus) (now gone)
         × Below (settings .modulus) (now point) × Below (settings .modulus) (now values) ⌝ }
     requires { ⌜ ((t : ℕ) → t < n → getD (now pivots) t 0 < n) ⌝ }
@@ -145,7 +147,7 @@ pub(crate) fn add_products(
     let p = settings.modulus as u8;
     let order = settings.order as u8;
     let m = settings.variables as usize;
-    let mut others = [0u8; 3592];
+    let mut others = [0u8; sizes::LEADS];
     bytes::copy(leads, &mut others);
     let mut count = k;
     for v in 0..m {

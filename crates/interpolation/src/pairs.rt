@@ -1,5 +1,6 @@
 // The wiring list: the variables with a pair of points that differ in it alone and have different values.
 use points::places::key;
+use residue::sizes;
 ghost use mathlib.Core.Path.{_≡_};
 ghost use mathlib.Core.Bool.{false};
 ghost use Prim.Native.Nat.{ℕ, _+_, _-_, _*_, _^_, _<_, _≤_};
@@ -99,9 +100,9 @@ fn has_pair(k: usize, n: usize, points: &[u8], values: &[u8]) -> bool
     requires { ⌜ (8 * n ≤ length (now points)) × (n ≤ length (now values)) ⌝ }
     ensures { λ r. ⌜ r ≡ pairIn k (valuedIn n (now (points .entry)) (now (values .entry))) ⌝ }
 {
-    let mut rests = [0u64; 64];
+    let mut rests = [0u64; sizes::POINTS];
     put_rests(k, n, points, &mut rests);
-    let mut before = [0u8; 64];
+    let mut before = [0u8; sizes::POINTS];
     let mut last = [0u8; 251];
     for i in 0..n {
         let chain = (rests[i] % 251) as usize;

@@ -3,6 +3,7 @@
 ghost use mathlib.Core.Path.{_≡_};
 ghost use Prim.Native.Nat.{_≤_};
 ghost use lib.ListN.{length};
+ghost use Rattle.residue.specs.Sizes.{mostPoints, standardSize};
 ghost use Rattle.residue.specs.Vector.{Below};
 ghost use Rattle.monomial.specs.Candidate.{leastOf, productsPassed, parentsOf, occurringIn, searchEnds, nextOf};
 ghost use Rattle.monomial.specs.Rank.{rankBound};
@@ -15,7 +16,7 @@ pub enum LeastRank {
 // The least rank among the next products.
 fn least(m: usize, found: usize, ranks: &[u64], steps: &[u64], at: &[u8]) -> LeastRank
     requires { ⌜ (m ≤ 8) × (found ≤ 64) ⌝ }
-    requires { ⌜ (length (now ranks) ≡ 64) × (length (now steps) ≡ 8) × (length (now at) ≡ 8) ⌝ }
+    requires { ⌜ (length (now ranks) ≡ mostPoints) × (length (now steps) ≡ 8) × (length (now at) ≡ 8) ⌝ }
     requires { ⌜ Below rankBound (now ranks) ⌝ }
     requires { ⌜ Below rankBound (now steps) ⌝ }
     ensures { λ r. ⌜ r ≡ leastOf found (now (ranks .entry)) (now (steps .entry)) (now (at .entry)) m ⌝ }
@@ -46,7 +47,7 @@ pub struct Parents {
 // Passes every next product of this rank.
 fn pass(m: usize, found: usize, ranks: &[u64], steps: &[u64], at: &mut [u8], rank: u64) -> Parents
     requires { ⌜ (m ≤ 8) × (found ≤ 64) ⌝ }
-    requires { ⌜ (length (now ranks) ≡ 64) × (length (now steps) ≡ 8) × (length (now at) ≡ 8) ⌝ }
+    requires { ⌜ (length (now ranks) ≡ mostPoints) × (length (now steps) ≡ 8) × (length (now at) ≡ 8) ⌝ }
     requires { ⌜ Below rankBound (now ranks) ⌝ }
     requires { ⌜ Below rankBound (now steps) ⌝ }
     ensures { λ r. ⌜ r ≡ parentsOf found (now (ranks .entry)) (now (steps .entry)) rank (now (at .entry)) m ⌝ }
@@ -107,7 +108,7 @@ pub fn next(
     at: &mut [u8],
 ) -> Candidate
     requires { ⌜ (m ≤ 8) × (found ≤ 64) ⌝ }
-    requires { ⌜ (length (now standard) ≡ 512) × (length (now ranks) ≡ 64) × (length (now steps) ≡ 8) × (length (now at) ≡ 8) ⌝ }
+    requires { ⌜ (length (now standard) ≡ standardSize) × (length (now ranks) ≡ mostPoints) × (length (now steps) ≡ 8) × (length (now at) ≡ 8) ⌝ }
     requires { ⌜ Below rankBound (now ranks) ⌝ }
     requires { ⌜ Below rankBound (now steps) ⌝ }
     ensures { λ r. ⌜ searchEnds r (now (at .exit)) ≡ nextOf m found (now (standard .entry)) (now (ranks .entry)) (now (steps .entry)) (now (at .entry)) ⌝ }

@@ -8,10 +8,11 @@ ghost use mathlib.Core.Bool.{_&&_};
 ghost use Prim.Native.Nat.{suc, _+_, _*_, _%_, _≤_};
 ghost use lib.ListN.{length, getD, set, replicate};
 ghost use lib.Dec.{T, eqb, ltb};
+ghost use Rattle.residue.specs.Sizes.{statesSize, countsSize};
 ghost use Rattle.residue.specs.Lists.{keyOf};
 ghost use Rattle.residue.specs.Layout.{groups, fill, over};
 ghost use Rattle.specification.specs.Levels.{residues, noRepeat};
-ghost use Rattle.specification.specs.Tables.{statesSize, countsSize, statesTable};
+ghost use Rattle.specification.specs.Tables.{statesTable};
 ghost use Rattle.specification.specs.Refusal.{firstOf};
 ghost use Rattle.specification.specs.Counted.{placeIn, pointsOf, countsOf, gathered, overfull};
 ghost use Rattle.points.specs.Gathering.{Hinted, hintOf, pointsEntered, countsEntered, EnteredAs};
@@ -73,7 +74,7 @@ fn find_by(n: usize, points: &[u8], point: &[u8], own: u64, hints: &mut [u8]) ->
 // there is counted, unless its count is 255. Says whether it is.
 fn enter_at(n: usize, at: usize, points: &mut [u8], counts: &mut [u8], point: &[u8]) -> bool
     requires { ⌜ (n ≤ 64) × (at ≤ n) ⌝ }
-    requires { ⌜ (length (now points) ≡ 512) × (length (now counts) ≡ 64) × (length (now point) ≡ 8) ⌝ }
+    requires { ⌜ (length (now points) ≡ statesSize) × (length (now counts) ≡ countsSize) × (length (now point) ≡ 8) ⌝ }
     ensures { λ over. ⌜ over ≡ (ltb at n && eqb (getD (now (counts .entry)) at 0) 255) ⌝ }
     ensures { λ _. ⌜ now (points .exit) ≡ pointsEntered n at (now (point .entry)) (now (points .entry)) ⌝ }
     ensures { λ _. ⌜ now (counts .exit) ≡ countsEntered n at (now (counts .entry)) ⌝ }
@@ -110,7 +111,7 @@ pub fn enter(
     own: u64,
 ) -> Entered
     requires { ⌜ (n ≤ 64) × (own ≡ keyOf 8 (now point)) ⌝ }
-    requires { ⌜ (length (now points) ≡ 512) × (length (now counts) ≡ 64) × (length (now point) ≡ 8) ⌝ }
+    requires { ⌜ (length (now points) ≡ statesSize) × (length (now counts) ≡ countsSize) × (length (now point) ≡ 8) ⌝ }
     requires { ⌜ T (noRepeat (groups 8 n (now points))) × Hinted n (now points) (now hints) ⌝ }
     ensures { λ e. ⌜ EnteredAs n (now (point .entry)) (now (points .entry)) (now (counts .entry)) (now (hints .entry)) (e .at) (e .over)
         (now (points .exit)) (now (counts .exit)) (now (hints .exit)) ⌝ }

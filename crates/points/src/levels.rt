@@ -7,10 +7,11 @@ ghost use mathlib.Core.Path.{_≡_};
 ghost use mathlib.Core.List.{map};
 ghost use Prim.Native.Nat.{_+_, _*_, _%_, _≤_};
 ghost use lib.ListN.{length, take, drop, replicate};
+ghost use Rattle.residue.specs.Sizes.{statesSize};
 ghost use Rattle.residue.specs.Level.{residueOf};
 ghost use Rattle.residue.specs.Layout.{fill, inPlaces, over};
 ghost use Rattle.specification.specs.Levels.{residueOr0, inRange, residues};
-ghost use Rattle.specification.specs.Tables.{pointsIn, statesSize};
+ghost use Rattle.specification.specs.Tables.{pointsIn};
 
 // Whether each level has a residue. The loop runs to the end, so that it is compiled to packed instructions.
 pub fn in_range(p: u8, levels: &[i8]) -> bool

@@ -5,6 +5,7 @@ use mathlib.Core.List.{List, [], map}
 use Prim.Native.Nat.{ℕ, _≤_}
 use lib.Dec.{eqb, ltb}
 use lib.ListN.{length, take, replicate}
+use Rattle.residue.specs.Sizes.{mostPoints, statesSize, countsSize}
 use Rattle.specification.specs.declared.settings.Settings.{Settings}
 use Rattle.specification.specs.BasisOf.{interpolantOf}
 use Rattle.specification.specs.Tables.{spaceUnder, pointsUnder, standardUnder, leadsUnder, rowsUnder, pointsIn}
@@ -31,7 +32,7 @@ linesRead o = let a = o .answer in let s = settingsOf (a .modulus) (a .variables
 
 -- What is printed of a text: nothing into a buffer of less than 131,072 bytes.
 unfoldable pub linesFor : ℕ → List ℕ → List ℕ
-linesFor size text = cond (ltb size 131072) [] (linesRead (readOutcome text (replicate 512 0) (replicate 64 0) (replicate 64 0)))
+linesFor size text = cond (ltb size 131072) [] (linesRead (readOutcome text (replicate statesSize 0) (replicate mostPoints 0) (replicate countsSize 0)))
 
 -- The answer of printing, how many bytes were written, and the lent buffer at exit: they stand at its front.
 pub record Printed : Type 0 where

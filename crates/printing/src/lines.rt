@@ -4,6 +4,7 @@ use crate::appending::put_word;
 use crate::decimal::put_digits;
 ghost use Prim.Native.Nat.{_*_, _≤_};
 ghost use lib.ListN.{length};
+ghost use Rattle.residue.specs.Sizes.{mostRows};
 ghost use Rattle.printing.specs.Appending.{Room, Put};
 ghost use Rattle.printing.specs.Lines.{spaced, spacedNumbers, labelled, line, firstLine, refusalLine};
 ghost use Rattle.printing.specs.Lines.{standardLines, rowLine, rowLines, basisLines, inTable};
@@ -131,7 +132,7 @@ pub fn print_basis(
     names: &[u8],
     out: &mut [u8],
 ) -> usize
-    requires { ⌜ (m ≤ 8) × (n ≤ 64) × (r ≤ 449) ⌝ }
+    requires { ⌜ (m ≤ 8) × (n ≤ 64) × (r ≤ mostRows) ⌝ }
     requires { ⌜ (8 * n ≤ length (now standard)) × (8 * r ≤ length (now leads)) × (64 * r ≤ length (now coefficients)) ⌝ }
     requires { ⌜ Room 0 (basisLines (inTable 8 n m (now standard)) (inTable 8 r m (now leads)) (inTable 64 r n (now coefficients))
         (now interpolant) (now names)) (now out) ⌝ }

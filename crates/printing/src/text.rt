@@ -6,10 +6,12 @@ use csv::reading::read_text;
 use interpolation::pairs::put_names;
 use interpolation::solving::solve;
 use residue::bytes;
+use residue::sizes;
 use specification::settings::Settings;
 ghost use mathlib.Core.Path.{_≡_};
 ghost use Prim.Native.Nat.{ℕ, _<_, _≤_};
 ghost use lib.ListN.{length, getD, replicate};
+ghost use Rattle.residue.specs.Sizes.{mostPoints, workSize, pivotRowsSize};
 ghost use Rattle.residue.specs.Vector.{Below};
 ghost use Rattle.elimination.specs.Elimination.{Multiplied};
 ghost use Rattle.residue.specs.Layout.{fill};
@@ -24,12 +26,12 @@ ghost use Rattle.printing.specs.Text.{linesOf, printed, printOutcome, Wi
 fn solve_bytes(p: u8, n: usize, values: &[u8], rows: &[u8], pivots: &[u8], out: &mut [u8])
     requires { ⌜ (2 ≤ p) × (p ≤ 61) ⌝ }
     requires { ⌜ (length (now values) ≡ n) × (Below p (now values)) ⌝ }
-    requires { ⌜ (n ≤ 64) × (length (now rows) ≡ 73728) × (length (now pivots) ≡ 64) ⌝ }
+    requires { ⌜ (n ≤ 64) × (length (now rows) ≡ pivotRowsSize) × (length (now pivots) ≡ mostPoints) ⌝ }
     requires { ⌜ (Multiplied p n (now rows)) × ((t : ℕ) → t < n → getD (now pivots) t 0 < n) ⌝ }
     requires { ⌜ now out ≡ replicate 64 0 ⌝ }
-    ensures { λ _. ⌜ now (out .exit) ≡ fill 64 (solution p n (now (rows .entry)) (now (pivots .entry)) (fill 128 (now (values .entry)))) ⌝ }
+    ensures { λ _. ⌜ now (out .exit) ≡ fill 64 (solution p n (now (rows .entry)) (now (pivots .entry)) (fill workSize (now (values .entry)))) ⌝ }
 {
-    let mut work = [0u8; 128];
+    let mut work = [0u8; sizes::WORK];
     bytes::copy(values, &mut work);
     solve(p, n, rows, pivots, &mut work, out);
 }
@@ -50,11 +52,11 @@ fn print_points(
     ensures { λ e. ⌜ Put 0 (linesOf (settingsOf p m order) (pointsIn (settingsOf p m order) n (now (points .entry))) (now (values .entry)))
         (now (out .entry)) (now (out .exit)) e ⌝ ∗ ⌜ Within e (now (out .exit)) ⌝ }
 {
-    let mut standard = [0u8; 512];
-    let mut leads = [0u8; 3592];
-    let mut coefficients = [0u8; 28736];
-    let mut rows = [0u8; 73728];
-    let mut pivots = [0u8; 64];
+    let mut standard = [0u8; sizes::STANDARD];
+    let mut leads = [0u8; sizes::LEADS];
+    let mut coefficients = [0u8; sizes::COEFFICIENTS];
+    let mut rows = [0u8; sizes::PIVOT_ROWS];
+    let mut pivots = [0u8; sizes::POINTS];
     let settings = Settings {
         modulus: p as u64,
         variables: m as u64,
@@ -70,7 +72,7 @@ fn print_points(
         &mut rows,
         &mut pivots,
     );
-    let mut interpolant = [0u8; 64];
+    let mut interpolant = [0u8; sizes::POINTS];
     solve_bytes(p as u8, n, values, &rows, &pivots, &mut interpolant);
     let mut names = [0u8; 8];
     let count = put_names(m, n, points, values, &mut names) as usize;
@@ -94,9 +96,9 @@ pub fn print_text(text: &[u8], out: &mut [u8]) -> usize
     if out.len() < 131072 {
         return 0;
     }
-    let mut states = [0u8; 512];
-    let mut values = [0u8; 64];
-    let mut counts = [0u8; 64];
+    let mut states = [0u8; sizes::STATES];
+    let mut values = [0u8; sizes::POINTS];
+    let mut counts = [0u8; sizes::COUNTS];
     let read = read_text(text, &mut states, &mut values, &mut counts);
     let refusal = read.refusal;
     if refusal != 0 {

@@ -1,6 +1,7 @@
 // Checking lent tables.
 use recognition::looking::Faults;
 use recognition::looking::look;
+use residue::sizes;
 use specification::settings::Settings;
 ghost use mathlib.Core.Path.{_≡_};
 ghost use Rattle.specification.specs.Tables.{fiveTables};
@@ -20,9 +21,9 @@ pub fn check(
     ensures { λ k. ⌜ k ≡ checkRefusal settings n r
         (fiveTables (now (states .entry)) (now (standard .entry)) (now (leads .entry)) (now (coefficients .entry)) (now (counts .entry))) ⌝ }
 {
-    let mut points = [0u8; 512];
-    let mut rows = [0u8; 73728];
-    let mut pivots = [0u8; 64];
+    let mut points = [0u8; sizes::STATES];
+    let mut rows = [0u8; sizes::PIVOT_ROWS];
+    let mut pivots = [0u8; sizes::POINTS];
     let faults = Faults {
         short: false,
         wrong: false,

@@ -2,6 +2,7 @@
 use interpolation::solving;
 use recognition::looking::Faults;
 use recognition::looking::look;
+use residue::sizes;
 use specification::settings::Settings;
 ghost use mathlib.Core.Path.{_≡_};
 ghost use Rattle.specification.specs.Tables.{fiveTables};
@@ -26,9 +27,9 @@ pub fn remainder(
         (fiveTables (now (states .entry)) (now (standard .entry)) (now (leads .entry)) (now (coefficients .entry)) (now (counts .entry)))
         (now («term_coefficients» .entry)) (now (exponents .entry)) (now (out .entry)) ⌝ }
 {
-    let mut points = [0u8; 512];
-    let mut rows = [0u8; 73728];
-    let mut pivots = [0u8; 64];
+    let mut points = [0u8; sizes::STATES];
+    let mut rows = [0u8; sizes::PIVOT_ROWS];
+    let mut pivots = [0u8; sizes::POINTS];
     let terms = term_coefficients.len();
     let whole = (exponents.len() / 8 == terms) & (exponents.len() % 8 == 0);
     let faults = Faults {

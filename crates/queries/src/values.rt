@@ -5,6 +5,7 @@ use points::levels;
 use recognition::looking::Faults;
 use recognition::looking::look;
 use residue::bytes;
+use residue::sizes;
 use specification::answers::Wired;
 use specification::settings::Settings;
 ghost use mathlib.Core.Path.{_≡_};
@@ -29,9 +30,9 @@ pub fn interpolate(
         (fiveTables (now (states .entry)) (now (standard .entry)) (now (leads .entry)) (now (coefficients .entry)) (now (counts .entry)))
         (now (values .entry)) (now (out .entry)) ⌝ }
 {
-    let mut points = [0u8; 512];
-    let mut rows = [0u8; 73728];
-    let mut pivots = [0u8; 64];
+    let mut points = [0u8; sizes::STATES];
+    let mut rows = [0u8; sizes::PIVOT_ROWS];
+    let mut pivots = [0u8; sizes::POINTS];
     let faults = Faults {
         short: out.len() < 64,
         wrong: values.len() as u64 != n,
@@ -85,9 +86,9 @@ pub fn wiring(
         (fiveTables (now (states .entry)) (now (standard .entry)) (now (leads .entry)) (now (coefficients .entry)) (now (counts .entry)))
         (now (values .entry)) (now (out .entry)) ⌝ }
 {
-    let mut points = [0u8; 512];
-    let mut rows = [0u8; 73728];
-    let mut pivots = [0u8; 64];
+    let mut points = [0u8; sizes::STATES];
+    let mut rows = [0u8; sizes::PIVOT_ROWS];
+    let mut pivots = [0u8; sizes::POINTS];
     let faults = Faults {
         short: out.len() < 8,
         wrong: values.len() as u64 != n,
@@ -112,7 +113,7 @@ pub fn wiring(
     if refusal != 0 {
         return Wired { refusal, count: 0 };
     }
-    let mut residues = [0u8; 64];
+    let mut residues = [0u8; sizes::POINTS];
     levels::put_residues(settings.modulus as u8, values, &mut residues);
     let mut names = [0u8; 8];
     let count = pairs::put_names(

@@ -7,12 +7,13 @@ use Prim.Native.Nat.{ℕ, _/_}
 use lib.IntN.{ℤ}
 use lib.ListN.{length}
 use lib.Dec.{eqb, ltb}
+use Rattle.residue.specs.Sizes.{statesSize}
 use Rattle.residue.specs.Layout.{groups, fill, inPlaces}
 use Rattle.specification.specs.declared.settings.Settings.{Settings}
 use Rattle.specification.specs.Refusal.{Case}
 use Rattle.specification.specs.Settings.{settingsCases}
 use Rattle.specification.specs.Levels.{inRange}
-use Rattle.specification.specs.Tables.{Tables, tooShort, pointsIn, recognised, statesSize}
+use Rattle.specification.specs.Tables.{Tables, tooShort, pointsIn, recognised}
 use Rattle.specification.specs.Solving.{withinVariables}
 use Rattle.construction.specs.Drawing.{Solves, pivotBytes, pivotRowsLeft}
 use Rattle.recognition.specs.declared.looking.Faults.{Faults}

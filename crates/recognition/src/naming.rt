@@ -6,7 +6,8 @@ use points::places::place_of;
 use specification::settings::Settings;
 ghost use mathlib.Core.Path.{_≡_};
 ghost use lib.ListN.{replicate};
-ghost use Rattle.specification.specs.Tables.{fiveTables, statesSize};
+ghost use Rattle.residue.specs.Sizes.{statesSize};
+ghost use Rattle.specification.specs.Tables.{fiveTables};
 ghost use Rattle.construction.specs.Drawing.{RowsLong};
 ghost use Rattle.recognition.specs.Naming.{LocatedAs};
 

@@ -3,18 +3,19 @@ use construction::drawing::draw;
 use points::levels;
 use points::places;
 use residue::bytes;
+use residue::sizes;
 use specification::settings::Settings;
 ghost use mathlib.Core.Path.{_≡_};
 ghost use mathlib.Core.Bool.{true, false, _&&_};
 ghost use Prim.Native.Nat.{_≤_};
 ghost use lib.ListN.{length, replicate};
+ghost use Rattle.residue.specs.Sizes.{statesSize, standardSize, leadsSize, coefficientsSize, countsSize};
 ghost use Rattle.residue.specs.Lists.{every};
 ghost use Rattle.residue.specs.Layout.{fill, inPlaces, begins};
 ghost use Rattle.specification.specs.Refusal.{firstOf};
 ghost use Rattle.specification.specs.Settings.{settingsCases};
 ghost use Rattle.specification.specs.Counted.{isCount};
 ghost use Rattle.specification.specs.Tables.{fiveTables, pointsIn, recognised, tooShort};
-ghost use Rattle.specification.specs.Tables.{statesSize, standardSize, leadsSize, coefficientsSize, countsSize};
 ghost use Rattle.construction.specs.Drawing.{RowsLong, Solves, pivotBytes, pivotRowsLeft};
 
 // Whether each of the first n bytes is a count, which of bytes 0 alone is not.
@@ -39,7 +40,7 @@ fn counts_fit(n: usize, counts: &[u8]) -> bool
     if !are_counts(n, counts) {
         return false;
     }
-    bytes::all_zero(&counts[n..64])
+    bytes::all_zero(&counts[n..sizes::COUNTS])
 }
 
 // Whether the lent tables begin with these, and the counts fit n points.
@@ -109,9 +110,9 @@ pub(crate) fn recognise(
     if !places::no_repeat(n, points) {
         return false;
     }
-    let mut new_standard = [0u8; 512];
-    let mut new_leads = [0u8; 3592];
-    let mut new_coefficients = [0u8; 28736];
+    let mut new_standard = [0u8; sizes::STANDARD];
+    let mut new_leads = [0u8; sizes::LEADS];
+    let mut new_coefficients = [0u8; sizes::COEFFICIENTS];
     let drawn = draw(
         settings,
         n,

@@ -1,5 +1,6 @@
 // The refusals that look at the settings and at lengths and counts alone, 3 to 8, and the answer of a refused call.
 use residue::level;
+use residue::sizes;
 use specification::answers::Answer;
 use specification::answers::Drawn;
 use specification::settings::Settings;
@@ -54,17 +55,6 @@ fn settings_refusal(settings: Settings) -> u8
     3
 }
 
-// The sizes of the lent tables in bytes.
-const STATES: usize = 512;
-
-pub const STANDARD: usize = 512;
-
-pub const LEADS: usize = 3592;
-
-pub const COEFFICIENTS: usize = 28736;
-
-const COUNTS: usize = 64;
-
 // Whether one of the lent tables, of these lengths, is shorter than its size.
 pub fn too_short(
     states: usize,
@@ -75,19 +65,19 @@ pub fn too_short(
 ) -> bool
     ensures { λ b. ⌜ b ≡ shortLengths states standard leads coefficients counts ⌝ }
 {
-    if states < STATES {
+    if states < sizes::STATES {
         return true;
     }
-    if standard < STANDARD {
+    if standard < sizes::STANDARD {
         return true;
     }
-    if leads < LEADS {
+    if leads < sizes::LEADS {
         return true;
     }
-    if coefficients < COEFFICIENTS {
+    if coefficients < sizes::COEFFICIENTS {
         return true;
     }
-    counts < COUNTS
+    counts < sizes::COUNTS
 }
 
 // A table or buffer is too short, a length is wrong, there are too many points or terms.

@@ -6,3 +6,4 @@ pub mod Modulus
 pub mod Level
 pub mod Inverse
 pub mod Vector
+pub mod Sizes

@@ -3,4 +3,5 @@ pub mod arithmetic;
 pub mod bytes;
 pub mod inverse;
 pub mod level;
+pub mod sizes;
 pub mod vector;

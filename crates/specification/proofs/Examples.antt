@@ -10,6 +10,7 @@ use lib.IntN.{ℤ, pos, negsuc}
 use lib.ListN.{length, replicate, length-replicate, length-append}
 use lib.Dec.{T}
 use borrow.Author.Tests.{le-leb, le-ltb, eq-eqb}
+use Rattle.residue.specs.Sizes.{statesSize, standardSize, leadsSize, coefficientsSize, countsSize}
 use Rattle.residue.specs.Lists.{Among, sameList}
 use Rattle.residue.specs.Modulus.{primes, isOneOf, isModulus}
 use Rattle.residue.specs.Inverse.{inverseBelow, inverseOf}
@@ -29,7 +30,7 @@ use Rattle.specification.specs.Extension.{slot, minus, without, divided,
 use Rattle.specification.specs.BasisOf.{basisOf, valueAt}
 use Rattle.specification.specs.Instance.{monomialOf, pointOf}
 use Rattle.specification.specs.Counted.{entered, lowered, enteredAll, gathered, overfull}
-use Rattle.specification.specs.Tables.{standardUnder, leadsUnder, rowsUnder, heldIn, statesSize, standardSize, leadsSize, coefficientsSize, countsSize}
+use Rattle.specification.specs.Tables.{standardUnder, leadsUnder, rowsUnder, heldIn}
 use Rattle.specification.specs.Adding.{pointsOffered}
 use Rattle.specification.specs.Needed.{alike, apart, contrary, pairIn, wiringOf}
 use Rattle.specification.specs.Solving.{polynomialOf}

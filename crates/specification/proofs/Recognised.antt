@@ -13,6 +13,7 @@ use lib.ListN.{length, take, drop, length-drop}
 use lib.Seq.{length-take-le}
 use lib.Dec.{T, eqb}
 use borrow.Author.Tests.{eqb-true}
+use Rattle.residue.specs.Sizes.{countsSize}
 use Rattle.residue.specs.Lists.{Among, every}
 use Rattle.residue.proofs.level.Moduli.{modulus-range}
 use Rattle.specification.specs.declared.settings.Settings.{Settings}
@@ -22,7 +23,7 @@ use Rattle.specification.specs.Levels.{inRange, residues, noRepeat}
 use Rattle.residue.specs.Layout.{groups, fill, begins}
 use Rattle.specification.specs.Instance.{Point, reduced, pointOf}
 use Rattle.specification.specs.Counted.{isCount, gathered, overfull}
-use Rattle.specification.specs.Tables.{Tables, pointsUnder, rowCount, statesTable, standardTable, leadsTable, coefficientsTable, tablesOf, pointsIn, recognised, countsSize}
+use Rattle.specification.specs.Tables.{Tables, pointsUnder, rowCount, statesTable, standardTable, leadsTable, coefficientsTable, tablesOf, pointsIn, recognised}
 use Rattle.specification.specs.Adding.{pointsOffered}
 use Rattle.specification.proofs.Cases.{numbered, None, none-holds, first-stop}
 use Rattle.specification.proofs.Instance.{point-of}

@@ -6,6 +6,7 @@ use mathlib.Core.Logic.{inl, inr}
 use Prim.Native.Nat.{ℕ, suc, _-_, _*_, _/_, _%_, _<_}
 use native.Mathlib.Omega.{arith}
 use native.Mathlib.Nat.{mod-lt, mul-mod-right, mul-div-right}
+use Rattle.residue.specs.Sizes.{countsSize}
 use Rattle.residue.specs.Lists.{Among}
 use Rattle.residue.specs.Level.{residueOf}
 use Rattle.residue.specs.declared.level.Level.the-variants.{Residue}
@@ -24,7 +25,7 @@ use Rattle.specification.specs.Refusal.{firstOf}
 use Rattle.specification.specs.Settings.{Accepted}
 use Rattle.specification.specs.Levels.{isResidue, residueOr0, inRange, residues}
 use Rattle.specification.specs.Counted.{Counted, pointsOf, countsOf, gathered, overfull}
-use Rattle.specification.specs.Tables.{Tables, tablesOf, written, countsSize}
+use Rattle.specification.specs.Tables.{Tables, tablesOf, written}
 use Rattle.specification.specs.Adding.{pointsOffered, drawCases, drawRefusal, holding, byRefusal, drawOutcome}
 use Rattle.specification.specs.CallByCall.{asLevels, counting}
 use Rattle.specification.proofs.agreement.Refusals.{not-refused, settings-pass}

@@ -10,13 +10,14 @@ use lib.IntN.{ℤ}
 use lib.ListN.{length, drop, getD, set, length-set, length-map}
 use lib.Dec.{eqb}
 use borrow.Author.Tests.{eq-eqb, ne-eqb, not-false}
+use Rattle.residue.specs.Sizes.{countsSize}
 use Rattle.residue.specs.Layout.{fill, over, length-fill}
 use Rattle.residue.proofs.Layouts.{fill-at, fill-put}
 use Rattle.monomial.specs.Insert.{removedAt}
 use Rattle.specification.specs.declared.settings.Settings.{Settings}
 use Rattle.specification.specs.Levels.{residues, isAmong}
 use Rattle.specification.specs.Counted.{Counted, pointsOf, countsOf, entered, lowered, countOf, placeIn}
-use Rattle.specification.specs.Tables.{Tables, fiveTables, rowCount, statesTable, standardTable, leadsTable, coefficientsTable, tablesOf, written, pointsIn, heldIn, countsSize}
+use Rattle.specification.specs.Tables.{Tables, fiveTables, rowCount, statesTable, standardTable, leadsTable, coefficientsTable, tablesOf, written, pointsIn, heldIn}
 use Rattle.specification.specs.Adding.{Outcome, holding, holdingBoth, byRefusal, addRefusal, addOutcome}
 use Rattle.specification.specs.Withdrawing.{withdrawCases, withdrawRefusal, withdrawOutcome}
 use Rattle.specification.specs.Reference.{Operation, adding, withdrawing, outcomeOf, refusalOf, listAfter}

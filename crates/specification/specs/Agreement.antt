@@ -7,6 +7,7 @@ use Prim.Native.Nat.{ℕ, suc, _+_, _*_, _-_, _%_, _≤_}
 use lib.IntN.{ℤ}
 use lib.ListN.{length, take}
 use lib.Dec.{T}
+use Rattle.residue.specs.Sizes.{mostRows, statesSize, standardSize, leadsSize, coefficientsSize, countsSize}
 use Rattle.residue.specs.Lists.{Among, every}
 use Rattle.residue.specs.Layout.{fill, over, begins}
 use Rattle.specification.specs.declared.settings.Settings.{Settings}
@@ -17,7 +18,6 @@ use Rattle.specification.specs.Basis.{IsBasis, Fits}
 use Rattle.specification.specs.BasisOf.{valueAt}
 use Rattle.specification.specs.Tables.{Tables, rowCount, tablesOf, written, tooShort, pointsIn, heldIn}
 use Rattle.specification.specs.Tables.{spaceUnder, pointsUnder, standardUnder, leadsUnder, rowsUnder}
-use Rattle.specification.specs.Tables.{statesSize, standardSize, leadsSize, coefficientsSize, countsSize}
 use Rattle.specification.specs.Adding.{DrawOutcome, pointsOffered, drawOutcome}
 use Rattle.specification.specs.Solving.{interpolateOutcome, polynomialUnder, remainderOutcome, Listed, wiringOutcome}
 use Rattle.specification.specs.Needed.{Needed, Names}
@@ -109,7 +109,7 @@ pub record Agrees (s : Settings) (start : Tables) (es : List Event) (L : Counted
   pub as-many : length (standardUnder s (pointsOf L)) ≡ length L
   pub few-points : length L ≤ 64
   pub few-replicates : T (every isCount (countsOf L))
-  pub few-rows : rowCount s (pointsOf L) ≤ 449
+  pub few-rows : rowCount s (pointsOf L) ≤ mostRows
   pub most-rows : h .r ≤ 1 + h .n * (s .variables - 1)
   -- every drawing up of its points that returns 0; every drawing up of its points with its counts into tables none of which is shorter than its size
   pub drawn : (t : Tables) (levels : List ℤ) → SameSet s L levels → drawOutcome s t levels .answer .refusal ≡ 0 → SameAs s h (drawOutcome s t levels)

@@ -5,6 +5,7 @@ use Prim.Native.Nat.{ℕ, suc, _+_, _*_, _-_, _≤_, _<_}
 use lib.IntN.{ℤ, pos}
 use lib.ListN.{length, getD, set}
 use lib.Dec.{T}
+use Rattle.residue.specs.Sizes.{mostRows, countsSize}
 use Rattle.residue.specs.Lists.{every}
 use Rattle.residue.specs.Congruence.{Mod}
 use Rattle.specification.specs.declared.settings.Settings.{Settings}
@@ -20,7 +21,6 @@ use Rattle.specification.specs.Examination.{Examination}
 use Rattle.specification.specs.Instance.{Point}
 use Rattle.specification.specs.Adding.{Outcome, DrawOutcome}
 use Rattle.specification.specs.Tables.{Tables, fiveTables, spaceUnder, pointsUnder, standardUnder, leadsUnder, rowsUnder, rowCount, tablesOf, written}
-use Rattle.specification.specs.Tables.{countsSize}
 
 -- n, r and the tables at exit are the basis of the points of L by definition with their counts, laid out in the sizes of the lent tables.
 pub record HoldsBasis (s : Settings) (L : Counted) (lent : Tables) (n r : ℕ) (end : Tables) : Type 0 where
@@ -37,7 +37,7 @@ pub record HoldsBasis (s : Settings) (L : Counted) (lent : Tables) (n r : ℕ) (
   pub rows : r ≡ rowCount s (pointsOf L)
   pub tables : end ≡ written (tablesOf s L) lent
   pub few-points : length L ≤ 64
-  pub few-rows : rowCount s (pointsOf L) ≤ 449
+  pub few-rows : rowCount s (pointsOf L) ≤ mostRows
   -- 'The number r of rows is 1 + n(m-1) at most'
   pub most-rows : r ≤ 1 + n * (s .variables - 1)
 

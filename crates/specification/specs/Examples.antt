@@ -5,6 +5,7 @@ use Prim.Native.Nat.{ℕ, suc, _+_, _-_, _%_, _≤_, _<_}
 use lib.IntN.{ℤ, pos, negsuc}
 use lib.ListN.{length, replicate}
 use lib.Dec.{T}
+use Rattle.residue.specs.Sizes.{statesSize, standardSize, leadsSize, coefficientsSize, countsSize}
 use Rattle.residue.specs.Lists.{Among}
 use Rattle.residue.specs.Level.{residueOf}
 use Rattle.residue.specs.declared.level.Level.the-variants.{Residue}
@@ -17,7 +18,6 @@ use Rattle.specification.specs.BasisOf.{interpolantOf, remainderOf}
 use Rattle.specification.specs.Cancellations.{examinedAll}
 use Rattle.specification.specs.Adding.{cancellationsUnder, pointsOffered}
 use Rattle.specification.specs.Tables.{spaceUnder, pointsUnder, standardUnder, leadsUnder, rowsUnder, fiveTables, heldIn}
-use Rattle.specification.specs.Tables.{statesSize, standardSize, leadsSize, coefficientsSize, countsSize}
 use Rattle.specification.specs.Solving.{polynomialOf}
 use Rattle.specification.specs.Needed.{wiringOf}
 use Rattle.specification.specs.Reference.{addition, Held, numbers, heldAtEnd}

@@ -4,6 +4,7 @@ use mathlib.Core.List.{List, map, zip}
 use Prim.Native.Nat.{ℕ, suc, _-_}
 use lib.ListN.{length}
 use lib.Dec.{ltb, eqb}
+use Rattle.residue.specs.Sizes.{statesSize, standardSize, leadsSize, coefficientsSize, countsSize}
 use Rattle.residue.specs.Lists.{every}
 use Rattle.residue.specs.Layout.{groups, fill, inPlaces, over, begins}
 use Rattle.monomial.specs.Order.{orderOf}
@@ -30,22 +31,6 @@ leadsUnder s S = leadsOf (spaceUnder s) (pointsUnder s S)
 
 abbrev pub rowsUnder : Settings → List (List ℕ) → List (List ℕ)
 rowsUnder s S = rowsOf (spaceUnder s) (pointsUnder s S)
-
--- The sizes of the lent tables in bytes: 64 points and as many standard monomials, 449 leading monomials, 449 rows, 64 counts.
-abbrev pub statesSize : ℕ
-statesSize = 512
-
-abbrev pub standardSize : ℕ
-standardSize = 512
-
-abbrev pub leadsSize : ℕ
-leadsSize = 3592
-
-abbrev pub coefficientsSize : ℕ
-coefficientsSize = 28736
-
-abbrev pub countsSize : ℕ
-countsSize = 64
 
 pub record Tables : Type 0 where
   pub states : List ℕ

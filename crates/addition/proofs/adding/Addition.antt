@@ -10,6 +10,7 @@ use lib.IntN.{ℤ}
 use lib.ListN.{length, take, getD, set}
 use lib.Dec.{eqb, ltb}
 use borrow.Author.Tests.{eq-eqb, ne-eqb, lt-ltb, le-ltb}
+use Rattle.residue.specs.Sizes.{countsSize}
 use Rattle.residue.specs.Vector.{Below}
 use Rattle.residue.specs.Layout.{groups, fill, begins}
 use Rattle.residue.proofs.level.Moduli.{modulus-range}
@@ -20,7 +21,7 @@ use Rattle.specification.specs.declared.answers.Answer.{Answer}
 use Rattle.specification.specs.Refusal.{Case, firstOf}
 use Rattle.specification.specs.Levels.{residues, isAmong}
 use Rattle.specification.specs.Counted.{Counted, pointsOf, entered, overfull, placeIn}
-use Rattle.specification.specs.Tables.{Tables, tooShort, pointsIn, heldIn, countsSize}
+use Rattle.specification.specs.Tables.{Tables, tooShort, pointsIn, heldIn}
 use Rattle.specification.specs.Adding.{ended, addCases, addRefusal, addOutcome, holdingBoth}
 use Rattle.specification.specs.Solving.{withinVariables}
 use Rattle.specification.specs.CallByCall.{recounted}

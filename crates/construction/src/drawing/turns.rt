@@ -5,11 +5,11 @@ use residue::vector::multiply;
 ghost use mathlib.Core.Path.{_≡_};
 ghost use Prim.Native.Nat.{ℕ, _+_, _*_, _<_, _≤_};
 ghost use lib.ListN.{length, getD, take, drop};
+ghost use Rattle.residue.specs.Sizes.{mostPoints, mostRows, standardSize, leadsSize, coefficientsSize, workSize, columnsSize, valuesSize};
 ghost use Rattle.residue.specs.Vector.{Below};
 ghost use Rattle.elimination.specs.Elimination.{eliminated, cancellations, Multiplied, ZeroBehind};
 ghost use Rattle.residue.specs.Layout.{withPlace};
 ghost use Rattle.monomial.specs.Monomial.{timesVariable};
-ghost use Rattle.specification.specs.Tables.{standardSize, leadsSize, coefficientsSize};
 ghost use Rattle.construction.specs.Drawing.{emptyRow, rowWith, RowsLong, productValues};
 
 // The working row of given values after it met the pivot rows, and how many cancellations that took.
@@ -23,7 +23,7 @@ pub(crate) fn reduce(
     work: &mut [u8],
 ) -> usize
     requires { ⌜ ((2 ≤ p) × (p ≤ 61)) × ((n ≤ 64) × (found ≤ n)) ⌝ }
-    requires { ⌜ (length (now own) ≡ 64) × RowsLong (now rows) (now pivots) ⌝ }
+    requires { ⌜ (length (now own) ≡ mostPoints) × RowsLong (now rows) (now pivots) ⌝ }
     requires { ⌜ (Below p (now own)) × (Multiplied p found (now rows)) ⌝ }
     requires { ⌜ ((t : ℕ) → t < found → getD (now pivots) t 0 < n) ⌝ }
     requires { ⌜ ZeroBehind n found (now rows) ⌝ }
@@ -45,9 +45,9 @@ pub(crate) fn keep_lead(
     leads: &mut [u8],
     coefficients: &mut [u8],
 )
-    requires { ⌜ (n ≤ 64) × ((found ≤ n) × (r < 449)) ⌝ }
+    requires { ⌜ (n ≤ 64) × ((found ≤ n) × (r < mostRows)) ⌝ }
     requires { ⌜ (length (now exponents) ≡ 8) × ((length (now leads) ≡ leadsSize) × (length (now coefficients) ≡ coefficientsSize)) ⌝ }
-    requires { ⌜ length (now work) ≡ 128 ⌝ }
+    requires { ⌜ length (now work) ≡ workSize ⌝ }
     ensures { λ _. ⌜ now (leads .exit) ≡ withPlace 8 r (now (exponents .entry)) (now (leads .entry)) ⌝ }
     ensures { λ _. ⌜ now (coefficients .exit) ≡ withPlace 64 r (take found (drop n (now (work .entry)))) (now (coefficients .entry)) ⌝ }
 {
@@ -67,8 +67,8 @@ pub(crate) fn keep_standard(
     values: &mut [u8],
 )
     requires { ⌜ found < 64 ⌝ }
-    requires { ⌜ (length (now exponents) ≡ 8) × (length (now own) ≡ 64) ⌝ }
-    requires { ⌜ (length (now standard) ≡ standardSize) × (length (now values) ≡ 4096) ⌝ }
+    requires { ⌜ (length (now exponents) ≡ 8) × (length (now own) ≡ mostPoints) ⌝ }
+    requires { ⌜ (length (now standard) ≡ standardSize) × (length (now values) ≡ valuesSize) ⌝ }
     ensures { λ _. ⌜ now (standard .exit) ≡ withPlace 8 found (now (exponents .entry)) (now (standard .entry)) ⌝ }
     ensures { λ _. ⌜ now (values .exit) ≡ withPlace 64 found (now (own .entry)) (now (values .entry)) ⌝ }
 {
@@ -100,7 +100,7 @@ pub(crate) fn put_values(
     own: &mut [u8],
 )
     requires { ⌜ ((2 ≤ p) × (p ≤ 61)) × ((n ≤ 64) × ((k < 8) × (t < 64))) ⌝ }
-    requires { ⌜ (length (now columns) ≡ 512) × ((length (now values) ≡ 4096) × (length (now own) ≡ 64)) ⌝ }
+    requires { ⌜ (length (now columns) ≡ columnsSize) × ((length (now values) ≡ valuesSize) × (length (now own) ≡ mostPoints)) ⌝ }
     requires { ⌜ (Below p (take n (drop (64 * k) (now columns)))) × (Below p (now values)) ⌝ }
     ensures { λ _. ⌜ now (own .exit) ≡ productValues p n (take n (drop (64 * k) (now (columns .entry)))) (take 64 (drop (64 * t) (now (values .entry)))) ⌝ }
 {

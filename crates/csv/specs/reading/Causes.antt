@@ -6,6 +6,7 @@ use Prim.Native.Nat.{ℕ, suc, _<_}
 use lib.IntN.{ℤ}
 use lib.ListN.{length}
 use lib.Dec.{T}
+use Rattle.residue.specs.Sizes.{mostPoints, statesSize, countsSize}
 use Rattle.residue.specs.Lists.{Among}
 use Rattle.residue.specs.Modulus.{primes}
 use Rattle.residue.specs.Level.{residueOf}
@@ -83,7 +84,7 @@ HoldsAt text s v c length-of-text at = (16384 < length text) × (at ≡ 0)
 HoldsAt text s v c form at = TextFault text at
 HoldsAt text s v c modulus at = (h : Header) × (E : List (List ℤ)) × Says text h E × (¬ Among (h .modulus) primes) × (at ≡ 1)
 HoldsAt text s v c variables at = (h : Header) × (E : List (List ℤ)) × Says text h E × ((h .variables < 1) ⊎ (8 < h .variables)) × (at ≡ 1)
-HoldsAt text s v c buffers at = ((s < 512) ⊎ (v < 64) ⊎ (c < 64)) × (at ≡ 0)
+HoldsAt text s v c buffers at = ((s < statesSize) ⊎ (v < mostPoints) ⊎ (c < countsSize)) × (at ≡ 0)
 HoldsAt text s v c range at = (h : Header) × (E : List (List ℤ)) × (k : ℕ) × Says text h E × FirstAt (OutOfRange (h .modulus)) E k × (at ≡ suc (suc k))
 HoldsAt text s v c points at = AtEntry text TooMany at
 HoldsAt text s v c replicates at = AtEntry text TooOften at

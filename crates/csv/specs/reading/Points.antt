@@ -7,12 +7,13 @@ use Prim.Native.Nat.{ℕ, _*_, _-_, _^_, _≤_}
 use lib.IntN.{ℤ, pos}
 use lib.ListN.{length, drop}
 use lib.Dec.{eqb}
+use Rattle.residue.specs.Sizes.{countsSize}
 use Rattle.residue.specs.Level.{residueOf}
 use Rattle.residue.specs.Lists.{keyOf}
 use Rattle.residue.specs.Layout.{fill}
 use Rattle.specification.specs.Levels.{isResidue, residueOr0, inRange}
 use Rattle.specification.specs.Counted.{pointsOf, countsOf, gathered}
-use Rattle.specification.specs.Tables.{statesTable, countsSize}
+use Rattle.specification.specs.Tables.{statesTable}
 use Rattle.notation.specs.Fields.{Field, field, broken, Part, part, faulty}
 use Rattle.specification.specs.Refusal.{firstOf}
 use Rattle.csv.specs.reading.Text.{Contents, Valued, TextOutcome, entryValue, valuedPoint, firstValues, textAccepted, textDecided}

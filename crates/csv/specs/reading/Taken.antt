@@ -6,6 +6,7 @@ use Prim.Native.Nat.{ℕ, _*_, _<_, _≤_}
 use lib.IntN.{ℤ}
 use lib.ListN.{length, getD, drop}
 use lib.Dec.{T}
+use Rattle.residue.specs.Sizes.{mostPoints, statesSize, countsSize}
 use Rattle.residue.specs.Lists.{Among}
 use Rattle.residue.specs.Layout.{fill, rowAt}
 use Rattle.specification.specs.Levels.{noRepeat}
@@ -30,16 +31,17 @@ pub record Taken (text states values counts : List ℕ) (o : TextOutcome) : Type
   pub says : Says text header entries
   pub points : List (List ℕ)
   pub firsts : Firsts points (pointsOf (valuedBy header entries))
-  pub few : length points ≤ 64
+  pub few : length points ≤ mostPoints
   pub answer : o .answer
       ≡ record { refusal = 0; at = 0; modulus = header .modulus; variables = header .variables; order = header .order; n = length points }
   pub state : (i : ℕ) → i < length points → rowAt 8 i (o .states) ≡ fill 8 (getD points i [])
   pub value : (i : ℕ) → i < length points → (v : ℕ) → Among (getD points i [], v) (valuedBy header entries) → getD (o .values) i 0 ≡ v
   pub count : (i : ℕ) → i < length points → getD (o .counts) i 0 ≡ timesIn (getD points i []) (pointsOf (valuedBy header entries))
   pub counts-few : (P : List ℕ) → timesIn P (pointsOf (valuedBy header entries)) ≤ 255
-  pub unused-states : (i : ℕ) → 8 * length points ≤ i → i < 512 → getD (o .states) i 0 ≡ 0
-  pub unused : (i : ℕ) → length points ≤ i → i < 64 → (getD (o .values) i 0 ≡ 0) × (getD (o .counts) i 0 ≡ 0)
-  pub beyond : (drop 512 (o .states) ≡ drop 512 states) × (drop 64 (o .values) ≡ drop 64 values) × (drop 64 (o .counts) ≡ drop 64 counts)
+  pub unused-states : (i : ℕ) → 8 * length points ≤ i → i < statesSize → getD (o .states) i 0 ≡ 0
+  pub unused : (i : ℕ) → length points ≤ i → i < mostPoints → (getD (o .values) i 0 ≡ 0) × (getD (o .counts) i 0 ≡ 0)
+  pub beyond : (drop statesSize (o .states) ≡ drop statesSize states) × (drop mostPoints (o .values) ≡ drop mostPoints values)
+      × (drop countsSize (o .counts) ≡ drop countsSize counts)
 
 abbrev pub ReadTaken : Type 0
 ReadTaken = (text states values counts : List ℕ) → let o = readOutcome text states values counts in o .answer .refusal ≡ 0 → Taken text states values counts o

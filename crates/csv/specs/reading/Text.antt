@@ -6,13 +6,14 @@ use Prim.Native.Nat.{ℕ, suc}
 use lib.IntN.{ℤ}
 use lib.ListN.{length, getD, take, drop}
 use lib.Dec.{eqb, leb, ltb}
+use Rattle.residue.specs.Sizes.{statesSize, countsSize}
 use Rattle.residue.specs.Modulus.{isModulus}
 use Rattle.residue.specs.Layout.{fill, over}
 use Rattle.residue.specs.Lists.{sameList}
 use Rattle.residue.specs.Lists as Lists
 use Rattle.specification.specs.Levels.{inRange, residues}
 use Rattle.specification.specs.Counted.{pointsOf, countsOf, gathered}
-use Rattle.specification.specs.Tables.{statesSize, countsSize, statesTable}
+use Rattle.specification.specs.Tables.{statesTable}
 use Rattle.specification.specs.Refusal.{firstOf}
 use Rattle.csv.specs.declared.reading.Refusal.{Refusal}
 use Rattle.csv.specs.declared.reading.Read.{Read}

@@ -8,6 +8,7 @@ ghost use mathlib.Core.List.{[], _∷_};
 ghost use Prim.Native.Nat.{suc, _<_, _≤_};
 ghost use lib.Dec.{eqb};
 ghost use lib.ListN.{length, getD, set, drop};
+ghost use Rattle.residue.specs.Sizes.{mostPoints, statesSize, countsSize};
 ghost use Rattle.residue.specs.Layout.{fill};
 ghost use Rattle.specification.specs.Refusal.{firstOf};
 ghost use Rattle.csv.specs.reading.Text.{notRefused, entryCase};
@@ -23,7 +24,7 @@ pub struct Kept {
 
 // Keeps the value of a new point behind the n that are there, and compares the value of one that stands among them, at `at`.
 fn keep_value(n: usize, at: usize, values: &mut [u8], value: u8) -> Kept
-    requires { ⌜ (at < 64) × (n ≤ 64) × (length (now values) ≡ 64) ⌝ }
+    requires { ⌜ (at < 64) × (n ≤ 64) × (length (now values) ≡ mostPoints) ⌝ }
     ensures { λ r. ⌜ r .n ≡ cond (eqb at n) (suc n) n ⌝
         ∗ ⌜ r .same ≡ (eqb at n || eqb (getD (now (values .entry)) at 0) value) ⌝
         ∗ ⌜ now (values .exit) ≡ cond (eqb at n) (set (now (values .entry)) at value) (now (values .entry)) ⌝ }
@@ -109,7 +110,7 @@ pub fn gather_entries(
 ) -> Gathered
     requires { ⌜ (at ≤ length (now text)) × (1 ≤ variables) × (variables ≤ 8) × (entries ≤ 16384) × (p ≤ 128) ⌝ }
     requires { ⌜ countedEntries 0 (entriesAt variables (drop at (now text))) ≡ Count entries ⌝ }
-    requires { ⌜ (now points ≡ fill 512 []) × (now counts ≡ fill 64 []) × (now values ≡ fill 64 []) ⌝ }
+    requires { ⌜ (now points ≡ fill statesSize []) × (now counts ≡ fill countsSize []) × (now values ≡ fill mostPoints []) ⌝ }
     ensures { λ r. ⌜ GatheredAs p variables (levelsAt variables (drop at (now (text .entry)))) r
         (now (points .exit)) (now (counts .exit)) (now (values .exit)) ⌝ }
 {

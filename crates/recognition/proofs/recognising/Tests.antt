@@ -5,12 +5,13 @@ use mathlib.Core.List.{List}
 use Prim.Native.Nat.{ℕ}
 use lib.Dec.{eqb}
 use borrow.Author.Tests.{eq-eqb, ne-eqb}
+use Rattle.residue.specs.Sizes.{countsSize}
 use Rattle.residue.specs.Lists.{every}
 use Rattle.residue.specs.Layout.{fill, begins}
 use Rattle.specification.specs.declared.settings.Settings.{Settings}
 use Rattle.specification.specs.Levels.{noRepeat}
 use Rattle.specification.specs.Counted.{isCount}
-use Rattle.specification.specs.Tables.{Tables, rowCount, statesTable, standardTable, leadsTable, coefficientsTable, countsSize, recognised}
+use Rattle.specification.specs.Tables.{Tables, rowCount, statesTable, standardTable, leadsTable, coefficientsTable, recognised}
 use Rattle.specification.proofs.Recognised.{readIn, recognised-tests}
 
 module _ (s : Settings) (n r : ℕ) (t : Tables) where

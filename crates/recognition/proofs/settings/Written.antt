@@ -3,10 +3,11 @@ use mathlib.Core.Path.{_≡_}
 use mathlib.Core.List.{List, _++_}
 use Prim.Native.Nat.{ℕ}
 use lib.ListN.{length, drop}
+use Rattle.residue.specs.Sizes.{countsSize}
 use Rattle.residue.specs.Layout.{fill, over}
 use Rattle.residue.proofs.Layouts.{answered}
 use Rattle.specification.specs.declared.settings.Settings.{Settings}
-use Rattle.specification.specs.Tables.{Tables, statesTable, standardTable, leadsTable, coefficientsTable, countsSize}
+use Rattle.specification.specs.Tables.{Tables, statesTable, standardTable, leadsTable, coefficientsTable}
 use Rattle.specification.specs.Adding.{ended, holdingBoth}
 use Rattle.construction.specs.Drawing.{Tabled}
 

@@ -10,6 +10,7 @@ use lib.IntN.{ℤ}
 use lib.ListN.{length, take, length-map}
 use lib.Dec.{T, ltb}
 use borrow.Author.Tests.{eq-eqb, le-ltb}
+use Rattle.residue.specs.Sizes.{standardSize, leadsSize, coefficientsSize}
 use Rattle.residue.specs.Lists.{Among, some, sameList}
 use Rattle.residue.specs.Layout.{fill, over, length-fill}
 use Rattle.residue.proofs.Tests.{true-of, of-true}
@@ -23,7 +24,6 @@ use Rattle.specification.specs.Polynomial.{Distinct}
 use Rattle.specification.specs.Counted.{Counted, pointsOf, countsOf, gathered, overfull, countOf}
 use Rattle.specification.specs.Tables.{Tables, spaceUnder, pointsUnder, rowCount, standardTable, leadsTable, coefficientsTable, tablesOf, written}
 use Rattle.specification.specs.Tables.{tooShort}
-use Rattle.specification.specs.Tables.{standardSize, leadsSize, coefficientsSize}
 use Rattle.specification.specs.Adding.{holding, byRefusal, pointsOffered, drawCases, drawRefusal, drawOutcome}
 use Rattle.specification.specs.BasisOf.{interpolantOf}
 use Rattle.specification.specs.Solving.{filling, polynomialUnder, listing}

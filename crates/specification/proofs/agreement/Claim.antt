@@ -5,6 +5,7 @@ use Prim.Native.Nat.{ℕ, zero, suc, _≤_}
 use native.Mathlib.Omega.{arith}
 use lib.ListN.{length, take, replicate, length-take, length-map}
 use lib.Dec.{T}
+use Rattle.residue.specs.Sizes.{statesSize, standardSize, leadsSize, coefficientsSize, countsSize}
 use Rattle.residue.specs.Layout.{fill, inPlaces, over, begins, length-fill}
 use Rattle.residue.proofs.bytes.Equality.{same-is}
 use Rattle.residue.proofs.Layouts.{fill-zeros}
@@ -16,7 +17,6 @@ use Rattle.specification.specs.BasisOf.{basisOf}
 use Rattle.specification.specs.Counted.{Counted, pointsOf}
 use Rattle.specification.specs.Tables.{Tables, spaceUnder, pointsUnder, rowCount, statesTable, standardTable, leadsTable, coefficientsTable, tablesOf}
 use Rattle.specification.specs.Tables.{written, pointsIn, heldIn}
-use Rattle.specification.specs.Tables.{statesSize, standardSize, leadsSize, coefficientsSize, countsSize}
 use Rattle.specification.specs.Solving.{interpolateOutcome, remainderOutcome, wiringOutcome}
 use Rattle.specification.specs.Reference.{Event, Held, numbers, heldAtEnd, referenceAtEnd, due, Refuses}
 use Rattle.specification.specs.Agreement.{Fresh, freshly, Remains, Agrees, Wires}

@@ -9,6 +9,7 @@ use native.Mathlib.Nat.{mod-eq-of-lt}
 use lib.IntN.{ℤ}
 use lib.ListN.{length, drop, replicate, length-map, length-append}
 use lib.Dec.{T, not-T, T-not}
+use Rattle.residue.specs.Sizes.{statesSize}
 use Rattle.residue.specs.Lists.{Among}
 use Rattle.residue.specs.Level.{residueOf}
 use Rattle.residue.specs.declared.level.Level.{Level}
@@ -22,7 +23,7 @@ use Rattle.specification.specs.declared.settings.Settings.{Settings}
 use Rattle.specification.specs.Levels.{isResidue, residueOr0, inRange, residues, isAmong, noRepeat}
 use Rattle.specification.specs.Instance.{reduced, pointOf}
 use Rattle.specification.specs.Points.{IsPoint, Points}
-use Rattle.specification.specs.Tables.{pointsUnder, pointsIn, statesSize, statesTable}
+use Rattle.specification.specs.Tables.{pointsUnder, pointsIn, statesTable}
 use Rattle.specification.proofs.Repeats.{among-is, is-among}
 use Rattle.specification.proofs.ideal.Lists.{snoc-of}
 

@@ -7,6 +7,7 @@ use native.Mathlib.Omega.{arith}
 use lib.ListN.{length, take, drop, take-append-drop}
 use lib.Dec.{T, eqb, leb, ltb, leb→le, eqb-refl}
 use borrow.Author.Tests.{le-leb, le-ltb, ltb-false, not-false}
+use Rattle.residue.specs.Sizes.{statesSize, standardSize, leadsSize, coefficientsSize, countsSize}
 use Rattle.residue.specs.Lists.{every}
 use Rattle.residue.specs.Modulus.{isModulus}
 use Rattle.residue.specs.Layout.{fill, over, begins, length-fill}
@@ -19,7 +20,6 @@ use Rattle.specification.specs.Settings.{Accepted, settingsCases}
 use Rattle.specification.specs.Levels.{noRepeat}
 use Rattle.specification.specs.Counted.{Counted, pointsOf, countsOf, isCount}
 use Rattle.specification.specs.Tables.{Tables, rowCount, statesTable, standardTable, leadsTable, coefficientsTable, tablesOf, written, shortLengths, tooShort, pointsIn, heldIn, recognised}
-use Rattle.specification.specs.Tables.{statesSize, standardSize, leadsSize, coefficientsSize, countsSize}
 use Rattle.specification.proofs.Cases.{none-holds, first-on}
 use Rattle.specification.proofs.counted.Gathered.{Entries}
 use Rattle.specification.proofs.counted.Held.{points-held, held-back}

@@ -8,6 +8,7 @@ use native.Mathlib.Omega.{arith}
 use lib.ListN.{length, take, drop, take-append-drop, length-map}
 use lib.Dec.{eqb}
 use borrow.Author.Tests.{eqb-true, ne-eqb}
+use Rattle.residue.specs.Sizes.{statesSize, standardSize, leadsSize, coefficientsSize, countsSize}
 use Rattle.residue.specs.Layout.{fill, over, length-fill}
 use Rattle.residue.proofs.Layouts.{over-over}
 use Rattle.specification.specs.declared.settings.Settings.{Settings}
@@ -15,7 +16,6 @@ use Rattle.specification.specs.Refusal.{firstOf}
 use Rattle.specification.specs.Settings.{Accepted, settingsCases}
 use Rattle.specification.specs.Counted.{Counted, pointsOf}
 use Rattle.specification.specs.Tables.{Tables, fiveTables, rowCount, statesTable, standardTable, leadsTable, coefficientsTable, tablesOf, written, tooShort, heldIn, recognised}
-use Rattle.specification.specs.Tables.{statesSize, standardSize, leadsSize, coefficientsSize, countsSize}
 use Rattle.specification.specs.Adding.{Outcome, refused, holding, byRefusal}
 use Rattle.specification.specs.Reference
 use Rattle.specification.specs.Reference.{Operation, outcomeOf, refusalOf, referenceAnswer, listAfter, referenceAfter, Table, states, standard, leads, coefficients, counts, tableIn, withTable, Lent, part, other, Event, own, interposed, Held, lentTables, tablesAfter, outcomeAt, keeping, heldAfter, numbers, heldAtEnd, fed, referenceAtEnd, dueAt, due, RefusesAt, Refuses}

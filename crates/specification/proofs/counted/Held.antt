@@ -5,11 +5,12 @@ use Prim.Native.Nat.{ℕ, zero, suc, _≤_}
 use native.Mathlib.Nat.{suc-inj, le-of-suc-le-suc}
 use native.Mathlib.Omega.{arith}
 use lib.ListN.{length, length-map}
+use Rattle.residue.specs.Sizes.{countsSize}
 use Rattle.residue.specs.Layout.{fill, over, length-fill}
 use Rattle.residue.proofs.Layouts.{fill-exact, fill-twice}
 use Rattle.specification.specs.declared.settings.Settings.{Settings}
 use Rattle.specification.specs.Counted.{Counted, pointsOf, countsOf}
-use Rattle.specification.specs.Tables.{Tables, tablesOf, written, pointsIn, heldIn, countsSize}
+use Rattle.specification.specs.Tables.{Tables, tablesOf, written, pointsIn, heldIn}
 use Rattle.specification.proofs.agreement.Points.{read-count, points-back}
 use Rattle.specification.proofs.counted.Gathered.{Entries}
 
