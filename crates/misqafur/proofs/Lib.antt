@@ -2,4 +2,5 @@
 pub mod Packed
 pub mod Unpacked
 pub mod ReadBack
+pub mod AllRecords
 pub mod Bytes
