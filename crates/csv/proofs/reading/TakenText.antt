@@ -11,8 +11,8 @@ use lib.Seq.{take-append-le, drop-append-le, drop-append-seam}
 use lib.Dec.{eqb}
 use borrow.Author.Tests.{eqb-true, eq-eqb, not-false}
 use Rattle.residue.specs.Lists.{Among, sameList}
-use Rattle.residue.specs.Layout.{fill, inPlaces, over, rowAt}
-use Rattle.residue.proofs.Layouts.{length-fill, fill-at, length-places}
+use Rattle.residue.specs.Layout.{fill, inPlaces, over, rowAt, length-fill}
+use Rattle.residue.proofs.Layouts.{fill-at, length-places}
 use Rattle.residue.proofs.Places.{table-groups, groups-at}
 use Rattle.residue.proofs.Tests.{Decides, true-of, told-false}
 use Rattle.residue.proofs.bytes.Equality.{same-self}
