@@ -60,7 +60,7 @@ cases-of (handed (wiring values buffer) s n r t) = (valuesCases 8 s n r t values
 pub never-eleven : (c : Call) → numberOf c ≢ 11
 never-eleven c e = let w = cases-of c in never (λ k. k) 11 0 (w .0) (λ z. omega arith) (w .2) (sym (w .1) ∙ e)
 
--- every number is one of the list of refusals of these calls: 3 to 13, or 0
+-- no call gives a number above 13: 14 is the text reader's
 pub few-numbers : (c : Call) → numberOf c ≤ 13
 few-numbers c = let w = cases-of c in rw (w .1) (at-most (λ k. k) 13 0 (w .0) (omega arith) (w .3))
 
