@@ -9,6 +9,7 @@ use lib.IntN.{ℤ}
 use lib.ListN.{length, take, length-map}
 use lib.Dec.{T, ltb}
 use borrow.Author.Tests.{eq-eqb, le-ltb}
+use Rattle.residue.specs.Sizes.{countsSize}
 use Rattle.residue.specs.Lists.{Among}
 use Rattle.residue.specs.Lists as Lists
 use Rattle.residue.specs.Level.{residueOf}
@@ -22,7 +23,7 @@ use Rattle.specification.specs.Settings.{settingsOf, Accepted}
 use Rattle.specification.specs.Levels.{isResidue, inRange}
 use Rattle.specification.specs.Points.{Points, IsPoint}
 use Rattle.specification.specs.Counted.{Counted, pointsOf, countsOf, enteredAll, gathered, overfull}
-use Rattle.specification.specs.Tables.{Tables, statesTable, tooShort, pointsIn, countsSize}
+use Rattle.specification.specs.Tables.{Tables, statesTable, tooShort, pointsIn}
 use Rattle.specification.specs.Adding.{drawCases, drawRefusal, drawOutcome}
 use Rattle.specification.specs.CallByCall.{asLevels, counting}
 use Rattle.specification.proofs.ideal.Lists.{among-map}

@@ -2,13 +2,15 @@
 -- gather points, here and in the reader of text.
 use mathlib.Core.Path.{_≡_}
 use mathlib.Core.Bool.{Bool, cond, _&&_}
-use mathlib.Core.List.{List}
+use mathlib.Core.List.{List, [], _∷_, map}
 use Prim.Native.Nat.{ℕ, suc, _*_, _%_, _<_}
 use lib.ListN.{length, getD, set, take, drop}
 use lib.Dec.{eqb, ltb}
-use Rattle.residue.specs.Layout.{groups, withPlace}
+use Rattle.residue.specs.Sizes.{countsSize}
+use Rattle.residue.specs.Layout.{groups, fill, withPlace}
 use Rattle.residue.specs.Lists.{keyOf}
-use Rattle.specification.specs.Counted.{placeIn}
+use Rattle.specification.specs.Counted.{Counted, pointsOf, countsOf, entered, placeIn}
+use Rattle.specification.specs.Tables.{statesTable}
 
 -- of n points, the point standing at the given place, n where it is new: a new one comes behind them, unless 64 are there
 unfoldable pub pointsEntered : ℕ → ℕ → List ℕ → List ℕ → List ℕ
@@ -19,6 +21,21 @@ unfoldable pub countsEntered : ℕ → ℕ → List ℕ → List ℕ
 countsEntered n at counts = cond (ltb at n)
     (cond (eqb (getD counts at 0) 255) counts (set counts at (suc (getD counts at 0))))
     (cond (ltb n 64) (set counts n 1) counts)
+
+-- points entered one after the other, and nothing behind the one that would be the 65th distinct point
+unfoldable pub enteredWhileRoom : List (List ℕ) → Counted → Counted
+enteredWhileRoom [] L = L
+enteredWhileRoom (P ∷ S) L = cond (ltb 64 (length (entered P L))) L (enteredWhileRoom S (entered P L))
+
+-- a count as a byte, which stays at 255
+unfoldable pub countByte : ℕ → ℕ
+countByte k = cond (ltb 255 k) 255 k
+
+-- Points with their counts as bytes in a table of 512 bytes and one of 64.
+pub record TabledAs (L : Counted) (n : ℕ) (points counts : List ℕ) : Type 0 where
+  pub number : n ≡ length L
+  pub states : points ≡ statesTable (pointsOf L)
+  pub times : counts ≡ fill countsSize (map countByte (countsOf L))
 
 -- Hints where points stand, at the remainders of their keys: where one is 0, none of the first n points of a table has that remainder.
 unfoldable pub hintOf : List ℕ → ℕ

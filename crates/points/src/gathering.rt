@@ -5,17 +5,17 @@ use crate::places::place_of;
 use residue::bytes;
 ghost use mathlib.Core.Path.{_≡_};
 ghost use mathlib.Core.Bool.{_&&_};
+ghost use mathlib.Core.List.{[]};
 ghost use Prim.Native.Nat.{suc, _+_, _*_, _%_, _≤_};
 ghost use lib.ListN.{length, getD, set, replicate};
 ghost use lib.Dec.{T, eqb, ltb};
 ghost use Rattle.residue.specs.Sizes.{statesSize, countsSize};
 ghost use Rattle.residue.specs.Lists.{keyOf};
-ghost use Rattle.residue.specs.Layout.{groups, fill, over};
+ghost use Rattle.residue.specs.Layout.{groups};
 ghost use Rattle.specification.specs.Levels.{residues, noRepeat};
-ghost use Rattle.specification.specs.Tables.{statesTable};
 ghost use Rattle.specification.specs.Refusal.{firstOf};
-ghost use Rattle.specification.specs.Counted.{placeIn, pointsOf, countsOf, gathered, overfull};
-ghost use Rattle.points.specs.Gathering.{Hinted, hintOf, pointsEntered, countsEntered, EnteredAs};
+ghost use Rattle.specification.specs.Counted.{placeIn, gathered, overfull};
+ghost use Rattle.points.specs.Gathering.{Hinted, hintOf, pointsEntered, countsEntered, EnteredAs, enteredWhileRoom, TabledAs};
 
 // How many hints there are. By 233 points of small grids share fewer remainders than by chance.
 pub const HINTS: usize = 233;
@@ -128,6 +128,7 @@ pub struct Gathered {
 }
 
 // The distinct points of levels, m a point, in a table of zeros, with their counts: refused with 8 at the 65th, with 13 where one occurs more than 255 times.
+// Of refused ones the table has the points before the 65th, and a count stays at 255.
 // The parts of `enter` are called one by one: with two callers it would be a call of its own, for each of the points.
 pub fn gather(
     p: u8,
@@ -140,9 +141,7 @@ pub fn gather(
     requires { ⌜ (m ≤ 8) × (length (now levels) ≡ m * count) ⌝ }
     requires { ⌜ (now points ≡ replicate statesSize 0) × (now counts ≡ replicate countsSize 0) ⌝ }
     ensures { λ g. ⌜ g .refusal ≡ firstOf 0 (overfull (gathered (groups m count (residues p (now (levels .entry)))))) ⌝ }
-    ensures { λ g. ⌜ (g .refusal ≡ 0 → (g .n ≡ length (gathered (groups m count (residues p (now (levels .entry))))))
-        × ((now (points .exit) ≡ statesTable (pointsOf (gathered (groups m count (residues p (now (levels .entry)))))))
-        × (now (counts .exit) ≡ fill countsSize (countsOf (gathered (groups m count (residues p (now (levels .entry))))))))) ⌝ }
+    ensures { λ g. ⌜ TabledAs (enteredWhileRoom (groups m count (residues p (now (levels .entry)))) []) (g .n) (now (points .exit)) (now (counts .exit)) ⌝ }
 {
     let mut hints = [0u8; HINTS];
     let mut n = 0;

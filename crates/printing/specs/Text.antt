@@ -5,12 +5,12 @@ use mathlib.Core.List.{List, [], map}
 use Prim.Native.Nat.{ℕ, _≤_}
 use lib.Dec.{eqb, ltb}
 use lib.ListN.{length, take, replicate}
-use Rattle.residue.specs.Sizes.{mostPoints, statesSize, countsSize}
 use Rattle.specification.specs.declared.settings.Settings.{Settings}
 use Rattle.specification.specs.BasisOf.{interpolantOf}
 use Rattle.specification.specs.Tables.{spaceUnder, pointsUnder, standardUnder, leadsUnder, rowsUnder, pointsIn}
 use Rattle.specification.specs.Settings.{settingsOf}
 use Rattle.specification.specs.Needed.{wiringOf}
+use Rattle.residue.specs.Sizes.{mostPoints, statesSize, countsSize}
 use Rattle.residue.specs.Layout.{over}
 use Rattle.csv.specs.reading.Text.{TextOutcome, readOutcome}
 use Rattle.printing.specs.Lines.{basisLines, refusalLine}

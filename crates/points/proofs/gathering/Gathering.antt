@@ -8,7 +8,7 @@ use Prim.Native.Nat.{ℕ, suc, _+_, _*_, _-_, _<_, _≤_}
 use native.Mathlib.Omega.{arith}
 use lib.ListN.{length, take, drop, replicate, getD, set, length-map, length-append}
 use lib.Dec.{T, eqb, ltb}
-use borrow.Author.Tests.{lt-ltb, le-ltb, eq-eqb, ne-eqb}
+use borrow.Author.Tests.{lt-ltb, le-ltb, ltb-false, eq-eqb, ne-eqb}
 use Rattle.residue.specs.Lists.{Among}
 use Rattle.residue.specs.Layout.{groups, fill, inPlaces, withPlace, length-fill}
 use Rattle.residue.proofs.Layouts.{fill-at, fill-put, fill-zeros}
@@ -22,9 +22,10 @@ use Rattle.specification.proofs.Repeats.{repeat-filled}
 use Rattle.specification.proofs.Replicates.{set-filled}
 use Rattle.specification.proofs.counted.Entered.{entered-there, entered-new}
 use Rattle.specification.proofs.counted.Gathered.{among-entered, once-entered}
+use Rattle.specification.proofs.counted.Room.{all-grow}
 use Rattle.specification.proofs.counted.Saturated.{saturated, beyond, there-on, there-full, new-last, all-entered, all-full, none-capped}
 use Rattle.specification.proofs.ideal.Lists.{getD-among}
-use Rattle.points.specs.Gathering.{pointsEntered, countsEntered, EnteredAs}
+use Rattle.points.specs.Gathering.{pointsEntered, countsEntered, EnteredAs, enteredWhileRoom, countByte, TabledAs}
 use Rattle.points.proofs.places.PointPlaces.{place-filled, place-le, among-place}
 
 -- The points of L, of m numbers each, stand in the table, their counts in the bytes, and the flag says whether one is above 255.
@@ -153,20 +154,47 @@ module _ {m n : ℕ} {L : Counted} {points counts : List ℕ} {over : Bool} (h :
     pub no-more : (rest G : List (List ℕ)) → n ≡ 64 → enteredAll (P ∷ rest) L ≡ gathered G → 8 ≡ firstOf 0 (overfull (gathered G))
     no-more rest G full f = all-full G P rest L f is-new (sym (h .count) ∙ full)
 
--- All points are gathered: 13 where the flag is set; else the table and the bytes are those of the list.
+-- All points are gathered: 13 where the flag is set.
 module _ {m n : ℕ} {L : Counted} {points counts : List ℕ} {over : Bool} (h : Holds m L n points counts over) (G : List (List ℕ)) (all : L ≡ gathered G) where
   pub all-told : cond {A = ℕ} over 13 0 ≡ firstOf 0 (overfull (gathered G))
   all-told = ap (λ (b : Bool). cond {A = ℕ} b 13 0) (h .flag) ∙ all-entered G L all (omega (arith, h .count, h .few))
 
-  pub all-held : over ≡ false → (n ≡ length (gathered G)) × ((points ≡ statesTable (pointsOf (gathered G))) × (counts ≡ fill 64 (countsOf (gathered G))))
-  all-held f =
-      rw (← all) (h .count, (h .table, h .bytes ∙ ap (fill 64) (none-capped (countsOf L) (sym (h .flag) ∙ f))))
+-- the table and the bytes are those of the list, whatever its counts
+pub held-as : {m n : ℕ} {L K : Counted} {points counts : List ℕ} {over : Bool} → Holds m L n points counts over → L ≡ K → TabledAs K n points counts
+unfolding countByte
+held-as {n = n} {points = points} {counts = counts} h e =
+    subst (λ (K : Counted). TabledAs K n points counts) e (record { number = h .count; states = h .table; times = h .bytes })
+
+-- Points that are not refused are all entered, and no count is above 255.
+all-room : (S : List (List ℕ)) (L : Counted) → length (enteredAll S L) ≤ 64 → enteredWhileRoom S L ≡ enteredAll S L
+unfolding enteredAll enteredWhileRoom
+all-room [] L h = refl
+all-room (P ∷ S) L h =
+    rw (le-ltb 64 (length (entered P L)) (omega (arith, all-grow S (entered P L), h))) (all-room S (entered P L) h)
+
+not-over : (L : Counted) → firstOf 0 (overfull L) ≡ 0 → (length L ≤ 64) × (beyond L ≡ false)
+unfolding firstOf overfull
+not-over L z = go (ltb 64 (length L)) refl (beyond L) z
+  where
+    go : (a : Bool) → ltb 64 (length L) ≡ a → (b : Bool) → cond {A = ℕ} a 8 (cond b 13 0) ≡ 0 → (length L ≤ 64) × (b ≡ false)
+    go true e b y = absurd (omega arith)
+    go false e true y = absurd (omega arith)
+    go false e false y = (ltb-false 64 (length L) e, refl)
+
+pub all-held : (S : List (List ℕ)) {n : ℕ} {points counts : List ℕ} → firstOf 0 (overfull (gathered S)) ≡ 0 → TabledAs (enteredWhileRoom S []) n points counts
+    → (n ≡ length (gathered S)) × ((points ≡ statesTable (pointsOf (gathered S))) × (counts ≡ fill 64 (countsOf (gathered S))))
+unfolding gathered countByte
+all-held S {n} {points} {counts} z t =
+    let r = not-over (gathered S) z in
+    let h = subst (λ (L : Counted). TabledAs L n points counts) (all-room S [] (r .0)) t in
+    (h .number, (h .states, h .times ∙ ap (fill 64) (none-capped (countsOf (gathered S)) (r .1))))
 
 -- The points of numbers R, m a point, before the ith is gathered: those from it on, entered into the list, give all.
 pub record Before (m : ℕ) (R : List ℕ) (count i n : ℕ) (points counts : List ℕ) (over : Bool) : Type 0 where
   pub list : Counted
   pub once : T (noRepeat (pointsOf list))
   pub rest : enteredAll (groups m (count - i) (drop (m * i) R)) list ≡ gathered (groups m count R)
+  pub stops : enteredWhileRoom (groups m (count - i) (drop (m * i) R)) list ≡ enteredWhileRoom (groups m count R) []
   pub holds : Holds m list n points counts over
 
 module _ (m : ℕ) (R : List ℕ) (count : ℕ) where
@@ -175,7 +203,7 @@ module _ (m : ℕ) (R : List ℕ) (count : ℕ) where
   before-first {points} {counts} e f =
       let z : m * 0 ≡ 0 = omega arith in
       let k : count - 0 ≡ count = omega arith in
-      record { list = []; once = tt; rest = rw (z, k) refl; holds = holds-none m points counts (e ∙ no-places 8 512) (f ∙ sym (fill-zeros 64)) }
+      record { list = []; once = tt; rest = rw (z, k) refl; stops = rw (z, k) refl; holds = holds-none m points counts (e ∙ no-places 8 512) (f ∙ sym (fill-zeros 64)) }
 
   module _ {i n : ℕ} {points counts : List ℕ} {over : Bool} (b : Before m R count i n points counts over) where
     module _ (few : m ≤ 8) (more : i < count) (enough : m * count ≤ length R) {hints : List ℕ} {at : ℕ} {hit : Bool}
@@ -192,6 +220,9 @@ module _ (m : ℕ) (R : List ℕ) (count : ℕ) where
       whole : enteredAll (next ∷ others) (b .list) ≡ gathered (groups m count R)
       whole = ap (λ (K : List (List ℕ)). enteredAll K (b .list)) (sym (groups-step m count i R more)) ∙ b .rest
 
+      until : enteredWhileRoom (next ∷ others) (b .list) ≡ enteredWhileRoom (groups m count R) []
+      until = ap (λ (K : List (List ℕ)). enteredWhileRoom K (b .list)) (sym (groups-step m count i R more)) ∙ b .stops
+
       inside : at ≤ n
       inside = omega (arith, placed (b .holds) few next own e, place-le next (pointsOf (b .list)), many (b .holds) few next own e)
 
@@ -199,9 +230,30 @@ module _ (m : ℕ) (R : List ℕ) (count : ℕ) where
       pub refused-full : at ≡ 64 → 8 ≡ firstOf 0 (overfull (gathered (groups m count R)))
       refused-full z = no-more (b .holds) few next own e (omega (arith, z, inside, b .holds .few)) others (groups m count R) (omega (arith, z, inside, b .holds .few)) whole
 
+      -- it is not entered, and the list stays
+      pub stopped : at ≡ 64 → TabledAs (enteredWhileRoom (groups m count R) []) n table bytes
+      unfolding enteredWhileRoom pointsEntered countsEntered
+      stopped z =
+          let full : n ≡ 64 = omega (arith, z, inside, b .holds .few) in
+          let w = entered-new next (b .list) (is-new (b .holds) few next own e (omega (arith, z, full))) in
+          let long : 64 < length (entered next (b .list)) = omega (arith, ap length w, length-append (b .list) ((next, 1) ∷ []), b .holds .count, full) in
+          let no : ltb n 64 ≡ false = le-ltb n 64 (omega (arith, full)) in
+          let low : ltb at n ≡ false = le-ltb at n (omega (arith, z, full)) in
+          let same : table ≡ points = e .table ∙ simp (eq-eqb at n (omega (arith, z, full)), no) in
+          let kept : bytes ≡ counts = e .bytes ∙ simp (no, low) in
+          rw (same, kept) (held-as (b .holds) (sym (simp (lt-ltb 64 (length (entered next (b .list))) long)) ∙ until))
+
       after : (k : ℕ) → Holds m (entered next (b .list)) k table bytes (over || hit) → Before m R count (i + 1) k table bytes (over || hit)
-      unfolding enteredAll
-      after k h = record { list = entered next (b .list); once = once-entered next (b .list) (b .once); rest = whole; holds = h }
+      unfolding enteredAll enteredWhileRoom
+      after k h =
+          let room : ltb 64 (length (entered next (b .list))) ≡ false = le-ltb 64 (length (entered next (b .list))) (omega (arith, h .count, h .few)) in
+          record {
+            list = entered next (b .list);
+            once = once-entered next (b .list) (b .once);
+            rest = whole;
+            stops = sym (simp room) ∙ until;
+            holds = h;
+          }
 
       -- the number of points afterwards
       pub before-next : (at ≡ 64 → ⊥) → (k : ℕ) → ((at ≡ n) × (k ≡ n + 1)) ⊎ ((at ≡ n → ⊥) × (k ≡ n))
@@ -215,3 +267,7 @@ module _ (m : ℕ) (R : List ℕ) (count : ℕ) where
     pub all-in : count ≤ i → b .list ≡ gathered (groups m count R)
     unfolding enteredAll
     all-in h = sym (ap (λ (K : List (List ℕ)). enteredAll K (b .list)) (groups-end m count i (drop (m * i) R) h)) ∙ b .rest
+
+    pub all-tabled : count ≤ i → TabledAs (enteredWhileRoom (groups m count R) []) n points counts
+    unfolding enteredWhileRoom
+    all-tabled h = held-as (b .holds) (sym (ap (λ (K : List (List ℕ)). enteredWhileRoom K (b .list)) (groups-end m count i (drop (m * i) R) h)) ∙ b .stops)

@@ -13,6 +13,7 @@ use Rattle.residue.proofs.Tests.{of-true}
 use Rattle.specification.specs.Levels.{inRange}
 use Rattle.specification.specs.Adding.{pointsOffered}
 use Rattle.specification.proofs.Recognised.{whole-levels}
+use Rattle.points.proofs.gathering.Gathering.{all-held}
 use Rattle.recognition.proofs.settings.BySize.{Passed, passed}
 use Rattle.basis.proofs.drawing.Outcomes.{drawSizes, draw-size, draw-range, draw-gathered}
 use Rattle.basis.proofs.drawing.draw_refusal.Statement.{statement}
@@ -98,7 +99,7 @@ returns-3 c =
     let f = g .before .before .before in
     let x = e f in
     let s = s x in
-    (draw-gathered (s .args .settings) (s .args .short) (levels x) (fine x) (range f) (g .gather .result .refusal) (g .gather .ensures .0), g .gather .ensures .1)
+    (draw-gathered (s .args .settings) (s .args .short) (levels x) (fine x) (range f) (g .gather .result .refusal) (g .gather .ensures .0), λ z. all-held _ (sym (g .gather .ensures .0) ∙ z) (g .gather .ensures .1))
 
 pub draw-refusal-spec : {M : Type 1} → statement M
 draw-refusal-spec =

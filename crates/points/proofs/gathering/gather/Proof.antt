@@ -15,7 +15,7 @@ use Rattle.specification.proofs.agreement.Points.{length-residues}
 use Rattle.points.specs.Gathering.{Hinted, EnteredAs}
 use Rattle.points.proofs.places.PointPlaces.{place-le}
 use Rattle.points.proofs.gathering.Hints.{hinted-none, hinted-next}
-use Rattle.points.proofs.gathering.Gathering.{Before, holds-sizes, once-held, before-first, refused-full, before-next, all-in, all-told, all-held}
+use Rattle.points.proofs.gathering.Gathering.{Before, holds-sizes, once-held, before-first, refused-full, stopped, before-next, all-in, all-tabled, all-told}
 use Rattle.points.proofs.gathering.gather.Statement.{statement}
 use Rattle.points.proofs.gathering.gather.Tie as tie
 
@@ -144,8 +144,10 @@ same-length-2 c =
 
 returns : tie.Need-returns Inv-loop μ-loop
 returns c =
-    let e = c .before .before .before .before .before in
-    (refused-full (b e .args .m) (R (l e)) (b e .args .count) (l e .loop .inv .2) (b e .pre .0 .0) (t e .loop-test .taken) (enough e) (enters e) (c .if1 .taken), λ z. absurd (omega arith))
+    let e = c .before .before .before .before .before in (
+      refused-full (b e .args .m) (R (l e)) (b e .args .count) (l e .loop .inv .2) (b e .pre .0 .0) (t e .loop-test .taken) (enough e) (enters e) (c .if1 .taken),
+      stopped (b e .args .m) (R (l e)) (b e .args .count) (l e .loop .inv .2) (b e .pre .0 .0) (t e .loop-test .taken) (enough e) (enters e) (c .if1 .taken),
+    )
 
 add-n : tie.Need-add-n Inv-loop μ-loop
 add-n c =
@@ -181,8 +183,10 @@ returns-2 c =
     let l = c .before .before in
     let a = s l .args in
     let all = all-in (a .m) (R l) (a .count) (l .loop .inv .2) (omega arith) in
-    let G = groups (a .m) (a .count) (R l) in
-    (ap (λ (b : Bool). cond {A = ℕ} b 13 0) (sym (c .if3 .taken)) ∙ all-told (l .loop .inv .2 .holds) G all, λ z. absurd (omega arith))
+    let G = groups (a .m) (a .count) (R l) in (
+      ap (λ (b : Bool). cond {A = ℕ} b 13 0) (sym (c .if3 .taken)) ∙ all-told (l .loop .inv .2 .holds) G all,
+      all-tabled (a .m) (R l) (a .count) (l .loop .inv .2) (omega arith),
+    )
 
 same-length-5 : tie.Need-same-length-5 Inv-loop μ-loop
 same-length-5 c = sizes (c .before .before) .0 ∙ sym (zeros-long _ 512 (s (c .before .before) .pre .1 .0))
@@ -195,8 +199,10 @@ returns-3 c =
     let l = c .before .before in
     let a = s l .args in
     let all = all-in (a .m) (R l) (a .count) (l .loop .inv .2) (omega arith) in
-    let G = groups (a .m) (a .count) (R l) in
-    (ap (λ (b : Bool). cond {A = ℕ} b 13 0) (sym (c .if3 .left)) ∙ all-told (l .loop .inv .2 .holds) G all, λ z. all-held (l .loop .inv .2 .holds) G all (c .if3 .left))
+    let G = groups (a .m) (a .count) (R l) in (
+      ap (λ (b : Bool). cond {A = ℕ} b 13 0) (sym (c .if3 .left)) ∙ all-told (l .loop .inv .2 .holds) G all,
+      all-tabled (a .m) (R l) (a .count) (l .loop .inv .2) (omega arith),
+    )
 
 pub gather-spec : {M : Type 1} → statement M
 gather-spec =
