@@ -3,7 +3,7 @@
 use mathlib.Core.Path.{_≡_, refl, sym, _∙_, ap, subst}
 use mathlib.Core.Bool.{false}
 use mathlib.Core.List.{List, [], _∷_, _++_, append-nil, append-assoc}
-use Prim.Native.Nat.{ℕ, zero, suc, _≤_, _%_}
+use Prim.Native.Nat.{ℕ, suc, _≤_, _%_}
 use native.Mathlib.Omega.{arith}
 use lib.IntN.{ℤ}
 use lib.ListN.{length, take, length-map}
@@ -12,15 +12,14 @@ use borrow.Author.Tests.{eq-eqb, le-ltb}
 use Rattle.residue.specs.Sizes.{countsSize}
 use Rattle.residue.specs.Lists.{Among}
 use Rattle.residue.specs.Lists as Lists
-use Rattle.residue.specs.Level.{residueOf}
 use Rattle.residue.specs.Layout.{fill, over, length-fill}
 use Rattle.residue.proofs.level.Moduli.{modulus-range}
 use Rattle.residue.proofs.Layouts.{fill-exact, take-over}
-use Rattle.residue.proofs.Tests.{true-of, and-left, and-right, and-both}
+use Rattle.residue.proofs.Tests.{true-of}
 use Rattle.specification.specs.declared.settings.Settings.{Settings}
 use Rattle.specification.specs.Refusal.{firstOf}
 use Rattle.specification.specs.Settings.{settingsOf, Accepted}
-use Rattle.specification.specs.Levels.{isResidue, inRange}
+use Rattle.specification.specs.Levels.{inRange}
 use Rattle.specification.specs.Points.{Points, IsPoint}
 use Rattle.specification.specs.Counted.{Counted, pointsOf, countsOf, enteredAll, gathered, overfull}
 use Rattle.specification.specs.Tables.{Tables, statesTable, tooShort, pointsIn}
@@ -39,16 +38,8 @@ use Rattle.csv.proofs.reading.FirstPlaces.{fault-step}
 use Rattle.csv.proofs.reading.FirstValues.{few-points}
 use Rattle.csv.proofs.reading.EntryLengths.{AllLong, point-long}
 use Rattle.csv.proofs.reading.AcceptedPoints.{no-fault, all-long, all-inside}
-use Rattle.misqafur.proofs.ReadBack.{says, o, r, refusal-is, accepted-is, Taken, taken}
-
--- levels in range, the first of them
-range-take : (p m : ℕ) (zs : List ℤ) → T (inRange p zs) → T (inRange p (take m zs))
-unfolding inRange
-range-take p zero zs h = tt
-range-take p (suc m) [] h = tt
-range-take p (suc m) (z ∷ zs) h =
-    and-both (isResidue (residueOf p z)) (inRange p (take m zs)) (and-left (isResidue (residueOf p z)) (inRange p zs) h)
-    (range-take p m zs (and-right (isResidue (residueOf p z)) (inRange p zs) h))
+use Rattle.csv.proofs.reading.PassedText.{PassedText, range-take}
+use Rattle.misqafur.proofs.ReadBack.{says, o, r, refusal-is, accepted-is, taken}
 
 -- no entry is once too often: no count is above 255
 few-times : (seen l : List Valued) → Lists.some (ltb 255) (countsOf (gathered (pointsOf seen))) ≡ false → firstAfter tooOften seen l ≡ 0
@@ -73,7 +64,7 @@ module _ (text states values counts : List ℕ) (z : r text states values counts
   abbrev s : Settings
   s = settingsOf p m (e .header .order)
 
-  w : Taken text states values counts
+  w : PassedText text
   w = taken text states values counts z
 
   ok : Accepted s

@@ -1,32 +1,26 @@
 -- What C takes out of the number that the text reader returns: the refusal with its record, or the number of points and the settings.
 use mathlib.Core.Path.{_≡_, refl, sym, _∙_, ap, subst}
-use mathlib.Core.Bool.{Bool, true, false, not, cond, _&&_, _||_}
+use mathlib.Core.Bool.{Bool, true, false, cond}
 use mathlib.Core.List.{List, [], _∷_}
 use mathlib.Core.Logic.{_≢_}
-use mathlib.Core.Option.{Option·getD}
-use Prim.Native.Nat.{ℕ, suc, _≤_}
+use Prim.Native.Nat.{ℕ, _≤_}
 use native.Mathlib.Omega.{arith}
 use native.Mathlib.Decide.{ℕ-discrete}
 use lib.ListN.{length}
-use lib.Dec.{eqb, leb, ltb, leb→le}
-use borrow.Author.Tests.{eqb-true, eq-eqb, ne-eqb, not-false}
-use Rattle.residue.specs.Modulus.{isModulus}
+use lib.Dec.{eqb}
+use borrow.Author.Tests.{eqb-true, eq-eqb, ne-eqb}
 use Rattle.residue.proofs.level.Moduli.{modulus-range}
-use Rattle.residue.proofs.Tests.{of-true, and-left, and-right}
 use Rattle.specification.specs.Refusal.{firstOf}
-use Rattle.specification.specs.Settings.{settingsOf, Accepted}
 use Rattle.specification.specs.Counted.{enteredAll, gathered}
 use Rattle.specification.proofs.Numbers.{at-most}
 use Rattle.notation.specs.Fields.{recordsOf}
-use Rattle.notation.specs.Forms.{Header}
 use Rattle.csv.specs.declared.reading.Refusal.{Refusal}
 use Rattle.csv.specs.declared.reading.Read.{Read}
-use Rattle.csv.specs.reading.Text.{headerIn, formFault, Contents, contentsOf, valuedPoints, firstOutside, firstAfter, tooMany, tooOften, notRefused, TextCase}
+use Rattle.csv.specs.reading.Text.{headerIn, formFault, Contents, valuedPoints, notRefused, TextCase}
 use Rattle.csv.specs.reading.Text.{TextOutcome}
 use Rattle.csv.specs.reading.Text.{headerCases, pointsCases, entriesCases, readCases, textAccepted, textRefused, textDecided, readOutcome}
-use Rattle.csv.proofs.reading.TextCases.{passed}
 use Rattle.csv.proofs.reading.FirstValues.{few-points}
-use Rattle.csv.proofs.reading.AcceptedPoints.{in-small, or-small}
+use Rattle.csv.proofs.reading.PassedText.{saidIn, PassedText, text-passed}
 use Rattle.csv.proofs.reading.WholeText.{text-never-eleven}
 use Rattle.misqafur.specs.Packing.{packed, packedRead}
 use Rattle.misqafur.specs.Unpacking.{refusalFrom, pointsFrom, faultFrom, modulusFrom, variablesFrom, orderFrom}
@@ -45,7 +39,7 @@ record-back a b h = (omega arith, omega arith)
 module _ (text states values counts : List ℕ) where
   -- what the text says, if its form is right; the cases in which it is refused, and what they decide
   abbrev pub says : Contents
-  says = contentsOf (Option·getD (headerIn (recordsOf text)) (record { variables = 0; modulus = 0; order = 0 })) (recordsOf text)
+  says = saidIn text
 
   abbrev pub cases : List TextCase
   cases = readCases text (formFault (headerIn (recordsOf text)) (recordsOf text)) says (length states) (length values) (length counts)
@@ -79,41 +73,9 @@ module _ (text states values counts : List ℕ) where
   unfolding readCases headerCases entriesCases pointsCases
   refusal-few = rw refusal-is (at-most (λ c. c .refusal) 14 notRefused cases (omega arith) tt)
 
-  -- What an accepted text has passed: its settings are such that calls take, its form is right, and of its entries none is out of range, one too many, or once
-  -- too often.
-  pub record Taken : Type 0 where
-    pub settings : Accepted (settingsOf (says .header .modulus) (says .header .variables) (says .header .order))
-    pub form : formFault (headerIn (recordsOf text)) (recordsOf text) ≡ 0
-    pub inside : firstOutside says ≡ 0
-    pub many : firstAfter tooMany [] (valuedPoints says) ≡ 0
-    pub often : firstAfter tooOften [] (valuedPoints says) ≡ 0
-
-  pub taken : r .refusal ≡ 0 → Taken
-  unfolding readCases headerCases entriesCases pointsCases contentsOf
-  taken z =
-      let t = recordsOf text in
-      let d : Header = record { variables = 0; modulus = 0; order = 0 } in
-      let c₁ = passed (ltb 16384 (length text)) 0 0 _ (sym refusal-is ∙ z) in
-      let c₂ = passed (not (eqb (formFault (headerIn t) t) 0)) 1 (formFault (headerIn t) t) _ (c₁ .1) in
-      let c₃ = passed (not (isModulus (says .header .modulus))) 2 1 _ (c₂ .1) in
-      let c₄ = passed (not (leb 1 (says .header .variables) && leb (says .header .variables) 8)) 3 1 _ (c₃ .1) in
-      let c₅ = passed (ltb (length states) 512 || ltb (length values) 64 || ltb (length counts) 64) 5 0 _ (c₄ .1) in
-      let c₆ = passed (not (eqb (firstOutside says) 0)) 8 (suc (firstOutside says)) _ (c₅ .1) in
-      let c₇ = passed (not (eqb (firstAfter tooMany [] (valuedPoints says)) 0)) 7 (suc (firstAfter tooMany [] (valuedPoints says))) _ (c₆ .1) in
-      let c₈ = passed (not (eqb (firstAfter tooOften [] (valuedPoints says)) 0)) 12 (suc (firstAfter tooOften [] (valuedPoints says))) _ (c₇ .1) in
-      let m = of-true (not-false (leb 1 (says .header .variables) && leb (says .header .variables) 8) (c₄ .0)) in
-      record {
-        settings = record {
-          modulus = not-false (isModulus (says .header .modulus)) (c₃ .0);
-          some = leb→le 1 (says .header .variables) (and-left (leb 1 (says .header .variables)) (leb (says .header .variables) 8) m);
-          few = leb→le (says .header .variables) 8 (and-right (leb 1 (says .header .variables)) (leb (says .header .variables) 8) m);
-          order = or-small (headerIn t) d (in-small t) (omega arith);
-        };
-        form = eqb-true (formFault (headerIn t) t) 0 (not-false _ (c₂ .0));
-        inside = eqb-true (firstOutside says) 0 (not-false _ (c₆ .0));
-        many = eqb-true (firstAfter tooMany [] (valuedPoints says)) 0 (not-false _ (c₇ .0));
-        often = eqb-true (firstAfter tooOften [] (valuedPoints says)) 0 (not-false _ (c₈ .0));
-      }
+  -- what an accepted text has passed
+  pub taken : r .refusal ≡ 0 → PassedText text
+  taken z = text-passed text (length states) (length values) (length counts) (sym refusal-is ∙ z)
 
   -- so its numbers lie within a byte
   settings-few : r .refusal ≡ 0 → (r .n ≤ 64) × (r .modulus ≤ 61) × (r .variables ≤ 8) × (r .order ≤ 2)

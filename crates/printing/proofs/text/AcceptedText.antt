@@ -1,26 +1,23 @@
 -- The points and values of an accepted text, as printing asks for them.
 use mathlib.Core.Path.{_≡_, refl, sym, _∙_, ap, ap₂, subst}
-use mathlib.Core.Bool.{Bool, true, false, not, _&&_, _||_}
-use mathlib.Core.List.{List, [], _∷_}
-use mathlib.Core.Option.{Option·getD}
-use Prim.Native.Nat.{ℕ, zero, suc, _-_, _%_, _<_, _≤_}
+use mathlib.Core.Bool.{Bool, true, false}
+use mathlib.Core.List.{List, []}
+use Prim.Native.Nat.{ℕ, suc, _-_, _%_, _<_, _≤_}
 use native.Mathlib.Nat.{zero-add, mod-lt}
 use native.Mathlib.Omega.{arith}
 use lib.IntN.{ℤ}
 use lib.ListN.{length, getD, take, length-map, length-replicate, replicate}
-use lib.Dec.{T, eqb, leb, ltb}
-use borrow.Author.Tests.{not-false, eq-eqb, ne-eqb, eqb-true, eqb-false, leb-true, lt-ltb, le-ltb}
+use lib.Dec.{T, eqb}
+use borrow.Author.Tests.{eq-eqb, ne-eqb, eqb-true, eqb-false, lt-ltb, le-ltb}
 use Rattle.residue.specs.Lists.{Among}
-use Rattle.residue.specs.Level.{residueOf}
 use Rattle.residue.specs.Modulus.{isModulus}
 use Rattle.residue.specs.Vector.{Below}
 use Rattle.residue.specs.Layout.{fill, over, length-fill}
 use Rattle.residue.proofs.level.Moduli.{modulus-range}
 use Rattle.residue.proofs.vector.Vectors.{map-at}
 use Rattle.residue.proofs.Layouts.{take-fill, over-all}
-use Rattle.residue.proofs.Tests.{true-of, of-true, and-left, and-right, and-both}
 use Rattle.specification.specs.declared.settings.Settings.{Settings}
-use Rattle.specification.specs.Levels.{isResidue, inRange, residues}
+use Rattle.specification.specs.Levels.{inRange, residues}
 use Rattle.specification.specs.Counted.{Counted, pointsOf, enteredAll, gathered}
 use Rattle.specification.specs.Tables.{statesTable, pointsIn}
 use Rattle.specification.specs.Refusal.{firstOf}
@@ -35,14 +32,14 @@ use Rattle.construction.proofs.drawing.Given as G
 use Rattle.csv.specs.declared.reading.Refusal.{Refusal}
 use Rattle.notation.specs.Forms.{Header}
 use Rattle.notation.specs.Fields.{recordsOf}
-use Rattle.csv.specs.reading.Text.{Contents, Valued, TextOutcome, headerIn, formFault, contentsOf, entryPoint, entryValue, valuedPoint, valuedPoints, firstOutside, firstAfter, tooMany, firstValue, firstValues, headerCases, pointsCases, entriesCases, readCases, notRefused, textAccepted, textDecided, textRefused, readOutcome}
+use Rattle.csv.specs.reading.Text.{Contents, Valued, TextOutcome, headerIn, formFault, contentsOf, entryPoint, entryValue, valuedPoint, valuedPoints, firstOutside, firstValue, firstValues, readCases, notRefused, textAccepted, textDecided, textRefused, readOutcome}
 use Rattle.printing.specs.Appending.{putAt, Put}
 use Rattle.printing.specs.Lines.{refusalLine}
 use Rattle.printing.specs.Text.{linesOf, linesRead, linesFor, printed, printOutcome}
-use Rattle.csv.proofs.reading.TextCases.{passed}
 use Rattle.csv.proofs.reading.EntryLengths.{AllLong, point-long}
 use Rattle.csv.proofs.reading.FirstValues.{few-points, value-below}
-use Rattle.csv.proofs.reading.AcceptedPoints.{in-small, or-small, no-fault, all-long, all-inside}
+use Rattle.csv.proofs.reading.AcceptedPoints.{no-fault, all-long, all-inside}
+use Rattle.csv.proofs.reading.PassedText.{saidIn, text-passed, range-take}
 
 -- the distinct points of what is said, with their counts
 abbrev pub pointsSaid : Contents → Counted
@@ -57,44 +54,25 @@ pub record Says (e : Contents) : Type 0 where
   pub long : AllLong (suc (e .header .variables)) (e .entries)
   pub inside : (zs : List ℤ) → Among zs (e .entries) → T (inRange (e .header .modulus) zs)
 
--- what is said in the text, if its form is right
-abbrev pub saidIn : List ℕ → Contents
-saidIn text = contentsOf (Option·getD (headerIn (recordsOf text)) (record { variables = 0; modulus = 0; order = 0 })) (recordsOf text)
-
 pub says : (text : List ℕ) (s v k : ℕ) → firstOf notRefused (readCases text (formFault (headerIn (recordsOf text)) (recordsOf text)) (saidIn text) s v k) .refusal ≡ 0 → Says (saidIn text)
-unfolding readCases headerCases entriesCases pointsCases contentsOf firstOutside gathered enteredAll
+unfolding contentsOf firstOutside gathered enteredAll
 says text s v k h =
     let t = recordsOf text in
     let d : Header = record { variables = 0; modulus = 0; order = 0 } in
     let e : Contents = saidIn text in
-    let c₁ = passed (ltb 16384 (length text)) 0 0 _ h in
-    let c₂ = passed (not (eqb (formFault (headerIn t) t) 0)) 1 (formFault (headerIn t) t) _ (c₁ .1) in
-    let c₃ = passed (not (isModulus (e .header .modulus))) 2 1 _ (c₂ .1) in
-    let c₄ = passed (not (leb 1 (e .header .variables) && leb (e .header .variables) 8)) 3 1 _ (c₃ .1) in
-    let c₅ = passed (ltb s 512 || ltb v 64 || ltb k 64) 5 0 _ (c₄ .1) in
-    let c₆ = passed (not (eqb (firstOutside e) 0)) 8 (suc (firstOutside e)) _ (c₅ .1) in
-    let c₇ = passed (not (eqb (firstAfter tooMany [] (valuedPoints e)) 0)) 7 (suc (firstAfter tooMany [] (valuedPoints e))) _ (c₆ .1) in
-    let m = of-true (not-false (leb 1 (e .header .variables) && leb (e .header .variables) 8) (c₄ .0)) in
-    let whole = no-fault (headerIn t) d t (eqb-true (formFault (headerIn t) t) 0 (not-false _ (c₂ .0))) in
+    let w = text-passed text s v k h in
     record {
-      modulus = not-false (isModulus (e .header .modulus)) (c₃ .0);
-      some = leb-true 1 (e .header .variables) (true-of (leb 1 (e .header .variables)) (and-left (leb 1 (e .header .variables)) (leb (e .header .variables) 8) m));
-      few = leb-true (e .header .variables) 8 (true-of (leb (e .header .variables) 8) (and-right (leb 1 (e .header .variables)) (leb (e .header .variables) 8) m));
-      order = or-small (headerIn t) d (in-small t) (omega arith);
-      most = few-points [] (valuedPoints e) none-few (eqb-true (firstAfter tooMany [] (valuedPoints e)) 0 (not-false _ (c₇ .0)));
-      long = all-long (e .header .variables) t whole;
-      inside = all-inside (e .header .modulus) (e .entries) (eqb-true (firstOutside e) 0 (not-false _ (c₆ .0)));
+      modulus = w .settings .modulus;
+      some = w .settings .some;
+      few = w .settings .few;
+      order = w .settings .order;
+      most = few-points [] (valuedPoints e) none-few (w .many);
+      long = all-long (e .header .variables) t (no-fault (headerIn t) d t (w .form));
+      inside = all-inside (e .header .modulus) (e .entries) (w .inside);
     }
   where
     none-few : length (gathered []) ≤ 64
     none-few = omega arith
-
-range-take : (p m : ℕ) (zs : List ℤ) → T (inRange p zs) → T (inRange p (take m zs))
-unfolding inRange
-range-take p zero zs h = tt
-range-take p (suc m) [] h = tt
-range-take p (suc m) (z ∷ zs) h =
-    and-both (isResidue (residueOf p z)) (inRange p (take m zs)) (and-left (isResidue (residueOf p z)) (inRange p zs) h) (range-take p m zs (and-right (isResidue (residueOf p z)) (inRange p zs) h))
 
 module _ (e : Contents) (h : Says e) where
   abbrev p : ℕ

@@ -17,6 +17,7 @@ use Rattle.notation.specs.Spans.{closed, endingIn, endedBy}
 use Rattle.notation.specs.Said.{withSign}
 use Rattle.csv.specs.reading.Records.{held, reading, fieldFrom, sizeOf, sizeField}
 use Rattle.notation.specs.declared.fields.End.{End}
+use Rattle.notation.proofs.Grammar.FieldRead.{unquoted-more, quoted-more}
 use Rattle.notation.proofs.digits.NumberDigits.{digit-range}
 use Rattle.notation.proofs.fields.FieldEnds.{chosen, with-ending, with-closed}
 use Rattle.notation.proofs.fields.FieldSpans.{plain-other, begins-otherwise}
@@ -60,15 +61,6 @@ with-ended true = with-closed
 no-end : (b : ℕ) (c l : List ℕ) → isPlain b ≡ true → ending c (b ∷ l) ≡ broken
 unfolding isPlain ending
 no-end b c l e = simp (ne-eqb b comma (plain-other b comma e refl), ne-eqb b lf (plain-other b lf e refl), ne-eqb b cr (plain-other b cr e refl))
-
-unquoted-more : (b : ℕ) (l : List ℕ) → isPlain b ≡ true → unquoted (b ∷ l) ≡ with b (unquoted l)
-unfolding unquoted front
-unquoted-more b l e = simp e (sym (with-ending b (take (front isPlain l) l) (drop (front isPlain l) l)))
-
-quoted-more : (b : ℕ) (l : List ℕ) → (b ≡ quote → ⊥) → quoted (b ∷ l) ≡ with b (quoted l)
-unfolding quoted with
-quoted-more b [] n = simp (ne-eqb b quote n)
-quoted-more b (c ∷ l) n = simp (ne-eqb b quote n)
 
 plain-more : (q : Bool) (b : ℕ) (l : List ℕ) → isPlain b ≡ true → fieldFrom q (b ∷ l) ≡ with b (fieldFrom q l)
 unfolding isPlain
