@@ -3,6 +3,7 @@ pub mod Cases
 pub mod Repeats
 pub mod ideal
 pub mod drawing
+pub mod Squares
 pub mod Wiring
 pub mod needed
 pub mod counted

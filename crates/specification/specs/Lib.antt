@@ -6,6 +6,7 @@ pub mod Counted
 pub mod Space
 pub mod Polynomial
 pub mod Basis
+pub mod Squares
 pub mod Ideal
 pub mod Extension
 pub mod BasisOf
