@@ -1,0 +1,21 @@
+-- Drawing up modulo 2 with words: that it ends with the basis.
+pub mod BitLaws
+pub mod ColumnLaws
+pub mod PolynomialLaws
+pub mod Losing
+pub mod Reduction
+pub mod Pivoting
+pub mod Walking
+pub mod Standing
+pub mod PackedAll
+pub mod ByteLaws
+pub mod ByteInstance
+pub mod LoseLaws
+pub mod ClearLaws
+pub mod PackedUnder
+pub mod Orthogonal
+pub mod ExamineLaws
+pub mod ExaminedFound
+pub mod SetBits
+pub mod LeftLaws
+pub mod RowsKnownMore

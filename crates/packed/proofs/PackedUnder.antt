@@ -1,0 +1,81 @@
+-- Under settings with the modulus 2: the tables of the packed basis are the tables of the definition.
+use mathlib.Core.Path.{_≡_, refl, sym, ap, ap₂, _∙_, subst}
+use mathlib.Core.List.{List, [], _∷_, _++_, map}
+use mathlib.Core.Logic.{inl, inr}
+use Prim.Native.Nat.{ℕ, zero, suc, _-_, _^_, _/_, _%_, _<_, _≤_}
+use native.Mathlib.Omega.{arith}
+use lib.ListN.{length, length-map}
+use Rattle.residue.specs.Lists.{Among}
+use Rattle.residue.specs.Layout.{fill, inPlaces}
+use Rattle.residue.proofs.Layouts.{fill-exact}
+use Rattle.monomial.specs.Order.{orderOf}
+use Rattle.monomial.specs.Increasing.{Increasing}
+use Rattle.specification.specs.declared.settings.Settings.{Settings}
+use Rattle.specification.specs.Space.{Space, Less}
+use Rattle.specification.specs.Polynomial.{Distinct}
+use Rattle.specification.specs.Tables.{spaceUnder, pointsUnder, rowCount, standardTable, leadsTable, coefficientsTable, standardSize, leadsSize, coefficientsSize}
+use Rattle.specification.specs.Instance.{Monomial, pointOf}
+use Rattle.specification.specs.Points.{Points}
+use Rattle.specification.specs.Settings.{Accepted}
+use Rattle.specification.proofs.agreement.Drawings.{laws-under, distinct-points}
+use Rattle.packed.specs.Words.{bitsOf}
+use Rattle.specification.specs.Squares.{Boolean}
+use Rattle.packed.specs.PackedWalk.{PackedFound, packedFound, examinedWords, Visit, visitedMonomial, visitedAll, PackedBasis}
+use Rattle.packed.proofs.BitLaws.{half-lt, bits-length}
+use Rattle.packed.proofs.ByteInstance.{boolean}
+use Rattle.packed.proofs.Walking.{Candidate}
+use Rattle.packed.proofs.PackedAll.{IsVisit, packed-all}
+
+-- a word's bits in a wider place
+bits-none : (k : ℕ) → fill k [] ≡ bitsOf k 0
+unfolding fill bitsOf
+bits-none zero = refl
+bits-none (suc k) = ap (λ (l : List ℕ). 0 ∷ l) (bits-none k)
+
+pub bits-fill : (n k w : ℕ) → n ≤ k → w < 2 ^ n → fill k (bitsOf n w) ≡ bitsOf k w
+unfolding fill bitsOf
+bits-fill zero k w h u = let e : w ≡ 0 = omega arith in rw e (bits-none k)
+bits-fill (suc n) zero w h u = absurd (omega arith)
+bits-fill (suc n) (suc k) w h u = ap (λ (l : List ℕ). w % 2 ∷ l) (bits-fill n k (w / 2) (omega arith) (half-lt n w u))
+
+-- so rows of n coefficients are written as 64 bits each
+pub rows-wide : (n : ℕ) (ws : List ℕ) → n ≤ 64 → ((w : ℕ) → Among w ws → w < 2 ^ n) → inPlaces 64 (map (bitsOf n) ws) ≡ inPlaces 64 (map (bitsOf 64) ws)
+unfolding inPlaces
+rows-wide n [] h small = refl
+rows-wide n (w ∷ ws) h small =
+    ap₂ (λ (u v : List ℕ). u ++ v) (bits-fill n 64 w h (small w (inl refl)) ∙ sym (fill-exact 64 (bitsOf 64 w) (bits-length 64 w))) (rows-wide n ws h (λ v mem. small v (inr mem)))
+
+module _ (s : Settings) (ok : Accepted s) (two : s .modulus ≡ 2) (K : List (List ℕ)) (h : Points s K) where
+  abbrev D : Space
+  D = spaceUnder s
+
+  under : Boolean D
+  under = boolean (s .modulus - 1) (s .variables) (orderOf (s .order)) (rw two)
+
+  few : length (pointsUnder s K) ≤ 64
+  few = rw (length-map K (pointOf (s .modulus - 1) (s .variables))) (h .few)
+
+  -- a walk over all candidates, increasing, ends with the basis
+  pub packed-under : (l : List (Visit D)) → ((v : Visit D) → Among v l → IsVisit D v) → Increasing (D .cmp) (D .one ∷ map (visitedMonomial D) l)
+      → ((a : Monomial (s .variables)) → Candidate D a → Less D (D .one) a → Among a (map (visitedMonomial D) l))
+      → PackedBasis D (pointsUnder s K) (visitedAll D (pointsUnder s K) l (examinedWords D (pointsUnder s K) (D .one) (packedFound D [] [] [] [])))
+  packed-under = packed-all D (laws-under s ok) under (pointsUnder s K) (distinct-points s ok K h) few
+
+  -- the tables of the basis, from the packed one
+  module _ (f : PackedFound D) (b : PackedBasis D (pointsUnder s K) f) where
+    pub packed-rows : rowCount s K ≡ length (f .leads)
+    unfolding rowCount
+    packed-rows = sym (ap length (b .leads-are))
+
+    pub packed-standard : standardTable s K ≡ fill standardSize (inPlaces 8 (map (λ a. a .0) (f .standard)))
+    unfolding standardTable
+    packed-standard = rw (b .standard-are)
+
+    pub packed-leads : leadsTable s K ≡ fill leadsSize (inPlaces 8 (map (λ a. a .0) (f .leads)))
+    unfolding leadsTable
+    packed-leads = rw (b .leads-are)
+
+    pub packed-coefficients : coefficientsTable s K ≡ fill coefficientsSize (inPlaces 64 (map (bitsOf 64) (f .rows)))
+    unfolding coefficientsTable
+    packed-coefficients = ap (λ (l : List (List ℕ)). fill coefficientsSize (inPlaces 64 l)) (sym (b .rows-are))
+        ∙ ap (fill coefficientsSize) (rows-wide (length (pointsUnder s K)) (f .rows) few (b .rows-small))

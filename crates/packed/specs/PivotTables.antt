@@ -1,0 +1,55 @@
+-- The pivots as three lent tables: places, columns and polynomials.
+use mathlib.Core.Path.{_≡_}
+use mathlib.Core.Bool.{Bool, true, false}
+use mathlib.Core.Logic.{_≢_}
+use mathlib.Core.List.{List, [], _∷_, _++_, map}
+use Prim.Native.Nat.{ℕ, zero, suc, _<_, _≤_}
+use lib.ListN.{length, getD}
+use Rattle.packed.specs.Words.{bitOf}
+use Rattle.packed.specs.Packed.{Words, PivotWords, pivotWords, PlacesApart, restOf, clear, pivotFrom, withPivot}
+
+-- the first k pivots, in the order in which they were found
+unfoldable pub pivotsIn : ℕ → List ℕ → List ℕ → List ℕ → List PivotWords
+pivotsIn zero places columns polynomials = []
+pivotsIn (suc k) places columns polynomials =
+    pivotsIn k places columns polynomials ++ (pivotWords (getD places k 0) (getD columns k 0) (getD polynomials k 0) ∷ [])
+
+-- the tables have room for k pivots, whose places are places of a word
+pub record PivotsHeld (k : ℕ) (places columns polynomials : List ℕ) : Type 0 where
+  pub long-places : k ≤ length places
+  pub long-columns : k ≤ length columns
+  pub long-polynomials : k ≤ length polynomials
+  pub inside : (j : ℕ) → j < k → getD places j 0 < 64
+
+-- the columns and polynomials of the first k pivots cleared at a new pivot's place; the others are as they were
+pub record Cleared (k : ℕ) (new : PivotWords) (columns polynomials columns′ polynomials′ : List ℕ) : Type 0 where
+  pub long-columns : length columns′ ≡ length columns
+  pub long-polynomials : length polynomials′ ≡ length polynomials
+  pub cleared : (places : List ℕ) → pivotsIn k places columns′ polynomials′ ≡ map (clear new) (pivotsIn k places columns polynomials)
+  pub behind-columns : (j : ℕ) → k ≤ j → getD columns′ j 0 ≡ getD columns j 0
+  pub behind-polynomials : (j : ℕ) → k ≤ j → getD polynomials′ j 0 ≡ getD polynomials j 0
+
+-- one column examined: left 0 it is that of a lead, whose polynomial is answered, and the tables are as they were; any other is a pivot more
+pub record ExaminedAs (own k : ℕ) (lead : Bool) (polynomial : ℕ) (places columns polynomials places′ columns′ polynomials′ : List ℕ) : Type 0 where
+  pub as-lead : restOf own (pivotsIn k places columns polynomials) .column ≡ 0
+      → (lead ≡ true) × ((polynomial ≡ restOf own (pivotsIn k places columns polynomials) .polynomial)
+      × ((places′ ≡ places) × ((columns′ ≡ columns) × (polynomials′ ≡ polynomials))))
+  pub as-pivot : restOf own (pivotsIn k places columns polynomials) .column ≢ 0
+      → (lead ≡ false) × ((pivotsIn (suc k) places′ columns′ polynomials′
+      ≡ withPivot (pivotFrom k (restOf own (pivotsIn k places columns polynomials))) (pivotsIn k places columns polynomials)) × PivotsHeld (suc k) places′ columns′ polynomials′)
+
+-- a word has the bits of the k pivots' places, and a table has the pivot of each such place
+pub record RowsKnown (k pivots : ℕ) (rowOf places columns polynomials : List ℕ) : Type 0 where
+  pub marked : (j : ℕ) → j < k → bitOf (getD places j 0) pivots ≡ 1
+  pub known : (i : ℕ) → bitOf i pivots ≡ 1 → (getD rowOf i 0 < k) × (getD places (getD rowOf i 0) 0 ≡ i)
+  pub apart : PlacesApart (pivotsIn k places columns polynomials)
+
+-- what is left of a column, whatever the places are that the word and the table stand for
+pub record LeftAt (own pivots : ℕ) (rowOf columns polynomials : List ℕ) (w : Words) : Type 0 where
+  pub is : (k : ℕ) (places : List ℕ) → RowsKnown k pivots rowOf places columns polynomials → w ≡ restOf own (pivotsIn k places columns polynomials)
+
+-- the rows of the table are rows of the pivots' tables
+pub record RowsIn (pivots : ℕ) (rowOf columns polynomials : List ℕ) : Type 0 where
+  pub long : 64 ≤ length rowOf
+  pub in-columns : (i : ℕ) → bitOf i pivots ≡ 1 → getD rowOf i 0 < length columns
+  pub in-polynomials : (i : ℕ) → bitOf i pivots ≡ 1 → getD rowOf i 0 < length polynomials

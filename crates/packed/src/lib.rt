@@ -1,0 +1,1 @@
+// Drawing up modulo 2 with words.
