@@ -15,6 +15,7 @@ use Rattle.residue.proofs.Congruence.{rfl, of, flip, small, lin, _then_, _plus_
 use Rattle.specification.proofs.ideal.Lists.{snoc-of, among-map}
 use Rattle.packed.specs.Words.{bitOf}
 use Rattle.packed.specs.Packed.{Words, words, PivotWords, pivotWords, lose, loses, restOf, clear, pivotFrom, withPivot}
+use Rattle.packed.specs.PivotTables.{Apart, Orthogonal}
 use Rattle.packed.proofs.BitLaws.{half-lt, bit-small, bit-xor, bit-first, bit-next}
 use Rattle.packed.proofs.ColumnLaws.{halves}
 
@@ -34,15 +35,6 @@ unfolding loses
 keeps own i [] w h = rfl
 keeps own i (u ∷ r) w h = keeps own i r (lose own u w) (λ v mem. h v (inr mem))
     then lose-bit own i u w then lin (rfl {x = bitOf (u .place) own} times h u (inl refl)) 0 0 (omega arith)
-
-abbrev pub Apart : List PivotWords → Type 0
-Apart [] = Unit {0}
-Apart (v ∷ r) = ((u : PivotWords) → Among u r → Mod 2 (bitOf (v .place) (u .column)) 0 × Mod 2 (bitOf (u .place) (v .column)) 0) × Apart r
-
--- each is 1 at its own place, and 0 at the places of the others
-pub record Orthogonal (pivots : List PivotWords) : Type 0 where
-  pub own : (v : PivotWords) → Among v pivots → Mod 2 (bitOf (v .place) (v .column)) 1
-  pub apart : Apart pivots
 
 zero-from : (own : ℕ) (r : List PivotWords) (w : Words) → ((v : PivotWords) → Among v r → Mod 2 (bitOf (v .place) (v .column)) 1) → Apart r
     → ((v : PivotWords) → Among v r → Mod 2 (bitOf (v .place) (w .column)) (bitOf (v .place) own)) → (v : PivotWords) → Among v r → Mod 2 (bitOf (v .place) (loses own r w .column)) 0

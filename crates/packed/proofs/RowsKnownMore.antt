@@ -13,10 +13,10 @@ use lib.Bits.{bitOr, or-step, or-shr}
 use Rattle.residue.specs.Congruence.{Mod}
 use Rattle.packed.specs.Words.{bitOf}
 use Rattle.packed.specs.Packed.{PivotWords, pivotWords, PlacesApart, restOf}
-use Rattle.packed.specs.PivotTables.{pivotsIn, RowsKnown}
+use Rattle.packed.specs.PivotTables.{pivotsIn, RowsKnown, Orthogonal}
 use Rattle.packed.proofs.BitLaws.{bit-small, bit-first, bit-next, bit-zero}
 use Rattle.packed.proofs.LeftLaws.{pivot-in}
-use Rattle.packed.proofs.Orthogonal.{Orthogonal, rest-zero}
+use Rattle.packed.proofs.Orthogonal.{rest-zero}
 
 -- the bits of OR, and of a power of 2
 max-small : (x y : ℕ) → x < 2 → y < 2 → max x y < 2

@@ -14,10 +14,10 @@ use Rattle.residue.specs.Congruence.{Mod}
 use Rattle.residue.specs.Lists.{Among}
 use Rattle.residue.proofs.Congruence.{rfl, of, flip, small, reduce, lin, _then_, _plus_}
 use Rattle.packed.specs.Words.{bitOf}
+use Rattle.packed.specs.PivotTables.{Orthogonal, Apart}
 use Rattle.packed.specs.Packed.{Words, words, PivotWords, PlacesApart, lose, loses}
 use Rattle.packed.proofs.BitLaws.{half-lt, bit-small, xor-odd, xor-half, and-odd, and-half}
 use Rattle.packed.proofs.ColumnLaws.{halves}
-use Rattle.packed.proofs.Orthogonal.{Orthogonal, Apart}
 
 low : (n : ℕ) → n % 2 < 2
 low n = mod-lt n (zero-lt-suc 1)

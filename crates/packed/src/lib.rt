@@ -1,1 +1,2 @@
-// Drawing up modulo 2 with words.
+// Drawing up modulo 2 with words: a column of values is one word, a monomial without squares one byte.
+pub mod pivots;
