@@ -19,3 +19,5 @@ pub mod ExaminedFound
 pub mod SetBits
 pub mod LeftLaws
 pub mod RowsKnownMore
+pub mod PlaceLaws
+pub mod WritingLaws

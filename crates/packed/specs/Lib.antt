@@ -3,3 +3,5 @@ pub mod Words
 pub mod Packed
 pub mod PackedWalk
 pub mod PivotTables
+pub mod PlaceSets
+pub mod ByteColumns

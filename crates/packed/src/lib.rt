@@ -1,2 +1,5 @@
 // Drawing up modulo 2 with words: a column of values is one word, a monomial without squares one byte.
+pub mod columns;
+pub mod open;
 pub mod pivots;
+pub mod writing;

@@ -1,0 +1,25 @@
+-- The columns of the variables and of monomials without squares.
+use mathlib.Core.Path.{_≡_}
+use mathlib.Core.List.{List}
+use mathlib.Core.Logic.{_≢_}
+use Prim.Native.Nat.{ℕ, _+_, _*_, _-_, _%_, _<_}
+use lib.ListN.{length, getD}
+use lib.Bits.{bitAnd}
+use lib.Count.{trailingZeros}
+use Rattle.residue.specs.Layout.{groups}
+use Rattle.packed.specs.Words.{columnOf}
+
+-- eight columns with one point more at the front
+pub record Pushed (point columns columns′ : List ℕ) : Type 0 where
+  pub long : length columns′ ≡ length columns
+  pub each : (k : ℕ) → k < 8 → getD columns′ k 0 ≡ getD columns k 0 * 2 + getD point k 0 % 2
+
+-- the columns of the variables at the first n points of a table
+pub record VariableColumns (n : ℕ) (points columns : List ℕ) : Type 0 where
+  pub long : length columns ≡ 8
+  pub each : (k : ℕ) → k < 8 → getD columns k 0 ≡ columnOf (λ (P : List ℕ). getD P k 0) (groups 8 n points)
+
+-- a monomial's column from that of the monomial without its first variable
+pub record OwnColumn (byte ones : ℕ) (columns values : List ℕ) (own : ℕ) : Type 0 where
+  pub of-one : byte ≡ 0 → own ≡ ones
+  pub of-more : byte ≢ 0 → own ≡ bitAnd (getD columns (trailingZeros 8 byte) 0) (getD values (bitAnd byte (byte - 1)) 0)
