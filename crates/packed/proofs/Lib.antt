@@ -21,3 +21,4 @@ pub mod LeftLaws
 pub mod RowsKnownMore
 pub mod PlaceLaws
 pub mod WritingLaws
+pub mod VariableLaws

@@ -1,24 +1,25 @@
+use mathlib.Core.Path.{refl, ap}
+use Prim.Native.Nat.{ℕ, _-_}
+use native.Mathlib.Omega.{arith}
+use lib.Pow.{pow-pos}
+use Rattle.packed.proofs.BitLaws.{shift-one}
 use borrow.Author.Needs.{needs}
 use Rattle.packed.proofs.columns.ones.Statement.{statement}
 use Rattle.packed.proofs.columns.ones.Tie as tie
 use Rattle.packed.proofs.columns.ones.Reads as reads
 use Rattle.packed.proofs.columns.ones.Lts as lts
 
--- src/columns.rt:35:9
 returns : tie.Need-returns
-returns c = ?
+returns c = rw (c .if1 .taken) refl
 
--- src/columns.rt:37:6
 shl-result : tie.Need-shl-result
 shl-result c = search needs
 
--- src/columns.rt:37:5
 sub-result : tie.Need-sub-result
-sub-result c = ?
+sub-result c = omega (arith, shift-one (c .before .args .n) (omega arith), pow-pos (c .before .args .n))
 
--- src/columns.rt:30:1
 returns-2 : tie.Need-returns-2
-returns-2 c = ?
+returns-2 c = ap (λ (x : ℕ). x - 1) (shift-one (c .before .args .n) (omega arith))
 
 pub ones-spec : {M : Type 1} → statement M
 ones-spec = tie.close (tie.spec returns shl-result sub-result returns-2)

@@ -1,69 +1,65 @@
+use mathlib.Core.Path.{sym, subst}
+use lib.ListN.{getD}
+use borrow.Author.Needs.{needs}
+use Prim.Native.Nat.{ℕ, _+_, _*_, _-_, _%_, _^_, _<_, _≤_}
+use native.Mathlib.Omega.{arith}
+use Rattle.packed.proofs.PlaceLaws.{Turned, turned-none, turned-more}
 use Rattle.packed.proofs.columns.push_point.Statement.{statement}
 use Rattle.packed.proofs.columns.push_point.Tie as tie
 use Rattle.packed.proofs.columns.push_point.Reads as reads
 use Rattle.packed.proofs.columns.push_point.Lts as lts
 
 abbrev Inv-loop : tie.InvT-loop
-Inv-loop point columns₀ k₀ columns k = ?
+Inv-loop point columns₀ k₀ columns k = (k ≤ 8) × Turned (λ x y. x * 2 + y % 2) k columns₀ point columns
 
 abbrev μ-loop : tie.MeasureT-loop
-μ-loop point columns₀ k₀ columns k = ?
+μ-loop point columns₀ k₀ columns k = 8 - k
 
--- src/columns.rt:13:5
 loop-holds : tie.Need-loop-holds Inv-loop μ-loop
-loop-holds c = ?
+loop-holds c = (omega arith, turned-none _ _ _)
 
--- src/columns.rt:14:22
 mul-columns : tie.Need-mul-columns Inv-loop μ-loop
-mul-columns c = ?
+mul-columns c = search needs
 
--- src/columns.rt:14:22
 slice-read-columns : tie.Need-slice-read-columns Inv-loop μ-loop
-slice-read-columns c = ?
+slice-read-columns c = search needs
 
--- src/columns.rt:14:22
+-- what is doubled
+small : (i : tie.In-loop Inv-loop μ-loop) → getD (i .before .loop .columns) (i .before .loop .k) 0 < 2 ^ 63
+small i = let l = i .before in subst (λ (x : ℕ). x < 2 ^ 63) (sym (l .loop .inv .1 .ahead (l .loop .k) (omega arith))) (l .before .pre .1 (l .loop .k) (omega arith))
+
 mul-columns-2 : tie.Need-mul-columns-2 Inv-loop μ-loop
-mul-columns-2 c = ?
+mul-columns-2 c = record { fits = omega (arith, small (c .before)) }
 
--- src/columns.rt:14:40
 shared-slice-read-columns : tie.Need-shared-slice-read-columns Inv-loop μ-loop
-shared-slice-read-columns c = ?
+shared-slice-read-columns c = search needs
 
--- src/columns.rt:14:39
 cast-columns : tie.Need-cast-columns Inv-loop μ-loop
-cast-columns c = ?
+cast-columns c = search needs
 
--- src/columns.rt:14:22
 add-columns : tie.Need-add-columns Inv-loop μ-loop
-add-columns c = ?
+add-columns c = record { fits = omega (arith, small (c .before .before)) }
 
--- src/columns.rt:14:9
 mul-columns-3 : tie.Need-mul-columns-3 Inv-loop μ-loop
-mul-columns-3 c = ?
+mul-columns-3 c = search needs
 
--- src/columns.rt:14:9
 slice-write-columns : tie.Need-slice-write-columns Inv-loop μ-loop
-slice-write-columns c = ?
+slice-write-columns c = search needs
 
--- src/columns.rt:13:9
 add-k : tie.Need-add-k Inv-loop μ-loop
-add-k c = ?
+add-k c = search needs
 
--- src/columns.rt:13:5
 loop-less : tie.Need-loop-less Inv-loop μ-loop
-loop-less c = ?
+loop-less c = search needs
 
--- src/columns.rt:13:5
 loop-again : tie.Need-loop-again Inv-loop μ-loop
-loop-again c = ?
+loop-again c = let l = c .before .before .before in (omega arith, turned-more _ _ _ (l .loop .k) (l .loop .columns) (omega arith) (l .loop .inv .1))
 
--- src/columns.rt:8:1
 same-length : tie.Need-same-length Inv-loop μ-loop
-same-length c = ?
+same-length c = search needs
 
--- src/columns.rt:8:1
 returns : tie.Need-returns Inv-loop μ-loop
-returns c = ?
+returns c = let l = c .before in record { long = l .loop .inv .1 .long; each = λ k h. l .loop .inv .1 .done k (omega arith) }
 
 pub push-point-spec : {M : Type 1} → statement M
 push-point-spec =

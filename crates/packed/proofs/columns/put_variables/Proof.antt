@@ -1,3 +1,13 @@
+use Rattle.packed.proofs.VariableLaws.{behind, behind-none, behind-small, behind-on, behind-all}
+use borrow.Author.Needs.{needs}
+use mathlib.Core.Path.{_≡_, refl, sym, ap, _∙_, subst}
+use mathlib.Core.List.{List}
+use Prim.Native.Nat.{ℕ, _+_, _*_, _-_, _%_, _^_, _<_, _≤_}
+use native.Mathlib.Omega.{arith}
+use lib.ListN.{length, getD, take, drop, length-drop}
+use lib.Seq.{length-take-le}
+use Rattle.residue.specs.Layout.{groups}
+use Rattle.packed.specs.Words.{columnOf}
 use Rattle.packed.proofs.columns.put_variables.Statement.{statement}
 use Rattle.packed.proofs.columns.put_variables.Tie as tie
 use Rattle.packed.proofs.columns.put_variables.Reads as reads
@@ -5,66 +15,59 @@ use Rattle.packed.proofs.columns.put_variables.Lts as lts
 use Rattle.packed.proofs.columns.push_point.Reads as push-point-reads
 
 abbrev Inv-loop : tie.InvT-loop
-Inv-loop n points columns₀ j₀ columns j = ?
+Inv-loop n points columns₀ j₀ columns j = (j ≤ n) × ((length columns ≡ 8) × ((k : ℕ) → k < 8 → getD columns k 0 ≡ columnOf (λ (P : List ℕ). getD P k 0) (drop (n - j) (groups 8 n points))))
 
 abbrev μ-loop : tie.MeasureT-loop
-μ-loop n points columns₀ j₀ columns j = ?
+μ-loop n points columns₀ j₀ columns j = n - j
 
--- src/columns.rt:23:5
 loop-holds : tie.Need-loop-holds Inv-loop μ-loop
-loop-holds c = ?
+loop-holds c = let a = c .before .before in (omega arith, (ap length (a .pre .1 .1), λ k h. behind-none (a .args .n) (a .args .points .now) _ (a .pre .1 .1) k))
 
--- src/columns.rt:24:25
 sub-from : tie.Need-sub-from Inv-loop μ-loop
-sub-from c = ?
+sub-from c = search needs
 
--- src/columns.rt:24:25
 sub-from-2 : tie.Need-sub-from-2 Inv-loop μ-loop
-sub-from-2 c = ?
+sub-from-2 c = search needs
 
--- src/columns.rt:24:20
 mul-from : tie.Need-mul-from Inv-loop μ-loop
-mul-from c = ?
+mul-from c = search needs
 
--- src/columns.rt:25:34
 add-push-point : tie.Need-add-push-point Inv-loop μ-loop
-add-push-point c = ?
+add-push-point c = search needs
 
--- src/columns.rt:25:20
 sub-push-point : tie.Need-sub-push-point Inv-loop μ-loop
-sub-push-point c = ?
+sub-push-point c = search needs
 
--- src/columns.rt:25:20
 part-push-point-start : tie.Need-part-push-point-start Inv-loop μ-loop
-part-push-point-start c = ?
+part-push-point-start c = search needs
 
--- src/columns.rt:25:20
 part-push-point-end : tie.Need-part-push-point-end Inv-loop μ-loop
-part-push-point-end c = ?
+part-push-point-end c = search needs
 
--- src/columns.rt:25:9
 push-point-requires : tie.Need-push-point-requires Inv-loop μ-loop
-push-point-requires c κs = ?
+push-point-requires c κs =
+    let l = c .before .before .before in
+    let a = l .before .before .before in
+    ((length-take-le (8 * (a .args .n - 1 - l .loop .j) + 8 - 8 * (a .args .n - 1 - l .loop .j)) _ (simp length-drop (omega arith)) ∙ (omega arith), l .loop .inv .1 .0), λ k h. subst (λ (x : ℕ). x < 2 ^ 63) (sym (l .loop .inv .1 .1 k h)) (behind-small (a .args .n) (a .args .points .now) (l .loop .j) k (omega arith) (a .pre .0)))
 
--- src/columns.rt:23:9
 add-j : tie.Need-add-j Inv-loop μ-loop
-add-j c = ?
+add-j c = search needs
 
--- src/columns.rt:23:5
 loop-less : tie.Need-loop-less Inv-loop μ-loop
-loop-less c = ?
+loop-less c = search needs
 
--- src/columns.rt:23:5
 loop-again : tie.Need-loop-again Inv-loop μ-loop
-loop-again c = ?
+loop-again c =
+    let l = c .before .before .before .before .before .before in
+    let a = l .before .before .before in
+    let p = c .before .before .push-point .ensures in
+    (omega arith, (p .long ∙ l .loop .inv .1 .0, behind-on (a .args .n) (a .args .points .now) (l .loop .columns) _ (l .loop .j) (a .args .n - 1 - l .loop .j) (8 * (a .args .n - 1 - l .loop .j) + 8 - 8 * (a .args .n - 1 - l .loop .j)) (omega arith) refl (omega arith) (l .loop .inv .1 .1) p))
 
--- src/columns.rt:19:1
 same-length : tie.Need-same-length Inv-loop μ-loop
-same-length c = ?
+same-length c = search needs
 
--- src/columns.rt:19:1
 returns : tie.Need-returns Inv-loop μ-loop
-returns c = ?
+returns c = let l = c .before in record { long = l .loop .inv .1 .0; each = λ k h. l .loop .inv .1 .1 k h ∙ behind-all (l .before .before .before .args .n) (l .before .before .before .args .points .now) (l .loop .j) k (omega arith) }
 
 pub put-variables-spec : {M : Type 1} → statement M
 put-variables-spec =
