@@ -22,3 +22,6 @@ pub mod RowsKnownMore
 pub mod PlaceLaws
 pub mod WritingLaws
 pub mod VariableLaws
+pub mod SequenceLaws
+pub mod Ready
+pub mod Visiting

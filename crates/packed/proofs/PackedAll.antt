@@ -106,7 +106,7 @@ module _ (D : Space) (L : Laws D) (B : Boolean D) (S : List (D .Pt)) (d : Distin
   rows-small (a ∷ l) (g ∷ fs) r f (inl e) = subst (λ (k : ℕ). f < 2 ^ k) (standard-length D L S d) (rw e (r .0 .small))
   rows-small (a ∷ l) (g ∷ fs) r f (inr mem) = rows-small l fs (r .1) f mem
 
-  ended : (f : PackedFound D) (c : Mono) → Standing D S f c → ((a : Mono) → Candidate D a → Less D c a → ¬ Undivided D (f .leads) a) → PackedBasis D S f
+  pub ended : (f : PackedFound D) (c : Mono) → Standing D S f c → ((a : Mono) → Candidate D a → Less D c a → ¬ Undivided D (f .leads) a) → PackedBasis D S f
   ended f c W none =
       let es = all-standard D L B S d (f .standard) (f .leads) c (W .drawn) none in
       let el = all-leads D L B S d (f .standard) (f .leads) c (W .drawn) none in

@@ -64,12 +64,13 @@ pub record Kept (k pivots : ℕ) (rowOf columns polynomials : List ℕ) (vs : Li
   pub known : RowsKnown k pivots rowOf places columns polynomials
   pub orthogonal : Orthogonal vs
 
--- the tables have their lengths, and hold some k pivots
+-- the tables have their lengths
 abbrev pub PivotsLong : List ℕ → List ℕ → List ℕ → Type 0
 PivotsLong rowOf columns polynomials = (length rowOf ≡ 64) × ((length columns ≡ 64) × (length polynomials ≡ 64))
 
-abbrev pub SomeKept : ℕ → ℕ → List ℕ → List ℕ → List ℕ → Type 0
-SomeKept k pivots rowOf columns polynomials = (vs : List PivotWords) × Kept k pivots rowOf columns polynomials vs
+-- they are kept for a column, which may be a pivot more only where there is room for it
+abbrev pub SomeKept : ℕ → ℕ → ℕ → List ℕ → List ℕ → List ℕ → Type 0
+SomeKept own k pivots rowOf columns polynomials = (vs : List PivotWords) × Kept k pivots rowOf columns polynomials vs × (restOf own vs .column ≢ 0 → k < 64)
 
 -- One column examined by k pivots: left 0 it is that of a lead, whose polynomial is answered, and the tables are as they were; any other is a pivot more.
 pub record ExaminedAs (own k : ℕ) (lead : Bool) (polynomial pivots pivots′ : ℕ) (rowOf columns polynomials rowOf′ columns′ polynomials′ : List ℕ) : Type 0 where

@@ -90,9 +90,9 @@ pub fn examine(
     columns: &mut [u64],
     polynomials: &mut [u64],
 ) -> Examined
-    requires { ⌜ SomeKept k pivots (now rows) (now columns) (now polynomials) ⌝ }
+    requires { ⌜ SomeKept own k pivots (now rows) (now columns) (now polynomials) ⌝ }
     requires { ⌜ PivotsLong (now rows) (now columns) (now polynomials) ⌝ }
-    requires { ⌜ k < 64 ⌝ }
+    requires { ⌜ k ≤ 64 ⌝ }
     ensures { λ e. ⌜ ExaminedAs own k (e .lead) (e .polynomial) pivots (e .pivots) (now (rows .entry)) (now (columns .entry)) (now (polynomials .entry))
         (now (rows .exit)) (now (columns .exit)) (now (polynomials .exit)) ⌝ }
 {

@@ -1,11 +1,12 @@
+use mathlib.Core.Path.{ap, _∙_}
 use Prim.Native.Nat.{_<_}
 use native.Mathlib.Omega.{arith}
 use borrow.Author.Needs.{needs}
 use lib.Count.{trailingZeros, trailing-le}
-use Rattle.packed.specs.Packed.{words}
+use Rattle.packed.specs.Packed.{Words, words}
 use Rattle.packed.proofs.BitLaws.{shift-one}
 use Rattle.packed.proofs.Orthogonal.{lowest-lt}
-use Rattle.packed.proofs.ExamineLaws.{kept-rows, examined-lead, examined-pivot}
+use Rattle.packed.proofs.ExamineLaws.{kept-rows, left-is, examined-lead, examined-pivot}
 use Rattle.packed.proofs.pivots.examine.Statement.{statement}
 use Rattle.packed.proofs.pivots.examine.Tie as tie
 use Rattle.packed.proofs.pivots.examine.Reads as reads
@@ -14,7 +15,7 @@ use Rattle.packed.proofs.pivots.clear_all.Reads as clear-all-reads
 use Rattle.packed.proofs.pivots.rest_at.Reads as rest-at-reads
 
 rest-at-requires : tie.Need-rest-at-requires
-rest-at-requires c κs = let a = c .before .before .before .before .before .before in kept-rows _ _ _ _ _ (a .pre .0 .0) (a .pre .0 .1) (omega (arith, a .pre .1 .1)) (a .pre .1 .0)
+rest-at-requires c κs = let a = c .before .before .before .before .before .before in kept-rows _ _ _ _ _ (a .pre .0 .0) (a .pre .0 .1) (a .pre .1 .1) (a .pre .1 .0)
 
 same-length : tie.Need-same-length
 same-length c = search needs
@@ -28,11 +29,17 @@ same-length-3 c = search needs
 returns : tie.Need-returns
 returns c = examined-lead _ _ _ _ _ _ (words _ _) (c .before .before .rest-at .ensures) (c .if1 .taken)
 
+-- a pivot more has its room
+room : (c : lts.Else1 (rest-at-reads.Asked, rest-at-reads.Learnt, clear-all-reads.Asked, clear-all-reads.Learnt) reads.Pre reads.Post) → c .before .before .before .before .before .before .before .before .before .args .k < 64
+room c =
+    let a = c .before .before .before .before .before .before .before .before .before in
+    a .pre .0 .2 (λ z. c .if1 .left (ap (λ (w : Words). w .column) (left-is _ _ _ _ _ (a .pre .0 .0) (a .pre .0 .1) _ (words _ _) (c .before .before .rest-at .ensures)) ∙ z))
+
 cast-place : tie.Need-cast-place
 cast-place c = record { fits = omega (arith, trailing-le 64 (c .before .before .before .rest-at .result .column)) }
 
 shl-polynomial : tie.Need-shl-polynomial
-shl-polynomial c = search needs
+shl-polynomial c = room (c .before)
 
 clear-all-requires : tie.Need-clear-all-requires
 clear-all-requires c κs =
@@ -54,13 +61,13 @@ mul-columns : tie.Need-mul-columns
 mul-columns c = search needs
 
 slice-write-columns : tie.Need-slice-write-columns
-slice-write-columns c = search needs
+slice-write-columns c = omega (arith, room (c .before .before .before .before .before .before .before .before .before), c .before .before .before .before .clear-all .ensures .long-columns, c .before .before .before .before .before .before .before .before .before .before .before .before .before .before .before .before .before .before .pre .1 .0 .1 .0)
 
 mul-polynomials : tie.Need-mul-polynomials
 mul-polynomials c = search needs
 
 slice-write-polynomials : tie.Need-slice-write-polynomials
-slice-write-polynomials c = search needs
+slice-write-polynomials c = omega (arith, room (c .before .before .before .before .before .before .before .before .before), c .before .before .before .before .clear-all .ensures .long-polynomials, c .before .before .before .before .before .before .before .before .before .before .before .before .before .before .before .before .before .before .pre .1 .0 .1 .1)
 
 shl-t19 : tie.Need-shl-t19
 shl-t19 c = place-in c
@@ -79,7 +86,7 @@ returns-2 c =
     let a = c .before .before .before .before .before .before .before .before .before .before .before .before .before .before .before .before .before .before in
     let r = c .before .before .before .before .before .before .before .before .before .before .before in
     examined-pivot _ _ _ _ _ _ (words (r .rest-at .result .column) (r .rest-at .result .polynomial)) (r .rest-at .ensures) (c .before .before .before .before .before .before .before .before .before .if1 .left) (c .before .before .before .before .before .before .before .before .struct-known2 .given .0 .fits)
-    _ _ (shift-one _ (a .pre .1 .1)) (shift-one _ (place-in c)) _ _ (c .before .before .before .before .clear-all .ensures) (a .pre .1 .1) (a .pre .1 .0)
+    _ _ (shift-one _ (room (c .before .before .before .before .before .before .before .before .before))) (shift-one _ (place-in c)) _ _ (c .before .before .before .before .clear-all .ensures) (room (c .before .before .before .before .before .before .before .before .before)) (a .pre .1 .0)
 
 pub examine-spec : {M : Type 1} → statement M
 examine-spec =
