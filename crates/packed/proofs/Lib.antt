@@ -25,3 +25,6 @@ pub mod VariableLaws
 pub mod SequenceLaws
 pub mod Ready
 pub mod Visiting
+pub mod ByteOrder
+pub mod SquareLaws
+pub mod ByteSteps

@@ -1,9 +1,10 @@
 -- The 256 monomials without squares in increasing order, as bytes, and where the multiples of each variable stand; and where a square comes among them.
 use mathlib.Core.Path.{_≡_}
-use mathlib.Core.Bool.{Bool, true, false}
+use mathlib.Core.Bool.{Bool, true, false, cond}
 use mathlib.Core.List.{List}
-use Prim.Native.Nat.{ℕ, _<_, Ordering, Ordering·lt, Ordering·eq, Ordering·gt}
+use Prim.Native.Nat.{ℕ, _-_, _<_, Ordering, Ordering·lt, Ordering·eq, Ordering·gt}
 use lib.ListN.{length, getD}
+use lib.Dec.{eqb}
 use Rattle.monomial.specs.Monomial.{one, timesVariable}
 use Rattle.monomial.specs.Order.{Order, cmp}
 use Rattle.packed.specs.Words.{bitOf, bitsOf}
@@ -25,3 +26,7 @@ pub record Sequence (order : Order) (bytes multiples : List ℕ) : Type 0 where
 -- the square of x_(k+1) comes before the monomial of a byte
 abbrev pub squareFirst : Order → ℕ → ℕ → Bool
 squareFirst order k byte = isLess (cmp order (timesVariable k (timesVariable k (one 8))) (bitsOf 8 byte))
+
+-- the square of the last of the first `left` variables comes before what stands at a place
+unfoldable pub squareComes : Order → ℕ → ℕ → List ℕ → Bool
+squareComes order left at bytes = cond (eqb left 0) false (cond (eqb at 256) true (squareFirst order (left - 1) (getD bytes at 0)))

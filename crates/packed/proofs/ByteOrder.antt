@@ -1,0 +1,93 @@
+-- The bytes of a sequence as monomials of m variables: they are in order, and so are the squares.
+use mathlib.Core.Path.{_≡_, refl, sym, ap, ap₂, _∙_, subst}
+use mathlib.Core.Bool.{Bool, true, false}
+use mathlib.Core.List.{List, [], _∷_}
+use mathlib.Core.Logic.{_≢_}
+use Prim.Native.Nat.{ℕ, zero, suc, _^_, _<_, _≤_, Ordering, Ordering·lt, Ordering·eq, Ordering·gt}
+use native.Mathlib.Nat.{lt-of-lt-of-le}
+use native.Mathlib.Omega.{arith}
+use lib.ListN.{length, getD, replicate, length-replicate}
+use lib.Dec.{T}
+use lib.Pow.{pow-mono}
+use Rattle.residue.specs.Layout.{fill}
+use Rattle.residue.proofs.Layouts.{fill-zeros}
+use Rattle.residue.proofs.level.Moduli.{below, below-at}
+use Rattle.monomial.specs.Monomial.{one, timesVariable}
+use Rattle.monomial.specs.Order.{Order, lex, grlex, grevlex, cmp}
+use Rattle.monomial.proofs.Algebra.Division.{divides-refl}
+use Rattle.monomial.proofs.Algebra.Products.{length-timesVariable}
+use Rattle.monomial.proofs.Padding.{cmp-fill, fill-timesVariable}
+use Rattle.specification.specs.Space.{Space, Less, Divides}
+use Rattle.specification.specs.Instance.{Monomial, spaceOf}
+use Rattle.specification.specs.Squares.{square, Squarefree}
+use Rattle.specification.proofs.Instance.{monomial-path}
+use Rattle.packed.specs.Words.{bitsOf, wordOf, length-bits}
+use Rattle.packed.specs.Sequences.{isLess, Sequence, squareFirst}
+use Rattle.packed.proofs.ByteInstance.{long-one, free-word, word-free}
+use Rattle.packed.proofs.PackedUnder.{bits-fill}
+use Rattle.packed.proofs.Visiting.{Ordered}
+
+-- the square of x_(k+1) in m variables
+abbrev squareIn : ℕ → ℕ → List ℕ
+squareIn m k = timesVariable k (timesVariable k (one m))
+
+less-of : (o : Ordering) → T (isLess o) → o ≡ Ordering·lt
+less-of Ordering·lt h = refl
+
+-- one test for each order
+squares-8 : (order : Order) (j k : ℕ) → j < k → k < 8 → cmp order (squareIn 8 k) (squareIn 8 j) ≡ Ordering·lt
+unfolding cmp
+squares-8 lex j k h u = less-of _ (below-at (λ j. isLess (cmp lex (squareIn 8 k) (squareIn 8 j))) k (below-at (λ k. below (λ j. isLess (cmp lex (squareIn 8 k) (squareIn 8 j))) k) 8 tt k u) j h)
+squares-8 grlex j k h u = less-of _ (below-at (λ j. isLess (cmp grlex (squareIn 8 k) (squareIn 8 j))) k (below-at (λ k. below (λ j. isLess (cmp grlex (squareIn 8 k) (squareIn 8 j))) k) 8 tt k u) j h)
+squares-8 grevlex j k h u = less-of _ (below-at (λ j. isLess (cmp grevlex (squareIn 8 k) (squareIn 8 j))) k (below-at (λ k. below (λ j. isLess (cmp grevlex (squareIn 8 k) (squareIn 8 j))) k) 8 tt k u) j h)
+
+zeros-fill : (m k : ℕ) → m ≤ k → fill k (one m) ≡ one k
+unfolding fill
+zeros-fill zero k h = fill-zeros k
+zeros-fill (suc m) zero h = absurd (omega arith)
+zeros-fill (suc m) (suc k) h = ap (λ (l : List ℕ). 0 ∷ l) (zeros-fill m k (omega arith))
+
+long-square : (m k : ℕ) → length (squareIn m k) ≡ m
+long-square m k = length-timesVariable k (timesVariable k (one m)) ∙ length-timesVariable k (one m) ∙ long-one m
+
+square-fill : (m k : ℕ) → m ≤ 8 → k < m → fill 8 (squareIn m k) ≡ squareIn 8 k
+square-fill m k h u =
+    fill-timesVariable (timesVariable k (one m)) (subst (λ (n : ℕ). n ≤ 8) (sym (length-timesVariable k (one m) ∙ long-one m)) h) k (subst (λ (n : ℕ). k < n) (sym (length-timesVariable k (one m) ∙ long-one m)) u)
+    ∙ ap (timesVariable k) (fill-timesVariable (one m) (subst (λ (n : ℕ). n ≤ 8) (sym (long-one m)) h) k (subst (λ (n : ℕ). k < n) (sym (long-one m)) u) ∙ ap (timesVariable k) (zeros-fill m 8 h))
+
+module _ (q m : ℕ) (order : Order) (most : m ≤ 8) (bytes multiples : List ℕ) (Q : Sequence order bytes multiples) where
+  abbrev D : Space
+  D = spaceOf q m order
+
+  -- the monomial of a place, where its byte has no variable above the first m
+  abbrev pub Valid : ℕ → Type 0
+  Valid i = getD bytes i 0 < 2 ^ m
+
+  abbrev pub at : ℕ → Monomial m
+  at i = (bitsOf m (getD bytes i 0), length-bits m (getD bytes i 0))
+
+  long : (w : ℕ) → length (bitsOf m w) ≤ 8
+  long w = subst (λ (n : ℕ). n ≤ 8) (sym (length-bits m w)) most
+
+  byte-cmp : (v w : ℕ) → v < 2 ^ m → w < 2 ^ m → cmp order (bitsOf 8 v) (bitsOf 8 w) ≡ cmp order (bitsOf m v) (bitsOf m w)
+  byte-cmp v w h k = ap₂ (cmp order) (sym (bits-fill m 8 v most h)) (sym (bits-fill m 8 w most k))
+      ∙ cmp-fill (bitsOf m v) (bitsOf m w) (length-bits m v ∙ sym (length-bits m w)) (long v) order
+
+  -- the square comes before a place
+  pub square-cmp : (k i : ℕ) → k < m → Valid i → cmp order (squareIn 8 k) (bitsOf 8 (getD bytes i 0)) ≡ D .cmp (square D k) (at i)
+  square-cmp k i h v = ap₂ (cmp order) (sym (square-fill m k most h)) (sym (bits-fill m 8 (getD bytes i 0) most v))
+      ∙ cmp-fill (squareIn m k) (bitsOf m (getD bytes i 0)) (long-square m k ∙ sym (length-bits m (getD bytes i 0))) (subst (λ (n : ℕ). n ≤ 8) (sym (long-square m k)) most) order
+
+  pub ordered : Ordered D Valid at
+  ordered = record {
+    at-less = λ i j h k u v. sym (byte-cmp (getD bytes i 0) (getD bytes j 0) u v) ∙ Q .rising i j h k;
+    at-place = λ a f. place a (free-word q m order a f .0) (free-word q m order a f .1);
+    at-free = λ i. word-free q m order (getD bytes i 0);
+    not-square = λ i k h e. word-free q m order (getD bytes i 0) k h (subst (λ (x : Monomial m). Divides D (square D k) x) (sym e) (divides-refl (square D k .0)));
+    squares = λ j k h u. sym (cmp-fill (squareIn m k) (squareIn m j) (long-square m k ∙ sym (long-square m j)) (subst (λ (n : ℕ). n ≤ 8) (sym (long-square m k)) most) order)
+        ∙ ap₂ (cmp order) (square-fill m k most u) (square-fill m j most (omega arith)) ∙ squares-8 order j k h (omega arith);
+  }
+    where
+      place : (a : Monomial m) → wordOf (a .0) < 2 ^ m → a .0 ≡ bitsOf m (wordOf (a .0)) → (i : ℕ) × (i < 256) × (getD bytes i 0 < 2 ^ m) × (at i ≡ a)
+      place a h e = let p = Q .every (wordOf (a .0)) (lt-of-lt-of-le h (pow-mono most)) in
+          (p .0, p .1, subst (λ (x : ℕ). x < 2 ^ m) (sym (p .2)) h, monomial-path (ap (bitsOf m) (p .2) ∙ sym e))
