@@ -13,7 +13,7 @@ use Rattle.packed.specs.Packed.{PivotWords, restOf, pivotFrom, withPivot
 use Rattle.packed.specs.PackedWalk.{PackedFound, packedFound, settledWords, examinedWords}
 use Rattle.packed.specs.PivotTables.{Kept, ExaminedAs}
 
-zero-told : (n : ℕ) → Decides (n ≡ 0) (eqb n 0)
+pub zero-told : (n : ℕ) → Decides (n ≡ 0) (eqb n 0)
 zero-told n = by-test (eqb n 0) (λ e. eqb→eq n 0 (subst T (sym e) tt)) (λ e. rw e refl)
 
 module _ (D : Space) (S : List (D .Pt)) (b : D .Mono) (f : PackedFound D) (own k : ℕ) (lead : Bool) (g pivots pivots′ : ℕ) (r c w r′ c′ w′ : List ℕ) (many : k ≡ length (f .standard))

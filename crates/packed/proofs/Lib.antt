@@ -28,3 +28,4 @@ pub mod Visiting
 pub mod ByteOrder
 pub mod SquareLaws
 pub mod ByteSteps
+pub mod Steps
