@@ -28,7 +28,7 @@ use Rattle.packed.proofs.PackedUnder.{bits-fill}
 use Rattle.packed.proofs.Visiting.{Ordered}
 
 -- the square of x_(k+1) in m variables
-abbrev squareIn : ℕ → ℕ → List ℕ
+abbrev pub squareIn : ℕ → ℕ → List ℕ
 squareIn m k = timesVariable k (timesVariable k (one m))
 
 less-of : (o : Ordering) → T (isLess o) → o ≡ Ordering·lt
@@ -47,10 +47,10 @@ zeros-fill zero k h = fill-zeros k
 zeros-fill (suc m) zero h = absurd (omega arith)
 zeros-fill (suc m) (suc k) h = ap (λ (l : List ℕ). 0 ∷ l) (zeros-fill m k (omega arith))
 
-long-square : (m k : ℕ) → length (squareIn m k) ≡ m
+pub long-square : (m k : ℕ) → length (squareIn m k) ≡ m
 long-square m k = length-timesVariable k (timesVariable k (one m)) ∙ length-timesVariable k (one m) ∙ long-one m
 
-square-fill : (m k : ℕ) → m ≤ 8 → k < m → fill 8 (squareIn m k) ≡ squareIn 8 k
+pub square-fill : (m k : ℕ) → m ≤ 8 → k < m → fill 8 (squareIn m k) ≡ squareIn 8 k
 square-fill m k h u =
     fill-timesVariable (timesVariable k (one m)) (subst (λ (n : ℕ). n ≤ 8) (sym (length-timesVariable k (one m) ∙ long-one m)) h) k (subst (λ (n : ℕ). k < n) (sym (length-timesVariable k (one m) ∙ long-one m)) u)
     ∙ ap (timesVariable k) (fill-timesVariable (one m) (subst (λ (n : ℕ). n ≤ 8) (sym (long-one m)) h) k (subst (λ (n : ℕ). k < n) (sym (long-one m)) u) ∙ ap (timesVariable k) (zeros-fill m 8 h))

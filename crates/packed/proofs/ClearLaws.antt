@@ -22,7 +22,7 @@ pivots-same (suc k) places columns polynomials places′ columns′ polynomials�
     let z = g k (omega arith) in
     cc
 
-map-snoc : {A B : Type 0} (f : A → B) (l : List A) (a : A) → map f (l ++ (a ∷ [])) ≡ map f l ++ (f a ∷ [])
+pub map-snoc : {A B : Type 0} (f : A → B) (l : List A) (a : A) → map f (l ++ (a ∷ [])) ≡ map f l ++ (f a ∷ [])
 map-snoc f [] a = refl
 map-snoc f (b ∷ l) a = ap (λ (r : List _). f b ∷ r) (map-snoc f l a)
 

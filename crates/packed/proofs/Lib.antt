@@ -29,3 +29,5 @@ pub mod ByteOrder
 pub mod SquareLaws
 pub mod ByteSteps
 pub mod Steps
+pub mod Found
+pub mod Walked

@@ -4,15 +4,16 @@ use mathlib.Core.List.{List, []}
 use mathlib.Core.Logic.{inl, inr}
 use Prim.Native.Nat.{ℕ, _<_, _≤_}
 use lib.ListN.{length}
+use Rattle.residue.specs.Lists.{Among}
 use Rattle.specification.specs.Space.{Space, Less, Divides}
 use Rattle.specification.specs.Polynomial.{Distinct}
 use Rattle.specification.specs.Extension.{divided}
 use Rattle.specification.specs.Examination.{Undivided}
 use Rattle.specification.specs.Squares.{variable, square, Squarefree, Boolean}
 use Rattle.specification.proofs.ideal.Laws.{Laws, same?, irrefl, trans, less-ne}
-use Rattle.specification.proofs.drawing.UpTo.{bordered-start, front-start, start-standard, start-lead}
+use Rattle.specification.proofs.drawing.UpTo.{Bordered, bordered-start, front-start, start-standard, start-lead, free-bordered, front-next}
 use Rattle.packed.specs.PackedWalk.{PackedFound, packedFound, examinedWords, Visit, free, squared, visitedMonomial, visited, PackedBasis}
-use Rattle.packed.proofs.Walking.{Candidate}
+use Rattle.packed.proofs.Walking.{Candidate, next-is}
 use Rattle.packed.proofs.Reduction.{reduced-none}
 use Rattle.packed.proofs.Standing.{Standing, examined-standing}
 use Rattle.packed.proofs.PackedAll.{IsVisit, visit-standing, ended}
@@ -82,3 +83,15 @@ module _ (D : Space) (L : Laws D) (B : Boolean D) (S : List (D .Pt)) (d : Distin
   pub ready-ended : (f : PackedFound D) (o : Last D) → Ready f o → ((a : Mono) → Candidate D a → Above D o a → ¬ Undivided D (f .leads) a) → PackedBasis D S f
   ready-ended f none e left = absurd (left one (inl one-free) tt (subst (λ (g : PackedFound D). Undivided D (g .leads) one) (sym e) (λ l mem. absurd mem)))
   ready-ended f (last c) W left = ended D L B S d few f c W left
+
+  -- what it is a variable times has been found, and it is new
+  pub ready-bordered : (f : PackedFound D) (o : Last D) → Ready f o → (b : Mono) → NextAfter D (f .leads) o b → Undivided D (f .leads) b → Bordered D (f .standard) b
+  ready-bordered f none e b n u = subst (λ (g : PackedFound D). Bordered D (g .standard) b) (sym e)
+      (subst (Bordered D []) (first b (subst (λ (g : PackedFound D). NextAfter D (g .leads) none b) e n)) (bordered-start D L S d))
+  ready-bordered f (last c) W b n u = free-bordered D L S d (f .standard) (f .leads) c (W .drawn) b
+      (next-is D L B S d (f .standard) (f .leads) c (W .drawn) b (record { after = n .after; least = n .least })) u
+
+  pub ready-new : (f : PackedFound D) (o : Last D) → Ready f o → (b : Mono) → NextAfter D (f .leads) o b → ¬ Among b (f .standard)
+  ready-new f none e b n = subst (λ (g : PackedFound D). ¬ Among b (g .standard)) (sym e) (λ z. z)
+  ready-new f (last c) W b n = front-next D L S d (f .standard) (f .leads) c (W .drawn) b
+      (next-is D L B S d (f .standard) (f .leads) c (W .drawn) b (record { after = n .after; least = n .least })) .new

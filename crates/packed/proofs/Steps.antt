@@ -19,14 +19,14 @@ use Rattle.specification.proofs.Squares.{isIn-told}
 use Rattle.specification.proofs.ideal.Laws.{Laws, less-ne}
 use Rattle.specification.proofs.ideal.Lists.{snoc-of, snoc-in}
 use Rattle.specification.proofs.ideal.Increasing.{divided-told}
-use Rattle.specification.proofs.drawing.UpTo.{standard-room, leads-room, bordered}
+use Rattle.specification.proofs.drawing.UpTo.{Bordered, standard-room, leads-room}
 use Rattle.packed.specs.Packed.{PivotWords, restOf, pivotFrom, withPivot}
 use Rattle.packed.specs.PackedWalk.{PackedFound, packedFound, examinedWords, settledWords, squareWords, indexIn, Visit, free, squared, visited}
 use Rattle.packed.specs.PlaceSets.{FirstOpen, Passed}
 use Rattle.packed.specs.Words.{columnOf}
 use Rattle.packed.proofs.ExaminedFound.{zero-told}
 use Rattle.packed.proofs.Standing.{Standing}
-use Rattle.packed.proofs.Ready.{Last, none, last, Above, NextAfter, Ready, visit-ready}
+use Rattle.packed.proofs.Ready.{Last, none, last, Above, NextAfter, Ready, visit-ready, ready-bordered, ready-new}
 use Rattle.packed.proofs.Visiting.{Ordered, Places, SquaresLeft, square-next, square-left, square-places, byte-next, byte-left, byte-places}
 
 module _ (D : Space) (L : Laws D) (B : Boolean D) (S : List (D .Pt)) (d : Distinct D S) (few : length S ≤ 64) (Valid : ℕ → Type 0) (at : ℕ → D .Mono) (O : Ordered D Valid at) where
@@ -96,6 +96,15 @@ module _ (D : Space) (L : Laws D) (B : Boolean D) (S : List (D .Pt)) (d : Distin
       byte-standing = subst (λ (g : PackedFound D). Standing D S g (at i)) examined-is
           (visit-ready D L B S d few f o (W .ready) (free (at i)) (O .at-free i) (byte-next D L Valid at O known (f .leads) o left (W .places) (W .squares) i F inside after))
 
+      due : NextAfter D (f .leads) o (at i)
+      due = byte-next D L Valid at O known (f .leads) o left (W .places) (W .squares) i F inside after
+
+      pub byte-bordered : Bordered D (f .standard) (at i)
+      byte-bordered = ready-bordered D L B S d few f o (W .ready) (at i) due (own-open .1 .1)
+
+      pub byte-new : ¬ Among (at i) (f .standard)
+      byte-new = ready-new D L B S d few f o (W .ready) (at i) due
+
       -- a pivot more only where there is room for it
       pub pivot-room : (own : ℕ) → own ≡ columnOf (D .val (at i)) S → restOf own (f .pivots) .column ≢ 0 → length (f .standard) < 64
       unfolding examinedWords settledWords
@@ -121,13 +130,13 @@ module _ (D : Space) (L : Laws D) (B : Boolean D) (S : List (D .Pt)) (d : Distin
         }
 
         -- a lead: the places of its multiples are known
-        pub lead-step : (Kind : ℕ → Type 0) (known′ : List ℕ) → g .leads ≡ f .leads ++ (at i ∷ []) → Passed Kind known known′ → Kind i → ((j : ℕ) → Kind j → Divides D (at i) (at j))
+        pub lead-step : (Kind : ℕ → Type 0) (known′ : List ℕ) → g .leads ≡ f .leads ++ (at i ∷ []) → Passed Kind known known′ → Kind i → ((j : ℕ) → j < 256 → Kind j → Divides D (at i) (at j))
             → ((j : ℕ) → j < 256 → Divides D (at i) (at j) → Kind j) → State g (last (at i)) known′ left
         lead-step Kind known′ more T self divides divided = record {
           ready = found-standing;
           places = byte-places D L Valid at O known (f .leads) o left (W .places) (W .squares) i F inside after Kind known′ (g .leads) T self
               (λ a mem. subst (λ (l : List Mono). Among a l) (sym more) (snoc-in (f .leads) (at i) a (inl mem)))
-              (λ j h e v z u. u (at i) (subst (λ (l : List Mono). Among (at i) l) (sym more) (snoc-in (f .leads) (at i) (at i) (inr refl))) (divides j e))
+              (λ j h e v z u. u (at i) (subst (λ (l : List Mono). Among (at i) l) (sym more) (snoc-in (f .leads) (at i) (at i) (inr refl))) (divides j h e))
               (λ j h v n u a mem w. elim (snoc-of (f .leads) (at i) a (subst (λ (l : List Mono). Among a l) more mem)) [
                 | inl y ↦ u a y w
                 | inr y ↦ n (divided j h (subst (λ (x : Mono). Divides D x (at j)) y w))

@@ -1,0 +1,79 @@
+// The walk: monomials without squares in increasing order, those that are multiples of leads passed over, and the squares of the variables between them. A column that
+// is a combination of those of the standard monomials found is that of a lead; x_k^2 is one exactly where x_k is standard.
+use crate::columns::ones;
+use crate::columns::own_column;
+use crate::columns::put_variables;
+use crate::keeping::keep_lead;
+use crate::keeping::keep_square;
+use crate::keeping::keep_standard;
+use crate::open::first_open;
+use crate::open::pass_above;
+use crate::pivots::examine;
+use crate::squares::square_comes;
+use specification::settings::Settings;
+ghost use mathlib.Core.Path.{_≡_};
+ghost use lib.ListN.{replicate};
+ghost use Rattle.monomial.specs.Order.{orderOf};
+ghost use Rattle.specification.specs.Tables.{pointsIn, standardSize, leadsSize, coefficientsSize};
+ghost use Rattle.construction.specs.Drawing.{PointsGiven, Tabled};
+ghost use Rattle.packed.specs.Sequences.{Sequence};
+
+// Fills the tables of the basis of n points modulo 2, the monomials without squares coming in the order of the bytes that are lent, with the places of the variables'
+// multiples.
+pub fn walk(
+    settings: Settings,
+    n: usize,
+    points: &[u8],
+    bytes: &[u8],
+    multiples: &[u64],
+    standard: &mut [u8],
+    leads: &mut [u8],
+    coefficients: &mut [u8],
+) -> usize
+    requires { ⌜ PointsGiven settings n (now points) × (settings .modulus ≡ 2) ⌝ }
+    requires { ⌜ Sequence (orderOf (settings .order)) (now bytes) (now multiples) ⌝ }
+    requires { ⌜ (now standard ≡ replicate standardSize 0) × ((now leads ≡ replicate leadsSize 0) × (now coefficients ≡ replicate coefficientsSize 0)) ⌝ }
+    ensures { λ r. ⌜ Tabled settings (pointsIn settings n (now (points .entry))) r (now (standard .exit)) (now (leads .exit)) (now (coefficients .exit)) ⌝ }
+{
+    let order = settings.order as u8;
+    let whole = ones(n);
+    let mut variables = [0u64; 8];
+    put_variables(n, points, &mut variables);
+    let mut left = settings.variables as usize;
+    let mut known = [0u64; 4];
+    pass_above(left, multiples, &mut known);
+    let mut values = [0u64; 256];
+    let mut places = [0u8; 256];
+    let mut rows = [0u8; 64];
+    let mut columns = [0u64; 64];
+    let mut polynomials = [0u64; 64];
+    let mut pivots = 0u64;
+    let mut found = 0;
+    let mut r = 0;
+    loop {
+        let at = first_open(&known);
+        if square_comes(order, left, at, bytes) {
+            left -= 1;
+            let place = places[1usize << left];
+            if place != 0 {
+                keep_square(left, place, r, leads, coefficients);
+                r += 1;
+            }
+        } else {
+            if at == 256 {
+                return r;
+            }
+            let byte = bytes[at];
+            let own = own_column(byte, whole, &variables, &values);
+            let e = examine(own, found, pivots, &mut rows, &mut columns, &mut polynomials);
+            pivots = e.pivots;
+            if e.lead {
+                keep_lead(r, byte, e.polynomial, multiples, &mut known, leads, coefficients);
+                r += 1;
+            } else {
+                keep_standard(found, at, byte, own, &mut values, &mut places, &mut known, standard);
+                found += 1;
+            }
+        }
+    }
+}
