@@ -31,3 +31,5 @@ pub mod ByteSteps
 pub mod Steps
 pub mod Found
 pub mod Walked
+pub mod Given
+pub mod Turns

@@ -35,7 +35,6 @@ pub fn walk(
     requires { ⌜ (now standard ≡ replicate standardSize 0) × ((now leads ≡ replicate leadsSize 0) × (now coefficients ≡ replicate coefficientsSize 0)) ⌝ }
     ensures { λ r. ⌜ Tabled settings (pointsIn settings n (now (points .entry))) r (now (standard .exit)) (now (leads .exit)) (now (coefficients .exit)) ⌝ }
 {
-    let order = settings.order as u8;
     let whole = ones(n);
     let mut variables = [0u64; 8];
     put_variables(n, points, &mut variables);
@@ -52,7 +51,7 @@ pub fn walk(
     let mut r = 0;
     loop {
         let at = first_open(&known);
-        if square_comes(order, left, at, bytes) {
+        if square_comes(settings.order as u8, left, at, bytes) {
             left -= 1;
             let place = places[1usize << left];
             if place != 0 {
