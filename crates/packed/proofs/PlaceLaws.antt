@@ -228,12 +228,12 @@ common-more byte left multiples common part common′ C small n row W = record {
     pick i h t k u x y (no e) = C .each i h .0 (t .0) k u x (sym (drop-bits 8 left k small n .1 e) ∙ y)
 
 -- all are met, and put in
-pub passed-multiples : (byte : ℕ) (multiples common known known′ : List ℕ) → Common byte 0 multiples common → Wordwise (λ x y. bitOr x y) known common known′
+pub passed-multiples : (byte left : ℕ) (multiples common known known′ : List ℕ) → left ≡ 0 → Common byte left multiples common → Wordwise (λ x y. bitOr x y) known common known′
     → Passed (OfMultiple byte multiples) known known′
-passed-multiples byte multiples common known known′ C W = record {
+passed-multiples byte left multiples common known known′ z C W = record {
   long = W .long;
   each = λ i h. (
-    (λ b. elim (max-of _ _ (in-small i known) (in-small i common) (sym (joined known common known′ W i h) ∙ b)) [ inl x ↦ inl x | inr x ↦ inr (λ k u y. C .each i h .0 x k u y (bit-zero k)) ]),
+    (λ b. elim (max-of _ _ (in-small i known) (in-small i common) (sym (joined known common known′ W i h) ∙ b)) [ inl x ↦ inl x | inr x ↦ inr (λ k u y. C .each i h .0 x k u y (ap (bitOf k) z ∙ bit-zero k)) ]),
     λ d. joined known common known′ W i h
         ∙ of-max _ _ (in-small i known) (in-small i common) (elim d [ inl x ↦ inl x | inr f ↦ inr (C .each i h .1 (λ k u y z. f k u y)) ]),
   );
@@ -245,6 +245,9 @@ From m k multiples i = (j : ℕ) × (m ≤ j) × (j < k) × (multipleAt j i mult
 
 pub passed-none : (m : ℕ) (multiples known : List ℕ) → Passed (From m m multiples) known known
 passed-none m multiples known = record { long = refl; each = λ i h. ((λ b. inl b), λ d. elim d [ inl b ↦ b | inr t ↦ absurd (omega (arith, t .1, t .2)) ]) }
+
+pub passed-all : (m k : ℕ) (multiples start known : List ℕ) → k ≡ 8 → Passed (From m k multiples) start known → Passed (OfAbove m multiples) start known
+passed-all m k multiples start known e P = subst (λ (j : ℕ). Passed (From m j multiples) start known) e P
 
 pub passed-more : (m k : ℕ) (multiples start known part known′ : List ℕ) → m ≤ k → Passed (From m k multiples) start known
     → ((i : ℕ) → i < 256 → inSet i part ≡ multipleAt k i multiples) → Wordwise (λ x y. bitOr x y) known part known′ → Passed (From m (k + 1) multiples) start known′
@@ -288,5 +291,5 @@ module _ (op : ℕ → ℕ → ℕ) (a b : List ℕ) where
       go j u (yes e) = ap (λ (i : ℕ). getD (set a′ w (op (getD a′ w 0) (getD b w 0))) i 0) e ∙ getD-set-same a′ w (op (getD a′ w 0) (getD b w 0)) 0 (omega (arith, t .long))
           ∙ ap (λ (x : ℕ). op x (getD b w 0)) (t .ahead w (omega arith)) ∙ ap (λ (i : ℕ). op (getD a i 0) (getD b i 0)) (sym e)
 
-  pub turned-all : (a′ : List ℕ) → Turned op 4 a b a′ → Wordwise op a b a′
-  turned-all a′ t = record { long = t .long; each = t .done }
+  pub turned-all : (w : ℕ) (a′ : List ℕ) → w ≡ 4 → Turned op w a b a′ → Wordwise op a b a′
+  turned-all w a′ e t = record { long = t .long; each = λ j h. t .done j (omega arith) }

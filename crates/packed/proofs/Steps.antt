@@ -47,6 +47,10 @@ module _ (D : Space) (L : Laws D) (B : Boolean D) (S : List (D .Pt)) (d : Distin
   pub standard-fit : (f : PackedFound D) (c : Mono) → Standing D S f c → length (f .standard) ≤ 64
   standard-fit f c W = let h = standard-room D L S d (f .standard) (f .leads) c (W .drawn) in omega arith
 
+  pub ready-fit : (f : PackedFound D) (o : Last D) → Ready D L B S d few f o → length (f .standard) ≤ 64
+  ready-fit f none e = subst (λ (g : PackedFound D). length (g .standard) ≤ 64) (sym e) (omega arith)
+  ready-fit f (last c) W = standard-fit f c W
+
   module _ (f : PackedFound D) (o : Last D) (known : List ℕ) (left : ℕ) (W : State f o known left) (i : ℕ) (F : FirstOpen known i) where
     -- a square
     module _ (k : ℕ) (e : left ≡ suc k) (before : i < 256 → Less D (square D k) (at i)) where

@@ -24,7 +24,8 @@ use Rattle.packed.specs.ByteColumns.{OwnColumn}
 use Rattle.packed.specs.Sequences.{isLess, squareFirst, squareComes}
 use Rattle.packed.proofs.ByteOrder.{squareIn, square-cmp}
 use Rattle.packed.proofs.Given.{AtHead, Now, L, B, distinct, few, most, variables-at, ones-at, walked-end}
-use Rattle.packed.proofs.Walked.{square-passed, square-room, square-kept, own-is, kept-some, lead-room, lead-kept, standard-room, standard-kept}
+use Rattle.packed.proofs.Steps.{ready-fit}
+use Rattle.packed.proofs.Walked.{O, square-passed, square-room, square-kept, own-is, kept-some, lead-room, lead-kept, standard-room, standard-kept}
 
 less-true : (o : Ordering) → isLess o ≡ true → o ≡ Ordering·lt
 less-true Ordering·lt e = refl
@@ -75,6 +76,10 @@ module _ (s : Settings) (n : ℕ) (points bytes multiples : List ℕ) (whole : �
 
   pub left-few : left ≤ 8
   left-few = let h = H .now .state .squares .few in omega (arith, h, H .given .settings .few)
+
+  pub found-few : found ≤ 64
+  found-few = subst (λ (x : ℕ). x ≤ 64) (sym (H .now .tabled .found-is)) (ready-fit D (L s n points (H .given) (H .two) bytes multiples (H .sequence)) (B s n points (H .given) (H .two) bytes multiples (H .sequence)) (pointsUnder s (pointsIn s n points)) (distinct s n points (H .given) (H .two) bytes multiples (H .sequence)) (few s n points (H .given) (H .two) bytes multiples (H .sequence)) (λ i. getD bytes i 0 < 2 ^ m) (λ i. (bitsOf m (getD bytes i 0), length-bits m (getD bytes i 0)))
+      (O q m order (most s n points (H .given) (H .two) bytes multiples (H .sequence)) bytes multiples (H .sequence) (L s n points (H .given) (H .two) bytes multiples (H .sequence)) (B s n points (H .given) (H .two) bytes multiples (H .sequence)) (pointsUnder s (pointsIn s n points)) (distinct s n points (H .given) (H .two) bytes multiples (H .sequence)) (few s n points (H .given) (H .two) bytes multiples (H .sequence))) (H .now .f) (H .now .o) (H .now .state .ready))
 
   pub standard-long : length standard ≡ 512
   standard-long = ap length (H .now .tabled .standard-table) ∙ length-fill 512 _

@@ -1,10 +1,8 @@
-use mathlib.Core.Path.{subst}
-use Prim.Native.Nat.{ℕ}
 use Prim.Native.Nat.{_+_, _*_, _-_, _≤_}
 use native.Mathlib.Omega.{arith}
 use borrow.Author.Needs.{needs}
 use Rattle.packed.specs.PlaceSets.{Passed}
-use Rattle.packed.proofs.PlaceLaws.{From, passed-none, passed-more, row-set}
+use Rattle.packed.proofs.PlaceLaws.{From, passed-none, passed-more, passed-all, row-set}
 use Rattle.packed.proofs.open.pass_above.Statement.{statement}
 use Rattle.packed.proofs.open.pass_above.Tie as tie
 use Rattle.packed.proofs.open.pass_above.Reads as reads
@@ -58,7 +56,7 @@ same-length : tie.Need-same-length Inv-loop μ-loop
 same-length c = search needs
 
 returns : tie.Need-returns Inv-loop μ-loop
-returns c = subst (λ (k : ℕ). Passed (From _ k _) _ _) (omega arith) (c .before .loop .inv .1 .1)
+returns c = passed-all _ (c .before .loop .k) _ _ _ (omega arith) (c .before .loop .inv .1 .1)
 
 pub pass-above-spec : {M : Type 1} → statement M
 pass-above-spec =

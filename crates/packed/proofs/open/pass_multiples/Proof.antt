@@ -1,6 +1,5 @@
 use lib.Pow.{pow-pos}
 use Rattle.packed.proofs.SetBits.{drop-lowest}
-use mathlib.Core.Path.{subst}
 use Prim.Native.Nat.{ℕ, _+_, _*_, _-_, _≤_, _<_, _^_}
 use lib.Bits.{and-lt}
 use Rattle.packed.proofs.Orthogonal.{lowest-lt}
@@ -82,9 +81,7 @@ same-length : tie.Need-same-length Inv-loop μ-loop
 same-length c = search needs
 
 returns : tie.Need-returns Inv-loop μ-loop
-returns c =
-    let l = c .before .before .before .before .before .before in
-    passed-multiples _ _ _ _ _ (subst (λ (z : ℕ). Common _ z _ _) (omega arith) (l .loop .inv .1)) (c .before .before .join .ensures)
+returns c = let l = c .before .before .before .before .before .before in passed-multiples _ (l .loop .left) _ _ _ _ (omega arith) (l .loop .inv .1) (c .before .before .join .ensures)
 
 pub pass-multiples-spec : {M : Type 1} → statement M
 pass-multiples-spec =

@@ -13,7 +13,7 @@ first-differs-requires c κs = search needs
 
 -- src/squares.rt:23:9
 returns : tie.Need-returns
-returns c = c .first-differs .ensures ∙ lex-returns _ _ _ (c .before .if1 .taken)
+returns c = let a = c .before .before in c .first-differs .ensures ∙ lex-returns (a .args .order) (a .args .k) (a .args .byte) (c .before .if1 .taken)
 
 -- src/squares.rt:27:9
 returns-2 : tie.Need-returns-2

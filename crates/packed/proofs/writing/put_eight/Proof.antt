@@ -60,7 +60,7 @@ same-length : tie.Need-same-length
 same-length c = search needs
 
 returns : tie.Need-returns
-returns c = eight-set _ _ _ _ _ _ _ _ _ (c .pre) ∙ eight-bytes _
+returns c = eight-set (c .args .to .now) _ _ _ _ _ _ _ _ (c .pre) ∙ eight-bytes (c .args .eight)
 
 pub put-eight-spec : {M : Type 1} → statement M
 put-eight-spec =

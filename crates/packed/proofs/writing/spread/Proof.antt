@@ -9,7 +9,7 @@ mul-eight : tie.Need-mul-eight
 mul-eight c = search needs
 
 add-result : tie.Need-add-result
-add-result c = record { fits = spread-fits _ }
+add-result c = record { fits = spread-fits (c .args .byte) }
 
 returns : tie.Need-returns
 returns c = spread-bits _ (c .fits .byte .fits)
