@@ -33,3 +33,4 @@ pub mod Found
 pub mod Walked
 pub mod Given
 pub mod Turns
+pub mod SequenceTables

@@ -9,10 +9,14 @@ use crate::keeping::keep_standard;
 use crate::open::first_open;
 use crate::open::pass_above;
 use crate::pivots::examine;
+use crate::sequences::grevlex;
+use crate::sequences::grlex;
+use crate::sequences::lex;
 use crate::squares::square_comes;
+use residue::bytes;
 use specification::settings::Settings;
 ghost use mathlib.Core.Path.{_≡_};
-ghost use lib.ListN.{replicate};
+ghost use lib.ListN.{length, replicate};
 ghost use Rattle.monomial.specs.Order.{orderOf};
 ghost use Rattle.specification.specs.Tables.{pointsIn, standardSize, leadsSize, coefficientsSize};
 ghost use Rattle.construction.specs.Drawing.{PointsGiven, Tabled};
@@ -75,4 +79,56 @@ pub fn walk(
             }
         }
     }
+}
+
+// The tables of the basis of n points modulo 2, over three lent tables of their sizes.
+pub fn draw_anew(
+    settings: Settings,
+    n: usize,
+    points: &[u8],
+    standard: &mut [u8],
+    leads: &mut [u8],
+    coefficients: &mut [u8],
+) -> usize
+    requires { ⌜ PointsGiven settings n (now points) × (settings .modulus ≡ 2) ⌝ }
+    requires { ⌜ (length (now standard) ≡ standardSize) × ((length (now leads) ≡ leadsSize) × (length (now coefficients) ≡ coefficientsSize)) ⌝ }
+    ensures { λ r. ⌜ Tabled settings (pointsIn settings n (now (points .entry))) r (now (standard .exit)) (now (leads .exit)) (now (coefficients .exit)) ⌝ }
+{
+    bytes::clear(standard);
+    bytes::clear(leads);
+    bytes::clear(coefficients);
+    if settings.order == 0 {
+        return walk(
+            settings,
+            n,
+            points,
+            &lex::BYTES,
+            &lex::MULTIPLES,
+            standard,
+            leads,
+            coefficients,
+        );
+    }
+    if settings.order == 1 {
+        return walk(
+            settings,
+            n,
+            points,
+            &grlex::BYTES,
+            &grlex::MULTIPLES,
+            standard,
+            leads,
+            coefficients,
+        );
+    }
+    walk(
+        settings,
+        n,
+        points,
+        &grevlex::BYTES,
+        &grevlex::MULTIPLES,
+        standard,
+        leads,
+        coefficients,
+    )
 }
