@@ -5,6 +5,7 @@ use mathlib.Core.Logic.{inl, inr}
 use Prim.Native.Nat.{ℕ, zero, suc, _-_, _^_, _/_, _%_, _<_, _≤_}
 use native.Mathlib.Omega.{arith}
 use lib.ListN.{length, length-map}
+use Rattle.residue.specs.Sizes.{standardSize, leadsSize, coefficientsSize}
 use Rattle.residue.specs.Lists.{Among}
 use Rattle.residue.specs.Layout.{fill, inPlaces}
 use Rattle.residue.proofs.Layouts.{fill-exact}
@@ -13,7 +14,7 @@ use Rattle.monomial.specs.Increasing.{Increasing}
 use Rattle.specification.specs.declared.settings.Settings.{Settings}
 use Rattle.specification.specs.Space.{Space, Less}
 use Rattle.specification.specs.Polynomial.{Distinct}
-use Rattle.specification.specs.Tables.{spaceUnder, pointsUnder, rowCount, standardTable, leadsTable, coefficientsTable, standardSize, leadsSize, coefficientsSize}
+use Rattle.specification.specs.Tables.{spaceUnder, pointsUnder, rowCount, standardTable, leadsTable, coefficientsTable}
 use Rattle.specification.specs.Instance.{Monomial, pointOf}
 use Rattle.specification.specs.Points.{Points}
 use Rattle.specification.specs.Settings.{Accepted}

@@ -2,6 +2,7 @@
 ghost use mathlib.Core.Path.{_≡_};
 ghost use Prim.Native.Nat.{ℕ, _*_, _-_, _^_, _<_, _≤_};
 ghost use lib.ListN.{length, getD, replicate};
+ghost use Rattle.residue.specs.Sizes.{statesSize};
 ghost use Rattle.packed.specs.ByteColumns.{Pushed, VariableColumns, OwnColumn};
 
 // One point more at the front of the variables' columns.
@@ -17,7 +18,7 @@ fn push_point(point: &[u8], columns: &mut [u64])
 
 // The columns of the variables at the n points of a table, from the last point to the first.
 pub fn put_variables(n: usize, points: &[u8], columns: &mut [u64])
-    requires { ⌜ (n ≤ 64) × ((length (now points) ≡ 512) × (now columns ≡ replicate 8 0)) ⌝ }
+    requires { ⌜ (n ≤ 64) × ((length (now points) ≡ statesSize) × (now columns ≡ replicate 8 0)) ⌝ }
     ensures { λ _. ⌜ VariableColumns n (now (points .entry)) (now (columns .exit)) ⌝ }
 {
     for j in 0..n {

@@ -14,11 +14,13 @@ use crate::sequences::grlex;
 use crate::sequences::lex;
 use crate::squares::square_comes;
 use residue::bytes;
+use residue::sizes;
 use specification::settings::Settings;
 ghost use mathlib.Core.Path.{_≡_};
 ghost use lib.ListN.{length, replicate};
+ghost use Rattle.residue.specs.Sizes.{standardSize, leadsSize, coefficientsSize};
 ghost use Rattle.monomial.specs.Order.{orderOf};
-ghost use Rattle.specification.specs.Tables.{pointsIn, standardSize, leadsSize, coefficientsSize};
+ghost use Rattle.specification.specs.Tables.{pointsIn};
 ghost use Rattle.construction.specs.Drawing.{PointsGiven, Tabled};
 ghost use Rattle.packed.specs.Sequences.{Sequence};
 
@@ -47,9 +49,9 @@ pub fn walk(
     pass_above(left, multiples, &mut known);
     let mut values = [0u64; 256];
     let mut places = [0u8; 256];
-    let mut rows = [0u8; 64];
-    let mut columns = [0u64; 64];
-    let mut polynomials = [0u64; 64];
+    let mut rows = [0u8; sizes::POINTS];
+    let mut columns = [0u64; sizes::POINTS];
+    let mut polynomials = [0u64; sizes::POINTS];
     let mut pivots = 0u64;
     let mut found = 0;
     let mut r = 0;

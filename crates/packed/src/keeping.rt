@@ -8,9 +8,9 @@ use crate::writing::squared;
 ghost use mathlib.Core.Path.{_≡_};
 ghost use Prim.Native.Nat.{suc, _-_, _^_, _<_, _≤_};
 ghost use lib.ListN.{length, set};
+ghost use Rattle.residue.specs.Sizes.{mostRows, standardSize, leadsSize, coefficientsSize};
 ghost use Rattle.residue.specs.Layout.{withPlace};
 ghost use Rattle.monomial.specs.Monomial.{one, timesVariable};
-ghost use Rattle.specification.specs.Tables.{standardSize, leadsSize, coefficientsSize};
 ghost use Rattle.packed.specs.Words.{bitsOf};
 ghost use Rattle.packed.specs.PlaceSets.{Passed, OfMultiple};
 
@@ -24,7 +24,7 @@ pub fn keep_lead(
     leads: &mut [u8],
     coefficients: &mut [u8],
 )
-    requires { ⌜ r < 449 ⌝ }
+    requires { ⌜ r < mostRows ⌝ }
     requires { ⌜ (length (now multiples) ≡ 32) × (length (now known) ≡ 4) ⌝ }
     requires { ⌜ (length (now leads) ≡ leadsSize) × (length (now coefficients) ≡ coefficientsSize) ⌝ }
     ensures { λ _. ⌜ now (leads .exit) ≡ withPlace 8 r (bitsOf 8 byte) (now (leads .entry)) ⌝ }
@@ -38,7 +38,7 @@ pub fn keep_lead(
 
 // The square of x_(k+1) as a lead: its row is 1 at x_(k+1), which is standard monomial `place`, counted from 1.
 pub fn keep_square(k: usize, place: u8, r: usize, leads: &mut [u8], coefficients: &mut [u8])
-    requires { ⌜ (k < 8) × ((r < 449) × ((1 ≤ place) × (place ≤ 64))) ⌝ }
+    requires { ⌜ (k < 8) × ((r < mostRows) × ((1 ≤ place) × (place ≤ 64))) ⌝ }
     requires { ⌜ (length (now leads) ≡ leadsSize) × (length (now coefficients) ≡ coefficientsSize) ⌝ }
     ensures { λ _. ⌜ now (leads .exit) ≡ withPlace 8 r (timesVariable k (timesVariable k (one 8))) (now (leads .entry)) ⌝ }
     ensures { λ _. ⌜ now (coefficients .exit) ≡ withPlace 64 r (bitsOf 64 (2 ^ (place - 1))) (now (coefficients .entry)) ⌝ }

@@ -2,6 +2,7 @@
 ghost use mathlib.Core.Path.{_≡_};
 ghost use Prim.Native.Nat.{_+_, _*_, _<_, _≤_};
 ghost use lib.ListN.{length};
+ghost use Rattle.residue.specs.Sizes.{mostPoints, mostRows};
 ghost use Rattle.residue.specs.Layout.{withPlace};
 ghost use Rattle.monomial.specs.Monomial.{one, timesVariable};
 ghost use Rattle.packed.specs.Words.{bitsOf, bytesOf};
@@ -40,7 +41,7 @@ fn put_eight(eight: u64, to: &mut [u8])
 
 // Eight bytes at their place of a table.
 pub fn keep_eight(i: usize, eight: u64, table: &mut [u8])
-    requires { ⌜ (i < 449) × (8 * i + 8 ≤ length (now table)) ⌝ }
+    requires { ⌜ (i < mostRows) × (8 * i + 8 ≤ length (now table)) ⌝ }
     ensures { λ _. ⌜ now (table .exit) ≡ withPlace 8 i (bytesOf 8 eight) (now (table .entry)) ⌝ }
 {
     let from = 8 * i;
@@ -49,7 +50,7 @@ pub fn keep_eight(i: usize, eight: u64, table: &mut [u8])
 
 // The 64 coefficients of a row.
 fn put_row(word: u64, to: &mut [u8])
-    requires { ⌜ length (now to) ≡ 64 ⌝ }
+    requires { ⌜ length (now to) ≡ mostPoints ⌝ }
     ensures { λ _. ⌜ now (to .exit) ≡ bitsOf 64 word ⌝ }
 {
     for k in 0..8 {
@@ -60,7 +61,7 @@ fn put_row(word: u64, to: &mut [u8])
 
 // A row at its place of the table.
 pub fn keep_row(r: usize, word: u64, coefficients: &mut [u8])
-    requires { ⌜ (r < 449) × (64 * r + 64 ≤ length (now coefficients)) ⌝ }
+    requires { ⌜ (r < mostRows) × (64 * r + 64 ≤ length (now coefficients)) ⌝ }
     ensures { λ _. ⌜ now (coefficients .exit) ≡ withPlace 64 r (bitsOf 64 word) (now (coefficients .entry)) ⌝ }
 {
     let from = 64 * r;
