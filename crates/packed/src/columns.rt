@@ -12,7 +12,7 @@ fn push_point(point: &[u8], columns: &mut [u64])
     ensures { λ _. ⌜ Pushed (now (point .entry)) (now (columns .entry)) (now (columns .exit)) ⌝ }
 {
     for k in 0..8 {
-        columns[k] = columns[k] * 2 + (point[k] % 2) as u64;
+        columns[k] = columns[k] * 2 + (point[k] & 1) as u64;
     }
 }
 

@@ -1,8 +1,10 @@
-use mathlib.Core.Path.{sym, subst}
+-- `columns::push_point` meets its contract: each column is doubled, and has the point's bit at the front.
+use mathlib.Core.Path.{sym, ap, subst, _∙_}
 use lib.ListN.{getD}
 use borrow.Author.Needs.{needs}
 use Prim.Native.Nat.{ℕ, _+_, _*_, _-_, _%_, _^_, _<_, _≤_}
 use native.Mathlib.Omega.{arith}
+use lib.Bits.{bitAnd, and-mask}
 use Rattle.packed.proofs.PlaceLaws.{Turned, turned-none, turned-more}
 use Rattle.packed.proofs.columns.push_point.Statement.{statement}
 use Rattle.packed.proofs.columns.push_point.Tie as tie
@@ -10,7 +12,7 @@ use Rattle.packed.proofs.columns.push_point.Reads as reads
 use Rattle.packed.proofs.columns.push_point.Lts as lts
 
 abbrev Inv-loop : tie.InvT-loop
-Inv-loop point columns₀ k₀ columns k = (k ≤ 8) × Turned (λ x y. x * 2 + y % 2) k columns₀ point columns
+Inv-loop point columns₀ k₀ columns k = (k ≤ 8) × Turned (λ x y. x * 2 + bitAnd y 1) k columns₀ point columns
 
 abbrev μ-loop : tie.MeasureT-loop
 μ-loop point columns₀ k₀ columns k = 8 - k
@@ -35,10 +37,10 @@ shared-slice-read-columns : tie.Need-shared-slice-read-columns Inv-loop μ-loop
 shared-slice-read-columns c = search needs
 
 cast-columns : tie.Need-cast-columns Inv-loop μ-loop
-cast-columns c = search needs
+cast-columns c = let i = c .before .before in omega (arith, and-mask (getD (i .before .before .args .point .now) (i .before .loop .k) 0) 1)
 
 add-columns : tie.Need-add-columns Inv-loop μ-loop
-add-columns c = record { fits = omega (arith, small (c .before .before)) }
+add-columns c = let i = c .before .before in record { fits = omega (arith, small i, and-mask (getD (i .before .before .args .point .now) (i .before .loop .k) 0) 1) }
 
 mul-columns-3 : tie.Need-mul-columns-3 Inv-loop μ-loop
 mul-columns-3 c = search needs
@@ -59,7 +61,7 @@ same-length : tie.Need-same-length Inv-loop μ-loop
 same-length c = search needs
 
 returns : tie.Need-returns Inv-loop μ-loop
-returns c = let l = c .before in record { long = l .loop .inv .1 .long; each = λ k h. l .loop .inv .1 .done k (omega arith) }
+returns c = let l = c .before in record { long = l .loop .inv .1 .long; each = λ k h. l .loop .inv .1 .done k (omega arith) ∙ ap (λ (b : ℕ). getD (l .before .args .columns .now) k 0 * 2 + b) (and-mask (getD (l .before .args .point .now) k 0) 1) }
 
 pub push-point-spec : {M : Type 1} → statement M
 push-point-spec =
