@@ -41,8 +41,8 @@ FORMS, REPOSITORY = "| place | form | where |", "| place | what it holds |"
 NOTES = {
     "docs/changes/M-100.md": "ab29f61fe6b93d62",
     "docs/changes/M-102.md": "6a3f3683503eb767",
-    "docs/changes/M-103.md": "417f6ebe97dce867",
-    "docs/changes/M-104.md": "20814372f8ff818d",
+    "docs/changes/M-103.md": "164efe303faa8a85",
+    "docs/changes/M-104.md": "c0ff581efb85c053",
     "docs/changes/M-105.md": "0f368a709635106c",
     "docs/changes/M-106.md": "85185652235a4dc1",
     "docs/changes/M-107.md": "0df02fce05dbb056",
