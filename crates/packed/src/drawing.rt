@@ -70,13 +70,37 @@ pub fn walk(
             }
             let byte = bytes[at];
             let own = own_column(byte, whole, &variables, &values);
-            let e = examine(own, found, pivots, &mut rows, &mut columns, &mut polynomials);
+            let e = examine(
+                own,
+                found,
+                pivots,
+                &mut rows,
+                &mut columns,
+                &mut polynomials,
+            );
             pivots = e.pivots;
             if e.lead {
-                keep_lead(r, byte, e.polynomial, multiples, &mut known, leads, coefficients);
+                keep_lead(
+                    r,
+                    byte,
+                    e.polynomial,
+                    multiples,
+                    &mut known,
+                    leads,
+                    coefficients,
+                );
                 r += 1;
             } else {
-                keep_standard(found, at, byte, own, &mut values, &mut places, &mut known, standard);
+                keep_standard(
+                    found,
+                    at,
+                    byte,
+                    own,
+                    &mut values,
+                    &mut places,
+                    &mut known,
+                    standard,
+                );
                 found += 1;
             }
         }

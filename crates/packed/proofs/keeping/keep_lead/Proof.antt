@@ -44,8 +44,7 @@ same-length-3 c = search needs
 returns : tie.Need-returns
 returns c =
     let a = c .before .before .before .before .before .before .before .before .before .before .before .before .before .before .before .before .before in
-    let e = c .before .before .before .before .before .before .before .before .before .before in
-    (
+    let e = c .before .before .before .before .before .before .before .before .before .before in (
       e .keep-eight .ensures ∙ ap (λ (l : List ℕ). withPlace 8 (a .args .r) l (a .args .leads .now)) (e .before .before .spread .ensures),
       (c .before .before .before .before .before .before .keep-row .ensures, c .before .before .pass-multiples .ensures),
     )

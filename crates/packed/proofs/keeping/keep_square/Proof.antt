@@ -50,8 +50,7 @@ same-length-2 c = search needs
 returns : tie.Need-returns
 returns c =
     let a = c .before .before .before .before .before .before .before .before .before .before .before in
-    let e = c .before .before .before .before .before .before in
-    (
+    let e = c .before .before .before .before .before .before in (
       e .keep-eight .ensures ∙ ap (λ (l : List ℕ). withPlace 8 (a .args .r) l (a .args .leads .now)) (e .before .before .squared .ensures),
       c .before .before .keep-row .ensures ∙ ap (λ (w : ℕ). withPlace 64 (a .args .r) (bitsOf 64 w) (a .args .coefficients .now)) (shift-one (a .args .place - 1) (omega arith)),
     )

@@ -65,8 +65,7 @@ same-length-4 c = search needs
 returns : tie.Need-returns
 returns c =
     let a = c .before .before .before .before .before .before .before .before .before .before .before .before .before in
-    let e = c .before .before .before .before .before .before in
-    (
+    let e = c .before .before .before .before .before .before in (
       e .keep-eight .ensures ∙ ap (λ (l : List ℕ). withPlace 8 (a .args .found) l (a .args .standard .now)) (e .before .before .spread .ensures),
       ((refl, ap (λ (x : ℕ). set (a .args .places .now) (a .args .byte) x) (add-one (a .args .found))), c .before .before .pass .ensures),
     )
