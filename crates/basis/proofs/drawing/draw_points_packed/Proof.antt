@@ -1,5 +1,5 @@
 -- `drawing::draw_points_packed` meets its contract: points and counts are copied, and the fronts of the other lent tables drawn up.
-use mathlib.Core.Path.{ap, ap₂, _∙_, sym}
+use mathlib.Core.Path.{ap, _∙_, sym}
 use mathlib.Core.List.{List}
 use Prim.Native.Nat.{ℕ}
 use native.Mathlib.Omega.{arith}
@@ -7,9 +7,8 @@ use lib.Seq.{length-take-le, length-front}
 use Rattle.residue.specs.Layout.{over}
 use Rattle.residue.proofs.Layouts.{fill-exact}
 use Rattle.specification.specs.Tables.{Tables, fiveTables, statesTable, pointsIn}
-use Rattle.specification.specs.Adding.{Outcome, costing}
 use Rattle.specification.proofs.agreement.Refusals.{Large, large-of}
-use Rattle.construction.proofs.drawing.Given.{given-count, few-drawn, few-cost}
+use Rattle.construction.proofs.drawing.Given.{given-count, few-drawn}
 use Rattle.construction.proofs.drawing.Grounds.{points-long}
 use Rattle.recognition.proofs.settings.Written.{both-written}
 use Rattle.basis.proofs.drawing.draw_points_packed.Statement.{statement}
@@ -20,11 +19,11 @@ module _ (s : tie.Start) where
   tables = fiveTables (s .args .states .now) (s .args .standard .now) (s .args .leads .now) (s .args .coefficients .now) (s .args .counts .now)
 
   large : Large tables
-  large = large-of tables (s .pre .1 .1 .0)
+  large = large-of tables (s .pre .1 .1)
 
 -- the places, one from the next: the tables are lent, the points are copied, and their counts
 abbrev opened : tie.After-copy-arg → tie.Start
-opened c = c .before .before .before .before .before .before .before .before .before .before
+opened c = c .before .before .before .before .before .before .before .before
 
 abbrev points-in : tie.After-copy-arg2 → tie.After-copy
 points-in c = c .before .before .before
@@ -32,11 +31,11 @@ points-in c = c .before .before .before
 abbrev start : tie.After-copy2 → tie.Start
 start k = opened (points-in (k .before) .before)
 
-abbrev lent : tie.After-slice-known9 → tie.After-copy2
+abbrev lent : tie.After-slice-known7 → tie.After-copy2
 lent c = c .before .before
 
 copy-requires : tie.Need-copy-requires
-copy-requires c κs = let s = opened c in omega (arith, points-long (s .pre .0), large s .states)
+copy-requires c κs = let s = opened c in omega (arith, points-long (s .pre .0 .0), large s .states)
 
 copy-requires-2 : tie.Need-copy-requires-2
 copy-requires-2 c κs = let s = opened (points-in c .before) in omega (arith, s .pre .1 .0, large s .counts)
@@ -61,13 +60,13 @@ slice-aggregate-draw-anew-3 c = let s = start (lent (c .before .before .before))
 
 draw-anew-requires : tie.Need-draw-anew-requires
 draw-anew-requires c κs =
-    let s = start (lent (c .before .before .before .before .before)) in
-    (s .pre .0, ((length-take-le 512 (s .args .standard .now) (large s .standard), (length-take-le 3592 (s .args .leads .now) (large s .leads), length-take-le 28736 (s .args .coefficients .now) (large s .coefficients))), s .pre .1 .1 .1))
+    let s = start (lent (c .before .before .before)) in
+    (s .pre .0, (length-take-le 512 (s .args .standard .now) (large s .standard), (length-take-le 3592 (s .args .leads .now) (large s .leads), length-take-le 28736 (s .args .coefficients .now) (large s .coefficients))))
 
 -- the fronts are drawn up
 module _ (d : tie.After-draw-anew) where
   abbrev copied : tie.After-copy2
-  copied = lent (d .before .before .before .before .before .before)
+  copied = lent (d .before .before .before .before)
 
   abbrev o : tie.Start
   o = start copied
@@ -84,56 +83,39 @@ module _ (d : tie.After-draw-anew) where
   abbrev coefficients : List ℕ
   coefficients = d .draw-anew .last .1 .1 .1 .1 .1 .0
 
-abbrev drawing : tie.After-slice-known14 → tie.After-draw-anew
-drawing c = c .before .before .before .before .before .before .before .before .before .before
+abbrev drawing : tie.After-slice-known10 → tie.After-draw-anew
+drawing c = c .before .before .before .before .before .before
 
--- its counts are read
-abbrev counted : tie.After-struct-known2 → tie.After-draw-anew
-counted c = drawing (c .before .before)
+cast-t22 : tie.Need-cast-t22
+cast-t22 c = omega (arith, o (drawing c) .pre .0 .0 .most)
 
-cast-t28 : tie.Need-cast-t28
-cast-t28 c = omega (arith, o (drawing c) .pre .0 .most)
-
-cast-t29 : tie.Need-cast-t29
-cast-t29 c = let d = drawing (c .before) in omega (arith, d .draw-anew .ensures .0 .row-count, few-drawn (o d .pre .0))
-
-cast-t30 : tie.Need-cast-t30
-cast-t30 c = let d = counted c in omega (arith, d .draw-anew .ensures .1 .0, few-cost (o d .pre .0))
+cast-t23 : tie.Need-cast-t23
+cast-t23 c = let d = drawing c in omega (arith, d .draw-anew .ensures .row-count, few-drawn (o d .pre .0 .0))
 
 same-length : tie.Need-same-length
-same-length c = points-in (copied (counted c) .before) .copy .kept .1 .0
+same-length c = points-in (copied (drawing c) .before) .copy .kept .1 .0
 
 same-length-2 : tie.Need-same-length-2
-same-length-2 c = let d = counted c in length-front (o d .args .standard .now) (standard d) 512 (d .draw-anew .kept .1 .1 .1 .0)
+same-length-2 c = let d = drawing c in length-front (o d .args .standard .now) (standard d) 512 (d .draw-anew .kept .1 .1 .1 .0)
 
 same-length-3 : tie.Need-same-length-3
-same-length-3 c = let d = counted c in length-front (o d .args .leads .now) (leads d) 3592 (d .draw-anew .kept .1 .1 .1 .1 .0)
+same-length-3 c = let d = drawing c in length-front (o d .args .leads .now) (leads d) 3592 (d .draw-anew .kept .1 .1 .1 .1 .0)
 
 same-length-4 : tie.Need-same-length-4
-same-length-4 c = let d = counted c in length-front (o d .args .coefficients .now) (coefficients d) 28736 (d .draw-anew .kept .1 .1 .1 .1 .1 .0)
+same-length-4 c = let d = drawing c in length-front (o d .args .coefficients .now) (coefficients d) 28736 (d .draw-anew .kept .1 .1 .1 .1 .1 .0)
 
 same-length-5 : tie.Need-same-length-5
-same-length-5 c = copied (counted c) .copy2 .kept .1 .0
-
-same-length-6 : tie.Need-same-length-6
-same-length-6 c = counted c .draw-anew .kept .1 .1 .1 .1 .1 .1 .0
-
-same-length-7 : tie.Need-same-length-7
-same-length-7 c = counted c .draw-anew .kept .1 .1 .1 .1 .1 .1 .1 .0
+same-length-5 c = copied (drawing c) .copy2 .kept .1 .0
 
 returns : tie.Need-returns
 unfolding statesTable
 returns c =
-    let d = counted c in
+    let d = drawing c in
     let s = o d in
-    let e = d .draw-anew .ensures in
-    let k = copied d in (
-      ap₂ (λ (k : ℕ) (w : Outcome). costing k w) (e .1 .0)
-          (both-written (s .args .settings) (S d) (s .args .times .now) (tables s) (s .args .n) (d .draw-anew .result .r) _ (standard d) (leads d) (coefficients d) _ (sym (given-count (s .pre .0)))
-          (points-in (k .before) .copy .ensures ∙ ap (λ (t : List ℕ). over t (s .args .states .now)) (s .pre .0 .table)) (e .0)
-          (k .copy2 .ensures ∙ ap (λ (t : List ℕ). over t (s .args .counts .now)) (sym (fill-exact 64 (s .args .times .now) (s .pre .1 .0))))),
-      e .1 .1,
-    )
+    let k = copied d in
+    both-written (s .args .settings) (S d) (s .args .times .now) (tables s) (s .args .n) (d .draw-anew .result) _ (standard d) (leads d) (coefficients d) _ (sym (given-count (s .pre .0 .0)))
+    (points-in (k .before) .copy .ensures ∙ ap (λ (t : List ℕ). over t (s .args .states .now)) (s .pre .0 .0 .table)) (d .draw-anew .ensures)
+    (k .copy2 .ensures ∙ ap (λ (t : List ℕ). over t (s .args .counts .now)) (sym (fill-exact 64 (s .args .times .now) (s .pre .1 .0))))
 
 pub draw-points-packed-spec : {M : Type 1} → statement M
 draw-points-packed-spec =
@@ -148,14 +130,11 @@ draw-points-packed-spec =
     slice-relend-prefix-draw-anew-3
     slice-aggregate-draw-anew-3
     draw-anew-requires
-    cast-t28
-    cast-t29
-    cast-t30
+    cast-t22
+    cast-t23
     same-length
     same-length-2
     same-length-3
     same-length-4
     same-length-5
-    same-length-6
-    same-length-7
     returns)
