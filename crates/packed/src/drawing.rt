@@ -1,5 +1,5 @@
-// The walk: monomials without squares in increasing order, those that are multiples of leads passed over, and the squares of the variables between them. A column that
-// is a combination of those of the standard monomials found is that of a lead; x_k^2 is one exactly where x_k is standard.
+// The walk: monomials without squares in increasing order, those that are multiples of leads passed over, and the squares of the variables between them. A
+// column that is a combination of those of the standard monomials found is that of a lead; x_k^2 is one exactly where x_k is standard.
 use crate::columns::ones;
 use crate::columns::own_column;
 use crate::columns::put_variables;
@@ -24,8 +24,8 @@ ghost use Rattle.specification.specs.Tables.{pointsIn};
 ghost use Rattle.construction.specs.Drawing.{PointsGiven, Tabled};
 ghost use Rattle.packed.specs.Sequences.{Sequence};
 
-// Fills the tables of the basis of n points modulo 2, the monomials without squares coming in the order of the bytes that are lent, with the places of the variables'
-// multiples.
+// Fills the tables of the basis of n points modulo 2. The monomials without squares come in the order of the bytes that are lent, with the places of the
+// variables' multiples.
 pub fn walk(
     settings: Settings,
     n: usize,

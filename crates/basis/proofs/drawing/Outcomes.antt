@@ -16,7 +16,7 @@ use Rattle.specification.specs.Settings.{settingsCases}
 use Rattle.specification.specs.Levels.{inRange}
 use Rattle.specification.specs.Counted.{Counted, pointsOf, countsOf, gathered, overfull}
 use Rattle.specification.specs.Tables.{Tables, statesTable, tooShort, pointsIn}
-use Rattle.specification.specs.Adding.{refused, pointsOffered, costless, drawPackedOutcome, drawCases, drawRefusal, costing, cancellationsUnder, Outcome, DrawOutcome, drawOutcome, holdingBoth}
+use Rattle.specification.specs.Adding.{refused, pointsOffered, uncosted, drawPackedOutcome, drawCases, drawRefusal, costing, cancellationsUnder, Outcome, DrawOutcome, drawOutcome, holdingBoth}
 use Rattle.specification.proofs.Replicates.{holding-told}
 use Rattle.specification.proofs.agreement.ThirdWay.{packed-as-drawn}
 use Rattle.specification.proofs.CallByCall.{Offered, drawn-points}
@@ -108,4 +108,4 @@ module _ (s : Settings) (t : Tables) (levels : List ℤ) where
 
   module _ (two : s .modulus ≡ 2) where
     pub packed-as : (o : Outcome) (cost : ℕ) → costing cost o ≡ drawOutcome s t levels → o ≡ drawPackedOutcome s t levels
-    packed-as o cost e = ap (λ (d : DrawOutcome). costless d) e ∙ sym (packed-as-drawn s t levels two)
+    packed-as o cost e = ap (λ (d : DrawOutcome). uncosted d) e ∙ sym (packed-as-drawn s t levels two)

@@ -1,11 +1,11 @@
 use lib.Pow.{pow-pos}
 use Rattle.packed.proofs.SetBits.{drop-lowest}
-use Prim.Native.Nat.{ℕ, _+_, _*_, _-_, _≤_, _<_, _^_}
+use Prim.Native.Nat.{_+_, _*_, _-_, _<_, _^_}
 use lib.Bits.{and-lt}
 use Rattle.packed.proofs.Orthogonal.{lowest-lt}
 use native.Mathlib.Omega.{arith}
 use borrow.Author.Needs.{needs}
-use lib.Count.{trailingZeros, trailing-le}
+use lib.Count.{trailingZeros}
 use Rattle.packed.proofs.PlaceLaws.{Common, common-none, common-more, passed-multiples, row-set}
 use Rattle.packed.proofs.open.pass_multiples.Statement.{statement}
 use Rattle.packed.proofs.open.pass_multiples.Tie as tie
