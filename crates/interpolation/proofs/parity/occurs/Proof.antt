@@ -1,0 +1,16 @@
+-- `parity::occurs` meets its contract.
+use Rattle.interpolation.proofs.ParityLaws.{occurring-some}
+use borrow.Author.Needs.{needs}
+use Rattle.interpolation.proofs.parity.occurs.Statement.{statement}
+use Rattle.interpolation.proofs.parity.occurs.Tie as tie
+use Rattle.interpolation.proofs.parity.occurs.Reads as reads
+use Rattle.interpolation.proofs.parity.occurs.Lts as lts
+
+returns : tie.Need-returns
+returns c = search needs
+
+returns-2 : tie.Need-returns-2
+returns-2 c = occurring-some _ (c .if1 .left)
+
+pub occurs-spec : {M : Type 1} → statement M
+occurs-spec = tie.close (tie.spec returns returns-2)
