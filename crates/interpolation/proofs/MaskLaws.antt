@@ -9,15 +9,12 @@ use lib.ListN.{length, getD, set, take, drop, length-map, length-append, List·g
 use lib.Seq.{take-suc, take-all, take-at, drop-at, getD-take, getD-drop, getD-append-add, length-take-le}
 use lib.Pow.{pow-mono, shl-exact}
 use lib.Bits.{bitOr, or-shifted-r}
-use Rattle.residue.specs.Congruence.{Mod}
-use Rattle.residue.specs.Vector.{Below, dotOf}
+use Rattle.residue.specs.Vector.{Below}
 use Rattle.residue.specs.Layout.{groups}
-use Rattle.residue.proofs.Congruence.{rfl, of, reduce, scale, _then_, _plus_}
-use Rattle.residue.proofs.vector.Vectors.{map-at, map-same}
-use Rattle.residue.proofs.Places.{length-groups, groups-at, groups-long}
+use Rattle.residue.proofs.vector.Vectors.{map-at}
+use Rattle.residue.proofs.Places.{length-groups, groups-at}
 use Rattle.monomial.specs.Monomial.{monomialAt}
-use Rattle.residue.specs.Words.{bitOf, wordOf}
-use Rattle.residue.specs.Words.{inSet}
+use Rattle.residue.specs.Words.{bitOf, wordOf, inSet}
 use Rattle.residue.proofs.BitLaws.{shift-one, word-lt, bit-word}
 use Rattle.interpolation.specs.Parity.{occurring, byteOf, valuesAt, maskOf}
 use Rattle.interpolation.proofs.WordLaws.{word-append, word-times}

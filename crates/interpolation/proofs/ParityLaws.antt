@@ -2,7 +2,7 @@
 use mathlib.Core.Path.{_≡_, refl, sym, ap, ap₂, _∙_}
 use mathlib.Core.List.{List, [], _∷_, map}
 use Prim.Native.Nat.{ℕ, zero, suc, _+_, _-_, _*_, _/_, _%_, _^_, _<_, _≤_}
-use native.Mathlib.Nat.{pow-suc, lt-of-lt-of-le}
+use native.Mathlib.Nat.{lt-of-lt-of-le}
 use native.Mathlib.Omega.{arith}
 use native.Mathlib.Numerals.{add-one}
 use lib.ListN.{length, getD, set, take, drop, replicate, drop-of-length-le, length-drop, length-map, length-set}
@@ -13,11 +13,10 @@ use lib.Count.{ones}
 use Rattle.residue.specs.Congruence.{Mod}
 use Rattle.residue.specs.Vector.{dotOf}
 use Rattle.residue.specs.Layout.{groups}
-use Rattle.residue.proofs.Congruence.{rfl, of, flip, _then_, _plus_}
+use Rattle.residue.proofs.Congruence.{rfl, of, _then_, _plus_}
 use Rattle.residue.proofs.vector.Vectors.{map-at, dot-more}
 use Rattle.residue.proofs.Places.{length-groups, groups-at}
-use Rattle.residue.specs.Words.{bitOf, wordOf}
-use Rattle.residue.specs.Words.{inSet}
+use Rattle.residue.specs.Words.{bitOf, wordOf, inSet}
 use Rattle.residue.proofs.BitLaws.{word-lt}
 use Rattle.interpolation.specs.Parity.{occurring, byteOf, toggled, onesLeft, SetOf}
 use Rattle.interpolation.proofs.WordLaws.{ones-zero, ones-xor, ones-toggled}

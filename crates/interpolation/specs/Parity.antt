@@ -1,5 +1,5 @@
--- Polynomials modulo 2 as sets of monomials without squares. A value is 0 or 1, so that an exponent of 1 or more counts as 1: a monomial is the byte of its variables,
--- and a set of bytes is four words, a bit for each. No public promise names these definitions.
+-- Polynomials modulo 2 as sets of monomials without squares. A value is 0 or 1, so that an exponent of 1 or more counts as 1: a monomial is the byte
+-- of its variables, and a set of bytes is four words, a bit for each. No public promise names these definitions.
 use mathlib.Core.Path.{_≡_}
 use mathlib.Core.List.{List, [], _∷_, _++_, map}
 use Prim.Native.Nat.{ℕ, zero, suc, _+_, _*_, _/_, _%_, _^_}
@@ -9,8 +9,7 @@ use lib.Count.{ones}
 use Rattle.residue.specs.Congruence.{Mod}
 use Rattle.residue.specs.Vector.{dotOf}
 use Rattle.residue.specs.Layout.{groups}
-use Rattle.residue.specs.Words.{wordOf}
-use Rattle.residue.specs.Words.{inSet}
+use Rattle.residue.specs.Words.{wordOf, inSet}
 
 -- 1 for an exponent of 1 or more
 abbrev pub occurring : ℕ → ℕ

@@ -1,5 +1,5 @@
-// The values of a polynomial's terms modulo 2. A value is 0 or 1, so an exponent of 1 or more counts as 1: a monomial is the byte of its variables. The polynomial is a
-// set of bytes in four words, a point's mask the bytes that divide it, and the value there the parity of what the mask leaves.
+// The values of a polynomial's terms modulo 2. A value is 0 or 1, so an exponent of 1 or more counts as 1: a monomial is the byte of its variables.
+// The polynomial is a set of bytes in four words, a point's mask the bytes that divide it, and the value there the parity of what the mask leaves.
 use monomial::terms::put_term_values;
 ghost use mathlib.Core.Path.{_≡_};
 ghost use Prim.Native.Nat.{_*_, _%_, _<_, _≤_};

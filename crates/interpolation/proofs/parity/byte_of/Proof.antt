@@ -8,9 +8,6 @@ use Rattle.interpolation.proofs.ParityLaws.{occurring-le, byte-none, by
 use borrow.Author.Needs.{needs}
 use Rattle.interpolation.proofs.parity.byte_of.Statement.{statement}
 use Rattle.interpolation.proofs.parity.byte_of.Tie as tie
-use Rattle.interpolation.proofs.parity.byte_of.Reads as reads
-use Rattle.interpolation.proofs.parity.byte_of.Lts as lts
-use Rattle.interpolation.proofs.parity.occurs.Reads as occurs-reads
 
 abbrev Inv-loop : tie.InvT-loop
 Inv-loop a byte₀ k₀ byte k = (k ≤ 8) × (byte ≡ byteOf (drop (8 - k) a))

@@ -2,8 +2,6 @@
 use Rattle.interpolation.proofs.MaskLaws.{kept-none, kept-all}
 use Rattle.interpolation.proofs.parity.kept.Statement.{statement}
 use Rattle.interpolation.proofs.parity.kept.Tie as tie
-use Rattle.interpolation.proofs.parity.kept.Reads as reads
-use Rattle.interpolation.proofs.parity.kept.Lts as lts
 
 returns : tie.Need-returns
 returns c = kept-none _ _ (c .if1 .taken)

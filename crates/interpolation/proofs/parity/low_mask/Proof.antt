@@ -1,7 +1,7 @@
 -- `parity::low_mask` meets its contract: the mask of the first k variables.
 use mathlib.Core.Path.{_≡_, ap, _∙_}
 use mathlib.Core.Logic.{⊎-elim}
-use Prim.Native.Nat.{ℕ, _+_, _-_, _<_, _≤_}
+use Prim.Native.Nat.{ℕ, _-_, _<_, _≤_}
 use native.Mathlib.Omega.{arith}
 use Rattle.residue.specs.Words.{wordOf}
 use Rattle.interpolation.specs.Parity.{valuesAt}
@@ -9,8 +9,6 @@ use Rattle.interpolation.proofs.MaskLaws.{low-none, low-same, low-more,
 use borrow.Author.Needs.{needs}
 use Rattle.interpolation.proofs.parity.low_mask.Statement.{statement}
 use Rattle.interpolation.proofs.parity.low_mask.Tie as tie
-use Rattle.interpolation.proofs.parity.low_mask.Reads as reads
-use Rattle.interpolation.proofs.parity.low_mask.Lts as lts
 
 abbrev Inv-loop : tie.InvT-loop
 Inv-loop point mask₀ k₀ mask k = (k ≤ 6) × (mask ≡ wordOf (valuesAt k point))

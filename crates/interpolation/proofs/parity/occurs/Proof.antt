@@ -3,8 +3,6 @@ use Rattle.interpolation.proofs.ParityLaws.{occurring-some}
 use borrow.Author.Needs.{needs}
 use Rattle.interpolation.proofs.parity.occurs.Statement.{statement}
 use Rattle.interpolation.proofs.parity.occurs.Tie as tie
-use Rattle.interpolation.proofs.parity.occurs.Reads as reads
-use Rattle.interpolation.proofs.parity.occurs.Lts as lts
 
 returns : tie.Need-returns
 returns c = search needs

@@ -1,12 +1,10 @@
 -- `parity::parity` meets its contract: what is left of the first w words has the parity.
-use Prim.Native.Nat.{_+_, _-_, _≤_}
+use Prim.Native.Nat.{_-_, _≤_}
 use native.Mathlib.Omega.{arith}
 use Rattle.interpolation.proofs.ParityLaws.{LeftOf, words-none, words-more, words-all}
 use borrow.Author.Needs.{needs}
 use Rattle.interpolation.proofs.parity.parity.Statement.{statement}
 use Rattle.interpolation.proofs.parity.parity.Tie as tie
-use Rattle.interpolation.proofs.parity.parity.Reads as reads
-use Rattle.interpolation.proofs.parity.parity.Lts as lts
 
 abbrev Inv-loop : tie.InvT-loop
 Inv-loop polynomial mask left₀ w₀ left w = (w ≤ 4) × LeftOf polynomial mask w left

@@ -4,10 +4,6 @@ use Rattle.interpolation.proofs.MaskLaws.{mask-written}
 use borrow.Author.Needs.{needs}
 use Rattle.interpolation.proofs.parity.put_mask.Statement.{statement}
 use Rattle.interpolation.proofs.parity.put_mask.Tie as tie
-use Rattle.interpolation.proofs.parity.put_mask.Reads as reads
-use Rattle.interpolation.proofs.parity.put_mask.Lts as lts
-use Rattle.interpolation.proofs.parity.kept.Reads as kept-reads
-use Rattle.interpolation.proofs.parity.low_mask.Reads as low-mask-reads
 
 low-mask-requires : tie.Need-low-mask-requires
 low-mask-requires c κs = search needs

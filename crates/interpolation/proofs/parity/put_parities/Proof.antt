@@ -12,10 +12,6 @@ use Rattle.interpolation.proofs.PointValues.{parityAt, parities-all}
 use borrow.Author.Needs.{needs}
 use Rattle.interpolation.proofs.parity.put_parities.Statement.{statement}
 use Rattle.interpolation.proofs.parity.put_parities.Tie as tie
-use Rattle.interpolation.proofs.parity.put_parities.Reads as reads
-use Rattle.interpolation.proofs.parity.put_parities.Lts as lts
-use Rattle.interpolation.proofs.parity.put_terms.Reads as put-terms-reads
-use Rattle.interpolation.proofs.parity.value_at.Reads as value-at-reads
 
 abbrev Inv-loop : tie.InvT-loop
 Inv-loop coefficients exponents n points work₀ polynomial i₀ work i = (i ≤ n) × (work ≡ filled (parityAt polynomial points) i work₀)

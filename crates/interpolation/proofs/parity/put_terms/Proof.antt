@@ -10,10 +10,6 @@ use Rattle.interpolation.proofs.ParityLaws.{byte-lt, TermsIn, terms-non
 use borrow.Author.Needs.{needs}
 use Rattle.interpolation.proofs.parity.put_terms.Statement.{statement}
 use Rattle.interpolation.proofs.parity.put_terms.Tie as tie
-use Rattle.interpolation.proofs.parity.put_terms.Reads as reads
-use Rattle.interpolation.proofs.parity.put_terms.Lts as lts
-use Rattle.interpolation.proofs.parity.byte_of.Reads as byte-of-reads
-use Rattle.interpolation.proofs.parity.toggle.Reads as toggle-reads
 
 abbrev Inv-loop : tie.InvT-loop
 Inv-loop coefficients exponents polynomial₀ i₀ i-end polynomial i = (i ≤ length coefficients) × TermsIn coefficients exponents i polynomial

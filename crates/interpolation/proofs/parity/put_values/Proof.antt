@@ -8,10 +8,6 @@ use Rattle.monomial.specs.Terms.{termValues}
 use borrow.Author.Needs.{needs}
 use Rattle.interpolation.proofs.parity.put_values.Statement.{statement}
 use Rattle.interpolation.proofs.parity.put_values.Tie as tie
-use Rattle.interpolation.proofs.parity.put_values.Reads as reads
-use Rattle.interpolation.proofs.parity.put_values.Lts as lts
-use Rattle.interpolation.proofs.parity.put_parities.Reads as put-parities-reads
-use Rattle.monomial.proofs.terms.put_term_values.Reads as put-term-values-reads
 
 put-parities-requires : tie.Need-put-parities-requires
 put-parities-requires c κs =

@@ -3,8 +3,6 @@ use Rattle.interpolation.proofs.ParityLaws.{toggled-is}
 use borrow.Author.Needs.{needs}
 use Rattle.interpolation.proofs.parity.toggle.Statement.{statement}
 use Rattle.interpolation.proofs.parity.toggle.Tie as tie
-use Rattle.interpolation.proofs.parity.toggle.Reads as reads
-use Rattle.interpolation.proofs.parity.toggle.Lts as lts
 
 mul-polynomial : tie.Need-mul-polynomial
 mul-polynomial c = search needs

@@ -1,15 +1,7 @@
 -- `parity::value_at` meets its contract.
-use mathlib.Core.Path.{ap, _∙_}
-use mathlib.Core.List.{List}
-use Prim.Native.Nat.{ℕ, _%_}
-use Rattle.interpolation.specs.Parity.{onesLeft}
 use borrow.Author.Needs.{needs}
 use Rattle.interpolation.proofs.parity.value_at.Statement.{statement}
 use Rattle.interpolation.proofs.parity.value_at.Tie as tie
-use Rattle.interpolation.proofs.parity.value_at.Reads as reads
-use Rattle.interpolation.proofs.parity.value_at.Lts as lts
-use Rattle.interpolation.proofs.parity.parity.Reads as parity-reads
-use Rattle.interpolation.proofs.parity.put_mask.Reads as put-mask-reads
 
 slice-aggregate-put-mask : tie.Need-slice-aggregate-put-mask
 slice-aggregate-put-mask c = search needs
