@@ -11,7 +11,7 @@ use Rattle.residue.specs.Layout.{fill, inPlaces}
 use Rattle.residue.proofs.Layouts.{fill-exact}
 use Rattle.specification.specs.declared.settings.Settings.{Settings}
 use Rattle.specification.specs.Space.{Space}
-use Rattle.specification.specs.Tables.{spaceUnder, pointsUnder, rowCount, standardTable, leadsTable, coefficientsTable, standardSize, leadsSize, coefficientsSize}
+use Rattle.specification.specs.Tables.{spaceUnder, pointsUnder, rowCount, standardTable, leadsTable, coefficientsTable}
 use Rattle.specification.specs.Instance.{pointOf}
 use Rattle.specification.specs.Points.{Points}
 use Rattle.specification.specs.Settings.{Accepted}
