@@ -32,7 +32,7 @@ import sys
 import textwrap
 from xml.sax.saxutils import escape
 
-__version__ = "2.0.0"
+__version__ = "2.1.0"
 ABI = 2
 ORDERS = ("lex", "grlex", "grevlex")
 TABLES = {"states": 512, "standard": 512, "leads": 3592, "coefficients": 28736, "counts": 64}
