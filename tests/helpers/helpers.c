@@ -177,7 +177,7 @@ static void begin(long index, struct misqafur_sheet *sheet)
     struct ends ends = before;
     static const uint64_t primes[] = {2, 2, 3, 5, 7, 61, 4, 0};
     static const uint8_t zeros[MISQAFUR_COEFFICIENTS_SIZE] = {0};
-    uint64_t p = primes[below(8)], m = below(10), order = below(4);
+    uint64_t p = primes[below(8)], m = p == 2 && below(3) == 0 ? 7 + below(2) : below(10), order = below(4);
     uint32_t due = p == 4 || p == 0 ? 3 : m < 1 || m > 8 ? 4 : order > 2 ? 5 : 0;
     if (below(2) == 0)
         memset(sheet, 170, sizeof *sheet);
@@ -225,7 +225,7 @@ int main(int count, char **words)
     }
     texts();
     expect(misqafur_version() == MISQAFUR_VERSION_NUMBER, "the version", 0);
-    if (calls >= 20000)
+    if (calls >= 40000)
         all_seen();
     printf("helpers: %ld passed, %ld failed\n", passed, failed);
     return failed != 0 || passed == 0;
