@@ -369,8 +369,8 @@ static inline uint8_t misqafur_level(int level)
     return (uint8_t)level;
 }
 
-/* Packs the points of a states table, 8 bytes each, as the levels that misqafur_draw_up takes, m each,
- * and answers their number, n * m. Adding needs no packing: point i has its m levels at states + 8 * i.
+/* Packs the points of a states table, 8 bytes each, as the levels that misqafur_draw_up and misqafur_draw_up_packed take,
+ * m each, and answers their number, n * m. Adding needs no packing: point i has its m levels at states + 8 * i.
  * Reads: the first 8 * n bytes of states, which has MISQAFUR_STATES_SIZE. Writes: the first n * m bytes
  * of levels, which has MISQAFUR_LEVELS_SIZE; the two do not overlap.
  * What has n above 64 or m not 1 to 8 is not read, and what is answered misqafur_draw_up refuses: for such an n one
