@@ -16,9 +16,11 @@
 
 enum side { PACKED, GENERAL, PLAIN, SIDES };
 
-/* As many inputs of one kind are drawn up in turn, so that no side learns one of them by heart. */
+/* One input is drawn up over and over, as everywhere in this benchmark, so that a processor may learn it by heart; and as
+ * many of one kind in turn, of which it learns none. */
 #define INPUTS 16
-#define ROUNDS 7
+#define AT_ONCE 64 /* drawings up between two looks at the clock, which are system calls */
+#define ROUNDS 5
 
 static uint32_t draw(enum side side, const struct boolean_input *in, struct lent *to)
 {
@@ -45,24 +47,25 @@ static int same(const struct boolean_input *in, const char *shape)
     return 0;
 }
 
-/* Microseconds for one drawing up: the mean over some milliseconds. */
-static double time_once(enum side side, const struct boolean_input inputs[INPUTS])
+/* Microseconds for one drawing up, of the first so many inputs in turn: the mean over some milliseconds. */
+static double time_once(enum side side, const struct boolean_input inputs[INPUTS], int count)
 {
     static struct lent lent;
     double begin = seconds(), end;
     unsigned runs = 0;
     do {
-        for (int i = 0; i < INPUTS; i++)
-            draw(side, &inputs[i], &lent);
-        runs += INPUTS;
+        for (int i = 0; i < AT_ONCE; i++)
+            draw(side, &inputs[i % count], &lent);
+        runs += AT_ONCE;
         end = seconds();
     } while (end - begin < 0.003);
     return 1e6 * (end - begin) / runs;
 }
 
-/* The ratios that are asked for: general over packed, and packed over plain C. */
-enum ratio { FASTER, SLOWER, RATIOS };
-static const char *const ratio_names[RATIOS] = {"general / packed", "packed / plain packed C"};
+/* The ratios that are asked for, general over packed and packed over plain C; and the same with inputs in turn. */
+enum ratio { FASTER, SLOWER, FASTER_IN_TURN, SLOWER_IN_TURN, RATIOS };
+static const char *const ratio_names[RATIOS] = {"general / packed", "packed / plain packed C", "general / packed in turn",
+                                                "packed / plain packed C in turn"};
 
 #define MOST_RATIOS 512
 struct list {
@@ -91,23 +94,40 @@ static void print_list(enum ratio ratio, const char *what, struct list *list)
            list->of[list->count - 1], list->count);
 }
 
-/* One line: the best of several rounds in which the sides take turns. */
+/* The best of several rounds in which the sides take turns. */
+static void time_all(const struct boolean_input inputs[INPUTS], int count, double best[SIDES])
+{
+    for (int side = 0; side < SIDES; side++)
+        best[side] = 1e30;
+    for (int round = 0; round < ROUNDS; round++)
+        for (int side = 0; side < SIDES; side++) {
+            double time = time_once((enum side)side, inputs, count);
+            best[side] = time < best[side] ? time : best[side];
+        }
+}
+
+static int compare(struct boolean_input inputs[INPUTS], enum shape shape)
+{
+    int differing = 0;
+    for (int i = 0; i < INPUTS; i++)
+        differing += !same(&inputs[i], shape_names[shape]);
+    return differing;
+}
+
+/* One line. */
 static int measure(struct boolean_input inputs[INPUTS], enum shape shape)
 {
     static const char *const words[3] = {"lex", "grlex", "grevlex"};
     const struct boolean_input *in = &inputs[0];
-    double best[SIDES] = {1e30, 1e30, 1e30};
-    int differing = 0;
-    for (int i = 0; i < INPUTS; i++)
-        differing += !same(&inputs[i], shape_names[shape]);
-    for (int round = 0; round < ROUNDS; round++)
-        for (int side = 0; side < SIDES; side++) {
-            double time = time_once((enum side)side, inputs);
-            best[side] = time < best[side] ? time : best[side];
-        }
-    const double ratios[RATIOS] = {best[GENERAL] / best[PACKED], best[PACKED] / best[PLAIN]};
-    printf("%-8s %3d  %-8s %3d %10.2f %10.2f %6.2f %10.2f %6.2f\n", shape_names[shape], (int)in->m, words[in->order],
-           (int)in->n, best[PACKED], best[GENERAL], ratios[FASTER], best[PLAIN], ratios[SLOWER]);
+    double one[SIDES], many[SIDES];
+    int differing = compare(inputs, shape);
+    time_all(inputs, 1, one);
+    time_all(inputs, INPUTS, many);
+    const double ratios[RATIOS] = {one[GENERAL] / one[PACKED], one[PACKED] / one[PLAIN], many[GENERAL] / many[PACKED],
+                                   many[PACKED] / many[PLAIN]};
+    printf("%-8s %3d  %-8s %3d %10.2f %10.2f %6.2f %10.2f %6.2f %8.2f %6.2f\n", shape_names[shape], (int)in->m,
+           words[in->order], (int)in->n, one[PACKED], one[GENERAL], ratios[FASTER], one[PLAIN], ratios[SLOWER],
+           ratios[FASTER_IN_TURN], ratios[SLOWER_IN_TURN]);
     fflush(stdout);
     for (int k = 0; k < RATIOS; k++) {
         keep(&by_size[k][shape][in->n], ratios[k]);
@@ -133,14 +153,6 @@ static int for_all(const uint64_t *counts, size_t count, int (*take)(struct bool
     return sum;
 }
 
-static int compare(struct boolean_input inputs[INPUTS], enum shape shape)
-{
-    int differing = 0;
-    for (int i = 0; i < INPUTS; i++)
-        differing += !same(&inputs[i], shape_names[shape]);
-    return differing;
-}
-
 int packed_compare(void)
 {
     static const uint64_t counts[] = {0, 1, 2, 3, 7, 8, 33, 63, 64};
@@ -151,8 +163,8 @@ int packed_measure(void)
 {
     static const uint64_t counts[] = {8, 16, 32, 48, 64};
     char what[32];
-    printf("\n%-8s %3s  %-8s %3s %10s %10s %6s %10s %6s\n", "packed", "m", "order", "n", "packed us", "general us", "ratio",
-           "plain us", "ratio");
+    printf("\n%-8s %3s  %-8s %3s %10s %10s %6s %10s %6s %8s %6s\n", "packed", "m", "order", "n", "packed us", "general us",
+           "ratio", "plain us", "ratio", "in turn", "ratio");
     int differing = for_all(counts, sizeof counts / sizeof *counts, measure);
     for (int k = 0; k < RATIOS; k++) {
         for (int shape = 0; shape < SHAPES; shape++)
