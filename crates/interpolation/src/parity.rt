@@ -26,7 +26,7 @@ fn byte_of(a: &[u8]) -> usize
     requires { ⌜ length (now a) ≡ 8 ⌝ }
     ensures { λ byte. ⌜ byte ≡ byteOf (now (a .entry)) ⌝ }
 {
-    let mut byte = 0;
+    let mut byte: usize = 0;
     for k in 0..8 {
         byte = byte * 2 + occurs(a[7 - k]);
     }
