@@ -16,10 +16,10 @@ use Rattle.specification.specs.Settings.{settingsCases}
 use Rattle.specification.specs.Levels.{inRange}
 use Rattle.specification.specs.Counted.{Counted, pointsOf, countsOf, gathered, overfull}
 use Rattle.specification.specs.Tables.{Tables, statesTable, tooShort, pointsIn}
-use Rattle.specification.specs.Adding.{refused, pointsOffered, uncosted, drawPackedOutcome, drawCases, drawRefusal, costing, cancellationsUnder, Outcome, DrawOutcome, drawOutcome, holdingBoth}
+use Rattle.specification.specs.Adding.{Outcome, refused, pointsOffered, drawCases, drawRefusal, DrawOutcome, costing, cancellationsUnder, drawOutcome, uncosted}
+use Rattle.specification.specs.Adding.{drawPackedOutcome, holdingBoth}
 use Rattle.specification.proofs.Replicates.{holding-told}
-use Rattle.specification.proofs.agreement.ThirdWay.{packed-as-drawn}
-use Rattle.specification.proofs.CallByCall.{Offered, drawn-points}
+use Rattle.specification.proofs.CallByCall.{Offered, drawn-points, packed-drawn}
 use Rattle.construction.specs.Drawing.{PointsGiven}
 use Rattle.construction.proofs.drawing.Given.{table-points, given}
 use Rattle.recognition.proofs.settings.BySize.{sizes, by-size, by-rest}
@@ -108,4 +108,4 @@ module _ (s : Settings) (t : Tables) (levels : List ℤ) where
 
   module _ (two : s .modulus ≡ 2) where
     pub packed-as : (o : Outcome) (cost : ℕ) → costing cost o ≡ drawOutcome s t levels → o ≡ drawPackedOutcome s t levels
-    packed-as o cost e = ap (λ (d : DrawOutcome). uncosted d) e ∙ sym (packed-as-drawn s t levels two)
+    packed-as o cost e = ap (λ (d : DrawOutcome). uncosted d) e ∙ sym (packed-drawn s t levels two)
