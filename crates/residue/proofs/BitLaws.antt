@@ -1,19 +1,19 @@
 -- Laws of words of bits: what AND, XOR, shifts and the count of ones do to single bits and to the lists of bits.
 use mathlib.Core.Path.{_≡_, refl, sym, ap, ap₂, _∙_, subst}
 use mathlib.Core.List.{List, [], _∷_, _++_}
-use Prim.Native.Nat.{ℕ, zero, suc, _+_, _*_, _/_, _%_, _^_, _<_, _≤_, min}
-use native.Mathlib.Nat.{pow-suc, mod-lt, zero-div, zero-mod, mod-mod, mod-eq-of-lt, div-one, zero-lt-suc, suc-inj, div-add-mod'}
+use Prim.Native.Nat.{ℕ, zero, suc, _+_, _*_, _/_, _%_, _^_, _<_, min}
+use native.Mathlib.Nat.{pow-suc, mod-lt, zero-div, mod-mod, mod-eq-of-lt, div-one, zero-lt-suc, div-add-mod'}
 use native.Mathlib.Omega.{arith}
 use native.Mathlib.Numerals.{add-one, unary-clauses}
 use lib.ListN.{length, getD}
 use lib.Arith.{digits-div, digits-mod, digits-lt}
-use lib.Pow.{shl-exact, shr-shr, shr-lt, pow-pos}
-use lib.Bits.{bitAnd, bitXor, differ, and-step, xor-step, and-shr, xor-shr, xor-lt}
+use lib.Pow.{shl-exact, shr-shr, shr-lt}
+use lib.Bits.{bitAnd, bitXor, differ, and-step, xor-step, and-shr, xor-shr}
 use lib.Count.{ones, onesIn, ones-step}
 use mathlib.Core.Logic.{inl, inr}
 use Rattle.residue.specs.Congruence.{Mod}
 use Rattle.residue.specs.Lists.{Among, sumOver}
-use Rattle.residue.proofs.Congruence.{rfl, of, flip, _then_, lin}
+use Rattle.residue.proofs.Congruence.{rfl, of, _then_}
 use Rattle.residue.specs.Words.{bitOf, bitsOf, wordOf, length-bits}
 
 pub shift-one : (i : ℕ) → i < 64 → (1 * 2 ^ i) % 2 ^ 64 ≡ 2 ^ i
