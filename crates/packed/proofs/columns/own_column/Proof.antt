@@ -1,3 +1,4 @@
+-- `columns::own_column` meets its contract.
 use mathlib.Core.Path.{refl}
 use Prim.Native.Nat.{_-_, _<_}
 use native.Mathlib.Omega.{arith}

@@ -1,3 +1,4 @@
+-- `columns::put_variables` meets its contract.
 use Rattle.packed.proofs.VariableLaws.{behind-none, behind-small, behind-on, behind-all}
 use borrow.Author.Needs.{needs}
 use mathlib.Core.Path.{_≡_, refl, sym, ap, _∙_, subst}

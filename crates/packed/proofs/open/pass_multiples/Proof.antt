@@ -1,3 +1,4 @@
+-- `open::pass_multiples` meets its contract.
 use lib.Pow.{pow-pos}
 use Rattle.packed.proofs.SetBits.{drop-lowest}
 use Prim.Native.Nat.{_+_, _*_, _-_, _<_, _^_}

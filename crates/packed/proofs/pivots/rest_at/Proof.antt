@@ -1,3 +1,4 @@
+-- `pivots::rest_at` meets its contract.
 use Prim.Native.Nat.{_-_, _^_, _<_}
 use native.Mathlib.Omega.{arith}
 use lib.Bits.{and-lt}
