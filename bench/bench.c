@@ -1,14 +1,15 @@
 /* The benchmark: the archive against plain C on the same inputs, in one process. With --smoke it
  * only compares results, on fewer inputs; it fails where results differ, never on a time. */
 #define _POSIX_C_SOURCE 200809L
+#include "clock.h"
 #include "inputs.h"
+#include "packed_ratios.h"
 #include "plain.h"
 #include "scripts.h"
 
 #include <stdio.h>
 #include <stdlib.h>
 #include <string.h>
-#include <time.h>
 
 #define LENT(L)                                                                                               \
     (L)->states, sizeof (L)->states, (L)->standard, sizeof (L)->standard, (L)->leads, sizeof (L)->leads,      \
@@ -135,14 +136,6 @@ static void print_lines(void)
             printf("drawing up modulo %d: %.1f us and %.1f us for 1,000 cancellations (least squares, %.0f inputs)\n", p,
                    (y - slope * x) / n, 1000 * slope, n);
     }
-}
-
-/* Processor time, so that other work on the machine counts little. */
-static double seconds(void)
-{
-    struct timespec now;
-    clock_gettime(CLOCK_PROCESS_CPUTIME_ID, &now);
-    return (double)now.tv_sec + 1e-9 * (double)now.tv_nsec;
 }
 
 /* Microseconds for one run: the mean over some milliseconds. */
@@ -327,7 +320,7 @@ static int report(int differing)
 static int smoke_run(void)
 {
     static const uint64_t points[] = {1, 2, 3, 7, 8, 33, 63, 64};
-    return report(for_all_inputs(points, sizeof points / sizeof *points, compare));
+    return report(for_all_inputs(points, sizeof points / sizeof *points, compare) + packed_compare());
 }
 
 static int full_run(void)
@@ -338,7 +331,7 @@ static int full_run(void)
     int differing = for_all_inputs(points, sizeof points / sizeof *points, measure);
     print_medians();
     print_lines();
-    return report(differing);
+    return report(differing + packed_measure());
 }
 
 int main(int count, char **words)
@@ -347,6 +340,8 @@ int main(int count, char **words)
     const char *mode = count > 1 ? words[1] : "";
     if (strcmp(mode, "--smoke") == 0)
         return smoke_run();
+    if (strcmp(mode, "--packed") == 0)
+        return report(packed_measure());
     if (strcmp(mode, "--singular") == 0) {
         singular_begin();
         return for_all_inputs(most, 1, singular);

@@ -43,7 +43,7 @@
  * the record at fault:
  *    1  the text is longer than 16,384 bytes
  *    2  the text breaks the rules, or a record's field count differs from the header's
- *    3  the modulus is not one of the 18
+ *    3  the modulus is not one of the 18, or in misqafur_draw_up_packed not 2
  *    4  the number of variables is not 1 to 8
  *    5  the order is not 0, 1 or 2
  *    6  a lent table or answer buffer is shorter than its size
@@ -101,12 +101,12 @@
 #include <string.h>
 
 /* The interface's number, which changes when a call's arguments or tables do; it is in the shared library's name, and the
- * first of the version's three. */
+ * first of the version's three. The second goes up with each further call. */
 #define MISQAFUR_ABI 2
 #define MISQAFUR_VERSION_MAJOR 2
-#define MISQAFUR_VERSION_MINOR 0
+#define MISQAFUR_VERSION_MINOR 1
 #define MISQAFUR_VERSION_PATCH 0
-#define MISQAFUR_VERSION "2.0.0"
+#define MISQAFUR_VERSION "2.1.0"
 #define MISQAFUR_VERSION_NUMBER \
     (10000 * MISQAFUR_VERSION_MAJOR + 100 * MISQAFUR_VERSION_MINOR + MISQAFUR_VERSION_PATCH)
 
@@ -211,6 +211,20 @@ uint64_t misqafur_draw_up(uint64_t modulus, uint64_t variables, uint64_t order,
                           uint8_t *leads, size_t leads_length, uint8_t *coefficients, size_t coefficients_length,
                           uint8_t *counts, size_t counts_length, const uint8_t *levels, size_t levels_length);
 
+/* Draws up the basis of all points at once where the modulus is 2, in a fraction of the time that misqafur_draw_up takes.
+ * It is handed what that call is, the modulus too, and leaves the same n and r and the same bytes in the five tables,
+ * for every order and whatever the points; but it counts no cancellations, and answers none.
+ * Reads: the settings, the levels (-1, 0 and 1); of the tables their lengths alone.
+ * Writes: the five tables, to their sizes.
+ * Answers n and r (misqafur_points, misqafur_elements).
+ * Refusals: 3 (the modulus is not 2, also where it is another of the 18), 4, 5, 6, 7 (levels_length is no multiple of m),
+ * 9, 8 (more than 64 distinct points), 13 (a point comes more than 255 times). */
+uint32_t misqafur_draw_up_packed(uint64_t modulus, uint64_t variables, uint64_t order,
+                                 uint8_t *states, size_t states_length, uint8_t *standard, size_t standard_length,
+                                 uint8_t *leads, size_t leads_length,
+                                 uint8_t *coefficients, size_t coefficients_length,
+                                 uint8_t *counts, size_t counts_length, const uint8_t *levels, size_t levels_length);
+
 /* Says whether n, r and the tables are the basis of their points under the settings.
  * Reads: the settings, n, r, the five tables. Writes nothing.
  * Answers 0 if they are.
@@ -308,6 +322,7 @@ MISQAFUR_TOLD(MISQAFUR_ABI_CALL(MISQAFUR_ABI), );
 MISQAFUR_TOLD(misqafur_add_point, MISQAFUR_LENT_TABLES(read_write, 6) MISQAFUR_LENT(read_only, 16));
 MISQAFUR_TOLD(misqafur_withdraw_point, MISQAFUR_LENT_TABLES(read_write, 6) MISQAFUR_LENT(read_only, 16));
 MISQAFUR_TOLD(misqafur_draw_up, MISQAFUR_LENT_TABLES(write_only, 4) MISQAFUR_LENT(read_only, 14));
+MISQAFUR_TOLD(misqafur_draw_up_packed, MISQAFUR_LENT_TABLES(write_only, 4) MISQAFUR_LENT(read_only, 14));
 MISQAFUR_TOLD(misqafur_check, MISQAFUR_LENT_TABLES(read_only, 6));
 MISQAFUR_TOLD(misqafur_interpolate,
               MISQAFUR_LENT_TABLES(read_only, 6) MISQAFUR_LENT(read_only, 16) MISQAFUR_LENT(write_only, 18));
@@ -339,7 +354,7 @@ static uint32_t (*const misqafur_linked)(void) MISQAFUR_KEPT = MISQAFUR_ABI_CALL
 #pragma GCC diagnostic pop
 #endif
 
-/* The version of the library that the host is linked with, or has loaded: 20000 for 2.0.0. */
+/* The version of the library that the host is linked with, or has loaded: 20100 for 2.1.0. */
 static inline uint32_t misqafur_version(void)
 {
     return MISQAFUR_ABI_CALL(MISQAFUR_ABI)();
@@ -354,8 +369,8 @@ static inline uint8_t misqafur_level(int level)
     return (uint8_t)level;
 }
 
-/* Packs the points of a states table, 8 bytes each, as the levels that misqafur_draw_up takes, m each,
- * and answers their number, n * m. Adding needs no packing: point i has its m levels at states + 8 * i.
+/* Packs the points of a states table, 8 bytes each, as the levels that misqafur_draw_up and misqafur_draw_up_packed take,
+ * m each, and answers their number, n * m. Adding needs no packing: point i has its m levels at states + 8 * i.
  * Reads: the first 8 * n bytes of states, which has MISQAFUR_STATES_SIZE. Writes: the first n * m bytes
  * of levels, which has MISQAFUR_LEVELS_SIZE; the two do not overlap.
  * What has n above 64 or m not 1 to 8 is not read, and what is answered misqafur_draw_up refuses: for such an n one
@@ -382,7 +397,7 @@ static inline uint32_t misqafur_refusal(uint64_t answer)
     return (uint32_t)(answer & 255u);
 }
 
-/* n and r in the answer of misqafur_add_point, misqafur_withdraw_point and misqafur_draw_up. */
+/* n and r in the answer of misqafur_add_point, misqafur_withdraw_point, misqafur_draw_up and misqafur_draw_up_packed. */
 static inline uint32_t misqafur_points(uint64_t answer)
 {
     return (uint32_t)((answer >> 8) & 255u);
@@ -450,7 +465,7 @@ static inline const char *misqafur_refusal_text(uint32_t refusal)
     case MISQAFUR_REFUSED_TEXT_FORM:
         return "the text breaks the rules, or a record's field count differs from the header's";
     case MISQAFUR_REFUSED_MODULUS:
-        return "the modulus is not one of the 18 primes from 2 to 61";
+        return "the modulus is not one of the 18 primes from 2 to 61, or not 2 where a sheet is drawn up packed";
     case MISQAFUR_REFUSED_VARIABLES:
         return "the number of genes is not 1 to 8";
     case MISQAFUR_REFUSED_ORDER:
@@ -552,6 +567,14 @@ static inline MISQAFUR_ANSWER uint32_t misqafur_sheet_draw_up(struct misqafur_sh
 {
     return misqafur_sheet_keep(sheet, (uint32_t)misqafur_draw_up(MISQAFUR_SHEET_SETTINGS(sheet),
                                                                  MISQAFUR_SHEET_TABLES(sheet), levels, levels_length));
+}
+
+/* The same where the modulus is 2, and sooner; with any other modulus 3 is answered. */
+static inline MISQAFUR_ANSWER uint32_t misqafur_sheet_draw_up_packed(struct misqafur_sheet *sheet,
+                                                                     const uint8_t *levels, size_t levels_length)
+{
+    return misqafur_sheet_keep(sheet, misqafur_draw_up_packed(MISQAFUR_SHEET_SETTINGS(sheet),
+                                                              MISQAFUR_SHEET_TABLES(sheet), levels, levels_length));
 }
 
 static inline MISQAFUR_ANSWER uint32_t misqafur_sheet_interpolate(const struct misqafur_sheet *sheet,

@@ -32,7 +32,7 @@ import sys
 import textwrap
 from xml.sax.saxutils import escape
 
-__version__ = "2.0.0"
+__version__ = "2.1.0"
 ABI = 2
 ORDERS = ("lex", "grlex", "grevlex")
 TABLES = {"states": 512, "standard": 512, "leads": 3592, "coefficients": 28736, "counts": 64}
@@ -43,7 +43,7 @@ REFUSALS = {
     1: ("the text is longer than 16,384 bytes", "Leave out states, or shorten the gene names."),
     2: ("the text breaks the rules, or a record's field count differs from the header's",
         "The header is the gene names and `mod P` (as `g1,g2,mod 5`); each further record a level for each gene and a value."),
-    3: ("the modulus is not one of the 18 primes from 2 to 61",
+    3: ("the modulus is not one of the 18 primes from 2 to 61, or not 2 where a sheet is drawn up packed",
         "Take 2, 3, 5, 7, 11, 13, 17, 19, 23, 29, 31, 37, 41, 43, 47, 53, 59 or 61."),
     4: ("the number of genes is not 1 to 8", "Choose at most 8 genes."),
     5: ("the order is not lex, grlex or grevlex (0, 1 or 2)", "Name one of these three."),
@@ -91,6 +91,7 @@ _CALLS = {
     "add_point": (ctypes.c_uint32, _SHEET + _BUFFER),
     "withdraw_point": (ctypes.c_uint32, _SHEET + _BUFFER),
     "draw_up": (ctypes.c_uint64, _SETTINGS + _BUFFER * len(TABLES) + _BUFFER),
+    "draw_up_packed": (ctypes.c_uint32, _SETTINGS + _BUFFER * len(TABLES) + _BUFFER),
     "check": (ctypes.c_uint32, _SHEET),
     "interpolate": (ctypes.c_uint32, _SHEET + _BUFFER * 2),
     "remainder": (ctypes.c_uint32, _SHEET + _BUFFER * 3),
@@ -124,15 +125,22 @@ def _library():
         raise ImportError(f"{place} has no misqafur_abi_{ABI}: it is no library of interface {ABI}, for which this module of version "
                           f"{__version__} is made. Install the library and the module together, or set MISQAFUR_LIBRARY to another file")
     for name, (answer, arguments) in _CALLS.items():
+        if not hasattr(library, "misqafur_" + name):
+            raise ImportError(f"{place} has no misqafur_{name}: it is of version {_version_of(library)}, and this module of version {__version__} "
+                              "wants one that is as new. Install the library and the module together, or set MISQAFUR_LIBRARY to another file")
         call = getattr(library, "misqafur_" + name)
         call.restype, call.argtypes = answer, arguments
     return library
 
 
+def _version_of(library):
+    number = getattr(library, f"misqafur_abi_{ABI}")()
+    return f"{number // 10000}.{number // 100 % 100}.{number % 100}"
+
+
 def library_version():
     """The version of the library that is loaded, as `__version__` is the module's."""
-    number = getattr(_library(), f"misqafur_abi_{ABI}")()
-    return f"{number // 10000}.{number // 100 % 100}.{number % 100}"
+    return _version_of(_library())
 
 
 def _call(name, *arguments):
@@ -352,7 +360,7 @@ class Sheet:
     Genes are a number, and then called g1, g2 and so on, or a list of names. States that come with names are put in the genes'
     order by them, and by place else. A copy, also by pickle, is a sheet of its own.
     A state that comes again is a replicate: it raises the state's count, and the rest of the sheet stays as it is.
-    After a drawing up `cancellations` says how many that took, which its time goes with; else it is None.
+    After a drawing up `cancellations` says how many that took, which its time goes with; else, also after a packed one, it is None.
     """
 
     def __init__(self, modulus, genes, order="grevlex"):
@@ -385,15 +393,18 @@ class Sheet:
         """Takes a state out again, named by its levels: of one that was counted more than once, one replicate."""
         return self._keep(_call("withdraw_point", *self._handed(), _levels(_state(state, self.names))))
 
-    def draw_up(self, states):
+    def draw_up(self, states, *, packed=False):
         """Draws up all states at once, in place of those that the sheet has: rows, or columns by the genes' names. States may
-        repeat: they are counted."""
+        repeat: they are counted. With `packed`, for the modulus 2 alone, the library makes the same sheet in a fraction of the time,
+        and counts no cancellations."""
+        if packed and self.modulus != 2:
+            raise Refusal(3, more=f"This sheet is modulo {self.modulus}: draw it up without `packed`")
         rows = _states(states, self.names)
         if any(len(row) != len(self.names) for row in rows):
             raise Refusal(7)
         levels = _levels(level for row in rows for level in row)
-        answer = _call("draw_up", *self._settings, *self._tables.values(), levels)
-        self._keep(answer).cancellations = answer >> 24
+        answer = _call("draw_up_packed" if packed else "draw_up", *self._settings, *self._tables.values(), levels)
+        self._keep(answer).cancellations = None if packed else answer >> 24
         return self
 
     def check(self):

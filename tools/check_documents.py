@@ -46,6 +46,7 @@ NOTES = {
     "docs/changes/M-105.md": "0f368a709635106c",
     "docs/changes/M-106.md": "85185652235a4dc1",
     "docs/changes/M-107.md": "0df02fce05dbb056",
+    "docs/changes/M-108.md": "876c4f539434b89c",
 }
 
 

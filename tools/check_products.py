@@ -185,7 +185,7 @@ class Reader:
 def judged(sources):
     """How many operators there are, and what is wrong with them."""
     parsed = [one for source in sources for one in functions(source)]
-    answers = {name: answer for name, _, answer, _ in parsed}
+    answers = {"count_ones": "u32", **{name: answer for name, _, answer, _ in parsed}}
     for source in sources:
         for fields in re.findall(r"struct \w+ \{([^}]*)\}", source):
             answers.update({"." + name: kind for name, kind in re.findall(r"(\w+): (\w+)", fields)})

@@ -24,6 +24,7 @@ from plain_basis import SIZES, Basis
 from text_cases import gathered, records_in, refusal_of
 from wiring_lists import DATA, FILLING, ROOT, TEXTS, blocks, call_due, fnv, load, needed, print_due, store
 
+DRAWING = ("draw_up", "draw_up_packed")
 REFUSED_BEFORE = ("8", "11")
 LATE = ("8", "9", "11", "13", "14")  # what a text without faults of form, under good settings, can be refused with
 
@@ -77,10 +78,10 @@ def counts_left(block):
     """The fifth table after the call, whose number is stored."""
     said = words(block)
     held, table = counts_handed(block)
-    if said["number"][0] != "0" or said["call"][0] not in ("add", "withdraw", "draw_up"):
+    if said["number"][0] != "0" or said["call"][0] not in ("add", "withdraw", *DRAWING):
         return table
     points = residues(said, numbers(said, "levels")[1:])
-    if said["call"] == ["draw_up"]:
+    if said["call"][0] in DRAWING:
         held = gathered(points)
     else:
         held = (entered if said["call"] == ["add"] else lowered)(points[0], held)

@@ -3,16 +3,18 @@
 
 #include "reference.h"
 
-const char *const kind_names[KINDS] = {"add_point",   "withdraw_point", "draw_up", "check",
-                                       "interpolate", "remainder",      "wiring",  "read_text"};
+const char *const kind_names[KINDS] = {"add_point", "withdraw_point", "draw_up", "draw_up_packed", "check",
+                                       "interpolate", "remainder", "wiring", "read_text"};
 
 /* Those that every call over tables can answer, and those of one that is handed levels, values or terms beside. */
 #define EARLY (1 << 3 | 1 << 4 | 1 << 5 | 1 << 6)
 #define ANSWERING (EARLY | 1 << 7 | 1 << 8 | 1 << 9 | 1 << 10)
+#define DRAWING (EARLY | 1 << 7 | 1 << 8 | 1 << 9 | 1 << 13)
 
 const uint32_t possible_refusals[KINDS] = {[ADD_POINT] = ANSWERING | 1 << 13,
                                            [WITHDRAW_POINT] = ANSWERING | 1 << 12,
-                                           [DRAW_UP] = EARLY | 1 << 7 | 1 << 8 | 1 << 9 | 1 << 13,
+                                           [DRAW_UP] = DRAWING,
+                                           [DRAW_UP_PACKED] = DRAWING,
                                            [CHECK] = EARLY | 1 << 8 | 1 << 10,
                                            [INTERPOLATE] = ANSWERING,
                                            [REMAINDER] = ANSWERING,
@@ -23,13 +25,13 @@ const uint32_t possible_refusals[KINDS] = {[ADD_POINT] = ANSWERING | 1 << 13,
 const size_t table_sizes[TABLES] = {MISQAFUR_STATES_SIZE, MISQAFUR_STANDARD_SIZE, MISQAFUR_LEADS_SIZE,
                                     MISQAFUR_COEFFICIENTS_SIZE, MISQAFUR_COUNTS_SIZE};
 
-const struct calls archive = {misqafur_add_point, misqafur_withdraw_point, misqafur_draw_up,
-                              misqafur_check,     misqafur_interpolate,    misqafur_remainder,
-                              misqafur_wiring,    misqafur_read_text};
+const struct calls archive = {misqafur_add_point,      misqafur_withdraw_point, misqafur_draw_up,
+                              misqafur_draw_up_packed, misqafur_check,          misqafur_interpolate,
+                              misqafur_remainder,      misqafur_wiring,         misqafur_read_text};
 
-const struct calls reference = {reference_add_point, reference_withdraw_point, reference_draw_up,
-                                reference_check,     reference_interpolate,    reference_remainder,
-                                reference_wiring,    reference_read_text};
+const struct calls reference = {reference_add_point,      reference_withdraw_point, reference_draw_up,
+                                reference_draw_up_packed, reference_check,          reference_interpolate,
+                                reference_remainder,      reference_wiring,         reference_read_text};
 
 size_t buffer_size(enum kind kind, enum buffer which)
 {
@@ -56,6 +58,8 @@ uint64_t perform(const struct calls *by, const struct call *c)
         return by->withdraw_point(SETTINGS, c->n, c->r, ALL_TABLES, LENT(GIVEN));
     case DRAW_UP:
         return by->draw_up(SETTINGS, ALL_TABLES, LENT(GIVEN));
+    case DRAW_UP_PACKED:
+        return by->draw_up_packed(SETTINGS, ALL_TABLES, LENT(GIVEN));
     case CHECK:
         return by->check(SETTINGS, c->n, c->r, ALL_TABLES);
     case INTERPOLATE:

@@ -4,15 +4,27 @@
 
 #include "misqafur.h"
 
-enum kind { ADD_POINT, WITHDRAW_POINT, DRAW_UP, CHECK, INTERPOLATE, REMAINDER, WIRING, READ_TEXT, KINDS };
+enum kind {
+    ADD_POINT,
+    WITHDRAW_POINT,
+    DRAW_UP,
+    DRAW_UP_PACKED,
+    CHECK,
+    INTERPOLATE,
+    REMAINDER,
+    WIRING,
+    READ_TEXT,
+    KINDS
+};
 
 extern const char *const kind_names[KINDS];
 
-/* The eight calls of one implementation. */
+/* The nine calls of one implementation. */
 struct calls {
     __typeof__(misqafur_add_point) *add_point;
     __typeof__(misqafur_withdraw_point) *withdraw_point;
     __typeof__(misqafur_draw_up) *draw_up;
+    __typeof__(misqafur_draw_up_packed) *draw_up_packed;
     __typeof__(misqafur_check) *check;
     __typeof__(misqafur_interpolate) *interpolate;
     __typeof__(misqafur_remainder) *remainder;
@@ -57,6 +69,12 @@ struct call {
     uint64_t modulus, variables, order, n, r;
     struct bytes buffer[BUFFERS];
 };
+
+/* Whether a call of this kind is handed all points at once. */
+static inline int draws_up(enum kind kind)
+{
+    return kind == DRAW_UP || kind == DRAW_UP_PACKED;
+}
 
 /* Has the call performed on its buffers, and gives the number returned. */
 uint64_t perform(const struct calls *by, const struct call *call);

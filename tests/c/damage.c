@@ -173,7 +173,7 @@ static void repeat_point(struct made *made)
         return;
     if ((made->call.kind == ADD_POINT || made->call.kind == WITHDRAW_POINT) && 0 < n && n <= 64) {
         random_levels(c, p, m, made->bytes[STATES] + 8 * below(c, n), 1, given);
-    } else if (made->call.kind == DRAW_UP && made->call.buffer[GIVEN].length >= 2 * m) {
+    } else if (draws_up(made->call.kind) && made->call.buffer[GIVEN].length >= 2 * m) {
         size_t points = made->call.buffer[GIVEN].length / m, from = below(c, points), to = below(c, points);
         for (size_t k = 0; k < m; k++) {
             int level = (int8_t)given[m * from + k];

@@ -70,7 +70,7 @@ static void claim_given(struct score *score, struct guard *guard, const struct c
 {
     static const size_t claims[] = {MISQAFUR_MAX_TEXT + 1, FOUR_GIB};
     for (size_t c = 0; c < sizeof claims / sizeof *claims; c++) {
-        size_t more[BUFFERS] = {[GIVEN] = call->kind == DRAW_UP ? odd_levels(call, claims[c]) : claims[c]};
+        size_t more[BUFFERS] = {[GIVEN] = draws_up(call->kind) ? odd_levels(call, claims[c]) : claims[c]};
         if (more[GIVEN] == 0)
             continue;
         claim(score, guard, call, more);

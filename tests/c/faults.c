@@ -31,8 +31,8 @@ int refusal_of(int fault)
  * greatest count. Drawing up and texts claim no n. */
 static int possible(enum kind kind, uint32_t faults)
 {
-    int fills = kind == ADD_POINT || kind == DRAW_UP || kind == READ_TEXT;
-    int claims = kind != DRAW_UP && kind != READ_TEXT;
+    int fills = kind == ADD_POINT || draws_up(kind) || kind == READ_TEXT;
+    int claims = !draws_up(kind) && kind != READ_TEXT;
     uint32_t all = possible_refusals[kind] & ~(claims ? 0u : 1u << 8);
     if (has_fault(faults, FULL) && has_fault(faults, 13) && kind == ADD_POINT)
         return 0;

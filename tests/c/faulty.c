@@ -1,5 +1,5 @@
 /* Calls over tables with a set of faults: three points modulo 11 in two variables, or 64 where there is to be no room, and
- * whatever is wrong beside. */
+ * whatever is wrong beside. What is drawn up packed is modulo 2, in eight variables. */
 #include "made.h"
 
 #include <string.h>
@@ -10,8 +10,12 @@ static void set_settings(struct call *call, uint32_t faults, uint32_t variant)
     static const uint64_t moduli[8] = {67, 1, 0, 9, 256 + 11, 65536 + 11, 0x100000000 + 11, UINT64_MAX};
     static const uint64_t variables[8] = {9, 0, 10, 255, 256 + 2, 65536 + 2, 0x100000000 + 2, UINT64_MAX};
     static const uint64_t orders[8] = {3, 4, 100, 255, 256, 65536 + 1, 0x100000000 + 1, UINT64_MAX};
-    call->modulus = has_fault(faults, 3) ? moduli[variant % 8] : 11;
-    call->variables = has_fault(faults, 4) ? variables[variant % 8] : 2;
+    static const uint64_t no_twos[10] = {3, 61, 0, 1, 256 + 2, 65536 + 2, 0x100000000 + 2, UINT64_MAX, 5, 4};
+    const int packed = call->kind == DRAW_UP_PACKED;
+    call->modulus = packed ? 2 : 11;
+    if (has_fault(faults, 3))
+        call->modulus = packed ? no_twos[variant % 10] : moduli[variant % 8];
+    call->variables = has_fault(faults, 4) ? variables[variant % 8] : packed ? 8 : 2;
     call->order = has_fault(faults, 5) ? orders[variant % 8] : variant % 3;
 }
 
@@ -53,11 +57,11 @@ static void set_tables(struct made *made, uint32_t faults, uint32_t variant)
     int full = has_fault(faults, FULL);
     const struct made *basis = basis_of(full, variant % 3);
     for (int t = 0; t < TABLES; t++)
-        if (made->call.kind == DRAW_UP)
+        if (draws_up(made->call.kind))
             memset(made->bytes[t], 170, table_sizes[t] + 8);
         else
             memcpy(made->bytes[t], basis->bytes[t], table_sizes[t] + 8);
-    if (made->call.kind == DRAW_UP)
+    if (draws_up(made->call.kind))
         return;
     made->call.n = basis->call.n;
     made->call.r = basis->call.r;
@@ -93,9 +97,9 @@ static void set_length(struct made *made, enum buffer which, size_t right, uint3
     made->call.buffer[which] = (struct bytes){made->bytes[which], has_fault(faults, 7) ? wrong : right};
 }
 
-static uint8_t bad_level(uint32_t variant)
+static uint8_t bad_level(int p, uint32_t variant)
 {
-    static const int levels[4] = {11, -11, 127, -128};
+    const int levels[4] = {p, -p, 127, -128};
     return (uint8_t)levels[variant % 4];
 }
 
@@ -110,10 +114,17 @@ static void set_point(struct made *made, uint32_t faults, uint32_t variant)
     made->bytes[GIVEN][0] = there ? (uint8_t)-10 : 3;
     made->bytes[GIVEN][1] = there ? 2 : 7;
     if (has_fault(faults, 9))
-        made->bytes[GIVEN][variant % 2] = bad_level(variant);
+        made->bytes[GIVEN][variant % 2] = bad_level(11, variant);
     if (has_fault(faults, 8))
         made->call.n = many[variant % 8];
     set_length(made, GIVEN, 2, faults, variant);
+}
+
+/* One of 256 points of eight variables modulo 2. */
+static void put_byte_point(uint8_t *levels, int i, int negative)
+{
+    for (int k = 0; k < 8; k++)
+        levels[k] = (uint8_t)(37 * i >> k & 1 ? (negative ? -1 : 1) : 0);
 }
 
 /* 64 points of a grid, or more, every third in negative levels; and one of them again, so often that it is there 255
@@ -123,13 +134,14 @@ static void set_all_points(struct made *made, uint32_t faults, uint32_t variant)
     uint8_t *levels = made->bytes[GIVEN];
     int points = has_fault(faults, FULL) ? 65 + (int)variant % 8 : 64, chosen = (int)variant * 7;
     int again = MISQAFUR_MAX_COUNT - 1 + has_fault(faults, 13), from = (int)(variant % 3) * points / 2;
+    const int packed = made->call.kind == DRAW_UP_PACKED, m = packed ? 8 : 2;
     for (int i = 0; i < points + again; i++) {
-        int replicate = from <= i && i < from + again, point = i < from ? i : i - again;
-        put_grid_point(levels + 2 * i, replicate ? chosen : point, i % 3 == 0);
+        int replicate = from <= i && i < from + again, point = replicate ? chosen : i < from ? i : i - again;
+        (packed ? put_byte_point : put_grid_point)(levels + m * i, point, i % 3 == 0);
     }
     if (has_fault(faults, 9))
-        levels[variant % 8 * 18] = bad_level(variant);
-    set_length(made, GIVEN, 2 * (size_t)(points + again), faults, variant);
+        levels[variant % 8 * 18] = bad_level(packed ? 2 : 11, variant);
+    set_length(made, GIVEN, (size_t)(m * (points + again)), faults, variant);
 }
 
 static void set_values(struct made *made, uint32_t faults, uint32_t variant)
@@ -137,7 +149,7 @@ static void set_values(struct made *made, uint32_t faults, uint32_t variant)
     if (has_fault(faults, 8))
         made->call.n = 65 + variant;
     if (has_fault(faults, 9))
-        made->bytes[GIVEN][variant % 3] = bad_level(variant);
+        made->bytes[GIVEN][variant % 3] = bad_level(11, variant);
     set_length(made, GIVEN, made->call.n, faults, variant);
 }
 
@@ -153,7 +165,7 @@ static void set_terms(struct made *made, uint32_t faults, uint32_t variant)
     if (has_fault(faults, 9) && variant % 2 == 1)
         made->bytes[EXPONENTS][2 + variant % 6] = 1;
     else if (has_fault(faults, 9))
-        made->bytes[GIVEN][variant % 3] = bad_level(variant);
+        made->bytes[GIVEN][variant % 3] = bad_level(11, variant);
     made->call.buffer[GIVEN] = (struct bytes){made->bytes[GIVEN], terms};
     set_length(made, EXPONENTS, 8 * terms, faults, variant / 2);
     if (has_fault(faults, 7) && variant > 7)
@@ -163,7 +175,7 @@ static void set_terms(struct made *made, uint32_t faults, uint32_t variant)
 void make_faulty_call(struct made *made, enum kind kind, uint32_t faults, uint32_t variant)
 {
     made->call = (struct call){.kind = kind};
-    memset(made->bytes[GIVEN], 0, 1000);
+    memset(made->bytes[GIVEN], 0, 3000);
     memset(made->bytes[EXPONENTS], 0, 8 * 300);
     memset(made->bytes[OUT], 170, MISQAFUR_RESIDUES_SIZE + 8);
     set_settings(&made->call, faults, variant);
@@ -171,7 +183,7 @@ void make_faulty_call(struct made *made, enum kind kind, uint32_t faults, uint32
     set_faulty_sizes(made, faults, variant);
     if (kind == ADD_POINT || kind == WITHDRAW_POINT)
         set_point(made, faults, variant);
-    else if (kind == DRAW_UP)
+    else if (draws_up(kind))
         set_all_points(made, faults, variant);
     else if (kind == REMAINDER)
         set_terms(made, faults, variant);

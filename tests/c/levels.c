@@ -20,7 +20,7 @@ static int residue_of(int p, int number)
  * the one to be withdrawn. */
 static void make_single(struct made *made, enum kind kind, int p, int number)
 {
-    int on_point = kind != ADD_POINT && kind != DRAW_UP, point = kind == WITHDRAW_POINT ? residue_of(p, number) : 0;
+    int on_point = kind != ADD_POINT && !draws_up(kind), point = kind == WITHDRAW_POINT ? residue_of(p, number) : 0;
     made->call = (struct call){.kind = kind, .modulus = (uint64_t)p, .variables = 1, .n = (uint64_t)on_point, .r = 1};
     for (int i = 0; i < BUFFERS; i++)
         lend(made, (enum buffer)i, buffer_size(kind, (enum buffer)i));
@@ -39,10 +39,13 @@ static void make_single(struct made *made, enum kind kind, int p, int number)
 static int level_holds(struct made *made, enum kind kind, int p, int number)
 {
     int in_range = -p < number && number < p, fits = -127 <= number && number <= 127;
+    int on_states = kind == ADD_POINT || draws_up(kind);
     make_single(made, kind, p, number);
     if (made->bytes[GIVEN][0] != (fits ? (number + 256) % 256 : 128))
         return 0;
     uint32_t answer = (uint32_t)perform(&archive, &made->call);
+    if (kind == DRAW_UP_PACKED && p != 2)
+        return answer == 3;
     if (misqafur_refusal(answer) != (in_range ? 0 : 9))
         return 0;
     if (!in_range || kind == WIRING)
@@ -50,13 +53,14 @@ static int level_holds(struct made *made, enum kind kind, int p, int number)
     if (kind == WITHDRAW_POINT)
         return answer == 65536 && made->bytes[STATES][0] == 0 && made->bytes[LEADS][0] == 0 &&
                made->bytes[COUNTS][0] == 0;
-    return made->bytes[kind == ADD_POINT || kind == DRAW_UP ? STATES : OUT][0] == residue_of(p, number);
+    return made->bytes[on_states ? STATES : OUT][0] == residue_of(p, number);
 }
 
 /* One number with every modulus, through every call that takes levels, values or coefficients. */
 static void try_level(struct score *score, struct made *made, int number)
 {
-    static const enum kind kinds[] = {ADD_POINT, WITHDRAW_POINT, DRAW_UP, INTERPOLATE, REMAINDER, WIRING};
+    static const enum kind kinds[] = {ADD_POINT,   WITHDRAW_POINT, DRAW_UP, DRAW_UP_PACKED,
+                                      INTERPOLATE, REMAINDER,      WIRING};
     for (size_t k = 0; k < sizeof kinds / sizeof *kinds; k++)
         for (int i = 0; i < 18; i++) {
             int holds = level_holds(made, kinds[k], primes[i], number);

@@ -68,7 +68,7 @@ struct score short_buffers(const struct options *options)
 static void long_call(struct score *score, uint8_t *zeros, enum kind kind, size_t given, size_t exponents,
                       uint64_t n, uint32_t expected)
 {
-    struct call call = {.kind = kind, .modulus = 5, .variables = 8, .n = n, .r = 1};
+    struct call call = {.kind = kind, .modulus = kind == DRAW_UP_PACKED ? 2 : 5, .variables = 8, .n = n, .r = 1};
     static uint8_t tables[TABLES][MISQAFUR_COEFFICIENTS_SIZE], out[MISQAFUR_RESIDUES_SIZE];
     for (int t = 0; t < TABLES; t++)
         call.buffer[t] = (struct bytes){tables[t], table_sizes[t]};
@@ -99,6 +99,8 @@ struct score long_buffers(const struct options *options)
     }
     long_call(&score, zeros, DRAW_UP, FOUR_GIB + 8, 0, 0, 13);
     long_call(&score, zeros, DRAW_UP, FOUR_GIB + 1, 0, 0, 7);
+    long_call(&score, zeros, DRAW_UP_PACKED, FOUR_GIB + 8, 0, 0, 13);
+    long_call(&score, zeros, DRAW_UP_PACKED, FOUR_GIB + 1, 0, 0, 7);
     long_call(&score, zeros, ADD_POINT, FOUR_GIB + 8, 0, 0, 7);
     long_call(&score, zeros, WITHDRAW_POINT, FOUR_GIB + 8, 0, 0, 7);
     long_call(&score, zeros, CHECK, 0, 0, 0, 0);

@@ -7,10 +7,10 @@
 
 const uint8_t primes[18] = {2, 3, 5, 7, 11, 13, 17, 19, 23, 29, 31, 37, 41, 43, 47, 53, 59, 61};
 
-/* Mostly few points, now and then many, or as many as there may be. */
-static size_t random_count(struct chance *c)
+/* Mostly few points, now and then many, or as many as there may be; packed more often, since modulo 2 there are few others. */
+static size_t random_count(struct chance *c, enum kind kind)
 {
-    if (once_in(c, 50))
+    if (once_in(c, kind == DRAW_UP_PACKED ? 12 : 50))
         return once_in(c, 3) ? MISQAFUR_MAX_POINTS : 33 + below(c, 32);
     return once_in(c, 10) ? 11 + below(c, 22) : below(c, 11);
 }
@@ -57,7 +57,7 @@ uint8_t random_level(struct chance *c, int p, uint8_t residue)
 static void random_settings(struct made *made)
 {
     struct chance *c = &made->chance;
-    made->call.modulus = primes[once_in(c, 2) ? below(c, 4) : below(c, 18)];
+    made->call.modulus = made->call.kind == DRAW_UP_PACKED ? 2 : primes[once_in(c, 2) ? below(c, 4) : below(c, 18)];
     made->call.variables = 1 + below(c, 8);
     made->call.order = below(c, 3);
 }
@@ -100,7 +100,7 @@ static void set_tables(struct made *made, const uint8_t *levels, size_t count)
         memset(made->bytes[t], 170, table_sizes[t]);
         lend(made, (enum buffer)t, table_sizes[t] + surplus(&made->chance));
     }
-    if (call->kind == DRAW_UP)
+    if (draws_up(call->kind))
         return;
     struct call draw = *call;
     draw.kind = DRAW_UP;
@@ -194,9 +194,9 @@ void make_call(struct made *made, enum kind kind)
     made->call = (struct call){.kind = kind};
     random_settings(made);
     int p = (int)made->call.modulus, m = (int)made->call.variables;
-    size_t n = random_points(&made->chance, p, m, random_count(&made->chance), points);
+    size_t n = random_points(&made->chance, p, m, random_count(&made->chance, kind), points);
     size_t count = random_levels(&made->chance, p, (size_t)m, points, n, levels);
-    if (kind == DRAW_UP)
+    if (draws_up(kind))
         lend(made, GIVEN, with_replicates(made, points, n, made->bytes[GIVEN]));
     set_tables(made, levels, count);
     set_given(made);

@@ -41,6 +41,7 @@ struct score overlapping(const struct options *options);
 struct score all_faults(const struct options *options);
 struct score changed_bytes(const struct options *options);
 struct score wrong_numbers(const struct options *options);
+struct score packed_drawing(const struct options *options);
 struct score replicates(const struct options *options);
 
 #endif

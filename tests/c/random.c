@@ -1,8 +1,9 @@
-/* Part "random": random calls of every kind, whole and damaged, against the reference. A case
- * depends on the seed, its kind and its index alone. */
+/* Part "random": random calls of every kind, whole and damaged, against the reference; and every drawing up in both ways. A
+ * case depends on the seed, its kind and its index alone. */
 #define _DEFAULT_SOURCE
 #include "guard.h"
 #include "made.h"
+#include "packed.h"
 #include "parts.h"
 
 #include <inttypes.h>
@@ -21,8 +22,8 @@ struct worker {
     long returned[KINDS][REFUSALS]; /* how often each refusal came, and 0 */
 };
 
-static int random_case(struct guard *guard, struct made *made, uint64_t seed, enum kind kind, uint64_t index,
-                       uint64_t *number)
+static int random_case(struct guard *guard, struct guard *other, struct made *made, uint64_t seed, enum kind kind,
+                       uint64_t index, uint64_t *number)
 {
     char name[96];
     memset(made->bytes[GIVEN], 0, ROOM);
@@ -36,25 +37,28 @@ static int random_case(struct guard *guard, struct made *made, uint64_t seed, en
             damage(made);
     }
     snprintf(name, sizeof name, "%s, seed %" PRIu64 ", case %" PRIu64, kind_names[kind], seed, index);
-    return agrees(guard, &made->call, any_number(&made->chance), name, number);
+    uint64_t choice = any_number(&made->chance);
+    return agrees(guard, &made->call, choice, name, number) &&
+           (!draws_up(kind) || drawn_both_ways(guard, other, &made->call, choice, name));
 }
 
 static void *work(void *of)
 {
     struct worker *worker = of;
     const struct options *options = worker->options;
-    struct guard *guard = guard_new();
+    struct guard *guard = guard_new(), *other = guard_new();
     struct made *made = malloc(sizeof *made);
     if (made == NULL)
         abort();
     for (uint64_t i = (uint64_t)worker->number; i < options->cases; i += (uint64_t)options->threads)
         for (int kind = 0; kind < KINDS && worker->score.failed < 10; kind++) {
             uint64_t number = 0;
-            count(&worker->score, random_case(guard, made, options->seed, (enum kind)kind, i, &number));
+            count(&worker->score, random_case(guard, other, made, options->seed, (enum kind)kind, i, &number));
             worker->returned[kind][(number & 255) < REFUSALS ? number & 255 : 0]++;
         }
     free(made);
     guard_free(guard);
+    guard_free(other);
     return NULL;
 }
 

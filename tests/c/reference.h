@@ -9,6 +9,7 @@
 __typeof__(misqafur_add_point) reference_add_point;
 __typeof__(misqafur_withdraw_point) reference_withdraw_point;
 __typeof__(misqafur_draw_up) reference_draw_up;
+__typeof__(misqafur_draw_up_packed) reference_draw_up_packed;
 __typeof__(misqafur_check) reference_check;
 __typeof__(misqafur_interpolate) reference_interpolate;
 __typeof__(misqafur_remainder) reference_remainder;

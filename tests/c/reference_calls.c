@@ -136,6 +136,20 @@ uint64_t reference_draw_up(uint64_t modulus, uint64_t variables, uint64_t order,
     return answer + ((uint64_t)b.cancellations << 32);
 }
 
+/* What drawing up leaves and answers, without its cancellations: there is one definition of a basis. */
+uint32_t reference_draw_up_packed(uint64_t modulus, uint64_t variables, uint64_t order,
+                                  uint8_t *states, size_t states_length, uint8_t *standard, size_t standard_length,
+                                  uint8_t *leads, size_t leads_length,
+                                  uint8_t *coefficients, size_t coefficients_length,
+                                  uint8_t *counts, size_t counts_length, const uint8_t *levels, size_t levels_length)
+{
+    if (modulus != 2)
+        return 3;
+    return (uint32_t)reference_draw_up(modulus, variables, order, states, states_length, standard, standard_length, leads,
+                                       leads_length, coefficients, coefficients_length, counts, counts_length, levels,
+                                       levels_length);
+}
+
 uint32_t reference_check(uint64_t modulus, uint64_t variables, uint64_t order, uint64_t n, uint64_t r,
                          const uint8_t *states, size_t states_length,
                          const uint8_t *standard, size_t standard_length,

@@ -1,5 +1,6 @@
 /* Part "replicates": every count that a point can have, raised, lowered and drawn up; as many replicates as there may be of
- * as many points as there may be, and one more of each; and a text of as many records as find room in it. */
+ * as many points as there may be, and one more of each, modulo 2 drawn up packed; and a text of as many records as find room
+ * in it. */
 #include "parts.h"
 
 #include "misqafur.h"
@@ -21,7 +22,9 @@ static void say(struct score *score, const char *what, size_t at, int holds)
 
 static uint64_t draw(struct misqafur_sheet *s, const uint8_t *levels, size_t length)
 {
-    uint64_t answer = misqafur_draw_up(MISQAFUR_SHEET_SETTINGS(s), MISQAFUR_SHEET_TABLES(s), levels, length);
+    uint64_t answer = s->modulus == 2
+        ? misqafur_draw_up_packed(MISQAFUR_SHEET_SETTINGS(s), MISQAFUR_SHEET_TABLES(s), levels, length)
+        : misqafur_draw_up(MISQAFUR_SHEET_SETTINGS(s), MISQAFUR_SHEET_TABLES(s), levels, length);
     if (misqafur_refusal(answer) == 0) {
         s->n = misqafur_points(answer);
         s->r = misqafur_elements(answer);
@@ -106,15 +109,15 @@ static void drawn_times(struct score *score)
     }
 }
 
-/* 65 distinct points of eight genes modulo 61: a grid in the first two. */
-static void put_point(uint8_t *levels, size_t i)
+/* 65 distinct points of eight genes modulo 61: a grid in the first two; or modulo 2: the bits of a byte. */
+static void put_point(uint8_t *levels, uint64_t p, size_t i)
 {
     for (size_t k = 0; k < GENES; k++)
-        levels[k] = (uint8_t)(k == 0 ? i % 8 : k == 1 ? i / 8 : (i + 1) * (k + 3) % 61);
+        levels[k] = (uint8_t)(p == 2 ? 37 * i >> k & 1 : k == 0 ? i % 8 : k == 1 ? i / 8 : (i + 1) * (k + 3) % 61);
 }
 
 /* Every point as often as it may be, one round after the other, and two places more. */
-static void fullest(struct score *score)
+static void fullest(struct score *score, uint64_t p)
 {
     static struct misqafur_sheet once, s, before;
     const size_t most = POINTS * TIMES;
@@ -122,9 +125,9 @@ static void fullest(struct score *score)
     if (levels == NULL)
         abort();
     for (size_t i = 0; i < most + 2; i++)
-        put_point(levels + GENES * i, i % POINTS);
+        put_point(levels + GENES * i, p, i % POINTS);
     memset(&once, 0, sizeof once);
-    once.modulus = 61;
+    once.modulus = p;
     once.variables = GENES;
     s = once;
     uint64_t answer = draw(&once, levels, GENES * POINTS);
@@ -134,9 +137,9 @@ static void fullest(struct score *score)
     say(score, "the basis of each once, and the counts", 0, memcmp(&s, &once, sizeof s) == 0);
     before = s;
     say(score, "one replicate more", 0, draw(&s, levels, GENES * (most + 1)) == 13);
-    put_point(end + GENES, POINTS);
+    put_point(end + GENES, p, POINTS);
     say(score, "and the 65th point", 0, draw(&s, levels, GENES * (most + 2)) == 8);
-    end[2 * GENES - 1] = 61;
+    end[2 * GENES - 1] = (uint8_t)p;
     say(score, "and that out of range", 0, draw(&s, levels, GENES * (most + 2)) == 9);
     say(score, "one more added", 0, misqafur_sheet_add(&s, end, GENES) == 13);
     say(score, "refused without a trace", 0, memcmp(&s, &before, sizeof s) == 0);
@@ -166,7 +169,8 @@ struct score replicates(const struct options *options)
     (void)options;
     every_count(&score);
     drawn_times(&score);
-    fullest(&score);
+    fullest(&score, 61);
+    fullest(&score, 2);
     longest_text(&score);
     return score;
 }

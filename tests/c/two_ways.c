@@ -33,12 +33,12 @@ static int counted_alike(const struct made *drawn, const struct list *list)
     return 1;
 }
 
-/* Draws up the list's points with these counts: whether that gives n, r and three tables of the call. */
+/* Draws up the list's points with these counts, modulo 2 in either way: whether that gives n, r and three tables of the call. */
 static int drawn_with(struct made *made, struct made *drawn, const struct list *list, const uint8_t counts[64])
 {
     memset(drawn->bytes, 170, sizeof drawn->bytes);
     drawn->call = made->call;
-    drawn->call.kind = DRAW_UP;
+    drawn->call.kind = made->call.modulus == 2 && once_in(&made->chance, 2) ? DRAW_UP_PACKED : DRAW_UP;
     for (int t = 0; t < TABLES; t++)
         lend(drawn, (enum buffer)t, table_sizes[t]);
     lend(drawn, GIVEN, shuffled(&made->chance, list, counts, drawn->bytes[GIVEN]));

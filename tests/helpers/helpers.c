@@ -6,7 +6,7 @@
 #include <stdio.h>
 #include <stdlib.h>
 
-enum kind { ADD, WITHDRAW, DRAW_UP, CHECK, INTERPOLATE, REMAINDER, WIRING, KINDS, INIT = KINDS, HELPERS };
+enum kind { ADD, WITHDRAW, DRAW_UP, PACKED, CHECK, INTERPOLATE, REMAINDER, WIRING, KINDS, INIT = KINDS, HELPERS };
 
 /* What a call is handed beside the sheet, and what it answers. */
 struct terms {
@@ -54,6 +54,8 @@ static struct ends plainly(enum kind kind, struct misqafur_sheet *s, const struc
         answer = misqafur_withdraw_point(SHEET, t->levels, t->levels_length);
     if (kind == DRAW_UP)
         answer = (uint32_t)misqafur_draw_up(s->modulus, s->variables, s->order, TABLES, t->levels, t->levels_length);
+    if (kind == PACKED)
+        answer = misqafur_draw_up_packed(s->modulus, s->variables, s->order, TABLES, t->levels, t->levels_length);
     if (kind == CHECK)
         answer = misqafur_check(SHEET);
     if (kind == INTERPOLATE)
@@ -64,7 +66,7 @@ static struct ends plainly(enum kind kind, struct misqafur_sheet *s, const struc
     if (kind == WIRING)
         answer = misqafur_wiring(SHEET, t->levels, t->levels_length, ends.out, t->out_length);
     ends.refusal = answer & 255u;
-    if (ends.refusal == 0 && kind <= DRAW_UP) {
+    if (ends.refusal == 0 && kind <= PACKED) {
         s->n = (answer >> 8) & 255u;
         s->r = answer >> 16;
     }
@@ -79,6 +81,7 @@ static struct ends by_helper(enum kind kind, struct misqafur_sheet *s, const str
     case ADD: ends.refusal = misqafur_sheet_add(s, t->levels, t->levels_length); break;
     case WITHDRAW: ends.refusal = misqafur_sheet_withdraw(s, t->levels, t->levels_length); break;
     case DRAW_UP: ends.refusal = misqafur_sheet_draw_up(s, t->levels, t->levels_length); break;
+    case PACKED: ends.refusal = misqafur_sheet_draw_up_packed(s, t->levels, t->levels_length); break;
     case CHECK: ends.refusal = misqafur_sheet_check(s); break;
     case INTERPOLATE:
         ends.refusal = misqafur_sheet_interpolate(s, t->levels, t->levels_length, ends.out, t->out_length);
@@ -93,20 +96,32 @@ static struct ends by_helper(enum kind kind, struct misqafur_sheet *s, const str
     return ends;
 }
 
+/* So many points modulo 2, each another one where there are as many. */
+static void make_bits(uint8_t *levels, uint32_t m, uint32_t points)
+{
+    const uint32_t turned = below(256);
+    for (uint32_t i = 0; i < points; i++)
+        for (uint32_t k = 0; k < m; k++)
+            levels[m * i + k] = (uint8_t)((i ^ turned) >> k & 1u);
+}
+
 /* Levels, values or terms that fit the sheet, or now and then do not. */
 static void make_terms(struct terms *t, enum kind kind, const struct misqafur_sheet *s)
 {
     const uint32_t p = (uint32_t)s->modulus, m = (uint32_t)s->variables, n = (uint32_t)s->n;
-    const uint32_t often = kind == DRAW_UP && m <= 2 && rarely();
-    const uint32_t points = often ? 250 + below(12) : rarely() ? 60 + below(8) : below(12);
+    const uint32_t draws = kind == DRAW_UP || kind == PACKED, many = kind == PACKED ? 3 : 6;
+    const uint32_t often = draws && m <= 2 && below(many) == 0;
+    const uint32_t points = often ? 250 + below(12) : below(many) == 0 ? 60 + below(8) : below(12);
     const uint32_t terms = rarely() ? 250 + below(9) : below(6);
-    t->levels_length = (kind <= WITHDRAW ? m : kind == DRAW_UP ? m * points : kind == REMAINDER ? terms : n) + rarely();
+    t->levels_length = (kind <= WITHDRAW ? m : draws ? m * points : kind == REMAINDER ? terms : n) + rarely();
     t->exponents_length = 8 * t->levels_length + rarely();
     t->out_length = (kind == WIRING ? 8 : 64) - rarely() + below(3);
     for (size_t i = 0; i < sizeof t->levels; i++)
         t->levels[i] = misqafur_level((int)below(2 * p - 1) - (int)(p - 1));
     if (often)
         memset(t->levels, 0, sizeof t->levels);
+    else if (kind == PACKED && points >= 60)
+        make_bits(t->levels, m, points);
     if (rarely() && t->levels_length > 0)
         t->levels[below((uint32_t)t->levels_length)] = misqafur_level((int)p);
     for (size_t i = 0; i < sizeof t->exponents; i++)
@@ -160,9 +175,9 @@ static void begin(long index, struct misqafur_sheet *sheet)
     static struct misqafur_sheet was;
     const struct ends before = {99, 99, {0}};
     struct ends ends = before;
-    static const uint64_t primes[] = {2, 3, 5, 7, 61, 4, 0};
+    static const uint64_t primes[] = {2, 2, 3, 5, 7, 61, 4, 0};
     static const uint8_t zeros[MISQAFUR_COEFFICIENTS_SIZE] = {0};
-    uint64_t p = primes[below(7)], m = below(10), order = below(4);
+    uint64_t p = primes[below(8)], m = p == 2 && below(3) == 0 ? 7 + below(2) : below(10), order = below(4);
     uint32_t due = p == 4 || p == 0 ? 3 : m < 1 || m > 8 ? 4 : order > 2 ? 5 : 0;
     if (below(2) == 0)
         memset(sheet, 170, sizeof *sheet);
@@ -191,8 +206,8 @@ static void texts(void)
 /* With enough calls, each helper was taken and refused in the ways that it can be. */
 static void all_seen(void)
 {
-    static const int due[HELPERS][6] = {{0, 7, 9, 10, 13}, {0, 7, 9, 10, 12}, {0, 7, 8, 9, 13}, {0, 10}, {0, 6, 7, 9, 10},
-                                        {0, 6, 7, 8, 9, 10}, {0, 6, 7, 9, 10}, {0, 3, 4, 5}};
+    static const int due[HELPERS][6] = {{0, 7, 9, 10, 13}, {0, 7, 9, 10, 12}, {0, 7, 8, 9, 13}, {0, 3, 7, 8, 9, 13},
+                                        {0, 10}, {0, 6, 7, 9, 10}, {0, 6, 7, 8, 9, 10}, {0, 6, 7, 9, 10}, {0, 3, 4, 5}};
     for (int kind = 0; kind < HELPERS; kind++)
         for (int i = 0; i < 6; i++)
             expect(seen[kind][due[kind][i]] > 0, "an answer that never came", 10 * kind + due[kind][i]);
@@ -210,7 +225,7 @@ int main(int count, char **words)
     }
     texts();
     expect(misqafur_version() == MISQAFUR_VERSION_NUMBER, "the version", 0);
-    if (calls >= 20000)
+    if (calls >= 40000)
         all_seen();
     printf("helpers: %ld passed, %ld failed\n", passed, failed);
     return failed != 0 || passed == 0;

@@ -83,6 +83,23 @@ for (i in 1:25) {
   expect(all(vapply(seq_along(values), function(k) value(s, interpolate(s, values), points[k, ]), 0) == values), "an interpolant")
 }
 
+# Packed: modulo 2 the same bytes, under every order, with replicates; any other modulus is refused, and nothing by itself.
+for (i in 1:40) {
+  genes <- sample(1:8, 1)
+  points <- matrix(sample(-1:1, 30 * genes, TRUE), 30)
+  empty <- sheet(2, genes, sample(0:2, 1))
+  expect(identical(draw_up(empty, points, packed = TRUE)$raw, draw_up(empty, points)$raw), "a packed sheet")
+}
+square <- draw_up(sheet(2, 1, "lex"), matrix(0:1, 2), packed = TRUE)
+expect(identical(basis(square), "g1^2 + g1") && check_sheet(square), "the square of a gene")
+expect(identical(unlist(states(draw_up(sheet(2, c("a", "b")), data.frame(b = 1, a = 0), packed = TRUE))), c(a = 0L, b = 1L)), "names, packed")
+other <- tryCatch(draw_up(three, matrix(0, 2, 3), packed = TRUE), misqafur_refusal = function(e) e)
+said <- "not 2 where a sheet is drawn up packed. This sheet is modulo 5: draw it up without `packed`"
+expect(other$number == 3 && grepl(said, conditionMessage(other), fixed = TRUE), "packed modulo 5")
+bits <- function(numbers) outer(numbers, 0:7, function(a, k) a %/% 2^k %% 2)
+for (try in list(list(8, bits(0:64)), list(0, bits(0:63)), list(13, matrix(0, 256, 8)), list(9, matrix(2, 1, 8)), list(7, matrix(0, 1, 7))))
+  expect(refusal(draw_up(sheet(2, 8), try[[2]], packed = TRUE)) == try[[1]], paste("packed, refused with", try[[1]]))
+
 if (requireNamespace("mpoly", quietly = TRUE)) {
   read <- suppressMessages(mpoly::mp(basis(three)))
   expect(length(read) == 3 && read[[1]] == mpoly::mp("g2^2 + g2 + 4 g1"), "mpoly reads the basis")

@@ -1,6 +1,6 @@
 // What elimination of the values at all points gives: the interpolant.
+use crate::parity::put_values;
 use elimination::reducing::eliminate;
-use monomial::terms::put_term_values;
 use points::levels;
 use residue::arithmetic;
 use residue::bytes;
@@ -97,6 +97,6 @@ pub fn solve_terms(
     levels::put_residues(p, coefficients, &mut found);
     let count = coefficients.len();
     let mut work = [0u8; sizes::WORK];
-    put_term_values(p, &found[..count], exponents, n, points, &mut work);
+    put_values(p, &found[..count], exponents, n, points, &mut work);
     solve(p, n, rows, pivots, &mut work, out);
 }

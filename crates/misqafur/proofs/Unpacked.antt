@@ -18,13 +18,13 @@ use Rattle.specification.specs.Refusal.{firstOf}
 use Rattle.specification.specs.Settings.{settingsCases}
 use Rattle.specification.specs.Counted.{pointsOf, gathered}
 use Rattle.specification.specs.Tables.{Tables}
-use Rattle.specification.specs.Adding.{pointsOffered, drawOutcome}
+use Rattle.specification.specs.Adding.{pointsOffered, drawOutcome, drawPackedOutcome}
 use Rattle.specification.specs.Reference.{Operation, outcomeOf, Event, own, interposed, Held, outcomeAt, keeping, heldAfter, numbers, heldAtEnd, due}
 use Rattle.specification.specs.Reference.{referenceAtEnd, Refuses}
-use Rattle.specification.specs.Calls.{operating, checking, interpolating, dividing, wiring, Call, drawing, handed, endingOf, numberOf}
+use Rattle.specification.specs.Calls.{operating, checking, interpolating, dividing, wiring, Call, drawing, drawingPacked, handed, endingOf, numberOf}
 use Rattle.specification.specs.Agreement.{Fresh, freshly, Agrees}
 use Rattle.specification.proofs.Numbers.{few-numbers, never-eleven, refused-alone}
-use Rattle.specification.proofs.CallByCall.{drawn-number, drawn-points, draw-leaves, draw-costs, operation-leaves}
+use Rattle.specification.proofs.CallByCall.{drawn-number, drawn-points, draw-leaves, packed-leaves, draw-costs, operation-leaves}
 use Rattle.specification.proofs.agreement.Claim.{agreement}
 use Rattle.misqafur.specs.Packing.{packed, packedAnswer, packedDrawn, packedOutcome, packedDrawing, packedList}
 use Rattle.misqafur.specs.Unpacking.{refusalFrom, pointsFrom, elementsFrom, cancellationsFrom, countFrom, returned, partsFrom, sheetKept, keptAfter}
@@ -119,6 +119,29 @@ module _ (s : Settings) (t : Tables) (levels : List ℤ) where
       let z : d .r < 65536 = omega (arith, drawn-few .1) in
       all-back (d .refusal) (d .n) (d .r) (d .cancellations) x y z
 
+-- Packed drawing up.
+module _ (s : Settings) (t : Tables) (levels : List ℤ) where
+  abbrev b : Answer
+  b = drawPackedOutcome s t levels .answer
+
+  packed-few : (b .n ≤ 64) × (b .r ≤ 449)
+  unfolding endingOf
+  packed-few = go (ℕ-discrete (b .refusal) 0)
+    where
+      go : Dec (b .refusal ≡ 0) → (b .n ≤ 64) × (b .r ≤ 449)
+      go (yes e) = let h = packed-leaves s t levels e in (omega (arith, h .count, h .few-points), omega (arith, h .rows, h .few-rows))
+      go (no e) = let z = both-zero (b .n) (b .r) [] (refused-alone (drawingPacked s t levels) e .parts) in (omega (arith, z .0), omega (arith, z .1))
+
+  packed-read : (refusalFrom (packedAnswer b) ≡ b .refusal) × (pointsFrom (packedAnswer b) ≡ b .n) × (elementsFrom (packedAnswer b) ≡ b .r)
+  unfolding endingOf
+  packed-read =
+      let x : b .refusal < 256 = omega (arith, few-numbers (drawingPacked s t levels)) in
+      let y : b .n < 256 = omega (arith, packed-few .0) in
+      let z : b .r < 65536 = omega (arith, packed-few .1) in
+      let e = plain (b .refusal) (b .n) (b .r) in
+      let k = all-back (b .refusal) (b .n) (b .r) 0 x y z in
+      (ap refusalFrom e ∙ k .0, ap pointsFrom e ∙ k .1, ap elementsFrom e ∙ k .2)
+
 -- a refusal alone
 alone : {k : ℕ} → k ≤ 13 → refusalFrom k ≡ k
 unfolding refusalFrom
@@ -128,6 +151,7 @@ alone h = omega arith
 pub refusal-read : (c : Call) → refusalFrom (returned c) ≡ numberOf c
 unfolding returned packedDrawing packedOutcome packedList endingOf
 refusal-read (drawing s t levels) = drawn-read s t levels .0
+refusal-read (drawingPacked s t levels) = packed-read s t levels .0
 refusal-read (handed (operating o) s n r t) = answer-read o s n r t .0
 refusal-read (handed checking s n r t) = alone (few-numbers (handed checking s n r t))
 refusal-read (handed (interpolating values buffer) s n r t) = alone (few-numbers (handed (interpolating values buffer) s n r t))
@@ -137,6 +161,7 @@ refusal-read (handed (wiring values buffer) s n r t) = count-back _ _ (few-numbe
 pub parts-read : (c : Call) → partsFrom c (returned c) ≡ endingOf c .parts
 unfolding returned packedDrawing packedOutcome packedList partsFrom endingOf
 parts-read (drawing s t levels) = let p = drawn-read s t levels in rw (p .1, p .2, p .3)
+parts-read (drawingPacked s t levels) = let p = packed-read s t levels in rw (p .1, p .2)
 parts-read (handed (operating o) s n r t) = let p = answer-read o s n r t in rw (p .1, p .2)
 parts-read (handed checking s n r t) = refl
 parts-read (handed (interpolating values buffer) s n r t) = refl

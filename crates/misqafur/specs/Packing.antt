@@ -34,7 +34,7 @@ packedWired w = packed (w .refusal ∷ w .count ∷ [])
 abbrev pub packedRead : Read → ℕ
 packedRead r = cond (eqb (r .refusal) 0) (packed (0 ∷ r .n ∷ r .modulus ∷ r .variables ∷ r .order ∷ [])) (packed (r .refusal ∷ r .at ∷ []))
 
--- Adding, withdrawing and drawing up: the number, and the lent tables at exit.
+-- Adding, withdrawing and drawing up, packed or not: the number, and the lent tables at exit.
 pub record Left : Type 0 where
   pub number : ℕ
   pub tables : Tables

@@ -4,10 +4,10 @@ use mathlib.Core.List.{List, [], _∷_}
 use Prim.Native.Nat.{ℕ, _/_, _%_}
 use lib.Dec.{eqb}
 use Rattle.specification.specs.declared.settings.Settings.{Settings}
-use Rattle.specification.specs.Adding.{drawOutcome}
+use Rattle.specification.specs.Adding.{drawOutcome, drawPackedOutcome}
 use Rattle.specification.specs.Solving.{checkRefusal, interpolateOutcome, remainderOutcome, wiringOutcome}
 use Rattle.specification.specs.Reference.{outcomeOf, Event, own, interposed, Held, outcomeAt, heldAfter}
-use Rattle.specification.specs.Calls.{operating, checking, interpolating, dividing, wiring, Call, drawing, handed}
+use Rattle.specification.specs.Calls.{operating, checking, interpolating, dividing, wiring, Call, drawing, drawingPacked, handed}
 use Rattle.misqafur.specs.Packing.{Left, packedOutcome, packedDrawing, packedList}
 
 -- misqafur_refusal, misqafur_read_refusal: answer & 255
@@ -49,6 +49,7 @@ orderFrom a = a / 4294967296 % 256
 -- The number that the export of a call returns, as the exports' contracts have it; and the parts of its answer beside the refusal, as C takes them out.
 unfoldable pub returned : Call → ℕ
 returned (drawing s t levels) = packedDrawing (drawOutcome s t levels) .number
+returned (drawingPacked s t levels) = packedOutcome (drawPackedOutcome s t levels) .number
 returned (handed (operating o) s n r t) = packedOutcome (outcomeOf o s n r t) .number
 returned (handed checking s n r t) = checkRefusal s n r t
 returned (handed (interpolating values buffer) s n r t) = interpolateOutcome s n r t values buffer .refusal
@@ -57,6 +58,7 @@ returned (handed (wiring values buffer) s n r t) = packedList (wiringOutcome s n
 
 unfoldable pub partsFrom : Call → ℕ → List ℕ
 partsFrom (drawing s t levels) a = pointsFrom a ∷ elementsFrom a ∷ cancellationsFrom a ∷ []
+partsFrom (drawingPacked s t levels) a = pointsFrom a ∷ elementsFrom a ∷ []
 partsFrom (handed (operating o) s n r t) a = pointsFrom a ∷ elementsFrom a ∷ []
 partsFrom (handed checking s n r t) a = []
 partsFrom (handed (interpolating values buffer) s n r t) a = []

@@ -8,7 +8,7 @@ use queries::checking;
 use specification::settings::Settings;
 ghost use mathlib.Core.Path.{_≡_};
 ghost use Rattle.specification.specs.Tables.{fiveTables};
-ghost use Rattle.specification.specs.Adding.{addOutcome, drawOutcome};
+ghost use Rattle.specification.specs.Adding.{addOutcome, drawOutcome, drawPackedOutcome};
 ghost use Rattle.specification.specs.Withdrawing.{withdrawOutcome};
 ghost use Rattle.specification.specs.Solving.{checkRefusal};
 ghost use Rattle.specification.specs.Settings.{settingsOf};
@@ -125,6 +125,41 @@ pub extern "C" fn misqafur_draw_up(
         levels,
     );
     pack_drawn(a)
+}
+
+// Drawing up with words where the modulus is 2: the tables of drawing up, and no cancellations.
+#[no_mangle]
+pub extern "C" fn misqafur_draw_up_packed(
+    modulus: u64,
+    variables: u64,
+    order: u64,
+    states: &mut [u8],
+    standard: &mut [u8],
+    leads: &mut [u8],
+    coefficients: &mut [u8],
+    counts: &mut [u8],
+    levels: &[i8],
+) -> u32
+    ensures { λ a. ⌜ left a (now (states .exit)) (now (standard .exit)) (now (leads .exit)) (now (coefficients .exit)) (now (counts .exit))
+        ≡ packedOutcome (drawPackedOutcome (settingsOf modulus variables order)
+        (fiveTables (now (states .entry)) (now (standard .entry)) (now (leads .entry)) (now (coefficients .entry)) (now (counts .entry)))
+        (now (levels .entry))) ⌝ }
+{
+    let settings = Settings {
+        modulus,
+        variables,
+        order,
+    };
+    let a = drawing::draw_up_packed(
+        settings,
+        states,
+        standard,
+        leads,
+        coefficients,
+        counts,
+        levels,
+    );
+    pack_answer(a)
 }
 
 // Checking lent tables.

@@ -1,12 +1,10 @@
 -- The bytes of a sequence as monomials of m variables: they are in order, and so are the squares.
 use mathlib.Core.Path.{_≡_, refl, sym, ap, ap₂, _∙_, subst}
-use mathlib.Core.Bool.{Bool, true, false}
-use mathlib.Core.List.{List, [], _∷_}
-use mathlib.Core.Logic.{_≢_}
-use Prim.Native.Nat.{ℕ, zero, suc, _^_, _<_, _≤_, Ordering, Ordering·lt, Ordering·eq, Ordering·gt}
+use mathlib.Core.List.{List, _∷_}
+use Prim.Native.Nat.{ℕ, zero, suc, _^_, _<_, _≤_, Ordering, Ordering·lt}
 use native.Mathlib.Nat.{lt-of-lt-of-le}
 use native.Mathlib.Omega.{arith}
-use lib.ListN.{length, getD, replicate, length-replicate}
+use lib.ListN.{length, getD}
 use lib.Dec.{T}
 use lib.Pow.{pow-mono}
 use Rattle.residue.specs.Layout.{fill}
@@ -17,12 +15,12 @@ use Rattle.monomial.specs.Order.{Order, lex, grlex, grevlex, cmp}
 use Rattle.monomial.proofs.Algebra.Division.{divides-refl}
 use Rattle.monomial.proofs.Algebra.Products.{length-timesVariable}
 use Rattle.monomial.proofs.Padding.{cmp-fill, fill-timesVariable}
-use Rattle.specification.specs.Space.{Space, Less, Divides}
+use Rattle.specification.specs.Space.{Space, Divides}
 use Rattle.specification.specs.Instance.{Monomial, spaceOf}
-use Rattle.specification.specs.Squares.{square, Squarefree}
+use Rattle.specification.specs.Squares.{square}
 use Rattle.specification.proofs.Instance.{monomial-path}
 use Rattle.packed.specs.Words.{bitsOf, wordOf, length-bits}
-use Rattle.packed.specs.Sequences.{isLess, Sequence, squareFirst}
+use Rattle.packed.specs.Sequences.{isLess, Sequence}
 use Rattle.packed.proofs.ByteInstance.{long-one, free-word, word-free}
 use Rattle.packed.proofs.PackedUnder.{bits-fill}
 use Rattle.packed.proofs.Visiting.{Ordered}

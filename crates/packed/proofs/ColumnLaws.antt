@@ -4,7 +4,7 @@ use mathlib.Core.Path.{_≡_, refl, sym, ap, ap₂, _∙_}
 use mathlib.Core.List.{List, [], _∷_, map}
 use mathlib.Core.Logic.{inl, inr, _≢_}
 use Prim.Native.Nat.{ℕ, zero, suc, _+_, _*_, _/_, _%_, _^_, _<_, _≤_}
-use native.Mathlib.Nat.{mod-lt, zero-lt-suc, mod-mod, div-add-mod'}
+use native.Mathlib.Nat.{mod-lt, zero-lt-suc, mod-mod}
 use native.Mathlib.Omega.{arith}
 use lib.ListN.{length, length-map}
 use lib.Bits.{bitAnd, bitXor, xor-step, and-step}
@@ -15,10 +15,7 @@ use Rattle.residue.proofs.Congruence.{rfl, of, flip, reduce, _then_, _plus_, _t
 use Rattle.specification.proofs.ideal.Lists.{among-map, map-among}
 use Rattle.packed.specs.Words.{bitOf, wordOf, columnOf}
 use Rattle.packed.proofs.BitLaws.{word-half, word-odd, word-lt, xor-odd, xor-half, and-odd, and-half, bit-first, bit-next, bit-word, word-zero, zero-word}
-
--- two words are equal if their lowest bits and their other bits are
-pub halves : {a b : ℕ} → a / 2 ≡ b / 2 → a % 2 ≡ b % 2 → a ≡ b
-halves {a} {b} e f = sym (div-add-mod' a 2) ∙ ap₂ (λ (x y : ℕ). x * 2 + y) e f ∙ div-add-mod' b 2
+pub use Rattle.residue.proofs.BitLaws.{halves}
 
 module _ {A : Type 0} where
   pub column-half : (φ : A → ℕ) (P : A) (S : List A) → columnOf φ (P ∷ S) / 2 ≡ columnOf φ S

@@ -5,12 +5,12 @@ use mathlib.Core.List.{List, [], _∷_, _++_, map}
 use mathlib.Core.Logic.{_≢_}
 use Prim.Native.Nat.{ℕ, suc, _+_, _^_, _<_, _≤_}
 use native.Mathlib.Omega.{arith}
-use lib.ListN.{length, getD, set, length-set}
+use lib.ListN.{length, set, length-set}
 use lib.Seq.{getD-set-same, getD-set-other}
 use lib.Bits.{bitOr, bitXor}
 use lib.Count.{trailingZeros}
 use Rattle.packed.specs.Words.{bitOf}
-use Rattle.packed.specs.Packed.{Words, words, PivotWords, pivotWords, restOf, clear, pivotFrom, withPivot}
+use Rattle.packed.specs.Packed.{Words, PivotWords, pivotWords, restOf, clear, pivotFrom, withPivot}
 use Rattle.packed.specs.PivotTables.{pivotsIn, Cleared, RowsKnown, RowsIn, LeftAt, Orthogonal, PivotsLong, Kept, ExaminedAs}
 use Rattle.packed.proofs.BitLaws.{bit-zero}
 use Rattle.packed.proofs.ClearLaws.{pivots-same}

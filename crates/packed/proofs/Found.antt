@@ -1,13 +1,11 @@
 -- What the walk keeps beside the tables: the columns of the standard monomials by their bytes, and the places of the variables among them.
-use mathlib.Core.Path.{_≡_, refl, sym, ap, ap₂, _∙_, subst}
+use mathlib.Core.Path.{_≡_, refl, sym, ap, _∙_}
 use mathlib.Core.Bool.{Bool, cond}
-use mathlib.Core.List.{List, [], _∷_, _++_, map}
-use mathlib.Core.Logic.{_⊎_, inl, inr, _≢_}
-use Prim.Native.Nat.{ℕ, zero, suc, _+_, _*_, _^_, _<_, _≤_}
+use mathlib.Core.List.{List, [], _∷_, _++_}
+use mathlib.Core.Logic.{inl, inr, _≢_}
+use Prim.Native.Nat.{ℕ, suc, _+_, _*_, _≤_}
 use native.Mathlib.Omega.{arith}
-use native.Mathlib.Decide.{ℕ-discrete}
-use lib.ListN.{length, getD, set}
-use lib.Seq.{getD-set-same, getD-set-other}
+use lib.ListN.{length}
 use Rattle.residue.specs.Lists.{Among}
 use Rattle.residue.specs.Layout.{fill, inPlaces, withPlace}
 use Rattle.residue.proofs.Layouts.{fill-exact}
@@ -16,7 +14,7 @@ use Rattle.residue.proofs.Tests.{Decides, so, not-so, cond-so, cond-not}
 use Rattle.specification.specs.Space.{Space, same}
 use Rattle.specification.specs.Squares.{isIn}
 use Rattle.specification.proofs.Squares.{isIn-told}
-use Rattle.specification.proofs.ideal.Laws.{Laws, same-told, same?}
+use Rattle.specification.proofs.ideal.Laws.{Laws, same-told}
 use Rattle.specification.proofs.ideal.Lists.{snoc-of, snoc-in}
 use Rattle.packed.specs.PackedWalk.{indexIn}
 
@@ -67,9 +65,6 @@ pub wide-more : (N k : ℕ) (S : List (List ℕ)) (row eight t : List ℕ) → t
 unfolding inPlaces
 wide-more N k S row eight t e c h l same = table-more 8 N k S eight t e c h (omega (arith, l)) ∙ ap (fill N) (last S)
   where
-    unfolded : (r : List ℕ) (S : List (List ℕ)) → inPlaces 8 (r ∷ S) ≡ fill 8 r ++ inPlaces 8 S
-    unfolded r S = refl
-
     last : (S : List (List ℕ)) → inPlaces 8 (S ++ (eight ∷ [])) ≡ inPlaces 8 (S ++ (row ∷ []))
     last [] = ap (λ (x : List ℕ). x ++ inPlaces 8 []) (fill-exact 8 eight l ∙ sym same)
     last (r ∷ S) = ap (λ (x : List ℕ). fill 8 r ++ x) (last S)

@@ -1,36 +1,32 @@
 -- What the walk is handed under settings, its start and its end.
 use mathlib.Core.Path.{_≡_, refl, sym, ap, ap₂, _∙_, subst}
-use mathlib.Core.Bool.{true}
 use mathlib.Core.List.{List, [], _∷_, map}
-use mathlib.Core.Logic.{_⊎_, inl, inr, _≢_}
+use mathlib.Core.Logic.{inl, inr, _≢_}
 use Prim.Native.Nat.{ℕ, zero, suc, _+_, _*_, _-_, _/_, _%_, _^_, _<_, _≤_}
-use native.Mathlib.Nat.{lt-of-lt-of-le, one-mul, mod-lt, zero-lt-suc, div-lt-iff-lt-mul, pow-succ'}
+use native.Mathlib.Nat.{lt-of-lt-of-le, one-mul, div-lt-iff-lt-mul, pow-succ'}
 use native.Mathlib.Omega.{arith}
 use lib.Pow.{pow-pos, pow-mono}
 use Rattle.residue.proofs.Congruence.{of, _then_}
 use lib.ListN.{length, getD, replicate, length-map}
-use Rattle.residue.specs.Lists.{Among}
 use Rattle.residue.specs.Congruence.{Mod}
 use Rattle.residue.specs.Layout.{groups, fill, inPlaces, length-fill}
 use Rattle.residue.proofs.Layouts.{fill-at, fill-zeros}
 use Rattle.residue.proofs.Places.{table-groups}
-use Rattle.monomial.specs.Order.{Order, orderOf}
+use Rattle.monomial.specs.Order.{orderOf}
 use Rattle.specification.specs.declared.settings.Settings.{Settings}
 use Rattle.specification.specs.Polynomial.{Distinct}
 use Rattle.specification.specs.Settings.{Accepted}
-use Rattle.specification.specs.Points.{Points, IsPoint}
 use Rattle.specification.specs.Space.{Space}
 use Rattle.specification.specs.Squares.{Boolean}
-use Rattle.specification.specs.Instance.{Monomial, Point, spaceOf, pointOf}
+use Rattle.specification.specs.Instance.{Point, pointOf}
 use Rattle.specification.specs.Tables.{spaceUnder, pointsUnder, pointsIn}
 use Rattle.specification.proofs.ideal.Laws.{Laws}
 use Rattle.specification.proofs.agreement.Drawings.{laws-under, distinct-points}
 use Rattle.construction.specs.Drawing.{PointsGiven, Tabled}
 use Rattle.construction.proofs.drawing.Given.{given-count, given-points}
-use Rattle.packed.specs.Words.{bitOf, bitsOf, wordOf, columnOf}
-use Rattle.packed.specs.PackedWalk.{PackedFound, packedFound, PackedBasis}
-use Rattle.packed.specs.PivotTables.{PivotsLong}
-use Rattle.packed.specs.PlaceSets.{inSet, FirstOpen, Passed, OfAbove, multipleAt}
+use Rattle.packed.specs.Words.{bitOf, wordOf, columnOf}
+use Rattle.packed.specs.PackedWalk.{packedFound, PackedBasis}
+use Rattle.packed.specs.PlaceSets.{inSet, FirstOpen, Passed, OfAbove}
 use Rattle.packed.specs.ByteColumns.{VariableColumns}
 use Rattle.packed.specs.Sequences.{Sequence}
 use Rattle.packed.proofs.BitLaws.{bit-zero}
@@ -38,14 +34,13 @@ use Rattle.packed.proofs.ByteInstance.{boolean}
 use Rattle.packed.proofs.ByteSteps.{high-bit}
 use Rattle.packed.proofs.ColumnLaws.{column-cong}
 use Rattle.packed.proofs.ExamineLaws.{kept-none}
-use Rattle.packed.proofs.Found.{placeIn, place-none}
+use Rattle.packed.proofs.Found.{place-none}
 use Rattle.packed.proofs.PackedUnder.{packed-rows, packed-standard, packed-leads, packed-coefficients}
-use Rattle.packed.proofs.PlaceLaws.{below-or, in-small}
-use Rattle.packed.proofs.Ready.{Last, none, ready-ended}
+use Rattle.packed.proofs.Ready.{none, ready-ended}
 use Rattle.packed.proofs.Visiting.{none-left}
 use Rattle.packed.proofs.SequenceLaws.{getD-map}
 use Rattle.packed.proofs.Walked
-use Rattle.packed.proofs.Walked.{Walked, Known}
+use Rattle.packed.proofs.Walked.{Walked}
 
 halved : (k w : ℕ) → w < 2 ^ suc k → bitOf k w ≢ 1 → w < 2 ^ k
 unfolding bitOf

@@ -1,20 +1,20 @@
 -- The pivots taken away bit by bit: the lowest bit left names the next.
-use mathlib.Core.Path.{_≡_, refl, sym, ap, ap₂, _∙_, subst}
-use mathlib.Core.List.{List, [], _∷_, _++_}
+use mathlib.Core.Path.{_≡_, refl, sym, ap, ap₂, _∙_}
+use mathlib.Core.List.{List}
 use mathlib.Core.Logic.{_⊎_, inl, inr, _≢_}
-use Prim.Native.Nat.{ℕ, zero, suc, _+_, _-_, _*_, _/_, _%_, _^_, _<_, _≤_}
+use Prim.Native.Nat.{ℕ, zero, suc, _+_, _-_, _*_, _/_, _%_, _^_, _<_}
 use native.Mathlib.Nat.{mod-lt, zero-lt-suc}
 use native.Mathlib.Omega.{arith}
 use native.Mathlib.Decide.{ℕ-discrete}
-use lib.ListN.{length, getD}
+use lib.ListN.{getD}
 use lib.Bits.{bitAnd, bitXor, and-self, xor-self, xor-zero-r}
 use lib.Count.{trailingZeros, under}
 use Rattle.residue.specs.Congruence.{Mod}
 use Rattle.residue.specs.Lists.{Among}
-use Rattle.residue.proofs.Congruence.{rfl, of, flip, small, lin, _then_, _plus_}
+use Rattle.residue.proofs.Congruence.{rfl, of, flip, small, _then_}
 use Rattle.specification.proofs.ideal.Lists.{snoc-in, snoc-of}
 use Rattle.packed.specs.Words.{bitOf}
-use Rattle.packed.specs.Packed.{Words, words, PivotWords, pivotWords, lose, loses, restOf}
+use Rattle.packed.specs.Packed.{Words, words, PivotWords, pivotWords, loses}
 use Rattle.packed.specs.PivotTables.{pivotsIn, RowsKnown, LeftAt}
 use Rattle.packed.proofs.BitLaws.{half-lt, bit-small, bit-first, bit-next, bit-and, bit-xor, bit-zero, and-odd, and-half}
 use Rattle.packed.proofs.ColumnLaws.{halves}

@@ -1,5 +1,5 @@
 -- What a column loses to the pivots at whose places it is 1: as a function, it gains their sum; and so does its polynomial.
-use mathlib.Core.Path.{_≡_, refl, sym, ap, ap₂, _∙_}
+use mathlib.Core.Path.{_≡_, refl, ap₂, _∙_}
 use mathlib.Core.Bool.{cond}
 use mathlib.Core.List.{List, [], _∷_}
 use mathlib.Core.Logic.{inl, inr}
@@ -10,7 +10,7 @@ use lib.Dec.{eqb}
 use lib.Bits.{bitXor, xor-lt}
 use Rattle.residue.specs.Congruence.{Mod}
 use Rattle.residue.specs.Lists.{Among, sumOver}
-use Rattle.residue.proofs.Congruence.{rfl, of, flip, lin, _then_, _plus_}
+use Rattle.residue.proofs.Congruence.{of, lin, _then_}
 use Rattle.specification.specs.Space.{Space}
 use Rattle.packed.specs.Words.{bitOf, columnOf}
 use Rattle.packed.specs.Packed.{Words, words, PivotWords, lose, loses, polynomialAt}

@@ -1,9 +1,9 @@
 -- The pivots are fully reduced: each is 1 at its own place and 0 at the places of the others; so what is left of a column is 0 at all of them.
-use mathlib.Core.Path.{_≡_, refl, sym, ap, _∙_, subst}
+use mathlib.Core.Path.{_≡_, refl, ap, _∙_}
 use mathlib.Core.Bool.{cond}
 use mathlib.Core.List.{List, [], _∷_, _++_, map}
 use mathlib.Core.Logic.{inl, inr, _≢_}
-use Prim.Native.Nat.{ℕ, zero, suc, _+_, _*_, _/_, _%_, _^_, _<_, _≤_}
+use Prim.Native.Nat.{ℕ, zero, suc, _+_, _*_, _/_, _%_, _^_, _<_}
 use native.Mathlib.Nat.{mod-lt, zero-lt-suc}
 use native.Mathlib.Omega.{arith}
 use lib.Dec.{eqb}
@@ -11,10 +11,10 @@ use lib.Bits.{bitXor}
 use lib.Count.{trailingZeros, under}
 use Rattle.residue.specs.Congruence.{Mod}
 use Rattle.residue.specs.Lists.{Among}
-use Rattle.residue.proofs.Congruence.{rfl, of, flip, small, lin, _then_, _plus_, _times_}
+use Rattle.residue.proofs.Congruence.{rfl, of, lin, _then_, _plus_, _times_}
 use Rattle.specification.proofs.ideal.Lists.{snoc-of, among-map}
 use Rattle.packed.specs.Words.{bitOf}
-use Rattle.packed.specs.Packed.{Words, words, PivotWords, pivotWords, lose, loses, restOf, clear, pivotFrom, withPivot}
+use Rattle.packed.specs.Packed.{Words, words, PivotWords, lose, loses, restOf, clear, pivotFrom, withPivot}
 use Rattle.packed.specs.PivotTables.{Apart, Orthogonal}
 use Rattle.packed.proofs.BitLaws.{half-lt, bit-small, bit-xor, bit-first, bit-next}
 use Rattle.packed.proofs.ColumnLaws.{halves}

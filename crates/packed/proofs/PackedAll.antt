@@ -2,33 +2,28 @@
 use mathlib.Core.Path.{_≡_, refl, sym, ap, ap₂, _∙_, subst}
 use mathlib.Core.Bool.{Bool, cond}
 use mathlib.Core.List.{List, [], _∷_, _++_, map}
-use mathlib.Core.Logic.{_⊎_, inl, inr}
-use Prim.Native.Nat.{ℕ, zero, suc, _^_, _<_, _≤_}
-use native.Mathlib.Omega.{arith}
+use mathlib.Core.Logic.{inl, inr}
+use Prim.Native.Nat.{ℕ, _^_, _<_, _≤_}
 use lib.ListN.{length}
 use Rattle.residue.specs.Lists.{Among}
-use Rattle.residue.proofs.Tests.{Decides, so, not-so, cond-not}
-use Rattle.monomial.specs.Increasing.{Increasing}
-use Rattle.monomial.proofs.Orders.Increasing.{below-member}
+use Rattle.residue.proofs.Tests.{Decides, so, not-so}
 use Rattle.specification.specs.Space.{Space, Less, Divides}
 use Rattle.specification.specs.Polynomial.{Distinct}
-use Rattle.specification.specs.BasisOf.{standardOf, leadsOf, rowOf, rowsOf}
+use Rattle.specification.specs.BasisOf.{standardOf, leadsOf, rowOf}
 use Rattle.specification.specs.Extension.{divided}
 use Rattle.specification.specs.Examination.{Undivided}
-use Rattle.specification.proofs.ideal.Laws.{Laws, irrefl, trans, less-ne}
-use Rattle.specification.proofs.ideal.Lists.{map-among, among-map}
+use Rattle.specification.proofs.ideal.Laws.{Laws}
 use Rattle.specification.proofs.ideal.Increasing.{divided-told}
 use Rattle.specification.proofs.ideal.Basis.{row-only}
 use Rattle.specification.proofs.ideal.Counts.{standard-length}
-use Rattle.specification.proofs.drawing.UpTo.{Drawn, Next, bordered-start, front-start, start-standard, start-lead, of-undivided, front-next, free-bordered, pass, take-standard, take-lead}
+use Rattle.specification.proofs.drawing.UpTo.{Next, of-undivided, front-next, free-bordered, pass, take-standard, take-lead}
 use Rattle.packed.specs.Words.{bitsOf}
-use Rattle.specification.specs.Squares.{variable, square, Squarefree, Boolean, isIn}
-use Rattle.packed.specs.PackedWalk.{PackedFound, packedFound, examinedWords, squareWords, indexIn, Visit, free, squared, visitedMonomial, visited, visitedAll, PackedBasis}
+use Rattle.specification.specs.Squares.{variable, square, Squarefree, Boolean}
+use Rattle.packed.specs.PackedWalk.{PackedFound, packedFound, examinedWords, squareWords, indexIn, Visit, free, squared, visitedMonomial, visited, PackedBasis}
 use Rattle.specification.proofs.Squares.{square-lead, square-not-standard}
 use Rattle.specification.proofs.Squares.{isIn-told}
 use Rattle.packed.proofs.Walking.{Candidate, NextOf, next-is, all-standard, all-leads}
-use Rattle.packed.proofs.Reduction.{reduced-none}
-use Rattle.packed.proofs.Standing.{RowWord, RowWords, rows-snoc, Standing, square-word, examined-standing}
+use Rattle.packed.proofs.Standing.{RowWords, rows-snoc, Standing, square-word, examined-standing}
 
 module _ (D : Space) where
   open Space D using (m, Mono)
@@ -37,10 +32,6 @@ module _ (D : Space) where
   abbrev pub IsVisit : Visit D → Type 0
   IsVisit (free a) = Squarefree D a
   IsVisit (squared k) = k < m
-
-  pub visit-candidate : (v : Visit D) → IsVisit v → Candidate D (visitedMonomial D v)
-  visit-candidate (free a) h = inl h
-  visit-candidate (squared k) h = inr (k, h, refl)
 
 module _ (D : Space) (L : Laws D) (B : Boolean D) (S : List (D .Pt)) (d : Distinct D S) (few : length S ≤ 64) where
   open Space D using (m, Mono, Pt, one, x, cmp)
@@ -113,35 +104,3 @@ module _ (D : Space) (L : Laws D) (B : Boolean D) (S : List (D .Pt)) (d : Distin
       let r : RowWords D S (standardOf D S) (leadsOf D S) (f .rows) =
       subst (λ (l : List Mono). RowWords D S (standardOf D S) l (f .rows)) el (subst (λ (s : List Mono). RowWords D S s (f .leads) (f .rows)) es (W .rowed)) in
       record { standard-are = es; leads-are = el; rows-are = rows-end (leadsOf D S) (f .rows) r; rows-small = rows-small (leadsOf D S) (f .rows) r }
-
-  -- the visits that are left are increasing, and hold every candidate above c
-  to-the-end : (l : List (Visit D)) (f : PackedFound D) (c : Mono) → Standing D S f c → ((v : Visit D) → Among v l → IsVisit D v)
-      → Increasing cmp (map (visitedMonomial D) l) → ((v : Visit D) → Among v l → Less D c (visitedMonomial D v))
-      → ((a : Mono) → Candidate D a → Less D c a → Among a (map (visitedMonomial D) l)) → PackedBasis D S (visitedAll D S l f)
-  unfolding visitedAll
-  to-the-end [] f c W is i over all = ended f c W (λ a h u z. absurd (all a h u))
-  to-the-end (v ∷ l) f c W is i over all = to-the-end l (visited D S v f) (visitedMonomial D v) (visit-standing f c W v (is v (inl refl)) next)
-      (λ u mem. is u (inr mem)) (i .1) (λ u mem. later u (map-among (visitedMonomial D) l u mem))
-      (λ a h u. elim (all a h (trans D L (over v (inl refl)) u)) [ inl e ↦ absurd (less-ne D L u (sym e)) | inr z ↦ z ])
-    where
-      later : (u : Visit D) → Among (visitedMonomial D u) (map (visitedMonomial D) l) → Less D (visitedMonomial D v) (visitedMonomial D u)
-      later u mem = below-member cmp (visitedMonomial D v) (map (visitedMonomial D) l) (i .0) (visitedMonomial D u) mem
-
-      next : NextOf D (f .leads) c (visitedMonomial D v)
-      next = record {
-        after = over v (inl refl);
-        least = λ a h u z w. elim (all a h u) [
-          | inl e ↦ less-ne D L w e
-          | inr k ↦ irrefl D L (trans D L w (below-member cmp (visitedMonomial D v) (map (visitedMonomial D) l) (i .0) a k))
-        ];
-      }
-
-  -- from 1 on: a list of all candidates, increasing
-  pub packed-all : (l : List (Visit D)) → ((v : Visit D) → Among v l → IsVisit D v) → Increasing cmp (one ∷ map (visitedMonomial D) l)
-      → ((a : Mono) → Candidate D a → Less D one a → Among a (map (visitedMonomial D) l))
-      → PackedBasis D S (visitedAll D S l (examinedWords D S one (packedFound D [] [] [] [])))
-  packed-all l is i all = to-the-end l (examinedWords D S one (packedFound D [] [] [] [])) one start is (i .1)
-      (λ v mem. below-member cmp one (map (visitedMonomial D) l) (i .0) (visitedMonomial D v) (map-among (visitedMonomial D) l v mem)) all
-    where
-      start : Standing D S (examinedWords D S one (packedFound D [] [] [] [])) one
-      start = examined-standing D S L B d few (packedFound D [] [] [] []) one (reduced-none D S) tt (front-start D L S d) (bordered-start D L S d) (start-standard D L S d) (start-lead D L S d)

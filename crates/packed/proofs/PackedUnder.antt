@@ -1,5 +1,5 @@
 -- Under settings with the modulus 2: the tables of the packed basis are the tables of the definition.
-use mathlib.Core.Path.{_≡_, refl, sym, ap, ap₂, _∙_, subst}
+use mathlib.Core.Path.{_≡_, refl, sym, ap, ap₂, _∙_}
 use mathlib.Core.List.{List, [], _∷_, _++_, map}
 use mathlib.Core.Logic.{inl, inr}
 use Prim.Native.Nat.{ℕ, zero, suc, _-_, _^_, _/_, _%_, _<_, _≤_}
@@ -9,23 +9,15 @@ use Rattle.residue.specs.Sizes.{standardSize, leadsSize, coefficientsSize}
 use Rattle.residue.specs.Lists.{Among}
 use Rattle.residue.specs.Layout.{fill, inPlaces}
 use Rattle.residue.proofs.Layouts.{fill-exact}
-use Rattle.monomial.specs.Order.{orderOf}
-use Rattle.monomial.specs.Increasing.{Increasing}
 use Rattle.specification.specs.declared.settings.Settings.{Settings}
-use Rattle.specification.specs.Space.{Space, Less}
-use Rattle.specification.specs.Polynomial.{Distinct}
+use Rattle.specification.specs.Space.{Space}
 use Rattle.specification.specs.Tables.{spaceUnder, pointsUnder, rowCount, standardTable, leadsTable, coefficientsTable}
-use Rattle.specification.specs.Instance.{Monomial, pointOf}
+use Rattle.specification.specs.Instance.{pointOf}
 use Rattle.specification.specs.Points.{Points}
 use Rattle.specification.specs.Settings.{Accepted}
-use Rattle.specification.proofs.agreement.Drawings.{laws-under, distinct-points}
 use Rattle.packed.specs.Words.{bitsOf}
-use Rattle.specification.specs.Squares.{Boolean}
-use Rattle.packed.specs.PackedWalk.{PackedFound, packedFound, examinedWords, Visit, visitedMonomial, visitedAll, PackedBasis}
+use Rattle.packed.specs.PackedWalk.{PackedFound, PackedBasis}
 use Rattle.packed.proofs.BitLaws.{half-lt, bits-length}
-use Rattle.packed.proofs.ByteInstance.{boolean}
-use Rattle.packed.proofs.Walking.{Candidate}
-use Rattle.packed.proofs.PackedAll.{IsVisit, packed-all}
 
 -- a word's bits in a wider place
 bits-none : (k : ℕ) → fill k [] ≡ bitsOf k 0
@@ -50,17 +42,8 @@ module _ (s : Settings) (ok : Accepted s) (two : s .modulus ≡ 2) (K : List (Li
   abbrev D : Space
   D = spaceUnder s
 
-  under : Boolean D
-  under = boolean (s .modulus - 1) (s .variables) (orderOf (s .order)) (rw two)
-
   few : length (pointsUnder s K) ≤ 64
   few = rw (length-map K (pointOf (s .modulus - 1) (s .variables))) (h .few)
-
-  -- a walk over all candidates, increasing, ends with the basis
-  pub packed-under : (l : List (Visit D)) → ((v : Visit D) → Among v l → IsVisit D v) → Increasing (D .cmp) (D .one ∷ map (visitedMonomial D) l)
-      → ((a : Monomial (s .variables)) → Candidate D a → Less D (D .one) a → Among a (map (visitedMonomial D) l))
-      → PackedBasis D (pointsUnder s K) (visitedAll D (pointsUnder s K) l (examinedWords D (pointsUnder s K) (D .one) (packedFound D [] [] [] [])))
-  packed-under = packed-all D (laws-under s ok) under (pointsUnder s K) (distinct-points s ok K h) few
 
   -- the tables of the basis, from the packed one
   module _ (f : PackedFound D) (b : PackedBasis D (pointsUnder s K) f) where

@@ -2,12 +2,12 @@
 use mathlib.Core.Path.{_≡_, refl, sym, ap, ap₂, _∙_, subst}
 use mathlib.Core.List.{List, [], _∷_, _++_, map}
 use mathlib.Core.Logic.{inl, inr, _≢_}
-use Prim.Native.Nat.{ℕ, zero, suc, _+_, _*_, _^_, _<_, _≤_}
+use Prim.Native.Nat.{ℕ, suc, _+_, _*_, _^_, _<_, _≤_}
 use native.Mathlib.Nat.{lt-trans}
 use native.Mathlib.Omega.{arith}
 use lib.ListN.{length, length-append}
 use lib.Pow.{pow-lt}
-use lib.Bits.{bitXor, xor-lt}
+use lib.Bits.{xor-lt}
 use lib.Count.{trailingZeros}
 use Rattle.residue.specs.Congruence.{Mod}
 use Rattle.residue.specs.Lists.{Among, sumOver}
@@ -15,8 +15,8 @@ use Rattle.residue.proofs.Congruence.{rfl, of, flip, scale, lin, _then_, _plus_
 use Rattle.residue.proofs.Sums.{sum-cong, sum-lin, sum-append}
 use Rattle.specification.specs.Space.{Space}
 use Rattle.specification.proofs.ideal.Lists.{snoc-of, among-map}
-use Rattle.packed.specs.Words.{bitOf, columnOf}
-use Rattle.packed.specs.Packed.{Words, words, PivotWords, restOf, lose, clear, pivotFrom, withPivot, polynomialAt}
+use Rattle.packed.specs.Words.{bitOf}
+use Rattle.packed.specs.Packed.{Words, words, PivotWords, restOf, clear, pivotFrom, withPivot, polynomialAt}
 use Rattle.packed.proofs.ColumnLaws.{column-cong, Place, lowest}
 use Rattle.packed.proofs.PolynomialLaws.{poly-xor, poly-longer, poly-new}
 use Rattle.packed.proofs.Losing.{spread, Columned, Shows, lose-shows, lose-polynomial}

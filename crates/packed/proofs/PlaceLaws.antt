@@ -1,6 +1,6 @@
 -- Sets of places in four words, and the turns of the code that looks into them and fills them.
 use mathlib.Core.Path.{_≡_, refl, sym, ap, ap₂, _∙_, subst}
-use mathlib.Core.List.{List, [], _∷_}
+use mathlib.Core.List.{List}
 use mathlib.Core.Logic.{_⊎_, inl, inr, _≢_, _↔_}
 use Prim.Native.Nat.{ℕ, zero, suc, _+_, _*_, _-_, _/_, _%_, _^_, _<_, _≤_, max}
 use native.Mathlib.Nat.{mod-lt, zero-lt-suc}
@@ -9,14 +9,13 @@ use native.Mathlib.Decide.{ℕ-discrete}
 use lib.ListN.{length, getD, set, take, drop, replicate, length-set}
 use lib.Seq.{getD-set-same, getD-set-other, getD-take, getD-drop}
 use lib.Dec.{eqb, eqb→eq}
-use lib.Bits.{bitAnd, bitOr, bitXor}
+use lib.Bits.{bitAnd, bitOr}
 use lib.Count.{trailingZeros, under}
 use Rattle.residue.specs.Congruence.{Mod}
-use Rattle.residue.proofs.Congruence.{of, lin, flip, _then_, _plus_}
 use Rattle.residue.proofs.level.Moduli.{below-at}
 use Rattle.packed.specs.Words.{bitOf}
 use Rattle.packed.specs.PlaceSets.{inSet, others, multipleAt, Wordwise, FirstOpen, Passed, OfMultiple, OfAbove}
-use Rattle.packed.proofs.BitLaws.{half-lt, bit-small, bit-first, bit-next, bit-zero, bit-xor, bit-and}
+use Rattle.packed.proofs.BitLaws.{bit-small, bit-first, bit-next, bit-zero, bit-xor, bit-and}
 use Rattle.packed.proofs.Orthogonal.{lowest-set, lowest-lt}
 use Rattle.packed.proofs.LeftLaws.{drop-bits}
 use Rattle.packed.proofs.RowsKnownMore.{bit-or, bit-single, bit-other}

@@ -3,13 +3,13 @@
 use mathlib.Core.Path.{_≡_, refl, sym, ap, ap₂, _∙_}
 use mathlib.Core.List.{List, [], _∷_, _++_}
 use Prim.Native.Nat.{ℕ, zero, suc, _+_, _*_, _/_, _%_, _^_, _<_}
-use native.Mathlib.Nat.{pow-suc, zero-div, zero-mod, mul-div-cancel, mul-mod-left, zero-lt-suc}
+use native.Mathlib.Nat.{pow-suc, mul-div-cancel, mul-mod-left, zero-lt-suc}
 use native.Mathlib.Omega.{arith}
 use lib.ListN.{length, getD}
 use lib.Bits.{bitAnd, bitXor, and-zero-r}
 use lib.Count.{ones, onesIn, ones-step}
 use Rattle.residue.specs.Congruence.{Mod}
-use Rattle.residue.proofs.Congruence.{rfl, of, flip, reduce, scale, lin, _then_, _plus_, _times_}
+use Rattle.residue.proofs.Congruence.{rfl, of, flip, reduce, _then_, _plus_, _times_}
 use Rattle.specification.specs.Space.{Space}
 use Rattle.packed.specs.Words.{bitsOf, columnOf}
 use Rattle.packed.specs.Packed.{polynomialAt}

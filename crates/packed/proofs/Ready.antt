@@ -1,16 +1,16 @@
 -- The walk from its start: nothing has been visited, or all up to the last has.
-use mathlib.Core.Path.{_≡_, refl, sym, ap, _∙_, subst}
+use mathlib.Core.Path.{_≡_, sym, subst}
 use mathlib.Core.List.{List, []}
-use mathlib.Core.Logic.{inl, inr}
+use mathlib.Core.Logic.{inl}
 use Prim.Native.Nat.{ℕ, _<_, _≤_}
 use lib.ListN.{length}
 use Rattle.residue.specs.Lists.{Among}
-use Rattle.specification.specs.Space.{Space, Less, Divides}
+use Rattle.specification.specs.Space.{Space, Less}
 use Rattle.specification.specs.Polynomial.{Distinct}
 use Rattle.specification.specs.Extension.{divided}
 use Rattle.specification.specs.Examination.{Undivided}
-use Rattle.specification.specs.Squares.{variable, square, Squarefree, Boolean}
-use Rattle.specification.proofs.ideal.Laws.{Laws, same?, irrefl, trans, less-ne}
+use Rattle.specification.specs.Squares.{square, Squarefree, Boolean}
+use Rattle.specification.proofs.ideal.Laws.{Laws, same?, trans, less-ne}
 use Rattle.specification.proofs.drawing.UpTo.{Bordered, bordered-start, front-start, start-standard, start-lead, free-bordered, front-next}
 use Rattle.packed.specs.PackedWalk.{PackedFound, packedFound, examinedWords, Visit, free, squared, visitedMonomial, visited, PackedBasis}
 use Rattle.packed.proofs.Walking.{Candidate, next-is}

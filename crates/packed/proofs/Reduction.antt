@@ -1,28 +1,27 @@
 -- Fully reduced pivots decide: a monomial whose column they leave 0 is a combination of those found, with the coefficients gathered; any other is none, and becomes
 -- a pivot like the others. The invariant is that each monomial found is the sum of the pivots at whose places it is 1.
-use mathlib.Core.Path.{_≡_, refl, sym, ap, ap₂, _∙_, subst}
-use mathlib.Core.List.{List, [], _∷_, _++_, map}
-use mathlib.Core.Logic.{inl, inr, _≢_}
+use mathlib.Core.Path.{_≡_, refl, sym, ap, _∙_, subst}
+use mathlib.Core.List.{List, []}
+use mathlib.Core.Logic.{_≢_}
 use Prim.Native.Nat.{ℕ, zero, suc, _+_, _*_, _^_, _<_}
 use native.Mathlib.Omega.{arith}
-use lib.ListN.{length, length-append}
+use lib.ListN.{length}
 use lib.Pow.{pow-pos}
 use Rattle.residue.specs.Congruence.{Mod}
 use Rattle.residue.specs.Lists.{Among, sumOver}
-use Rattle.residue.proofs.Congruence.{rfl, of, flip, scale, lin, _then_, _plus_, _times_}
-use Rattle.residue.proofs.Sums.{sum-cong, sum-swap, sum-scale, sum-append}
+use Rattle.residue.proofs.Congruence.{rfl, of, flip, scale, lin, _then_, _plus_}
+use Rattle.residue.proofs.Sums.{sum-cong, sum-swap, sum-scale}
 use Rattle.monomial.specs.Increasing.{Increasing}
 use Rattle.specification.specs.Space.{Space}
 use Rattle.specification.specs.Polynomial.{coefficient, terms}
 use Rattle.specification.specs.Basis.{Row}
 use Rattle.specification.proofs.ideal.Laws.{Laws}
-use Rattle.specification.proofs.ideal.Lists.{snoc-of}
 use Rattle.specification.proofs.ideal.Polynomials.{collect, terms-over}
 use Rattle.specification.proofs.ideal.Newton.{at}
 use Rattle.specification.proofs.drawing.Span.{Spanned}
 use Rattle.packed.specs.Words.{bitOf, bitsOf, columnOf}
 use Rattle.specification.specs.Squares.{Boolean}
-use Rattle.packed.specs.Packed.{Words, words, PivotWords, loses, restOf, polynomialAt}
+use Rattle.packed.specs.Packed.{Words, words, PivotWords, restOf, polynomialAt}
 use Rattle.packed.proofs.BitLaws.{bits-length, bits-among}
 use Rattle.packed.proofs.ColumnLaws.{column-cong, zero-vanishes, vanishes-zero, Place}
 use Rattle.packed.proofs.PolynomialLaws.{poly-zero}

@@ -1,8 +1,8 @@
 -- One pivot more in the word of the places and in the table place → pivot.
-use mathlib.Core.Path.{_≡_, refl, sym, ap, ap₂, _∙_, subst}
+use mathlib.Core.Path.{_≡_, refl, sym, ap, _∙_}
 use mathlib.Core.List.{List}
 use mathlib.Core.Logic.{_≢_}
-use Prim.Native.Nat.{ℕ, zero, suc, _+_, _*_, _/_, _%_, _^_, _<_, _≤_, max}
+use Prim.Native.Nat.{ℕ, zero, suc, _/_, _%_, _^_, _<_, max}
 use native.Mathlib.Nat.{mod-lt, zero-lt-suc, pow-suc, mul-div-cancel, mul-mod-left}
 use native.Mathlib.Omega.{arith}
 use native.Mathlib.Decide.{ℕ-discrete}
@@ -10,9 +10,8 @@ use lib.ListN.{length, getD, set}
 use lib.Seq.{getD-set-same, getD-set-other}
 use lib.Arith.{digits-mod}
 use lib.Bits.{bitOr, or-step, or-shr}
-use Rattle.residue.specs.Congruence.{Mod}
 use Rattle.packed.specs.Words.{bitOf}
-use Rattle.packed.specs.Packed.{PivotWords, pivotWords, PlacesApart, restOf}
+use Rattle.packed.specs.Packed.{pivotWords, PlacesApart, restOf}
 use Rattle.packed.specs.PivotTables.{pivotsIn, RowsKnown, Orthogonal}
 use Rattle.packed.proofs.BitLaws.{bit-small, bit-first, bit-next, bit-zero}
 use Rattle.packed.proofs.LeftLaws.{pivot-in}

@@ -1,10 +1,9 @@
 -- The constant tables: one computed test each.
 use mathlib.Core.Path.{_≡_, refl}
-use mathlib.Core.List.{List, [], _∷_, map}
+use mathlib.Core.List.{List, [], _∷_}
 use mathlib.Core.Logic.{_≢_}
 use Prim.Native.Nat.{ℕ, zero, suc}
-use lib.ListN.{getD}
-use Rattle.monomial.specs.Order.{Order, lex, grlex, grevlex, cmp, orderOf}
+use Rattle.monomial.specs.Order.{lex, grlex, grevlex, cmp, orderOf}
 use Rattle.packed.specs.Words.{bitOf, bitsOf, wordOf}
 use Rattle.packed.specs.Sequences.{Sequence}
 use Rattle.packed.proofs.SequenceLaws.{placeOf, inOrder, stands, marked, sequenceTest, sequence}

@@ -1,9 +1,9 @@
 -- Going over the set bits of a word only: XOR in any order, the lowest bit dropped, and one pivot more taken away when one bit more is looked at.
-use mathlib.Core.Path.{_≡_, refl, sym, ap, ap₂, _∙_, subst}
+use mathlib.Core.Path.{_≡_, refl, sym, ap, ap₂, _∙_}
 use mathlib.Core.Bool.{cond}
 use mathlib.Core.List.{List, [], _∷_}
 use mathlib.Core.Logic.{inl, inr, _≢_}
-use Prim.Native.Nat.{ℕ, zero, suc, _+_, _-_, _*_, _/_, _%_, _^_, _<_, _≤_}
+use Prim.Native.Nat.{ℕ, zero, suc, _+_, _-_, _*_, _/_, _%_, _^_, _<_}
 use native.Mathlib.Nat.{mod-lt, zero-lt-suc, pow-suc, div-add-mod'}
 use native.Mathlib.Omega.{arith}
 use lib.Arith.{bin-ind}
@@ -12,11 +12,11 @@ use lib.Bits.{bitAnd, bitXor, and-self, xor-zero-l, xor-comm}
 use lib.Count.{trailingZeros, under}
 use Rattle.residue.specs.Congruence.{Mod}
 use Rattle.residue.specs.Lists.{Among}
-use Rattle.residue.proofs.Congruence.{rfl, of, flip, small, reduce, lin, _then_, _plus_}
+use Rattle.residue.proofs.Congruence.{rfl, of, flip, small, _then_, _plus_}
 use Rattle.packed.specs.Words.{bitOf}
 use Rattle.packed.specs.PivotTables.{Orthogonal, Apart}
 use Rattle.packed.specs.Packed.{Words, words, PivotWords, PlacesApart, lose, loses}
-use Rattle.packed.proofs.BitLaws.{half-lt, bit-small, xor-odd, xor-half, and-odd, and-half}
+use Rattle.packed.proofs.BitLaws.{half-lt, xor-odd, xor-half, and-odd, and-half}
 use Rattle.packed.proofs.ColumnLaws.{halves}
 
 low : (n : ℕ) → n % 2 < 2

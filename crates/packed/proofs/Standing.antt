@@ -3,7 +3,7 @@ use mathlib.Core.Path.{_≡_, refl, sym, ap, _∙_, subst}
 use mathlib.Core.Bool.{Bool, cond}
 use mathlib.Core.List.{List, [], _∷_, _++_}
 use mathlib.Core.Logic.{inl, inr}
-use Prim.Native.Nat.{ℕ, zero, suc, _+_, _*_, _^_, _<_, _≤_}
+use Prim.Native.Nat.{ℕ, suc, _+_, _^_, _<_, _≤_}
 use native.Mathlib.Nat.{lt-trans}
 use native.Mathlib.Omega.{arith}
 use lib.ListN.{length, getD, length-append}
@@ -11,7 +11,7 @@ use lib.Dec.{T, eqb, eqb→eq}
 use lib.Pow.{pow-lt}
 use Rattle.residue.specs.Congruence.{Mod}
 use Rattle.residue.specs.Lists.{Among}
-use Rattle.residue.proofs.Congruence.{of, lin, _then_, _plus_}
+use Rattle.residue.proofs.Congruence.{of, lin, _plus_}
 use Rattle.residue.proofs.Tests.{Decides, so, not-so, by-test}
 use Rattle.specification.specs.Space.{Space}
 use Rattle.specification.specs.Polynomial.{Distinct}
@@ -19,8 +19,8 @@ use Rattle.specification.specs.Basis.{Row}
 use Rattle.specification.specs.BasisOf.{standardOf, leadsOf}
 use Rattle.specification.proofs.ideal.Laws.{Laws, same-told}
 use Rattle.specification.proofs.drawing.UpTo.{Drawn, Front, Bordered, row-longer, is-lead, is-standard}
-use Rattle.packed.specs.Words.{bitsOf, columnOf}
-use Rattle.specification.specs.Squares.{variable, square, Boolean, isIn}
+use Rattle.packed.specs.Words.{bitsOf}
+use Rattle.specification.specs.Squares.{variable, square, Boolean}
 use Rattle.packed.specs.Packed.{restOf, pivotFrom, withPivot, polynomialAt}
 use Rattle.packed.specs.PackedWalk.{PackedFound, packedFound, settledWords, examinedWords, indexIn}
 use Rattle.packed.proofs.BitLaws.{bits-length, bits-among, bits-longer}

@@ -1,27 +1,26 @@
 -- The turns of the walk: a square, a lead, a standard monomial.
 use mathlib.Core.Path.{_≡_, refl, sym, ap, _∙_, subst}
-use mathlib.Core.Bool.{Bool, true, false, cond}
+use mathlib.Core.Bool.{Bool, cond}
 use mathlib.Core.List.{List, [], _∷_, _++_}
 use mathlib.Core.Logic.{_⊎_, inl, inr, _≢_}
-use Prim.Native.Nat.{ℕ, zero, suc, _+_, _*_, _^_, _<_, _≤_}
+use Prim.Native.Nat.{ℕ, suc, _+_, _*_, _^_, _<_, _≤_}
 use native.Mathlib.Nat.{mul-le-mul-left}
 use native.Mathlib.Omega.{arith}
-use lib.ListN.{length, getD, length-append}
-use lib.Dec.{eqb}
+use lib.ListN.{length, length-append}
 use Rattle.residue.specs.Lists.{Among}
-use Rattle.residue.proofs.Tests.{Decides, so, not-so, cond-so, cond-not}
+use Rattle.residue.proofs.Tests.{Decides, so, not-so, cond-not}
 use Rattle.specification.specs.Space.{Space, Less, Divides}
 use Rattle.specification.specs.Polynomial.{Distinct}
 use Rattle.specification.specs.Extension.{divided}
 use Rattle.specification.specs.Examination.{Undivided}
-use Rattle.specification.specs.Squares.{variable, square, Boolean, isIn}
+use Rattle.specification.specs.Squares.{variable, square, Boolean}
 use Rattle.specification.proofs.Squares.{isIn-told}
 use Rattle.specification.proofs.ideal.Laws.{Laws, less-ne}
 use Rattle.specification.proofs.ideal.Lists.{snoc-of, snoc-in}
 use Rattle.specification.proofs.ideal.Increasing.{divided-told}
 use Rattle.specification.proofs.drawing.UpTo.{Bordered, standard-room, leads-room}
-use Rattle.packed.specs.Packed.{PivotWords, restOf, pivotFrom, withPivot}
-use Rattle.packed.specs.PackedWalk.{PackedFound, packedFound, examinedWords, settledWords, squareWords, indexIn, Visit, free, squared, visited}
+use Rattle.packed.specs.Packed.{restOf, pivotFrom, withPivot}
+use Rattle.packed.specs.PackedWalk.{PackedFound, packedFound, examinedWords, settledWords, squareWords, indexIn, free, squared, visited}
 use Rattle.packed.specs.PlaceSets.{FirstOpen, Passed}
 use Rattle.packed.specs.Words.{columnOf}
 use Rattle.packed.proofs.ExaminedFound.{zero-told}

@@ -1,36 +1,20 @@
 -- Which place is open, and which squares are left, while the walk goes through an order of bytes.
-use mathlib.Core.Path.{_≡_, refl, sym, ap, ap₂, _∙_, subst}
-use mathlib.Core.Bool.{true, false, true≢false}
-use mathlib.Core.List.{List, [], _∷_, _++_}
+use mathlib.Core.Path.{_≡_, refl, sym, ap, _∙_, subst}
+use mathlib.Core.List.{List}
 use mathlib.Core.Logic.{_⊎_, inl, inr, _≢_}
-use Prim.Native.Nat.{ℕ, zero, suc, _^_, _<_, _≤_, Ordering, Ordering·lt, Ordering·eq, Ordering·gt}
-use native.Mathlib.Nat.{lt-of-lt-of-le}
+use Prim.Native.Nat.{ℕ, zero, suc, _<_, _≤_, Ordering}
 use native.Mathlib.Omega.{arith}
 use native.Mathlib.Decide.{ℕ-discrete}
-use lib.ListN.{length, getD, length-replicate}
-use lib.Pow.{pow-mono}
+use lib.ListN.{length}
 use Rattle.residue.specs.Lists.{Among}
-use Rattle.residue.specs.Layout.{fill}
-use Rattle.monomial.specs.Monomial.{one, timesVariable}
-use Rattle.monomial.specs.Order.{Order, cmp}
-use Rattle.monomial.proofs.Algebra.Division.{divides-refl}
-use Rattle.monomial.proofs.Padding.{cmp-fill, fill-timesVariable}
 use Rattle.specification.specs.Space.{Space, Less, Divides}
 use Rattle.specification.specs.Examination.{Undivided}
-use Rattle.specification.specs.Instance.{Monomial, spaceOf}
 use Rattle.specification.specs.Squares.{square, Squarefree}
-use Rattle.specification.proofs.Instance.{monomial-path}
 use Rattle.specification.proofs.ideal.Laws.{Laws, Compares, lt, eq, gt, compared, irrefl, trans, less-ne}
-use Rattle.specification.proofs.ideal.Lists.{snoc-of, snoc-in}
-use Rattle.packed.specs.Words.{bitOf, bitsOf, wordOf}
-use Rattle.packed.specs.PlaceSets.{inSet, FirstOpen, Passed, OfMultiple}
-use Rattle.packed.specs.Sequences.{isLess, Sequence, squareFirst}
-use Rattle.packed.proofs.BitLaws.{bits-length}
-use Rattle.packed.proofs.ByteInstance.{free-word, word-free}
-use Rattle.packed.proofs.PackedUnder.{bits-fill}
+use Rattle.packed.specs.PlaceSets.{inSet, FirstOpen, Passed}
 use Rattle.packed.proofs.PlaceLaws.{below-or, in-small}
 use Rattle.packed.proofs.Walking.{Candidate}
-use Rattle.packed.proofs.Ready.{Last, none, last, Above, NextAfter, above-trans}
+use Rattle.packed.proofs.Ready.{Last, last, Above, NextAfter, above-trans}
 
 -- The places of monomials without squares in an order: 256 of them, some of which stand for monomials of the space.
 pub record Ordered (D : Space) (Valid : ℕ → Type 0) (at : ℕ → D .Mono) : Type 0 where

@@ -1,18 +1,18 @@
 -- The state of the walk with its tables, and its turns.
 use mathlib.Core.Path.{_≡_, refl, sym, ap, ap₂, _∙_, subst}
-use mathlib.Core.Bool.{Bool, true, false, cond, true≢false}
+use mathlib.Core.Bool.{Bool, true, false}
 use mathlib.Core.List.{List, [], _∷_, _++_, map}
-use mathlib.Core.Logic.{_⊎_, inl, inr, _≢_}
-use Prim.Native.Nat.{ℕ, zero, suc, _+_, _*_, _-_, _^_, _<_, _≤_, Ordering, Ordering·lt}
-use native.Mathlib.Nat.{lt-of-lt-of-le, lt-of-le-of-lt}
+use mathlib.Core.Logic.{inl, inr, _≢_}
+use Prim.Native.Nat.{ℕ, suc, _+_, _-_, _^_, _<_, _≤_}
+use native.Mathlib.Nat.{lt-of-le-of-lt}
 use native.Mathlib.Numerals.{add-one}
 use native.Mathlib.Omega.{arith}
 use native.Mathlib.Decide.{ℕ-discrete}
-use lib.ListN.{length, getD, set, length-map, length-append, length-set, replicate}
+use lib.ListN.{length, getD, set, length-map, length-append, length-set}
 use lib.Seq.{getD-set-same, getD-set-other}
 use lib.Bits.{bitAnd, and-le-l}
 use lib.Count.{trailingZeros}
-use lib.Pow.{pow-mono, pow-lt}
+use lib.Pow.{pow-lt}
 use Rattle.residue.specs.Lists.{Among}
 use Rattle.residue.specs.Layout.{fill, inPlaces, withPlace}
 use Rattle.residue.proofs.Replaced.{table-more}
@@ -21,16 +21,15 @@ use Rattle.monomial.specs.Order.{Order}
 use Rattle.specification.specs.Space.{Space, Less, Divides}
 use Rattle.specification.specs.Polynomial.{Distinct}
 use Rattle.specification.specs.Instance.{Monomial, Point, spaceOf}
-use Rattle.specification.specs.Squares.{variable, square, Boolean, isIn}
-use Rattle.specification.proofs.Instance.{monomial-path}
+use Rattle.specification.specs.Squares.{variable, square, Boolean}
 use Rattle.specification.proofs.Squares.{isIn-told}
 use Rattle.specification.proofs.ideal.Laws.{Laws}
 use Rattle.specification.proofs.ideal.Lists.{snoc-of}
-use Rattle.packed.specs.Words.{bitOf, bitsOf, wordOf, columnOf, length-bits}
-use Rattle.packed.specs.Packed.{PivotWords, restOf, pivotFrom, withPivot}
+use Rattle.packed.specs.Words.{bitsOf, wordOf, columnOf, length-bits}
+use Rattle.packed.specs.Packed.{restOf, pivotFrom, withPivot}
 use Rattle.packed.specs.PackedWalk.{PackedFound, packedFound, examinedWords, squareWords, indexIn}
 use Rattle.packed.specs.PivotTables.{PivotsLong, Kept, SomeKept, ExaminedAs}
-use Rattle.packed.specs.PlaceSets.{inSet, FirstOpen, Passed, OfMultiple, multipleAt}
+use Rattle.packed.specs.PlaceSets.{FirstOpen, Passed, OfMultiple}
 use Rattle.packed.specs.ByteColumns.{OwnColumn}
 use Rattle.packed.specs.Sequences.{Sequence}
 use Rattle.packed.proofs.BitLaws.{bits-length, word-bits}
@@ -40,9 +39,9 @@ use Rattle.packed.proofs.ClearLaws.{map-snoc}
 use Rattle.packed.proofs.ExaminedFound.{found-lead, found-standard}
 use Rattle.packed.proofs.Found.{placeIn, place-of, place-none, place-other, place-last, wide-more}
 use Rattle.packed.proofs.PackedUnder.{bits-fill}
-use Rattle.packed.proofs.Ready.{Last, none, last}
+use Rattle.packed.proofs.Ready.{Last, last}
 use Rattle.packed.proofs.Standing.{index-at}
-use Rattle.packed.proofs.Steps.{State, leads-fit, standard-fit, square-standing, square-step, own-open, byte-bordered, byte-new, pivot-room, found-standing, standard-step, lead-step}
+use Rattle.packed.proofs.Steps.{State, leads-fit, standard-fit, square-step, own-open, byte-bordered, byte-new, pivot-room, found-standing, standard-step, lead-step}
 use Rattle.packed.proofs.Visiting.{Ordered}
 
 module _ (q m : ℕ) (order : Order) (most : m ≤ 8) (bytes multiples : List ℕ) (Q : Sequence order bytes multiples) (L : Laws (spaceOf q m order)) (B : Boolean (spaceOf q m order))

@@ -11,7 +11,7 @@ use Rattle.specification.specs.BasisOf.{standardOf, leadsOf}
 use Rattle.specification.specs.Examination.{Undivided}
 use Rattle.specification.proofs.ideal.Laws.{Laws, same?, trans}
 use Rattle.specification.proofs.drawing.UpTo.{Drawn, Next, at-most, covered, drawn-standard, drawn-leads}
-use Rattle.specification.specs.Squares.{variable, square, Squarefree, Boolean}
+use Rattle.specification.specs.Squares.{square, Squarefree, Boolean}
 use Rattle.specification.proofs.Squares.{square-in, square-not-standard}
 
 module _ (D : Space) where

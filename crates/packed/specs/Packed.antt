@@ -1,5 +1,5 @@
--- Elimination modulo 2 with fully reduced pivots, computed with words: a column of values is a word, and so is a polynomial over the standard monomials found, its
--- bit t the coefficient of the t-th.
+-- Elimination modulo 2 with fully reduced pivots, computed with words: a column of values is a word, and so is a polynomial over the standard monomials
+-- found, its bit t the coefficient of the t-th.
 use mathlib.Core.Bool.{cond}
 use mathlib.Core.List.{List, [], _∷_, _++_, map}
 use mathlib.Core.Logic.{_≢_}

@@ -2,7 +2,7 @@
 use mathlib.Core.Bool.{cond}
 use mathlib.Core.Path.{_≡_}
 use mathlib.Core.List.{List, [], _∷_, _++_, map}
-use Prim.Native.Nat.{ℕ, zero, suc, _^_, _<_}
+use Prim.Native.Nat.{ℕ, suc, _^_, _<_}
 use lib.ListN.{length}
 use lib.Dec.{eqb}
 use Rattle.specification.specs.Space.{Space, same}
@@ -59,10 +59,6 @@ module _ (D : Space) where
   unfoldable pub visited : List Pt → Visit → PackedFound → PackedFound
   visited S (free a) f = cond (divided D (f .leads) a) f (examinedWords S a f)
   visited S (squared k) f = squareWords k f
-
-  unfoldable pub visitedAll : List Pt → List Visit → PackedFound → PackedFound
-  visitedAll S [] f = f
-  visitedAll S (v ∷ l) f = visitedAll S l (visited S v f)
 
   -- What has been found is the basis of the points: its three lists, a row's coefficients as the bits of a word.
   pub record PackedBasis (S : List Pt) (f : PackedFound) : Type 0 where

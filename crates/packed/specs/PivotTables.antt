@@ -16,13 +16,6 @@ pivotsIn zero places columns polynomials = []
 pivotsIn (suc k) places columns polynomials =
     pivotsIn k places columns polynomials ++ (pivotWords (getD places k 0) (getD columns k 0) (getD polynomials k 0) ∷ [])
 
--- the tables have room for k pivots, whose places are places of a word
-pub record PivotsHeld (k : ℕ) (places columns polynomials : List ℕ) : Type 0 where
-  pub long-places : k ≤ length places
-  pub long-columns : k ≤ length columns
-  pub long-polynomials : k ≤ length polynomials
-  pub inside : (j : ℕ) → j < k → getD places j 0 < 64
-
 -- the columns and polynomials of the first k pivots cleared at a new pivot's place; the others are as they were
 pub record Cleared (k : ℕ) (new : PivotWords) (columns polynomials columns′ polynomials′ : List ℕ) : Type 0 where
   pub long-columns : length columns′ ≡ length columns

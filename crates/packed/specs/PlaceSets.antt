@@ -6,10 +6,7 @@ use Prim.Native.Nat.{ℕ, _+_, _*_, _/_, _%_, _<_, _≤_}
 use lib.ListN.{length, getD}
 use lib.Bits.{bitXor}
 use Rattle.packed.specs.Words.{bitOf}
-
--- 1 where place i is in the set
-unfoldable pub inSet : ℕ → List ℕ → ℕ
-inSet i places = bitOf (i % 64) (getD places (i / 64) 0)
+unfoldable pub use Rattle.residue.specs.Words.{inSet}
 
 -- the bits that a word has not
 unfoldable pub others : ℕ → ℕ

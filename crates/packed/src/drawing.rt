@@ -1,5 +1,5 @@
-// The walk: monomials without squares in increasing order, those that are multiples of leads passed over, and the squares of the variables between them. A column that
-// is a combination of those of the standard monomials found is that of a lead; x_k^2 is one exactly where x_k is standard.
+// The walk: monomials without squares in increasing order, those that are multiples of leads passed over, and the squares of the variables between them. A
+// column that is a combination of those of the standard monomials found is that of a lead; x_k^2 is one exactly where x_k is standard.
 use crate::columns::ones;
 use crate::columns::own_column;
 use crate::columns::put_variables;
@@ -24,8 +24,8 @@ ghost use Rattle.specification.specs.Tables.{pointsIn};
 ghost use Rattle.construction.specs.Drawing.{PointsGiven, Tabled};
 ghost use Rattle.packed.specs.Sequences.{Sequence};
 
-// Fills the tables of the basis of n points modulo 2, the monomials without squares coming in the order of the bytes that are lent, with the places of the variables'
-// multiples.
+// Fills the tables of the basis of n points modulo 2. The monomials without squares come in the order of the bytes that are lent, with the places of the
+// variables' multiples.
 pub fn walk(
     settings: Settings,
     n: usize,
@@ -70,13 +70,37 @@ pub fn walk(
             }
             let byte = bytes[at];
             let own = own_column(byte, whole, &variables, &values);
-            let e = examine(own, found, pivots, &mut rows, &mut columns, &mut polynomials);
+            let e = examine(
+                own,
+                found,
+                pivots,
+                &mut rows,
+                &mut columns,
+                &mut polynomials,
+            );
             pivots = e.pivots;
             if e.lead {
-                keep_lead(r, byte, e.polynomial, multiples, &mut known, leads, coefficients);
+                keep_lead(
+                    r,
+                    byte,
+                    e.polynomial,
+                    multiples,
+                    &mut known,
+                    leads,
+                    coefficients,
+                );
                 r += 1;
             } else {
-                keep_standard(found, at, byte, own, &mut values, &mut places, &mut known, standard);
+                keep_standard(
+                    found,
+                    at,
+                    byte,
+                    own,
+                    &mut values,
+                    &mut places,
+                    &mut known,
+                    standard,
+                );
                 found += 1;
             }
         }

@@ -1,5 +1,5 @@
-// Which of the 256 monomials without squares are left to be examined: known are those that have been, and the multiples of leads. A set is four words, a bit for each
-// place in the order.
+// Which of the 256 monomials without squares are left to be examined: known are those that have been, and the multiples of leads. A set is four words, a bit
+// for each place in the order.
 ghost use mathlib.Core.Path.{_≡_};
 ghost use Prim.Native.Nat.{_<_, _≤_};
 ghost use lib.ListN.{length};

@@ -1,5 +1,5 @@
-// Elimination modulo 2 with fully reduced pivots: each is 1 at its own place and 0 at the places of the others, so that a column loses those at whose places it is
-// 1, in any order.
+// Elimination modulo 2 with fully reduced pivots: each is 1 at its own place and 0 at the places of the others, so that a column loses those at whose places
+// it is 1, in any order.
 ghost use mathlib.Core.Path.{_≡_};
 ghost use Prim.Native.Nat.{_<_, _≤_};
 ghost use lib.ListN.{length};
@@ -55,7 +55,8 @@ fn clear_all(
     requires { ⌜ place < 64 ⌝ }
     requires { ⌜ k ≤ length (now columns) ⌝ }
     requires { ⌜ k ≤ length (now polynomials) ⌝ }
-    ensures { λ r. ⌜ Cleared k (pivotWords place column polynomial) (now (columns .entry)) (now (polynomials .entry)) (now (columns .exit)) (now (polynomials .exit)) ⌝ }
+    ensures { λ _. ⌜ Cleared k (pivotWords place column polynomial) (now (columns .entry)) (now (polynomials .entry))
+        (now (columns .exit)) (now (polynomials .exit)) ⌝ }
 {
     for j in 0..k {
         let own = columns[j];

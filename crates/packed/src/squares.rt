@@ -13,8 +13,8 @@ fn first_differs(k: usize, byte: u8) -> bool
     byte as u32 % (1u32 << k) != 0
 }
 
-// Whether the square of x_(k+1) comes before the monomial of a byte. The degree of the byte, which decides first in grlex and grevlex, is its count of ones. Where
-// it is 2 as the square's, the square is the smaller in grlex as in lex, in grevlex if no variable behind x_(k+1) is in the byte.
+// Whether the square of x_(k+1) comes before the monomial of a byte. The degree of the byte, which decides first in grlex and grevlex, is its count of ones.
+// Where it is 2 as the square's, the square is the smaller in grlex as in lex, in grevlex if no variable behind x_(k+1) is in the byte.
 pub fn square_first(order: u8, k: usize, byte: u8) -> bool
     requires { ⌜ (order ≤ 2) × (k < 8) ⌝ }
     ensures { λ r. ⌜ r ≡ squareFirst (orderOf order) k byte ⌝ }

@@ -7,8 +7,8 @@ ghost use Rattle.residue.specs.Layout.{withPlace};
 ghost use Rattle.monomial.specs.Monomial.{one, timesVariable};
 ghost use Rattle.packed.specs.Words.{bitsOf, bytesOf};
 
-// Eight bits as the eight bytes of a word. The product repeats the byte eight times, of which the mask takes one bit each; 127 more carries it to the top of its
-// byte, wherever it stands.
+// Eight bits as the eight bytes of a word. The product repeats the byte eight times, of which the mask takes one bit each; 127 more carries it to the top of
+// its byte, wherever it stands.
 pub fn spread(byte: u8) -> u64
     ensures { λ r. ⌜ bytesOf 8 r ≡ bitsOf 8 byte ⌝ }
 {

@@ -6,3 +6,4 @@ pub mod Sums
 pub mod Layouts
 pub mod Places
 pub mod Replaced
+pub mod BitLaws

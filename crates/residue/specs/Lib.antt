@@ -7,3 +7,4 @@ pub mod Level
 pub mod Inverse
 pub mod Vector
 pub mod Sizes
+pub mod Words

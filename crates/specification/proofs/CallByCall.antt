@@ -1,14 +1,14 @@
 -- Call by call: what is left by each call whose number is 0, whatever it was handed (docs/SCOPE.md, 'The sheet'). No run from fresh tables is asked for.
 use mathlib.Core.Path.{_≡_, refl, sym, _∙_, ap, ap₂, subst}
-use mathlib.Core.Bool.{true, false}
+use mathlib.Core.Bool.{Bool, true, false, cond}
 use mathlib.Core.List.{List, [], _∷_, map}
 use mathlib.Core.Logic.{inl, inr, _↔_}
 use Prim.Native.Nat.{ℕ, _-_, _≤_}
 use native.Mathlib.Omega.{arith}
 use lib.IntN.{ℤ}
 use lib.ListN.{length, length-map}
-use lib.Dec.{T, ltb}
-use borrow.Author.Tests.{eqb-true, ltb-false, not-false}
+use lib.Dec.{T, eqb, ltb}
+use borrow.Author.Tests.{eq-eqb, eqb-true, ltb-false, not-false}
 use Rattle.residue.specs.Lists.{Among, some}
 use Rattle.residue.specs.Layout.{over}
 use Rattle.specification.specs.declared.settings.Settings.{Settings}
@@ -21,7 +21,7 @@ use Rattle.specification.specs.Instance.{pointOf}
 use Rattle.specification.specs.Counted.{Counted, pointsOf, countsOf, entered, lowered, gathered, overfull, countOf, timesIn}
 use Rattle.specification.specs.Tables.{Tables, spaceUnder, pointsUnder, standardUnder, leadsUnder, rowsUnder, rowCount, tablesOf, written, tooShort}
 use Rattle.specification.specs.Tables.{pointsIn, heldIn, recognised}
-use Rattle.specification.specs.Adding.{Outcome, holding, byRefusal, pointsOffered, addOutcome, drawCases, drawRefusal, drawOutcome}
+use Rattle.specification.specs.Adding.{Outcome, holding, byRefusal, pointsOffered, addOutcome, drawCases, drawRefusal, drawOutcome, refused, uncosted, drawPackedOutcome}
 use Rattle.specification.specs.Withdrawing.{withdrawOutcome}
 use Rattle.specification.specs.Reference.{Operation, adding, withdrawing, outcomeOf, refusalOf, referenceAnswer, listAfter}
 use Rattle.specification.specs.Solving.{checkRefusal, filling, valuesCases, interpolantIn, interpolateOutcome, polynomialUnder, remainderCases}
@@ -156,6 +156,24 @@ module _ (s : Settings) (t : Tables) (levels : List ℤ) where
   pub draw-leaves : let o = drawOutcome s t levels in o .answer .refusal ≡ 0 → HoldsBasis s L t (o .answer .n) (o .answer .r) (o .tables)
   unfolding drawOutcome
   draw-leaves e = let h = drawn-points (sym drawn-number ∙ e) in written-basis s (h .ok) L (h .entries) (drawRefusal s t levels) t e
+
+  -- Drawing up with words, request M-108: where the modulus is 2 it is drawing up, and it is refused with 3 else.
+  pub packed-drawn : s .modulus ≡ 2 → drawPackedOutcome s t levels ≡ uncosted (drawOutcome s t levels)
+  unfolding drawPackedOutcome
+  packed-drawn two = rw (eq-eqb (s .modulus) 2 two)
+
+  pub packed-two : drawPackedOutcome s t levels .answer .refusal ≡ 0 → s .modulus ≡ 2
+  unfolding drawPackedOutcome refused
+  packed-two e = go (eqb (s .modulus) 2) refl e
+    where
+      go : (b : Bool) → eqb (s .modulus) 2 ≡ b → cond b (uncosted (drawOutcome s t levels)) (refused 3 t) .answer .refusal ≡ 0 → s .modulus ≡ 2
+      go true f z = eqb-true (s .modulus) 2 f
+      go false f z = absurd (omega arith)
+
+  pub packed-leaves : let o = drawPackedOutcome s t levels in o .answer .refusal ≡ 0 → HoldsBasis s L t (o .answer .n) (o .answer .r) (o .tables)
+  packed-leaves e =
+      let d = packed-drawn (packed-two e) in
+      subst (λ (o : Outcome). HoldsBasis s L t (o .answer .n) (o .answer .r) (o .tables)) (sym d) (draw-leaves (sym (ap (λ (o : Outcome). o .answer .refusal) d) ∙ e))
 
   pub draw-costs : let o = drawOutcome s t levels in o .answer .refusal ≡ 0 → Costs s (pointsOf L) (o .answer .cancellations)
   unfolding drawOutcome

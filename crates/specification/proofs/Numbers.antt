@@ -1,11 +1,12 @@
 -- What is said of every call at once, whatever it is handed: which numbers it can give, and that a refusal comes alone (request M-106; docs/SCOPE.md, 'Refused,
 -- in this order of checking').
 use mathlib.Core.Path.{_≡_, refl, sym, _∙_}
-use mathlib.Core.Bool.{Bool, true, false, not}
+use mathlib.Core.Bool.{Bool, true, false, not, cond}
 use mathlib.Core.List.{List, [], _∷_}
 use mathlib.Core.Logic.{_≢_}
 use Prim.Native.Nat.{ℕ, _≤_}
 use native.Mathlib.Omega.{arith}
+use lib.IntN.{ℤ}
 use lib.Dec.{T, eqb, leb, leb→le}
 use borrow.Author.Tests.{eq-eqb, ne-eqb}
 use Rattle.residue.specs.Lists.{every, allZero}
@@ -15,11 +16,11 @@ use Rattle.specification.specs.Settings.{Accepted, settingsCases}
 use Rattle.specification.specs.Counted.{Counted, overfull}
 use Rattle.specification.specs.declared.settings.Settings.{Settings}
 use Rattle.specification.specs.Tables.{Tables, tooShort}
-use Rattle.specification.specs.Adding.{refused, byRefusal, addCases, addRefusal, addOutcome, drawCases, drawRefusal, drawOutcome}
+use Rattle.specification.specs.Adding.{refused, byRefusal, addCases, addRefusal, addOutcome, drawCases, drawRefusal, drawOutcome, uncosted, drawPackedOutcome}
 use Rattle.specification.specs.Withdrawing.{withdrawCases, withdrawRefusal, withdrawOutcome}
 use Rattle.specification.specs.Solving.{checkRefusal, filling, listing, valuesCases, interpolateOutcome, remainderCases, remainderOutcome, wiringOutcome}
 use Rattle.specification.specs.Reference.{adding, withdrawing, outcomeOf, referenceAnswer}
-use Rattle.specification.specs.Calls.{Request, operating, checking, interpolating, dividing, wiring, Call, drawing, handed, endingOf, numberOf}
+use Rattle.specification.specs.Calls.{Request, operating, checking, interpolating, dividing, wiring, Call, drawing, drawingPacked, handed, endingOf, numberOf}
 use Rattle.specification.specs.Calls.{tablesLent, bufferLent, Alone, valuesLeft, termsLeft, numberWith}
 use Rattle.specification.specs.CallByCall.{HoldsBasis}
 use Rattle.specification.proofs.CallByCall.{basis-entries}
@@ -46,10 +47,21 @@ at-most number k none ((false, a) ∷ l) z t = at-most number k none l z (and-ri
 abbrev Case-by-case : Call → Type 0
 Case-by-case c = (l : List Case) × (numberOf c ≡ firstOf 0 l) × T (every (λ c. not (eqb (c .1) 11)) l) × T (every (λ c. leb (c .1) 13) l)
 
+-- Drawing up with words has one case before those of drawing up.
+packed-number : (s : Settings) (t : Tables) (levels : List ℤ)
+    → drawPackedOutcome s t levels .answer .refusal ≡ firstOf 0 ((not (eqb (s .modulus) 2), 3) ∷ drawCases s t levels)
+unfolding firstOf drawPackedOutcome refused drawOutcome drawRefusal
+packed-number s t levels = go (eqb (s .modulus) 2)
+  where
+    go : (b : Bool) → cond b (uncosted (drawOutcome s t levels)) (refused 3 t) .answer .refusal ≡ firstOf 0 ((not b, 3) ∷ drawCases s t levels)
+    go true = number-of (drawRefusal s t levels) t s _
+    go false = refl
+
 cases-of : (c : Call) → Case-by-case c
 unfolding endingOf outcomeOf addOutcome addRefusal addCases withdrawOutcome withdrawRefusal withdrawCases drawOutcome drawRefusal drawCases checkRefusal
     interpolateOutcome remainderOutcome wiringOutcome filling listing valuesCases remainderCases settingsCases overfull
 cases-of (drawing s t levels) = (drawCases s t levels, number-of (drawRefusal s t levels) t s _, tt, tt)
+cases-of (drawingPacked s t levels) = ((not (eqb (s .modulus) 2), 3) ∷ drawCases s t levels, packed-number s t levels, tt, tt)
 cases-of (handed (operating (adding levels)) s n r t) = (addCases s n r t levels, number-of (addRefusal s n r t levels) t s _, tt, tt)
 cases-of (handed (operating (withdrawing levels)) s n r t) = (withdrawCases s n r t levels, number-of (withdrawRefusal s n r t levels) t s _, tt, tt)
 cases-of (handed checking s n r t) = (_, refl, tt, tt)
@@ -66,11 +78,17 @@ few-numbers c = let w = cases-of c in rw (w .1) (at-most (λ k. k) 13 0 (w .0) (
 
 -- A refusal comes alone: the other parts of the answer are 0, and no lent byte has changed.
 pub refused-alone : (c : Call) → numberOf c ≢ 0 → Alone c
-unfolding endingOf tablesLent bufferLent outcomeOf addOutcome withdrawOutcome drawOutcome byRefusal refused interpolateOutcome remainderOutcome wiringOutcome
+unfolding endingOf tablesLent bufferLent drawPackedOutcome outcomeOf addOutcome withdrawOutcome drawOutcome byRefusal refused interpolateOutcome remainderOutcome wiringOutcome
     filling listing allZero
 refused-alone (drawing s t levels) h =
     let k = drawRefusal s t levels in
     let e = ne-eqb k 0 (λ z. h (number-of k t s _ ∙ z)) in record { parts = rw e tt; tables = rw e refl; buffer = refl }
+refused-alone (drawingPacked s t levels) h = let w = go (eqb (s .modulus) 2) h in record { parts = w .0; tables = w .1; buffer = refl }
+  where
+    go : (b : Bool) → let o = cond b (uncosted (drawOutcome s t levels)) (refused 3 t) in o .answer .refusal ≢ 0
+        → T (allZero (o .answer .n ∷ o .answer .r ∷ [])) × (o .tables ≡ t)
+    go true z = let e = ne-eqb (drawRefusal s t levels) 0 (λ y. z (number-of (drawRefusal s t levels) t s _ ∙ y)) in (rw e tt, rw e refl)
+    go false z = (tt, refl)
 refused-alone (handed (operating (adding levels)) s n r t) h =
     let k = addRefusal s n r t levels in
     let e = ne-eqb k 0 (λ z. h (number-of k t s _ ∙ z)) in record { parts = rw e tt; tables = rw e refl; buffer = refl }

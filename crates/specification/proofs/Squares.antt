@@ -6,15 +6,15 @@ use mathlib.Core.Logic.{_⊎_, inl, inr, _↔_}
 use Prim.Native.Nat.{ℕ, zero, suc, _+_, _*_, _<_, _≤_}
 use native.Mathlib.Omega.{arith}
 use native.Mathlib.Decide.{ℕ-discrete}
-use lib.ListN.{length, length-map}
+use lib.ListN.{length-map}
 use Rattle.residue.specs.Congruence.{Mod}
 use Rattle.residue.specs.Lists.{Among}
 use Rattle.residue.proofs.Congruence.{rfl, of, _then_, _plus_, lin}
 use Rattle.residue.proofs.Tests.{Decides, so, not-so, dec-of}
 use Rattle.specification.specs.Space.{Space, Less, Divides}
-use Rattle.specification.specs.Polynomial.{hit, Leading, Distinct, terms}
+use Rattle.specification.specs.Polynomial.{hit, Leading, Distinct}
 use Rattle.specification.specs.BasisOf.{standardOf, leadsOf, rowOf}
-use Rattle.specification.proofs.ideal.Laws.{Laws, same-told, same?, divides-told, irrefl, trans, less-ne, hit-same, hit-other}
+use Rattle.specification.proofs.ideal.Laws.{Laws, same-told, same?, divides-told, trans, less-ne, hit-same, hit-other}
 use Rattle.specification.proofs.ideal.Lists.{among-map}
 use Rattle.specification.proofs.ideal.Polynomials.{pair-terms}
 use Rattle.specification.proofs.ideal.Staircase.{hit-at}

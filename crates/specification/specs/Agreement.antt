@@ -18,7 +18,7 @@ use Rattle.specification.specs.Basis.{IsBasis, Fits}
 use Rattle.specification.specs.BasisOf.{valueAt}
 use Rattle.specification.specs.Tables.{Tables, rowCount, tablesOf, written, tooShort, pointsIn, heldIn}
 use Rattle.specification.specs.Tables.{spaceUnder, pointsUnder, standardUnder, leadsUnder, rowsUnder}
-use Rattle.specification.specs.Adding.{DrawOutcome, pointsOffered, drawOutcome}
+use Rattle.specification.specs.Adding.{Outcome, pointsOffered, drawOutcome, uncosted, drawPackedOutcome}
 use Rattle.specification.specs.Solving.{interpolateOutcome, polynomialUnder, remainderOutcome, Listed, wiringOutcome}
 use Rattle.specification.specs.Needed.{Needed, Names}
 use Rattle.specification.specs.Reference.{Event, Held, numbers, due}
@@ -57,7 +57,7 @@ pub record SameValues (s : Settings) (K L : List (List ℕ)) (v w : List ℤ) : 
 -- A drawing up agrees with what the list holds: n, r and the three tables are equal in each byte of their sizes. (Its cancellations depend on the order of
 -- its points, and the list has none.) The remainder call, handed the same terms, and the interpolant and wiring calls, handed values that are equal at each
 -- point, each desk's in the order of its own points, answer the same with either tables, and leave equal buffers where they were lent buffers of equal bytes.
-pub record SameAs (s : Settings) (h : Held) (o : DrawOutcome) : Type 0 where
+pub record SameAs (s : Settings) (h : Held) (o : Outcome) : Type 0 where
   pub count : o .answer .n ≡ h .n
   pub rows : o .answer .r ≡ h .r
   pub standard : take standardSize (o .tables .standard) ≡ take standardSize (h .tables .standard)
@@ -72,7 +72,7 @@ pub record SameAs (s : Settings) (h : Held) (o : DrawOutcome) : Type 0 where
       → wiringOutcome s (o .answer .n) (o .answer .r) (o .tables) v buffer ≡ wiringOutcome s (h .n) (h .r) (h .tables) w buffer
 
 -- Besides, the number is 0, and 'each state's count agrees'.
-pub record SameCounts (s : Settings) (h : Held) (o : DrawOutcome) : Type 0 where
+pub record SameCounts (s : Settings) (h : Held) (o : Outcome) : Type 0 where
   pub number : o .answer .refusal ≡ 0
   pub agrees : SameAs s h o
   pub counts : (P : List ℕ) → countOf P (heldIn s (o .answer .n) (o .tables)) ≡ countOf P (heldIn s (h .n) (h .tables))
@@ -112,8 +112,14 @@ pub record Agrees (s : Settings) (start : Tables) (es : List Event) (L : Counted
   pub few-rows : rowCount s (pointsOf L) ≤ mostRows
   pub most-rows : h .r ≤ 1 + h .n * (s .variables - 1)
   -- every drawing up of its points that returns 0; every drawing up of its points with its counts into tables none of which is shorter than its size
-  pub drawn : (t : Tables) (levels : List ℤ) → SameSet s L levels → drawOutcome s t levels .answer .refusal ≡ 0 → SameAs s h (drawOutcome s t levels)
-  pub arranged : (t : Tables) (levels : List ℤ) → tooShort t ≡ false → Arranges s L levels → SameCounts s h (drawOutcome s t levels)
+  pub drawn : (t : Tables) (levels : List ℤ) → SameSet s L levels → drawOutcome s t levels .answer .refusal ≡ 0 → SameAs s h (uncosted (drawOutcome s t levels))
+  pub arranged : (t : Tables) (levels : List ℤ) → tooShort t ≡ false → Arranges s L levels → SameCounts s h (uncosted (drawOutcome s t levels))
+  -- 'Where p = 2, agreement of the desks now covers three ways' (request M-108): drawing up with words, with the list and with the other drawing up
+  pub drawn-packed : s .modulus ≡ 2 → (t : Tables) (levels : List ℤ) → SameSet s L levels → drawPackedOutcome s t levels .answer .refusal ≡ 0
+      → SameAs s h (drawPackedOutcome s t levels)
+  pub arranged-packed : s .modulus ≡ 2 → (t : Tables) (levels : List ℤ) → tooShort t ≡ false → Arranges s L levels
+      → SameCounts s h (drawPackedOutcome s t levels)
+  pub both-drawn : s .modulus ≡ 2 → (t : Tables) (levels : List ℤ) → drawPackedOutcome s t levels ≡ uncosted (drawOutcome s t levels)
   -- every call that is handed what is held: its number is told by the reference list and its other arguments. Where it is 0, the buffer holds what is due
   pub requests : (q : Request) → numberOf (handed q s (h .n) (h .r) (h .tables)) ≡ numberWith q s L
   pub interpolants : (values : List ℤ) (buffer : List ℕ) → interpolateOutcome s (h .n) (h .r) (h .tables) values buffer .refusal ≡ 0

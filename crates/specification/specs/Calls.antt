@@ -14,7 +14,7 @@ use Rattle.specification.specs.Refusal.{Case, firstOf}
 use Rattle.specification.specs.Levels.{inRange}
 use Rattle.specification.specs.Counted.{Counted}
 use Rattle.specification.specs.Tables.{Tables}
-use Rattle.specification.specs.Adding.{drawOutcome}
+use Rattle.specification.specs.Adding.{drawOutcome, drawPackedOutcome}
 use Rattle.specification.specs.Solving.{checkRefusal, interpolateOutcome, withinVariables, remainderOutcome, wiringOutcome}
 use Rattle.specification.specs.Reference.{Operation, outcomeOf, referenceAnswer}
 
@@ -29,6 +29,7 @@ pub data Request : Type 0 where
 
 pub data Call : Type 0 where
   drawing : (s : Settings) (t : Tables) (levels : List ℤ) → Call
+  drawingPacked : (s : Settings) (t : Tables) (levels : List ℤ) → Call
   handed : (q : Request) (s : Settings) (n r : ℕ) (t : Tables) → Call
 
 -- All that a call answers and leaves: its number, the other parts of its answer, and at exit the tables and the buffer that it was lent. Tables that are only
@@ -45,6 +46,7 @@ leaving k parts t buffer = record { number = k; parts = parts; tables = t; buffe
 unfoldable pub endingOf : Call → Ending
 endingOf (drawing s t levels) = let o = drawOutcome s t levels in
     leaving (o .answer .refusal) (o .answer .n ∷ o .answer .r ∷ o .answer .cancellations ∷ []) (o .tables) []
+endingOf (drawingPacked s t levels) = let o = drawPackedOutcome s t levels in leaving (o .answer .refusal) (o .answer .n ∷ o .answer .r ∷ []) (o .tables) []
 endingOf (handed (operating o) s n r t) = let w = outcomeOf o s n r t in leaving (w .answer .refusal) (w .answer .n ∷ w .answer .r ∷ []) (w .tables) []
 endingOf (handed checking s n r t) = leaving (checkRefusal s n r t) [] t []
 endingOf (handed (interpolating values buffer) s n r t) = let o = interpolateOutcome s n r t values buffer in leaving (o .refusal) [] t (o .buffer)
@@ -59,10 +61,12 @@ numberOf c = endingOf c .number
 -- what it was lent
 unfoldable pub tablesLent : Call → Tables
 tablesLent (drawing s t levels) = t
+tablesLent (drawingPacked s t levels) = t
 tablesLent (handed q s n r t) = t
 
 unfoldable pub bufferLent : Call → List ℕ
 bufferLent (drawing s t levels) = []
+bufferLent (drawingPacked s t levels) = []
 bufferLent (handed (operating o) s n r t) = []
 bufferLent (handed checking s n r t) = []
 bufferLent (handed (interpolating values buffer) s n r t) = buffer

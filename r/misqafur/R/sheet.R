@@ -41,9 +41,11 @@ withdraw_state <- function(sheet, state) {
 }
 
 # All states at once, in place of those that the sheet has: a data frame or a matrix with a row for each, its columns by the
-# genes' names where it has any. Rows may repeat.
-draw_up <- function(sheet, states) {
-  sheet$raw <- taken(.Call(C_draw_up, sheet$raw, levels_of(sheet, states)))
+# genes' names where it has any. Rows may repeat. Packed, for the modulus 2 alone, the library makes the same sheet sooner.
+draw_up <- function(sheet, states, packed = FALSE) {
+  if (packed && sheet$modulus != 2) taken(list(3L), more = paste0("This sheet is modulo ", sheet$modulus, ": draw it up without `packed`"))
+  call <- if (packed) C_draw_up_packed else C_draw_up
+  sheet$raw <- taken(.Call(call, sheet$raw, levels_of(sheet, states)))
   sheet
 }
 

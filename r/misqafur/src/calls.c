@@ -89,6 +89,13 @@ static SEXP draw_up(SEXP raw, SEXP levels)
     return answered_sheet(refusal, &sheet);
 }
 
+static SEXP draw_up_packed(SEXP raw, SEXP levels)
+{
+    struct misqafur_sheet sheet = sheet_of(raw);
+    const uint32_t refusal = misqafur_sheet_draw_up_packed(&sheet, levels_of(levels), (size_t)XLENGTH(levels));
+    return answered_sheet(refusal, &sheet);
+}
+
 static SEXP check(SEXP raw)
 {
     const struct misqafur_sheet sheet = sheet_of(raw);
@@ -193,6 +200,7 @@ static SEXP version(void)
 static const R_CallMethodDef calls[] = {
     CALL("init", init, 3),           CALL("add", add, 2),
     CALL("withdraw", withdraw, 2),   CALL("draw_up", draw_up, 2),
+    CALL("draw_up_packed", draw_up_packed, 2),
     CALL("check", check, 1),         CALL("interpolate", interpolate, 2),
     CALL("remainder", remainder_of, 3), CALL("wiring", wiring, 2),
     CALL("tables", tables, 1),       CALL("read_text", read_text, 1),

@@ -7,6 +7,7 @@ use native.Mathlib.Omega.{arith}
 use lib.IntN.{ℤ}
 use lib.ListN.{length, length-map}
 use lib.Dec.{eqb}
+use borrow.Author.Tests.{ne-eqb}
 use Rattle.residue.specs.Layout.{fill}
 use Rattle.residue.proofs.Layouts.{fill-twice}
 use Rattle.specification.specs.declared.settings.Settings.{Settings}
@@ -15,9 +16,10 @@ use Rattle.specification.specs.Settings.{settingsCases}
 use Rattle.specification.specs.Levels.{inRange}
 use Rattle.specification.specs.Counted.{Counted, pointsOf, countsOf, gathered, overfull}
 use Rattle.specification.specs.Tables.{Tables, statesTable, tooShort, pointsIn}
-use Rattle.specification.specs.Adding.{refused, pointsOffered, drawCases, drawRefusal, costing, cancellationsUnder, drawOutcome, holdingBoth}
+use Rattle.specification.specs.Adding.{Outcome, refused, pointsOffered, drawCases, drawRefusal, DrawOutcome, costing, cancellationsUnder, drawOutcome, uncosted}
+use Rattle.specification.specs.Adding.{drawPackedOutcome, holdingBoth}
 use Rattle.specification.proofs.Replicates.{holding-told}
-use Rattle.specification.proofs.CallByCall.{Offered, drawn-points}
+use Rattle.specification.proofs.CallByCall.{Offered, drawn-points, packed-drawn}
 use Rattle.construction.specs.Drawing.{PointsGiven}
 use Rattle.construction.proofs.drawing.Given.{table-points, given}
 use Rattle.recognition.proofs.settings.BySize.{sizes, by-size, by-rest}
@@ -97,3 +99,13 @@ module _ (s : Settings) (t : Tables) (levels : List ℤ) (k : ℕ) (e : k ≡ dr
           let back : pointsIn s n points ≡ pointsOf L = ap₂ (pointsIn s) many table ∙ table-points s (offered .ok) (pointsOf L) (offered .entries .points) in
           rw (back, f, fill-twice 64 64 (countsOf L) (omega arith))
           (ap (costing (cancellationsUnder s (pointsOf L))) (sym (holding-told s L t (pointsOf L) (countsOf L) refl refl)) ∙ cost-accepted t _ _ _ (sym zero ∙ number))
+
+-- The outcome modulo 2: that of drawing up, without its cost.
+module _ (s : Settings) (t : Tables) (levels : List ℤ) where
+  pub packed-other : (s .modulus ≡ 2 → ⊥) → refused 3 t ≡ drawPackedOutcome s t levels
+  unfolding drawPackedOutcome
+  packed-other n = rw (ne-eqb (s .modulus) 2 n) refl
+
+  module _ (two : s .modulus ≡ 2) where
+    pub packed-as : (o : Outcome) (cost : ℕ) → costing cost o ≡ drawOutcome s t levels → o ≡ drawPackedOutcome s t levels
+    packed-as o cost e = ap (λ (d : DrawOutcome). uncosted d) e ∙ sym (packed-drawn s t levels two)

@@ -24,7 +24,7 @@ use Rattle.specification.specs.Polynomial.{Distinct}
 use Rattle.specification.specs.Counted.{Counted, pointsOf, countsOf, gathered, overfull, countOf}
 use Rattle.specification.specs.Tables.{Tables, spaceUnder, pointsUnder, rowCount, standardTable, leadsTable, coefficientsTable, tablesOf, written}
 use Rattle.specification.specs.Tables.{tooShort}
-use Rattle.specification.specs.Adding.{holding, byRefusal, pointsOffered, drawCases, drawRefusal, drawOutcome}
+use Rattle.specification.specs.Adding.{holding, byRefusal, pointsOffered, drawCases, drawRefusal, drawOutcome, uncosted}
 use Rattle.specification.specs.BasisOf.{interpolantOf}
 use Rattle.specification.specs.Solving.{filling, polynomialUnder, listing}
 use Rattle.specification.specs.Calls.{valuesLeft, termsLeft}
@@ -117,7 +117,7 @@ module _ (s : Settings) (ok : Accepted s) (fine : firstOf 0 (settingsCases s) �
 
       -- what is drawn up is what is held, with the same remainders and wiring lists
       pub drawn-same : (start : Tables) → Large start → (h : Held) → h .n ≡ length L → h .r ≡ rowCount s (pointsOf L) → h .tables ≡ written (tablesOf s L) start
-          → (t : Tables) → Large t → drawRefusal s t levels ≡ 0 → SameAs s h (drawOutcome s t levels)
+          → (t : Tables) → Large t → drawRefusal s t levels ≡ 0 → SameAs s h (uncosted (drawOutcome s t levels))
       unfolding drawOutcome byRefusal holding written tablesOf
       drawn-same start large h en er et t big zero = rw zero (record {
         count = as-many ∙ sym en;
@@ -180,7 +180,7 @@ module _ (s : Settings) (ok : Accepted s) (fine : firstOf 0 (settingsCases s) �
     draws t large = rw (settings-pass s fine _, large, eq-eqb (length levels % s .variables) 0 (a .whole), true-of (inRange (s .modulus) levels) (a .range), le-ltb 64 (length G) (few arranged-set), small)
 
     pub arranged-same : (start : Tables) → Large start → (h : Held) → h .n ≡ length L → h .r ≡ rowCount s (pointsOf L) → h .tables ≡ written (tablesOf s L) start
-        → (t : Tables) → tooShort t ≡ false → SameCounts s h (drawOutcome s t levels)
+        → (t : Tables) → tooShort t ≡ false → SameCounts s h (uncosted (drawOutcome s t levels))
     unfolding drawOutcome byRefusal holding
     arranged-same start large h en er et t short = record {
       number = rw (draws t short) refl;

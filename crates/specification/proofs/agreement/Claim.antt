@@ -1,8 +1,10 @@
 -- THE claim over any list of operations (docs/SCOPE.md, 'The two desks').
 use mathlib.Core.Path.{_≡_, refl, sym, _∙_, ap, subst}
+use mathlib.Core.Bool.{false}
 use mathlib.Core.List.{List, [], _∷_, _++_, append-nil}
 use Prim.Native.Nat.{ℕ, zero, suc, _≤_}
 use native.Mathlib.Omega.{arith}
+use lib.IntN.{ℤ}
 use lib.ListN.{length, take, replicate, length-take, length-map}
 use lib.Dec.{T}
 use Rattle.residue.specs.Sizes.{statesSize, standardSize, leadsSize, coefficientsSize, countsSize}
@@ -16,10 +18,11 @@ use Rattle.specification.specs.Polynomial.{Distinct}
 use Rattle.specification.specs.BasisOf.{basisOf}
 use Rattle.specification.specs.Counted.{Counted, pointsOf}
 use Rattle.specification.specs.Tables.{Tables, spaceUnder, pointsUnder, rowCount, statesTable, standardTable, leadsTable, coefficientsTable, tablesOf}
-use Rattle.specification.specs.Tables.{written, pointsIn, heldIn}
+use Rattle.specification.specs.Tables.{written, tooShort, pointsIn, heldIn}
+use Rattle.specification.specs.Adding.{Outcome, drawOutcome, uncosted}
 use Rattle.specification.specs.Solving.{interpolateOutcome, remainderOutcome, wiringOutcome}
 use Rattle.specification.specs.Reference.{Event, Held, numbers, heldAtEnd, referenceAtEnd, due, Refuses}
-use Rattle.specification.specs.Agreement.{Fresh, freshly, Remains, Agrees, Wires}
+use Rattle.specification.specs.Agreement.{Fresh, freshly, SameSet, Arranges, SameAs, SameCounts, Remains, Agrees, Wires}
 use Rattle.specification.specs.CallByCall.{Interpolates}
 use Rattle.specification.proofs.ideal.Basis.{basis-is}
 use Rattle.specification.proofs.counted.Gathered.{no-entries}
@@ -29,7 +32,7 @@ use Rattle.specification.proofs.agreement.Run.{same-tables, At, held-li
 use Rattle.specification.proofs.agreement.Drawings.{laws-under, distinct-points, standard-count, few-rows, most-rows}
 use Rattle.specification.proofs.agreement.Handed.{number-told}
 use Rattle.specification.proofs.agreement.Arrangements.{drawn-same, arranged-same}
-use Rattle.specification.proofs.CallByCall.{drawn-points, drawn-number, interpolate-leaves, remainder-leaves}
+use Rattle.specification.proofs.CallByCall.{drawn-points, drawn-number, packed-drawn, interpolate-leaves, remainder-leaves}
 use Rattle.specification.proofs.needed.Calls.{wiring-leaves}
 
 -- zeros filled up are zeros
@@ -81,9 +84,12 @@ agreement s fine start fresh es refuses = record {
   few-replicates = at .entries .counts;
   few-rows = few-rows s good S (at .entries .points);
   most-rows = rw (at .rows, at .count ∙ sym (length-map L (λ q. q .0))) (most-rows s good S (at .entries .points));
-  drawn = λ t levels same zero. let k = sym (drawn-number s t levels) ∙ zero in let o = drawn-points s t levels k in
-      drawn-same s good fine L (at .entries) levels same (o .small) start big h (at .count) (at .rows) (at .tables) t (large-of t (o .large)) k;
-  arranged = λ t levels short a. arranged-same s good fine L (at .entries) levels a start big h (at .count) (at .rows) (at .tables) t short;
+  drawn = drawn;
+  arranged = arranged;
+  drawn-packed = λ two t levels same taken. let d = packed-drawn s t levels two in
+      subst (SameAs s h) (sym d) (drawn t levels same (sym (ap (λ (o : Outcome). o .answer .refusal) d) ∙ taken));
+  arranged-packed = λ two t levels short a. subst (SameCounts s h) (sym (packed-drawn s t levels two)) (arranged t levels short a);
+  both-drawn = λ two t levels. packed-drawn s t levels two;
   requests = λ q. rw (at .count, at .rows, at .tables) (number-told s fine L (at .entries) start big q);
   interpolants = λ values buffer e.
       subst (λ (K : List (List ℕ)). Interpolates s K values buffer (interpolateOutcome s (h .n) (h .r) (h .tables) values buffer .buffer)) points
@@ -120,6 +126,13 @@ agreement s fine start fresh es refuses = record {
 
     held : heldIn s (h .n) (h .tables) ≡ L
     held = held-list s fine start big h L at
+
+    drawn : (t : Tables) (levels : List ℤ) → SameSet s L levels → drawOutcome s t levels .answer .refusal ≡ 0 → SameAs s h (uncosted (drawOutcome s t levels))
+    drawn t levels same taken = let k = sym (drawn-number s t levels) ∙ taken in let o = drawn-points s t levels k in
+        drawn-same s good fine L (at .entries) levels same (o .small) start big h (at .count) (at .rows) (at .tables) t (large-of t (o .large)) k
+
+    arranged : (t : Tables) (levels : List ℤ) → tooShort t ≡ false → Arranges s L levels → SameCounts s h (uncosted (drawOutcome s t levels))
+    arranged t levels short a = arranged-same s good fine L (at .entries) levels a start big h (at .count) (at .rows) (at .tables) t short
 
     points : pointsIn s (h .n) (h .tables .states) ≡ S
     points = sym (points-held s (h .n) (h .tables)) ∙ ap pointsOf held

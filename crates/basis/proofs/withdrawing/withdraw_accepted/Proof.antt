@@ -5,7 +5,7 @@ use Prim.Native.Nat.{ℕ, _-_, _<_, _≤_}
 use native.Mathlib.Omega.{arith}
 use lib.ListN.{length, getD, length-set}
 use Rattle.specification.specs.Tables.{Tables, fiveTables}
-use Rattle.specification.specs.Adding.{Outcome, DrawOutcome}
+use Rattle.specification.specs.Adding.{uncosted}
 use Rattle.specification.specs.CallByCall.{recounted}
 use Rattle.specification.proofs.agreement.Refusals.{Large, large-of}
 use Rattle.construction.specs.Drawing.{pivotBytes}
@@ -52,10 +52,6 @@ taken c = c .before .before .before .before .before .before .before .before .bef
 
 abbrev drawing : tie.After-slice-known15 → tie.After-draw-points
 drawing c = c .before .before .before .before .before .before .before .before .before .before .before .before .before .before
-
--- what drawing up answers, without its cost
-abbrev uncosted : DrawOutcome → Outcome
-uncosted o = record { answer = record { refusal = o .answer .refusal; n = o .answer .n; r = o .answer .r }; tables = o .tables }
 
 slice-read-count : tie.Need-slice-read-count
 slice-read-count c = room (start c)

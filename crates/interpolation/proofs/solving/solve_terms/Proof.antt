@@ -32,13 +32,13 @@ module _ (w : tie.After-put-residues) where
   front = front-of R (w .put-residues .last .1 .1 .0) 256 (length (start .args .coefficients .now)) (w .put-residues .ensures) long
 
 -- and the values in the working row
-loaded : (v : tie.After-put-term-values) → v .put-term-values .last .1 .1 .1 .1 .1 .0
+loaded : (v : tie.After-put-values) → v .put-values .last .1 .1 .1 .1 .1 .0
     ≡ fill 128 (termValues (start (v .before .before .before .before) .args .p) (R (v .before .before .before .before)) (start (v .before .before .before .before) .args .exponents .now) (start (v .before .before .before .before) .args .n) (start (v .before .before .before .before) .args .points .now))
 loaded v =
     let w = v .before .before .before .before in
     let s = start w in
     let vs : List ℕ = termValues (s .args .p) (R w) (s .args .exponents .now) (s .args .n) (s .args .points .now) in
-    v .put-term-values .ensures ∙ ap (λ (l : List ℕ). over (termValues (s .args .p) l (s .args .exponents .now) (s .args .n) (s .args .points .now)) (replicate 128 0)) (front w)
+    v .put-values .ensures ∙ ap (λ (l : List ℕ). over (termValues (s .args .p) l (s .args .exponents .now) (s .args .n) (s .args .points .now)) (replicate 128 0)) (front w)
     ∙ over-zeros vs 128 (omega (arith, length-terms (s .args .p) (R w) (s .args .exponents .now) (s .args .n) (s .args .points .now)))
 
 slice-aggregate-put-residues : tie.Need-slice-aggregate-put-residues
@@ -50,14 +50,14 @@ put-residues-requires c κs = omega arith
 array-share-prefix-found : tie.Need-array-share-prefix-found
 array-share-prefix-found c = omega arith
 
-slice-aggregate-put-term-values : tie.Need-slice-aggregate-put-term-values
-slice-aggregate-put-term-values c = let w = c .before .before in sym (ap length (front w) ∙ long w)
+slice-aggregate-put-values : tie.Need-slice-aggregate-put-values
+slice-aggregate-put-values c = let w = c .before .before in sym (ap length (front w) ∙ long w)
 
-slice-aggregate-put-term-values-2 : tie.Need-slice-aggregate-put-term-values-2
-slice-aggregate-put-term-values-2 c = refl
+slice-aggregate-put-values-2 : tie.Need-slice-aggregate-put-values-2
+slice-aggregate-put-values-2 c = refl
 
-put-term-values-requires : tie.Need-put-term-values-requires
-put-term-values-requires c κs =
+put-values-requires : tie.Need-put-values-requires
+put-values-requires c κs =
     let w = c .before .before .before in
     let s = start w in (
       s .pre .0,
@@ -71,7 +71,7 @@ put-term-values-requires c κs =
     )
 
 slice-aggregate-solve : tie.Need-slice-aggregate-solve
-slice-aggregate-solve c = sym (c .before .before .put-term-values .kept .1 .1 .1 .1 .1 .0)
+slice-aggregate-solve c = sym (c .before .before .put-values .kept .1 .1 .1 .1 .1 .0)
 
 solve-requires : tie.Need-solve-requires
 solve-requires c κs =
@@ -104,9 +104,9 @@ solve-terms-spec =
     slice-aggregate-put-residues
     put-residues-requires
     array-share-prefix-found
-    slice-aggregate-put-term-values
-    slice-aggregate-put-term-values-2
-    put-term-values-requires
+    slice-aggregate-put-values
+    slice-aggregate-put-values-2
+    put-values-requires
     slice-aggregate-solve
     solve-requires
     same-length

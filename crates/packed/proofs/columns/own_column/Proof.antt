@@ -1,5 +1,6 @@
+-- `columns::own_column` meets its contract.
 use mathlib.Core.Path.{refl}
-use Prim.Native.Nat.{_-_, _<_, _≤_}
+use Prim.Native.Nat.{_-_, _<_}
 use native.Mathlib.Omega.{arith}
 use lib.Bits.{bitAnd, and-le-l}
 use lib.Count.{trailingZeros}

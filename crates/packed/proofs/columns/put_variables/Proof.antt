@@ -1,10 +1,11 @@
-use Rattle.packed.proofs.VariableLaws.{behind, behind-none, behind-small, behind-on, behind-all}
+-- `columns::put_variables` meets its contract.
+use Rattle.packed.proofs.VariableLaws.{behind-none, behind-small, behind-on, behind-all}
 use borrow.Author.Needs.{needs}
 use mathlib.Core.Path.{_≡_, refl, sym, ap, _∙_, subst}
 use mathlib.Core.List.{List}
-use Prim.Native.Nat.{ℕ, _+_, _*_, _-_, _%_, _^_, _<_, _≤_}
+use Prim.Native.Nat.{ℕ, _+_, _*_, _-_, _^_, _<_, _≤_}
 use native.Mathlib.Omega.{arith}
-use lib.ListN.{length, getD, take, drop, length-drop}
+use lib.ListN.{length, getD, drop, length-drop}
 use lib.Seq.{length-take-le}
 use Rattle.residue.specs.Layout.{groups}
 use Rattle.packed.specs.Words.{columnOf}

@@ -1,3 +1,4 @@
+-- `drawing::draw_anew` meets its contract.
 use mathlib.Core.Path.{ap, _∙_}
 use Prim.Native.Nat.{ℕ}
 use lib.ListN.{replicate}

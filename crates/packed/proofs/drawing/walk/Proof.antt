@@ -1,3 +1,4 @@
+-- `drawing::walk` meets its contract.
 use mathlib.Core.Bool.{true, false}
 use mathlib.Core.Logic.{_≢_}
 use lib.ListN.{length, getD}

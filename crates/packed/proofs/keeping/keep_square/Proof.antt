@@ -1,3 +1,4 @@
+-- `keeping::keep_square` meets its contract.
 use mathlib.Core.Path.{ap, _∙_}
 use mathlib.Core.List.{List}
 use Prim.Native.Nat.{ℕ, _-_}
@@ -14,44 +15,34 @@ use Rattle.packed.proofs.writing.keep_eight.Reads as keep-eight-reads
 use Rattle.packed.proofs.writing.keep_row.Reads as keep-row-reads
 use Rattle.packed.proofs.writing.squared.Reads as squared-reads
 
--- src/keeping.rt:46:19
 squared-requires : tie.Need-squared-requires
 squared-requires c κs = search needs
 
--- src/keeping.rt:46:5
 keep-eight-requires : tie.Need-keep-eight-requires
 keep-eight-requires c κs = search needs
 
--- src/keeping.rt:47:26
 sub-keep-row : tie.Need-sub-keep-row
 sub-keep-row c = search needs
 
--- src/keeping.rt:47:26
 cast-keep-row : tie.Need-cast-keep-row
 cast-keep-row c = search needs
 
--- src/keeping.rt:47:17
 shl-keep-row : tie.Need-shl-keep-row
 shl-keep-row c = search needs
 
--- src/keeping.rt:47:5
 keep-row-requires : tie.Need-keep-row-requires
 keep-row-requires c κs = search needs
 
--- src/keeping.rt:40:1
 same-length : tie.Need-same-length
 same-length c = search needs
 
--- src/keeping.rt:40:1
 same-length-2 : tie.Need-same-length-2
 same-length-2 c = search needs
 
--- src/keeping.rt:40:1
 returns : tie.Need-returns
 returns c =
     let a = c .before .before .before .before .before .before .before .before .before .before .before in
-    let e = c .before .before .before .before .before .before in
-    (
+    let e = c .before .before .before .before .before .before in (
       e .keep-eight .ensures ∙ ap (λ (l : List ℕ). withPlace 8 (a .args .r) l (a .args .leads .now)) (e .before .before .squared .ensures),
       c .before .before .keep-row .ensures ∙ ap (λ (w : ℕ). withPlace 64 (a .args .r) (bitsOf 64 w) (a .args .coefficients .now)) (shift-one (a .args .place - 1) (omega arith)),
     )

@@ -1,3 +1,4 @@
+-- `keeping::keep_standard` meets its contract.
 use mathlib.Core.Path.{refl, ap, _∙_}
 use mathlib.Core.List.{List}
 use native.Mathlib.Numerals.{add-one}
@@ -13,60 +14,46 @@ use Rattle.packed.proofs.open.pass.Reads as pass-reads
 use Rattle.packed.proofs.writing.keep_eight.Reads as keep-eight-reads
 use Rattle.packed.proofs.writing.spread.Reads as spread-reads
 
--- src/keeping.rt:68:23
 spread-requires : tie.Need-spread-requires
 spread-requires c κs = search needs
 
--- src/keeping.rt:68:5
 keep-eight-requires : tie.Need-keep-eight-requires
 keep-eight-requires c κs = search needs
 
--- src/keeping.rt:69:5
 mul-values : tie.Need-mul-values
 mul-values c = search needs
 
--- src/keeping.rt:69:5
 slice-write-values : tie.Need-slice-write-values
 slice-write-values c = search needs
 
--- src/keeping.rt:70:29
 cast-places : tie.Need-cast-places
 cast-places c = search needs
 
--- src/keeping.rt:70:29
 add-places : tie.Need-add-places
 add-places c = search needs
 
--- src/keeping.rt:70:5
 slice-write-places : tie.Need-slice-write-places
 slice-write-places c = search needs
 
--- src/keeping.rt:71:5
 pass-requires : tie.Need-pass-requires
 pass-requires c κs = search needs
 
--- src/keeping.rt:51:1
 same-length : tie.Need-same-length
 same-length c = search needs
 
--- src/keeping.rt:51:1
 same-length-2 : tie.Need-same-length-2
 same-length-2 c = search needs
 
--- src/keeping.rt:51:1
 same-length-3 : tie.Need-same-length-3
 same-length-3 c = search needs
 
--- src/keeping.rt:51:1
 same-length-4 : tie.Need-same-length-4
 same-length-4 c = search needs
 
--- src/keeping.rt:51:1
 returns : tie.Need-returns
 returns c =
     let a = c .before .before .before .before .before .before .before .before .before .before .before .before .before in
-    let e = c .before .before .before .before .before .before in
-    (
+    let e = c .before .before .before .before .before .before in (
       e .keep-eight .ensures ∙ ap (λ (l : List ℕ). withPlace 8 (a .args .found) l (a .args .standard .now)) (e .before .before .spread .ensures),
       ((refl, ap (λ (x : ℕ). set (a .args .places .now) (a .args .byte) x) (add-one (a .args .found))), c .before .before .pass .ensures),
     )

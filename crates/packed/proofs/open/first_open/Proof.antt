@@ -1,8 +1,9 @@
+-- `open::first_open` meets its contract.
 use mathlib.Core.Path.{sym, _∙_}
 use Prim.Native.Nat.{_*_, _-_, _≤_}
 use native.Mathlib.Omega.{arith}
 use borrow.Author.Needs.{needs}
-use lib.Count.{trailingZeros, trailing-le}
+use lib.Count.{trailing-le}
 use Rattle.packed.proofs.PlaceLaws.{AllBelow, full-word, open-word, no-open}
 use Rattle.packed.proofs.open.first_open.Statement.{statement}
 use Rattle.packed.proofs.open.first_open.Tie as tie

@@ -1,5 +1,6 @@
+-- `open::join` meets its contract.
 use borrow.Author.Needs.{needs}
-use Prim.Native.Nat.{ℕ, _-_, _≤_}
+use Prim.Native.Nat.{_-_, _≤_}
 use native.Mathlib.Omega.{arith}
 use lib.Bits.{bitOr}
 use Rattle.packed.proofs.PlaceLaws.{Turned, turned-none, turned-more, turned-all}

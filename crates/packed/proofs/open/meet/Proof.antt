@@ -1,5 +1,6 @@
+-- `open::meet` meets its contract.
 use borrow.Author.Needs.{needs}
-use Prim.Native.Nat.{ℕ, _-_, _≤_}
+use Prim.Native.Nat.{_-_, _≤_}
 use native.Mathlib.Omega.{arith}
 use lib.Bits.{bitAnd}
 use Rattle.packed.proofs.PlaceLaws.{Turned, turned-none, turned-more, turned-all}

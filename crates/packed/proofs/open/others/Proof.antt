@@ -1,3 +1,4 @@
+-- `open::others` meets its contract.
 use mathlib.Core.Path.{refl}
 use Rattle.packed.specs.PlaceSets.{others}
 use Rattle.packed.proofs.open.others.Statement.{statement}

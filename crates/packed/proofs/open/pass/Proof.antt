@@ -1,3 +1,4 @@
+-- `open::pass` meets its contract.
 use native.Mathlib.Omega.{arith}
 use Rattle.packed.proofs.BitLaws.{shift-one}
 use Rattle.packed.proofs.PlaceLaws.{passed-one}

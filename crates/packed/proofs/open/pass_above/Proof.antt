@@ -1,3 +1,4 @@
+-- `open::pass_above` meets its contract.
 use Prim.Native.Nat.{_+_, _*_, _-_, _≤_}
 use native.Mathlib.Omega.{arith}
 use borrow.Author.Needs.{needs}
@@ -48,9 +49,14 @@ loop-less c = search needs
 loop-again : tie.Need-loop-again Inv-loop μ-loop
 loop-again c =
     let l = c .before .before .before .before .before .before in
-    let a = l .before .before .before in
-    (omega arith, (omega arith, passed-more _ (l .loop .k) (a .args .multiples .now) _ _ _ _ (l .loop .inv .0) (l .loop .inv .1 .1)
-    (λ i h. row-set (l .loop .k) i (4 * l .loop .k + 4 - 4 * l .loop .k) (a .args .multiples .now) h (omega arith)) (c .before .before .join .ensures)))
+    let a = l .before .before .before in (
+      omega arith,
+      (
+        omega arith,
+        passed-more _ (l .loop .k) (a .args .multiples .now) _ _ _ _ (l .loop .inv .0) (l .loop .inv .1 .1)
+            (λ i h. row-set (l .loop .k) i (4 * l .loop .k + 4 - 4 * l .loop .k) (a .args .multiples .now) h (omega arith)) (c .before .before .join .ensures),
+      ),
+    )
 
 same-length : tie.Need-same-length Inv-loop μ-loop
 same-length c = search needs

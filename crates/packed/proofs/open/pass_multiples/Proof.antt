@@ -1,11 +1,12 @@
+-- `open::pass_multiples` meets its contract.
 use lib.Pow.{pow-pos}
 use Rattle.packed.proofs.SetBits.{drop-lowest}
-use Prim.Native.Nat.{ℕ, _+_, _*_, _-_, _≤_, _<_, _^_}
+use Prim.Native.Nat.{_+_, _*_, _-_, _<_, _^_}
 use lib.Bits.{and-lt}
 use Rattle.packed.proofs.Orthogonal.{lowest-lt}
 use native.Mathlib.Omega.{arith}
 use borrow.Author.Needs.{needs}
-use lib.Count.{trailingZeros, trailing-le}
+use lib.Count.{trailingZeros}
 use Rattle.packed.proofs.PlaceLaws.{Common, common-none, common-more, passed-multiples, row-set}
 use Rattle.packed.proofs.open.pass_multiples.Statement.{statement}
 use Rattle.packed.proofs.open.pass_multiples.Tie as tie
@@ -67,9 +68,11 @@ loop-again : tie.Need-loop-again Inv-loop μ-loop
 loop-again c =
     let i = c .before .before .before .before in
     let l = i .before in
-    let a = l .before .before .before in
-    (and-lt 8 _ _ (l .loop .inv .0) (omega (arith, l .loop .inv .0)), common-more _ (l .loop .left) (a .args .multiples .now) _ _ _ (l .loop .inv .1) (l .loop .inv .0) (i .loop-test .taken)
-    (λ j h. row-set (trailingZeros 8 (l .loop .left)) j (4 * trailingZeros 8 (l .loop .left) + 4 - 4 * trailingZeros 8 (l .loop .left)) (a .args .multiples .now) h (omega arith)) (c .before .meet .ensures))
+    let a = l .before .before .before in (
+      and-lt 8 _ _ (l .loop .inv .0) (omega (arith, l .loop .inv .0)),
+      common-more _ (l .loop .left) (a .args .multiples .now) _ _ _ (l .loop .inv .1) (l .loop .inv .0) (i .loop-test .taken)
+          (λ j h. row-set (trailingZeros 8 (l .loop .left)) j (4 * trailingZeros 8 (l .loop .left) + 4 - 4 * trailingZeros 8 (l .loop .left)) (a .args .multiples .now) h (omega arith)) (c .before .meet .ensures),
+    )
 
 slice-aggregate-join : tie.Need-slice-aggregate-join Inv-loop μ-loop
 slice-aggregate-join c = search needs

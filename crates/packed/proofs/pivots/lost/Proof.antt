@@ -1,3 +1,4 @@
+-- `pivots::lost` meets its contract.
 use borrow.Author.Needs.{needs}
 use Rattle.packed.specs.Packed.{words, pivotWords}
 use Rattle.packed.proofs.LoseLaws.{lose-none, lose-some}

@@ -1,3 +1,4 @@
+-- `squares::first_differs` meets its contract.
 use native.Mathlib.Omega.{arith}
 use Rattle.packed.proofs.SquareLaws.{lex-told, shifted}
 use borrow.Author.Needs.{needs}
@@ -6,19 +7,15 @@ use Rattle.packed.proofs.squares.first_differs.Tie as tie
 use Rattle.packed.proofs.squares.first_differs.Reads as reads
 use Rattle.packed.proofs.squares.first_differs.Lts as lts
 
--- src/squares.rt:13:28
 cast-result : tie.Need-cast-result
 cast-result c = search needs
 
--- src/squares.rt:13:20
 shl-result : tie.Need-shl-result
 shl-result c = search needs
 
--- src/squares.rt:13:5
 rem-result : tie.Need-rem-result
 rem-result c = omega (arith, shifted (c .args .k) (c .pre))
 
--- src/squares.rt:9:1
 returns : tie.Need-returns
 returns c = lex-told _ _ (c .pre) (c .fits .byte .fits)
 

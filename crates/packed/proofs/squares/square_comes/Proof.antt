@@ -1,3 +1,4 @@
+-- `squares::square_comes` meets its contract.
 use mathlib.Core.Path.{_∙_}
 use Rattle.packed.proofs.SquareLaws.{comes-none, comes-end, comes-here}
 use borrow.Author.Needs.{needs}
@@ -7,27 +8,21 @@ use Rattle.packed.proofs.squares.square_comes.Reads as reads
 use Rattle.packed.proofs.squares.square_comes.Lts as lts
 use Rattle.packed.proofs.squares.square_first.Reads as square-first-reads
 
--- src/squares.rt:33:9
 returns : tie.Need-returns
 returns c = comes-none _ _ _ _ (c .if1 .taken)
 
--- src/squares.rt:36:9
 returns-2 : tie.Need-returns-2
 returns-2 c = comes-end _ _ _ _ (c .before .if1 .left) (c .if2 .taken)
 
--- src/squares.rt:38:25
 sub-square-first : tie.Need-sub-square-first
 sub-square-first c = search needs
 
--- src/squares.rt:38:35
 shared-slice-read-square-first : tie.Need-shared-slice-read-square-first
 shared-slice-read-square-first c = search needs
 
--- src/squares.rt:38:5
 square-first-requires : tie.Need-square-first-requires
 square-first-requires c κs = search needs
 
--- src/squares.rt:27:1
 returns-3 : tie.Need-returns-3
 returns-3 c = c .square-first .ensures ∙ comes-here _ _ _ _ (c .before .before .before .if1 .left) (c .before .before .if2 .left)
 

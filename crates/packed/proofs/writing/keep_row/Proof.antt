@@ -1,3 +1,4 @@
+-- `writing::keep_row` meets its contract.
 use Prim.Native.Nat.{_+_, _*_, _-_}
 use native.Mathlib.Omega.{arith}
 use Rattle.residue.proofs.Replaced.{put-whole}

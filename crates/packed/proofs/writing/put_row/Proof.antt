@@ -1,3 +1,4 @@
+-- `writing::put_row` meets its contract.
 use lib.ListN.{length}
 use borrow.Author.Needs.{needs}
 use Prim.Native.Nat.{_+_, _*_, _-_, _/_, _^_, _≤_}

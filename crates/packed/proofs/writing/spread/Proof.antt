@@ -1,3 +1,4 @@
+-- `writing::spread` meets its contract.
 use Rattle.packed.proofs.WritingLaws.{spread-bits, spread-fits}
 use borrow.Author.Needs.{needs}
 use Rattle.packed.proofs.writing.spread.Statement.{statement}

@@ -1,3 +1,4 @@
+-- `writing::squared` meets its contract.
 use Rattle.packed.proofs.WritingLaws.{square-bytes}
 use borrow.Author.Needs.{needs}
 use Rattle.packed.proofs.writing.squared.Statement.{statement}

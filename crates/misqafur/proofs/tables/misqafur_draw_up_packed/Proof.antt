@@ -1,0 +1,42 @@
+-- `tables::misqafur_draw_up_packed` meets its contract.
+use borrow.Author.Needs.{needs}
+use Rattle.misqafur.proofs.Packed.{packs}
+use Rattle.misqafur.proofs.tables.misqafur_draw_up_packed.Statement.{statement}
+use Rattle.misqafur.proofs.tables.misqafur_draw_up_packed.Tie as tie
+
+draw-up-packed-requires : tie.Need-draw-up-packed-requires
+draw-up-packed-requires c κs = search needs
+
+pack-answer-requires : tie.Need-pack-answer-requires
+pack-answer-requires c κs = search needs
+
+same-length : tie.Need-same-length
+same-length c = search needs
+
+same-length-2 : tie.Need-same-length-2
+same-length-2 c = search needs
+
+same-length-3 : tie.Need-same-length-3
+same-length-3 c = search needs
+
+same-length-4 : tie.Need-same-length-4
+same-length-4 c = search needs
+
+same-length-5 : tie.Need-same-length-5
+same-length-5 c = search needs
+
+returns : tie.Need-returns
+returns c = packs (c .before .before .before .before .before .before .before .before .before .before .before .draw-up-packed .ensures) (c .pack-answer .ensures)
+
+pub misqafur-draw-up-packed-spec : {M : Type 1} → statement M
+misqafur-draw-up-packed-spec =
+    tie.close
+    (tie.spec
+    draw-up-packed-requires
+    pack-answer-requires
+    same-length
+    same-length-2
+    same-length-3
+    same-length-4
+    same-length-5
+    returns)
