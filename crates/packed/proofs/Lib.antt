@@ -1,5 +1,4 @@
 -- Drawing up modulo 2 with words: that it ends with the basis.
-pub mod BitLaws
 pub mod ColumnLaws
 pub mod PolynomialLaws
 pub mod Losing

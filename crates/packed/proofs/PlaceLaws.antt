@@ -13,9 +13,9 @@ use lib.Bits.{bitAnd, bitOr}
 use lib.Count.{trailingZeros, under}
 use Rattle.residue.specs.Congruence.{Mod}
 use Rattle.residue.proofs.level.Moduli.{below-at}
-use Rattle.packed.specs.Words.{bitOf}
+use Rattle.residue.specs.Words.{bitOf}
 use Rattle.packed.specs.PlaceSets.{inSet, others, multipleAt, Wordwise, FirstOpen, Passed, OfMultiple, OfAbove}
-use Rattle.packed.proofs.BitLaws.{bit-small, bit-first, bit-next, bit-zero, bit-xor, bit-and}
+use Rattle.residue.proofs.BitLaws.{bit-small, bit-first, bit-next, bit-zero, bit-xor, bit-and}
 use Rattle.packed.proofs.Orthogonal.{lowest-set, lowest-lt}
 use Rattle.packed.proofs.LeftLaws.{drop-bits}
 use Rattle.packed.proofs.RowsKnownMore.{bit-or, bit-single, bit-other}

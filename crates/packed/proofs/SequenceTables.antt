@@ -3,7 +3,7 @@ use mathlib.Core.Path.{_≡_, refl}
 use mathlib.Core.List.{List, [], _∷_}
 use Prim.Native.Nat.{ℕ}
 use Rattle.monomial.specs.Order.{lex, grlex, grevlex, cmp, orderOf}
-use Rattle.packed.specs.Words.{bitOf, bitsOf, wordOf}
+use Rattle.residue.specs.Words.{bitOf, bitsOf, wordOf}
 use Rattle.packed.specs.Sequences.{Sequence}
 use Rattle.packed.proofs.SequenceLaws.{placeOf, inOrder, stands, marked, sequenceTest, sequence}
 
