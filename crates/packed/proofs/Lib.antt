@@ -19,6 +19,7 @@ pub mod SetBits
 pub mod LeftLaws
 pub mod RowsKnownMore
 pub mod PlaceLaws
+pub mod MultipleLaws
 pub mod WritingLaws
 pub mod VariableLaws
 pub mod SequenceLaws
