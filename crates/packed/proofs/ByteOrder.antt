@@ -19,7 +19,7 @@ use Rattle.specification.specs.Space.{Space, Divides}
 use Rattle.specification.specs.Instance.{Monomial, spaceOf}
 use Rattle.specification.specs.Squares.{square}
 use Rattle.specification.proofs.Instance.{monomial-path}
-use Rattle.packed.specs.Words.{bitsOf, wordOf, length-bits}
+use Rattle.residue.specs.Words.{bitsOf, wordOf, length-bits}
 use Rattle.packed.specs.Sequences.{isLess, Sequence}
 use Rattle.packed.proofs.ByteInstance.{long-one, free-word, word-free}
 use Rattle.packed.proofs.PackedUnder.{bits-fill}

@@ -13,8 +13,8 @@ use Rattle.residue.specs.Congruence.{Mod}
 use Rattle.residue.specs.Lists.{Among}
 use Rattle.residue.proofs.Congruence.{rfl, of, flip, reduce, _then_, _plus_, _times_}
 use Rattle.specification.proofs.ideal.Lists.{among-map, map-among}
-use Rattle.packed.specs.Words.{bitOf, wordOf, columnOf}
-use Rattle.packed.proofs.BitLaws.{word-half, word-odd, word-lt, xor-odd, xor-half, and-odd, and-half, bit-first, bit-next, bit-word, word-zero, zero-word}
+use Rattle.residue.specs.Words.{bitOf, wordOf, columnOf}
+use Rattle.residue.proofs.BitLaws.{word-half, word-odd, word-lt, xor-odd, xor-half, and-odd, and-half, bit-first, bit-next, bit-word, word-zero, zero-word}
 pub use Rattle.residue.proofs.BitLaws.{halves}
 
 module _ {A : Type 0} where

@@ -9,10 +9,10 @@ use lib.ListN.{length, set, length-set}
 use lib.Seq.{getD-set-same, getD-set-other}
 use lib.Bits.{bitOr, bitXor}
 use lib.Count.{trailingZeros}
-use Rattle.packed.specs.Words.{bitOf}
+use Rattle.residue.specs.Words.{bitOf}
 use Rattle.packed.specs.Packed.{Words, PivotWords, pivotWords, restOf, clear, pivotFrom, withPivot}
 use Rattle.packed.specs.PivotTables.{pivotsIn, Cleared, RowsKnown, RowsIn, LeftAt, Orthogonal, PivotsLong, Kept, ExaminedAs}
-use Rattle.packed.proofs.BitLaws.{bit-zero}
+use Rattle.residue.proofs.BitLaws.{bit-zero}
 use Rattle.packed.proofs.ClearLaws.{pivots-same}
 use Rattle.packed.proofs.Orthogonal.{lowest-lt, lowest-set, orthogonal-step}
 use Rattle.packed.proofs.SetBits.{places-apart}

@@ -8,7 +8,7 @@ use lib.ListN.{length}
 use lib.Dec.{T, eqb, eqb→eq}
 use Rattle.residue.proofs.Tests.{Decides, by-test, cond-so, cond-not}
 use Rattle.specification.specs.Space.{Space}
-use Rattle.packed.specs.Words.{columnOf}
+use Rattle.residue.specs.Words.{columnOf}
 use Rattle.packed.specs.Packed.{PivotWords, restOf, pivotFrom, withPivot}
 use Rattle.packed.specs.PackedWalk.{PackedFound, packedFound, settledWords, examinedWords}
 use Rattle.packed.specs.PivotTables.{Kept, ExaminedAs}

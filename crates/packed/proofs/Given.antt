@@ -24,12 +24,12 @@ use Rattle.specification.proofs.ideal.Laws.{Laws}
 use Rattle.specification.proofs.agreement.Drawings.{laws-under, distinct-points}
 use Rattle.construction.specs.Drawing.{PointsGiven, Tabled}
 use Rattle.construction.proofs.drawing.Given.{given-count, given-points}
-use Rattle.packed.specs.Words.{bitOf, wordOf, columnOf}
+use Rattle.residue.specs.Words.{bitOf, wordOf, columnOf}
 use Rattle.packed.specs.PackedWalk.{packedFound, PackedBasis}
 use Rattle.packed.specs.PlaceSets.{inSet, FirstOpen, Passed, OfAbove}
 use Rattle.packed.specs.ByteColumns.{VariableColumns}
 use Rattle.packed.specs.Sequences.{Sequence}
-use Rattle.packed.proofs.BitLaws.{bit-zero}
+use Rattle.residue.proofs.BitLaws.{bit-zero}
 use Rattle.packed.proofs.ByteInstance.{boolean}
 use Rattle.packed.proofs.ByteSteps.{high-bit}
 use Rattle.packed.proofs.ColumnLaws.{column-cong}

@@ -13,10 +13,10 @@ use Rattle.residue.specs.Congruence.{Mod}
 use Rattle.residue.specs.Lists.{Among}
 use Rattle.residue.proofs.Congruence.{rfl, of, flip, small, _then_}
 use Rattle.specification.proofs.ideal.Lists.{snoc-in, snoc-of}
-use Rattle.packed.specs.Words.{bitOf}
+use Rattle.residue.specs.Words.{bitOf}
 use Rattle.packed.specs.Packed.{Words, words, PivotWords, pivotWords, loses}
 use Rattle.packed.specs.PivotTables.{pivotsIn, RowsKnown, LeftAt}
-use Rattle.packed.proofs.BitLaws.{half-lt, bit-small, bit-first, bit-next, bit-and, bit-xor, bit-zero, and-odd, and-half}
+use Rattle.residue.proofs.BitLaws.{half-lt, bit-small, bit-first, bit-next, bit-and, bit-xor, bit-zero, and-odd, and-half}
 use Rattle.packed.proofs.ColumnLaws.{halves}
 use Rattle.packed.proofs.Orthogonal.{lowest-set}
 use Rattle.packed.proofs.SetBits.{gain, loses-same, loses-none, loses-toggle}

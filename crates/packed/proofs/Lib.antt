@@ -1,5 +1,4 @@
 -- Drawing up modulo 2 with words: that it ends with the basis.
-pub mod BitLaws
 pub mod ColumnLaws
 pub mod PolynomialLaws
 pub mod Losing
@@ -20,6 +19,7 @@ pub mod SetBits
 pub mod LeftLaws
 pub mod RowsKnownMore
 pub mod PlaceLaws
+pub mod MultipleLaws
 pub mod WritingLaws
 pub mod VariableLaws
 pub mod SequenceLaws

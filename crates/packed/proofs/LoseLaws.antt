@@ -4,7 +4,7 @@ use mathlib.Core.Bool.{cond}
 use Prim.Native.Nat.{ℕ, zero, suc, _/_, _^_}
 use lib.Dec.{eqb}
 use lib.Bits.{bitAnd, bitXor, and-mask}
-use Rattle.packed.specs.Words.{bitOf}
+use Rattle.residue.specs.Words.{bitOf}
 use Rattle.packed.specs.Packed.{Words, words, PivotWords, lose}
 
 -- the code's bit

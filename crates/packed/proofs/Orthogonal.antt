@@ -13,10 +13,10 @@ use Rattle.residue.specs.Congruence.{Mod}
 use Rattle.residue.specs.Lists.{Among}
 use Rattle.residue.proofs.Congruence.{rfl, of, lin, _then_, _plus_, _times_}
 use Rattle.specification.proofs.ideal.Lists.{snoc-of, among-map}
-use Rattle.packed.specs.Words.{bitOf}
+use Rattle.residue.specs.Words.{bitOf}
 use Rattle.packed.specs.Packed.{Words, words, PivotWords, lose, loses, restOf, clear, pivotFrom, withPivot}
 use Rattle.packed.specs.PivotTables.{Apart, Orthogonal}
-use Rattle.packed.proofs.BitLaws.{half-lt, bit-small, bit-xor, bit-first, bit-next}
+use Rattle.residue.proofs.BitLaws.{half-lt, bit-small, bit-xor, bit-first, bit-next}
 use Rattle.packed.proofs.ColumnLaws.{halves}
 
 -- the bit of a word that has lost a pivot

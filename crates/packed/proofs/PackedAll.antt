@@ -17,7 +17,7 @@ use Rattle.specification.proofs.ideal.Increasing.{divided-told}
 use Rattle.specification.proofs.ideal.Basis.{row-only}
 use Rattle.specification.proofs.ideal.Counts.{standard-length}
 use Rattle.specification.proofs.drawing.UpTo.{Next, of-undivided, front-next, free-bordered, pass, take-standard, take-lead}
-use Rattle.packed.specs.Words.{bitsOf}
+use Rattle.residue.specs.Words.{bitsOf}
 use Rattle.specification.specs.Squares.{variable, square, Squarefree, Boolean}
 use Rattle.packed.specs.PackedWalk.{PackedFound, packedFound, examinedWords, squareWords, indexIn, Visit, free, squared, visitedMonomial, visited, PackedBasis}
 use Rattle.specification.proofs.Squares.{square-lead, square-not-standard}

@@ -15,9 +15,9 @@ use Rattle.specification.specs.Tables.{spaceUnder, pointsUnder, rowCount, stand
 use Rattle.specification.specs.Instance.{pointOf}
 use Rattle.specification.specs.Points.{Points}
 use Rattle.specification.specs.Settings.{Accepted}
-use Rattle.packed.specs.Words.{bitsOf}
+use Rattle.residue.specs.Words.{bitsOf}
 use Rattle.packed.specs.PackedWalk.{PackedFound, PackedBasis}
-use Rattle.packed.proofs.BitLaws.{half-lt, bits-length}
+use Rattle.residue.proofs.BitLaws.{half-lt, bits-length}
 
 -- a word's bits in a wider place
 bits-none : (k : ℕ) → fill k [] ≡ bitsOf k 0

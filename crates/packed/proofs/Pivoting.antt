@@ -15,7 +15,7 @@ use Rattle.residue.proofs.Congruence.{rfl, of, flip, scale, lin, _then_, _plus_
 use Rattle.residue.proofs.Sums.{sum-cong, sum-lin, sum-append}
 use Rattle.specification.specs.Space.{Space}
 use Rattle.specification.proofs.ideal.Lists.{snoc-of, among-map}
-use Rattle.packed.specs.Words.{bitOf}
+use Rattle.residue.specs.Words.{bitOf}
 use Rattle.packed.specs.Packed.{Words, words, PivotWords, restOf, clear, pivotFrom, withPivot, polynomialAt}
 use Rattle.packed.proofs.ColumnLaws.{column-cong, Place, lowest}
 use Rattle.packed.proofs.PolynomialLaws.{poly-xor, poly-longer, poly-new}

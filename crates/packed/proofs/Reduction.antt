@@ -19,10 +19,10 @@ use Rattle.specification.proofs.ideal.Laws.{Laws}
 use Rattle.specification.proofs.ideal.Polynomials.{collect, terms-over}
 use Rattle.specification.proofs.ideal.Newton.{at}
 use Rattle.specification.proofs.drawing.Span.{Spanned}
-use Rattle.packed.specs.Words.{bitOf, bitsOf, columnOf}
+use Rattle.residue.specs.Words.{bitOf, bitsOf, columnOf}
 use Rattle.specification.specs.Squares.{Boolean}
 use Rattle.packed.specs.Packed.{Words, words, PivotWords, restOf, polynomialAt}
-use Rattle.packed.proofs.BitLaws.{bits-length, bits-among}
+use Rattle.residue.proofs.BitLaws.{bits-length, bits-among}
 use Rattle.packed.proofs.ColumnLaws.{column-cong, zero-vanishes, vanishes-zero, Place}
 use Rattle.packed.proofs.PolynomialLaws.{poly-zero}
 use Rattle.packed.proofs.Losing.{spread, Columned, Shows, loses-shows, loses-polynomial}

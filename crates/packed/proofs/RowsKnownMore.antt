@@ -10,10 +10,10 @@ use lib.ListN.{length, getD, set}
 use lib.Seq.{getD-set-same, getD-set-other}
 use lib.Arith.{digits-mod}
 use lib.Bits.{bitOr, or-step, or-shr}
-use Rattle.packed.specs.Words.{bitOf}
+use Rattle.residue.specs.Words.{bitOf}
 use Rattle.packed.specs.Packed.{pivotWords, PlacesApart, restOf}
 use Rattle.packed.specs.PivotTables.{pivotsIn, RowsKnown, Orthogonal}
-use Rattle.packed.proofs.BitLaws.{bit-small, bit-first, bit-next, bit-zero}
+use Rattle.residue.proofs.BitLaws.{bit-small, bit-first, bit-next, bit-zero}
 use Rattle.packed.proofs.LeftLaws.{pivot-in}
 use Rattle.packed.proofs.Orthogonal.{rest-zero}
 

@@ -1,10 +1,9 @@
 -- The constant tables: one computed test each.
 use mathlib.Core.Path.{_≡_, refl}
 use mathlib.Core.List.{List, [], _∷_}
-use mathlib.Core.Logic.{_≢_}
-use Prim.Native.Nat.{ℕ, zero, suc}
+use Prim.Native.Nat.{ℕ}
 use Rattle.monomial.specs.Order.{lex, grlex, grevlex, cmp, orderOf}
-use Rattle.packed.specs.Words.{bitOf, bitsOf, wordOf}
+use Rattle.residue.specs.Words.{bitOf, bitsOf, wordOf}
 use Rattle.packed.specs.Sequences.{Sequence}
 use Rattle.packed.proofs.SequenceLaws.{placeOf, inOrder, stands, marked, sequenceTest, sequence}
 
@@ -47,8 +46,6 @@ pub grlex-under : (o : ℕ) → o ≡ 1 → Sequence (orderOf o) grlexBytes grle
 unfolding orderOf
 grlex-under o e = rw e grlex-sequence
 
-pub grevlex-under : (o : ℕ) → o ≢ 0 → o ≢ 1 → Sequence (orderOf o) grevlexBytes grevlexMultiples
+pub grevlex-under : (o : ℕ) → o ≡ 2 → Sequence (orderOf o) grevlexBytes grevlexMultiples
 unfolding orderOf
-grevlex-under zero n k = absurd (n refl)
-grevlex-under (suc zero) n k = absurd (k refl)
-grevlex-under (suc (suc o)) n k = grevlex-sequence
+grevlex-under o e = rw e grevlex-sequence

@@ -13,10 +13,10 @@ use lib.Count.{trailingZeros, under}
 use Rattle.residue.specs.Congruence.{Mod}
 use Rattle.residue.specs.Lists.{Among}
 use Rattle.residue.proofs.Congruence.{rfl, of, flip, small, _then_, _plus_}
-use Rattle.packed.specs.Words.{bitOf}
+use Rattle.residue.specs.Words.{bitOf}
 use Rattle.packed.specs.PivotTables.{Orthogonal, Apart}
 use Rattle.packed.specs.Packed.{Words, words, PivotWords, PlacesApart, lose, loses}
-use Rattle.packed.proofs.BitLaws.{half-lt, xor-odd, xor-half, and-odd, and-half}
+use Rattle.residue.proofs.BitLaws.{half-lt, xor-odd, xor-half, and-odd, and-half}
 use Rattle.packed.proofs.ColumnLaws.{halves}
 
 low : (n : ℕ) → n % 2 < 2

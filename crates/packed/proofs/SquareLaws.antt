@@ -11,7 +11,7 @@ use lib.Count.{ones}
 use borrow.Author.Tests.{ne-eqb}
 use Rattle.residue.proofs.level.Moduli.{below, below-at}
 use Rattle.monomial.specs.Order.{Order, orderOf, lex, grlex, grevlex, cmp}
-use Rattle.packed.specs.Words.{bitsOf}
+use Rattle.residue.specs.Words.{bitsOf}
 use Rattle.packed.specs.Sequences.{squareFirst, squareComes}
 
 -- a variable before x_(k+1) is in the byte; none behind it is

@@ -19,11 +19,11 @@ use Rattle.specification.specs.Basis.{Row}
 use Rattle.specification.specs.BasisOf.{standardOf, leadsOf}
 use Rattle.specification.proofs.ideal.Laws.{Laws, same-told}
 use Rattle.specification.proofs.drawing.UpTo.{Drawn, Front, Bordered, row-longer, is-lead, is-standard}
-use Rattle.packed.specs.Words.{bitsOf}
+use Rattle.residue.specs.Words.{bitsOf}
 use Rattle.specification.specs.Squares.{variable, square, Boolean}
 use Rattle.packed.specs.Packed.{restOf, pivotFrom, withPivot, polynomialAt}
 use Rattle.packed.specs.PackedWalk.{PackedFound, packedFound, settledWords, examinedWords, indexIn}
-use Rattle.packed.proofs.BitLaws.{bits-length, bits-among, bits-longer}
+use Rattle.residue.proofs.BitLaws.{bits-length, bits-among, bits-longer}
 use Rattle.packed.proofs.PolynomialLaws.{poly-single}
 use Rattle.specification.proofs.Squares.{same-value}
 use Rattle.packed.proofs.Reduction.{own, Reduced, rest-small, up, down, row-spanned, zero-row, other-unspanned}

@@ -22,7 +22,7 @@ use Rattle.specification.proofs.drawing.UpTo.{Bordered, standard-room, leads-ro
 use Rattle.packed.specs.Packed.{restOf, pivotFrom, withPivot}
 use Rattle.packed.specs.PackedWalk.{PackedFound, packedFound, examinedWords, settledWords, squareWords, indexIn, free, squared, visited}
 use Rattle.packed.specs.PlaceSets.{FirstOpen, Passed}
-use Rattle.packed.specs.Words.{columnOf}
+use Rattle.residue.specs.Words.{columnOf}
 use Rattle.packed.proofs.ExaminedFound.{zero-told}
 use Rattle.packed.proofs.Standing.{Standing}
 use Rattle.packed.proofs.Ready.{Last, none, last, Above, NextAfter, Ready, visit-ready, ready-bordered, ready-new}

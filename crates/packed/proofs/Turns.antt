@@ -16,7 +16,7 @@ use Rattle.specification.specs.Tables.{spaceUnder, pointsUnder, pointsIn}
 use Rattle.specification.specs.Instance.{Monomial}
 use Rattle.specification.specs.Squares.{square}
 use Rattle.construction.specs.Drawing.{Tabled}
-use Rattle.packed.specs.Words.{bitsOf, columnOf, length-bits}
+use Rattle.residue.specs.Words.{bitsOf, columnOf, length-bits}
 use Rattle.packed.specs.PivotTables.{PivotsLong, SomeKept, ExaminedAs}
 use Rattle.packed.specs.PlaceSets.{FirstOpen, Passed, OfMultiple}
 use Rattle.packed.specs.ByteColumns.{OwnColumn}

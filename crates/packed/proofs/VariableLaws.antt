@@ -9,7 +9,7 @@ use lib.Pow.{pow-mono}
 use lib.Seq.{drop-length, drop-cons}
 use Rattle.residue.specs.Layout.{groups}
 use Rattle.residue.proofs.Places.{length-groups, groups-at}
-use Rattle.packed.specs.Words.{wordOf, columnOf}
+use Rattle.residue.specs.Words.{wordOf, columnOf}
 use Rattle.packed.specs.ByteColumns.{Pushed}
 use Rattle.packed.proofs.ColumnLaws.{column-lt, column-none}
 

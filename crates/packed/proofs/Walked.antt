@@ -25,14 +25,14 @@ use Rattle.specification.specs.Squares.{variable, square, Boolean}
 use Rattle.specification.proofs.Squares.{isIn-told}
 use Rattle.specification.proofs.ideal.Laws.{Laws}
 use Rattle.specification.proofs.ideal.Lists.{snoc-of}
-use Rattle.packed.specs.Words.{bitsOf, wordOf, columnOf, length-bits}
+use Rattle.residue.specs.Words.{bitsOf, wordOf, columnOf, length-bits}
 use Rattle.packed.specs.Packed.{restOf, pivotFrom, withPivot}
 use Rattle.packed.specs.PackedWalk.{PackedFound, packedFound, examinedWords, squareWords, indexIn}
 use Rattle.packed.specs.PivotTables.{PivotsLong, Kept, SomeKept, ExaminedAs}
 use Rattle.packed.specs.PlaceSets.{FirstOpen, Passed, OfMultiple}
 use Rattle.packed.specs.ByteColumns.{OwnColumn}
 use Rattle.packed.specs.Sequences.{Sequence}
-use Rattle.packed.proofs.BitLaws.{bits-length, word-bits}
+use Rattle.residue.proofs.BitLaws.{bits-length, word-bits}
 use Rattle.packed.proofs.ByteOrder.{squareIn, long-square, square-fill, ordered}
 use Rattle.packed.proofs.ByteSteps.{byte-divides, divides-bytes, variable-byte, byte-rest, byte-own, one-own}
 use Rattle.packed.proofs.ClearLaws.{map-snoc}

@@ -12,8 +12,8 @@ use Rattle.residue.specs.Lists.{sameList}
 use Rattle.residue.proofs.bytes.Equality.{same-is}
 use Rattle.residue.proofs.level.Moduli.{below-at}
 use Rattle.monomial.specs.Monomial.{one, timesVariable}
-use Rattle.packed.specs.Words.{bitOf, bitsOf, bytesOf}
-use Rattle.packed.proofs.BitLaws.{bit-first, bit-next, bit-and, bits-length}
+use Rattle.residue.specs.Words.{bitOf, bitsOf, bytesOf}
+use Rattle.residue.proofs.BitLaws.{bit-first, bit-next, bit-and, bits-length}
 
 -- the bits of a byte in eight bytes of a word, as the code makes them
 abbrev pub spreadOf : ℕ → ℕ

@@ -7,7 +7,7 @@ use lib.ListN.{length, getD}
 use lib.Bits.{bitAnd}
 use lib.Count.{trailingZeros}
 use Rattle.residue.specs.Layout.{groups}
-use Rattle.packed.specs.Words.{columnOf}
+use Rattle.residue.specs.Words.{columnOf}
 
 -- eight columns with one point more at the front
 pub record Pushed (point columns columns′ : List ℕ) : Type 0 where

@@ -1,5 +1,4 @@
 -- Drawing up modulo 2 with words (request M-108): what the functions of this crate are handed and what they leave.
-pub mod Words
 pub mod Packed
 pub mod PackedWalk
 pub mod PivotTables

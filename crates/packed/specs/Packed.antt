@@ -11,7 +11,7 @@ use lib.Bits.{bitXor}
 use lib.Count.{trailingZeros}
 use Rattle.specification.specs.Space.{Space}
 use Rattle.specification.specs.Polynomial.{eval, terms}
-use Rattle.packed.specs.Words.{bitOf, bitsOf}
+use Rattle.residue.specs.Words.{bitOf, bitsOf}
 
 -- A column of values, and the polynomial that it comes from.
 pub record Words : Type 0 where

@@ -9,7 +9,7 @@ use Rattle.specification.specs.Space.{Space, same}
 use Rattle.residue.specs.Lists.{Among}
 use Rattle.specification.specs.Extension.{divided}
 use Rattle.specification.specs.BasisOf.{standardOf, leadsOf, rowsOf}
-use Rattle.packed.specs.Words.{bitsOf, columnOf}
+use Rattle.residue.specs.Words.{bitsOf, columnOf}
 use Rattle.specification.specs.Squares.{variable, square, isIn}
 use Rattle.packed.specs.Packed.{Words, PivotWords, restOf, pivotFrom, withPivot}
 

@@ -5,7 +5,7 @@ use mathlib.Core.Logic.{_⊎_, _↔_}
 use Prim.Native.Nat.{ℕ, _+_, _*_, _/_, _%_, _<_, _≤_}
 use lib.ListN.{length, getD}
 use lib.Bits.{bitXor}
-use Rattle.packed.specs.Words.{bitOf}
+use Rattle.residue.specs.Words.{bitOf}
 unfoldable pub use Rattle.residue.specs.Words.{inSet}
 
 -- the bits that a word has not

@@ -7,7 +7,7 @@ use lib.ListN.{length, getD}
 use lib.Dec.{eqb}
 use Rattle.monomial.specs.Monomial.{one, timesVariable}
 use Rattle.monomial.specs.Order.{Order, cmp}
-use Rattle.packed.specs.Words.{bitOf, bitsOf}
+use Rattle.residue.specs.Words.{bitOf, bitsOf}
 use Rattle.packed.specs.PlaceSets.{multipleAt}
 
 abbrev pub isLess : Ordering → Bool

@@ -26,7 +26,7 @@ ghost use Rattle.packed.specs.Sequences.{Sequence};
 
 // Fills the tables of the basis of n points modulo 2. The monomials without squares come in the order of the bytes that are lent, with the places of the
 // variables' multiples.
-pub fn walk(
+fn walk(
     settings: Settings,
     n: usize,
     points: &[u8],
@@ -107,6 +107,81 @@ pub fn walk(
     }
 }
 
+// The walk in lex. Each order has a function of its own, since a function lays all its constant tables on the stack before anything else.
+fn draw_lex(
+    settings: Settings,
+    n: usize,
+    points: &[u8],
+    standard: &mut [u8],
+    leads: &mut [u8],
+    coefficients: &mut [u8],
+) -> usize
+    requires { ⌜ PointsGiven settings n (now points) × ((settings .modulus ≡ 2) × (settings .order ≡ 0)) ⌝ }
+    requires { ⌜ (now standard ≡ replicate standardSize 0) × ((now leads ≡ replicate leadsSize 0) × (now coefficients ≡ replicate coefficientsSize 0)) ⌝ }
+    ensures { λ r. ⌜ Tabled settings (pointsIn settings n (now (points .entry))) r (now (standard .exit)) (now (leads .exit)) (now (coefficients .exit)) ⌝ }
+{
+    walk(
+        settings,
+        n,
+        points,
+        &lex::BYTES,
+        &lex::MULTIPLES,
+        standard,
+        leads,
+        coefficients,
+    )
+}
+
+// The walk in grlex.
+fn draw_grlex(
+    settings: Settings,
+    n: usize,
+    points: &[u8],
+    standard: &mut [u8],
+    leads: &mut [u8],
+    coefficients: &mut [u8],
+) -> usize
+    requires { ⌜ PointsGiven settings n (now points) × ((settings .modulus ≡ 2) × (settings .order ≡ 1)) ⌝ }
+    requires { ⌜ (now standard ≡ replicate standardSize 0) × ((now leads ≡ replicate leadsSize 0) × (now coefficients ≡ replicate coefficientsSize 0)) ⌝ }
+    ensures { λ r. ⌜ Tabled settings (pointsIn settings n (now (points .entry))) r (now (standard .exit)) (now (leads .exit)) (now (coefficients .exit)) ⌝ }
+{
+    walk(
+        settings,
+        n,
+        points,
+        &grlex::BYTES,
+        &grlex::MULTIPLES,
+        standard,
+        leads,
+        coefficients,
+    )
+}
+
+// The walk in grevlex.
+fn draw_grevlex(
+    settings: Settings,
+    n: usize,
+    points: &[u8],
+    standard: &mut [u8],
+    leads: &mut [u8],
+    coefficients: &mut [u8],
+) -> usize
+    requires { ⌜ PointsGiven settings n (now points) × ((settings .modulus ≡ 2) × (settings .order ≡ 2)) ⌝ }
+    requires { ⌜ (now standard ≡ replicate standardSize 0) × ((now leads ≡ replicate leadsSize 0) × (now coefficients ≡ replicate coefficientsSize 0)) ⌝ }
+    ensures { λ r. ⌜ Tabled settings (pointsIn settings n (now (points .entry))) r (now (standard .exit)) (now (leads .exit)) (now (coefficients .exit)) ⌝ }
+{
+    walk(
+        settings,
+        n,
+        points,
+        &grevlex::BYTES,
+        &grevlex::MULTIPLES,
+        standard,
+        leads,
+        coefficients,
+    )
+}
+
 // The tables of the basis of n points modulo 2, over three lent tables of their sizes.
 pub fn draw_anew(
     settings: Settings,
@@ -124,37 +199,10 @@ pub fn draw_anew(
     bytes::clear(leads);
     bytes::clear(coefficients);
     if settings.order == 0 {
-        return walk(
-            settings,
-            n,
-            points,
-            &lex::BYTES,
-            &lex::MULTIPLES,
-            standard,
-            leads,
-            coefficients,
-        );
+        return draw_lex(settings, n, points, standard, leads, coefficients);
     }
     if settings.order == 1 {
-        return walk(
-            settings,
-            n,
-            points,
-            &grlex::BYTES,
-            &grlex::MULTIPLES,
-            standard,
-            leads,
-            coefficients,
-        );
+        return draw_grlex(settings, n, points, standard, leads, coefficients);
     }
-    walk(
-        settings,
-        n,
-        points,
-        &grevlex::BYTES,
-        &grevlex::MULTIPLES,
-        standard,
-        leads,
-        coefficients,
-    )
+    draw_grevlex(settings, n, points, standard, leads, coefficients)
 }

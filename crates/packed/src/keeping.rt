@@ -11,7 +11,7 @@ ghost use lib.ListN.{length, set};
 ghost use Rattle.residue.specs.Sizes.{mostRows, standardSize, leadsSize, coefficientsSize};
 ghost use Rattle.residue.specs.Layout.{withPlace};
 ghost use Rattle.monomial.specs.Monomial.{one, timesVariable};
-ghost use Rattle.packed.specs.Words.{bitsOf};
+ghost use Rattle.residue.specs.Words.{bitsOf};
 ghost use Rattle.packed.specs.PlaceSets.{Passed, OfMultiple};
 
 // A monomial without squares as a lead, with its row; its multiples are known.

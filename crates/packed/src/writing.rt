@@ -5,7 +5,7 @@ ghost use lib.ListN.{length};
 ghost use Rattle.residue.specs.Sizes.{mostPoints, mostRows};
 ghost use Rattle.residue.specs.Layout.{withPlace};
 ghost use Rattle.monomial.specs.Monomial.{one, timesVariable};
-ghost use Rattle.packed.specs.Words.{bitsOf, bytesOf};
+ghost use Rattle.residue.specs.Words.{bitsOf, bytesOf};
 
 // Eight bits as the eight bytes of a word. The product repeats the byte eight times, of which the mask takes one bit each; 127 more carries it to the top of
 // its byte, wherever it stands.

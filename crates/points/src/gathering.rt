@@ -6,12 +6,12 @@ use residue::bytes;
 ghost use mathlib.Core.Path.{_≡_};
 ghost use mathlib.Core.Bool.{_&&_};
 ghost use mathlib.Core.List.{[]};
-ghost use Prim.Native.Nat.{suc, _+_, _*_, _%_, _≤_};
+ghost use Prim.Native.Nat.{suc, _+_, _*_, _%_, _<_, _≤_};
 ghost use lib.ListN.{length, getD, set, replicate};
 ghost use lib.Dec.{T, eqb, ltb};
 ghost use Rattle.residue.specs.Sizes.{statesSize, countsSize};
 ghost use Rattle.residue.specs.Lists.{keyOf};
-ghost use Rattle.residue.specs.Layout.{groups};
+ghost use Rattle.residue.specs.Layout.{groups, rowAt};
 ghost use Rattle.specification.specs.Levels.{residues, noRepeat};
 ghost use Rattle.specification.specs.Refusal.{firstOf};
 ghost use Rattle.specification.specs.Counted.{placeIn, gathered, overfull};
@@ -27,8 +27,52 @@ fn hint_place(own: u64) -> usize
     (own % HINTS as u64) as usize
 }
 
-// Where a point stands among the first n of a table, none of which repeats, or n. A hint is one more than where a point with the same remainder of its key was
-// found last, or 0 where there is none: then the point is new without a search.
+// Whether the point with this key stands at a place among the first n of a table.
+fn hint_holds(n: usize, points: &[u8], own: u64, guess: usize) -> bool
+    requires { ⌜ (n ≤ 64) × (8 * n ≤ length (now points)) ⌝ }
+    ensures { λ r. ⌜ r ≡ (ltb guess n && eqb own (keyOf 8 (rowAt 8 guess (now (points .entry))))) ⌝ }
+{
+    if n <= guess {
+        return false;
+    }
+    let place = 8 * guess;
+    own == key(&points[place..place + 8])
+}
+
+// The place that a search finds, written as a hint.
+fn search(n: usize, points: &[u8], point: &[u8], remainder: usize, hints: &mut [u8]) -> usize
+    requires { ⌜ (n ≤ 64) × (8 * n ≤ length (now points)) × (length (now point) ≡ 8) × (remainder < length (now hints)) ⌝ }
+    ensures { λ i. ⌜ i ≡ placeIn (now (point .entry)) (groups 8 n (now (points .entry))) ⌝ }
+    ensures { λ i. ⌜ now (hints .exit) ≡ set (now (hints .entry)) remainder (suc i) ⌝ }
+{
+    let at = place_of(n, points, point);
+    hints[remainder] = at as u8 + 1;
+    at
+}
+
+// Where a point whose key is known stands among the first n of a table, none of which repeats, or n. A hint is one more than where a point with the same
+// remainder of its key was found last, or 0 where there is none: then the point is new, without a search and without a look at its bytes. The reader of text
+// has just written them one by one, and a load of all at once would wait for them.
+fn find_by(n: usize, points: &[u8], point: &[u8], own: u64, hints: &mut [u8]) -> usize
+    requires { ⌜ (n ≤ 64) × (8 * n ≤ length (now points)) × (length (now point) ≡ 8) × (own ≡ keyOf 8 (now point)) ⌝ }
+    requires { ⌜ T (noRepeat (groups 8 n (now points))) × Hinted n (now points) (now hints) ⌝ }
+    ensures { λ i. ⌜ i ≡ placeIn (now (point .entry)) (groups 8 n (now (points .entry))) ⌝ }
+    ensures { λ i. ⌜ now (hints .exit) ≡ set (now (hints .entry)) (hintOf (now (point .entry))) (suc i) ⌝ }
+{
+    let remainder = hint_place(own);
+    let hint = hints[remainder] as usize;
+    if hint == 0 {
+        hints[remainder] = n as u8 + 1;
+        return n;
+    }
+    let guess = hint - 1;
+    if hint_holds(n, points, own, guess) {
+        return guess;
+    }
+    search(n, points, point, remainder, hints)
+}
+
+// The same of a point whose key is not known. It does not call `find_by`, which with two callers would be a call of its own, for each of the points.
 fn find(n: usize, points: &[u8], point: &[u8], hints: &mut [u8]) -> usize
     requires { ⌜ (n ≤ 64) × (8 * n ≤ length (now points)) × (length (now point) ≡ 8) ⌝ }
     requires { ⌜ T (noRepeat (groups 8 n (now points))) × Hinted n (now points) (now hints) ⌝ }
@@ -43,31 +87,10 @@ fn find(n: usize, points: &[u8], point: &[u8], hints: &mut [u8]) -> usize
         return n;
     }
     let guess = hint - 1;
-    if guess < n {
-        let place = 8 * guess;
-        if own == key(&points[place..place + 8]) {
-            return guess;
-        }
+    if hint_holds(n, points, own, guess) {
+        return guess;
     }
-    let at = place_of(n, points, point);
-    hints[remainder] = at as u8 + 1;
-    at
-}
-
-// The same of a point whose key is known: without a hint it is new, and its bytes are not looked at. The reader of text has just written them one by one, and a
-// load of all at once would wait for them.
-fn find_by(n: usize, points: &[u8], point: &[u8], own: u64, hints: &mut [u8]) -> usize
-    requires { ⌜ (n ≤ 64) × (8 * n ≤ length (now points)) × (length (now point) ≡ 8) × (own ≡ keyOf 8 (now point)) ⌝ }
-    requires { ⌜ T (noRepeat (groups 8 n (now points))) × Hinted n (now points) (now hints) ⌝ }
-    ensures { λ i. ⌜ i ≡ placeIn (now (point .entry)) (groups 8 n (now (points .entry))) ⌝ }
-    ensures { λ i. ⌜ now (hints .exit) ≡ set (now (hints .entry)) (hintOf (now (point .entry))) (suc i) ⌝ }
-{
-    let remainder = hint_place(own);
-    if hints[remainder] == 0 {
-        hints[remainder] = n as u8 + 1;
-        return n;
-    }
-    find(n, points, point, hints)
+    search(n, points, point, remainder, hints)
 }
 
 // Enters a point whose place among the first n of a table is known, n where it is new: a new one behind them, with count 1, unless 64 are there; one that is

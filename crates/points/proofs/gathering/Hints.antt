@@ -1,27 +1,46 @@
 -- Hints where points stand: a point without one is new, and entering a point keeps them.
 use mathlib.Core.Path.{_≡_, refl, sym, ap, subst, _∙_}
-use mathlib.Core.Bool.{Bool, cond}
+use mathlib.Core.Bool.{Bool, true, cond, _&&_}
 use mathlib.Core.Logic.{inl, inr, _⊎_}
 use mathlib.Core.List.{List, []}
-use Prim.Native.Nat.{ℕ, suc, _+_, _*_, _<_, _≤_}
+use Prim.Native.Nat.{ℕ, suc, _+_, _*_, _-_, _<_, _≤_}
 use native.Mathlib.Nat.{mod-lt}
 use native.Mathlib.Decide.{ℕ-discrete}
 use native.Mathlib.Omega.{arith}
 use lib.ListN.{length, getD, set, take, drop, replicate, length-set}
-use lib.Seq.{getD-set-same, getD-set-other}
-use lib.Dec.{eqb}
-use borrow.Author.Tests.{lt-ltb, eq-eqb, ne-eqb}
+use lib.Seq.{getD-set-same, getD-set-other, set-getD}
+use lib.Dec.{T, eqb, ltb}
+use borrow.Author.Tests.{ltb-true, lt-ltb, eq-eqb, ne-eqb}
+use Rattle.residue.specs.Vector.{Below}
 use Rattle.residue.specs.Lists.{keyOf}
-use Rattle.residue.specs.Layout.{groups, withPlace}
+use Rattle.residue.specs.Layout.{groups, withPlace, rowAt}
+use Rattle.residue.proofs.Tests.{true-of, of-true, and-left, and-right}
 use Rattle.residue.proofs.Places.{length-groups, groups-at}
 use Rattle.residue.proofs.Replaced.{place-there, place-apart}
+use Rattle.specification.specs.Levels.{noRepeat}
 use Rattle.specification.specs.Counted.{placeIn}
 use Rattle.points.specs.Gathering.{hintOf, Hinted, pointsEntered, EnteredAs}
-use Rattle.points.proofs.places.PointPlaces.{place-le, place-has}
+use Rattle.points.proofs.places.PointPlaces.{keys-told, guessed, place-le, place-has}
 
 pub hint-small : (P : List ℕ) → hintOf P < 233
 unfolding hintOf
 hint-small P = mod-lt (keyOf 8 P) (omega arith)
+
+-- a place where the key of a point stands is the point's place
+pub hint-told : (P t : List ℕ) (n i own : ℕ) → Below 256 P → Below 256 t → length P ≡ 8 → 8 * n ≤ length t → T (noRepeat (groups 8 n t)) → own ≡ keyOf 8 P
+    → (ltb i n && eqb own (keyOf 8 (rowAt 8 i t))) ≡ true → i ≡ placeIn P (groups 8 n t)
+hint-told P t n i own f g long room once u e =
+    let same : Bool = eqb own (keyOf 8 (rowAt 8 i t)) in
+    let within : i < n = ltb-true i n (true-of (ltb i n) (and-left (ltb i n) same (of-true e))) in
+    let eight : 8 ≡ 8 * i + 8 - 8 * i = omega arith in
+    guessed P t n i once within (keys-told P t i f g long (omega arith) u (ap (λ (k : ℕ). keyOf 8 (take k (drop (8 * i) t))) eight)
+    ∙ true-of same (and-right (ltb i n) same (of-true e)))
+
+-- a hint that holds is written as it was
+pub hint-again : (hints : List ℕ) (k : ℕ) → (getD hints k 0 ≡ 0 → ⊥) → hints ≡ set hints k (suc (getD hints k 0 - 1))
+hint-again hints k z =
+    let again : suc (getD hints k 0 - 1) ≡ getD hints k 0 = omega (arith, z) in
+    sym (ap (set hints k) again ∙ set-getD hints k 0)
 
 -- no hints at all
 pub hinted-none : (points : List ℕ) → Hinted 0 points (replicate 233 0)

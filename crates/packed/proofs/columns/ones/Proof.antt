@@ -3,7 +3,7 @@ use mathlib.Core.Path.{refl, ap}
 use Prim.Native.Nat.{ℕ, _-_}
 use native.Mathlib.Omega.{arith}
 use lib.Pow.{pow-pos}
-use Rattle.packed.proofs.BitLaws.{shift-one}
+use Rattle.residue.proofs.BitLaws.{shift-one}
 use borrow.Author.Needs.{needs}
 use Rattle.packed.proofs.columns.ones.Statement.{statement}
 use Rattle.packed.proofs.columns.ones.Tie as tie

@@ -8,7 +8,7 @@ use native.Mathlib.Omega.{arith}
 use lib.ListN.{length, getD, drop, length-drop}
 use lib.Seq.{length-take-le}
 use Rattle.residue.specs.Layout.{groups}
-use Rattle.packed.specs.Words.{columnOf}
+use Rattle.residue.specs.Words.{columnOf}
 use Rattle.packed.proofs.columns.put_variables.Statement.{statement}
 use Rattle.packed.proofs.columns.put_variables.Tie as tie
 use Rattle.packed.proofs.columns.put_variables.Reads as reads

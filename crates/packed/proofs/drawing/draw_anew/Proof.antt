@@ -1,15 +1,23 @@
--- `drawing::draw_anew` meets its contract.
-use mathlib.Core.Path.{ap, _∙_}
-use Prim.Native.Nat.{ℕ}
+-- `drawing::draw_anew` meets its contract: the tables are cleared, and the walk is that of the order.
+use mathlib.Core.Path.{_≡_, ap, _∙_}
+use mathlib.Core.List.{List}
+use mathlib.Core.Logic.{_≢_}
+use Prim.Native.Nat.{ℕ, _≤_}
+use native.Mathlib.Omega.{arith}
 use lib.ListN.{replicate}
-use Rattle.packed.proofs.SequenceTables.{lex-under, grlex-under, grevlex-under}
 use borrow.Author.Needs.{needs}
 use Rattle.packed.proofs.drawing.draw_anew.Statement.{statement}
 use Rattle.packed.proofs.drawing.draw_anew.Tie as tie
-use Rattle.packed.proofs.drawing.draw_anew.Reads as reads
-use Rattle.packed.proofs.drawing.draw_anew.Lts as lts
-use Rattle.packed.proofs.drawing.walk.Reads as walk-reads
-use Rattle.residue.proofs.bytes.clear.Reads as clear-reads
+
+-- the tables are cleared
+abbrev start : tie.After-clear3 → tie.Start
+start k = k .before .before .before .before .before .before .before .before .before .before .before .before .before .before
+
+cleared : {t : List ℕ} {k n : ℕ} → k ≡ n → t ≡ replicate k 0 → t ≡ replicate n 0
+cleared l e = e ∙ ap (λ (k : ℕ). replicate k 0) l
+
+last-order : (o : ℕ) → o ≤ 2 → o ≢ 0 → o ≢ 1 → o ≡ 2
+last-order o h y z = omega (arith, h, y, z)
 
 clear-requires : tie.Need-clear-requires
 clear-requires c κs = search needs
@@ -20,19 +28,19 @@ clear-requires-2 c κs = search needs
 clear-requires-3 : tie.Need-clear-requires-3
 clear-requires-3 c κs = search needs
 
-slice-aggregate-walk : tie.Need-slice-aggregate-walk
-slice-aggregate-walk c = search needs
-
-slice-aggregate-walk-2 : tie.Need-slice-aggregate-walk-2
-slice-aggregate-walk-2 c = search needs
-
-walk-requires : tie.Need-walk-requires
-walk-requires c κs =
-    let a = c .before .before .before .before .before .before .before .before .before .before .before .before .before .before .before .before .before .before .before .before .before .before .before in
-    let s = c .before .before .before .before .before .before .before .before .before .before .before .before .before .before .before .before .before in
-    let l = c .before .before .before .before .before .before .before .before .before .before .before .before .before in
-    let k = c .before .before .before .before .before .before .before .before .before in
-    (a .pre .0, (lex-under _ (c .before .before .before .before .before .if1 .taken), (s .clear .ensures ∙ ap (λ (n : ℕ). replicate n 0) (a .pre .1 .0), (l .clear2 .ensures ∙ ap (λ (n : ℕ). replicate n 0) (a .pre .1 .1 .0), k .clear3 .ensures ∙ ap (λ (n : ℕ). replicate n 0) (a .pre .1 .1 .1)))))
+draw-lex-requires : tie.Need-draw-lex-requires
+draw-lex-requires c κs =
+    let k = c .before .before .before .before .before .before .before in
+    let s = start k in (
+      (s .pre .0 .0, (s .pre .0 .1, c .before .before .before .if1 .taken)),
+      (
+        cleared (s .pre .1 .0) (k .before .before .before .before .before .before .before .before .clear .ensures),
+        (
+          cleared (s .pre .1 .1 .0) (k .before .before .before .before .clear2 .ensures),
+          cleared (s .pre .1 .1 .1) (k .clear3 .ensures),
+        ),
+      ),
+    )
 
 same-length : tie.Need-same-length
 same-length c = search needs
@@ -46,19 +54,19 @@ same-length-3 c = search needs
 returns : tie.Need-returns
 returns c = search needs
 
-slice-aggregate-walk-3 : tie.Need-slice-aggregate-walk-3
-slice-aggregate-walk-3 c = search needs
-
-slice-aggregate-walk-4 : tie.Need-slice-aggregate-walk-4
-slice-aggregate-walk-4 c = search needs
-
-walk-requires-2 : tie.Need-walk-requires-2
-walk-requires-2 c κs =
-    let a = c .before .before .before .before .before .before .before .before .before .before .before .before .before .before .before .before .before .before .before .before .before .before .before .before .before in
-    let s = c .before .before .before .before .before .before .before .before .before .before .before .before .before .before .before .before .before .before .before in
-    let l = c .before .before .before .before .before .before .before .before .before .before .before .before .before .before .before in
-    let k = c .before .before .before .before .before .before .before .before .before .before .before in
-    (a .pre .0, (grlex-under _ (c .before .before .before .before .before .if2 .taken), (s .clear .ensures ∙ ap (λ (n : ℕ). replicate n 0) (a .pre .1 .0), (l .clear2 .ensures ∙ ap (λ (n : ℕ). replicate n 0) (a .pre .1 .1 .0), k .clear3 .ensures ∙ ap (λ (n : ℕ). replicate n 0) (a .pre .1 .1 .1)))))
+draw-grlex-requires : tie.Need-draw-grlex-requires
+draw-grlex-requires c κs =
+    let k = c .before .before .before .before .before .before .before .before .before in
+    let s = start k in (
+      (s .pre .0 .0, (s .pre .0 .1, c .before .before .before .if2 .taken)),
+      (
+        cleared (s .pre .1 .0) (k .before .before .before .before .before .before .before .before .clear .ensures),
+        (
+          cleared (s .pre .1 .1 .0) (k .before .before .before .before .clear2 .ensures),
+          cleared (s .pre .1 .1 .1) (k .clear3 .ensures),
+        ),
+      ),
+    )
 
 same-length-4 : tie.Need-same-length-4
 same-length-4 c = search needs
@@ -72,19 +80,19 @@ same-length-6 c = search needs
 returns-2 : tie.Need-returns-2
 returns-2 c = search needs
 
-slice-aggregate-walk-5 : tie.Need-slice-aggregate-walk-5
-slice-aggregate-walk-5 c = search needs
-
-slice-aggregate-walk-6 : tie.Need-slice-aggregate-walk-6
-slice-aggregate-walk-6 c = search needs
-
-walk-requires-3 : tie.Need-walk-requires-3
-walk-requires-3 c κs =
-    let a = c .before .before .before .before .before .before .before .before .before .before .before .before .before .before .before .before .before .before .before .before .before .before .before .before .before in
-    let s = c .before .before .before .before .before .before .before .before .before .before .before .before .before .before .before .before .before .before .before in
-    let l = c .before .before .before .before .before .before .before .before .before .before .before .before .before .before .before in
-    let k = c .before .before .before .before .before .before .before .before .before .before .before in
-    (a .pre .0, (grevlex-under _ (c .before .before .before .before .before .before .before .if1 .left) (c .before .before .before .before .before .if2 .left), (s .clear .ensures ∙ ap (λ (n : ℕ). replicate n 0) (a .pre .1 .0), (l .clear2 .ensures ∙ ap (λ (n : ℕ). replicate n 0) (a .pre .1 .1 .0), k .clear3 .ensures ∙ ap (λ (n : ℕ). replicate n 0) (a .pre .1 .1 .1)))))
+draw-grevlex-requires : tie.Need-draw-grevlex-requires
+draw-grevlex-requires c κs =
+    let k = c .before .before .before .before .before .before .before .before .before in
+    let s = start k in (
+      (s .pre .0 .0, (s .pre .0 .1, last-order (s .args .settings .order) (s .pre .0 .0 .settings .order) (c .before .before .before .before .before .if1 .left) (c .before .before .before .if2 .left))),
+      (
+        cleared (s .pre .1 .0) (k .before .before .before .before .before .before .before .before .clear .ensures),
+        (
+          cleared (s .pre .1 .1 .0) (k .before .before .before .before .clear2 .ensures),
+          cleared (s .pre .1 .1 .1) (k .clear3 .ensures),
+        ),
+      ),
+    )
 
 same-length-7 : tie.Need-same-length-7
 same-length-7 c = search needs
@@ -105,23 +113,17 @@ draw-anew-spec =
     clear-requires
     clear-requires-2
     clear-requires-3
-    slice-aggregate-walk
-    slice-aggregate-walk-2
-    walk-requires
+    draw-lex-requires
     same-length
     same-length-2
     same-length-3
     returns
-    slice-aggregate-walk-3
-    slice-aggregate-walk-4
-    walk-requires-2
+    draw-grlex-requires
     same-length-4
     same-length-5
     same-length-6
     returns-2
-    slice-aggregate-walk-5
-    slice-aggregate-walk-6
-    walk-requires-3
+    draw-grevlex-requires
     same-length-7
     same-length-8
     same-length-9

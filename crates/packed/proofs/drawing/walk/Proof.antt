@@ -8,7 +8,7 @@ use Rattle.monomial.specs.Order.{orderOf}
 use Rattle.packed.specs.PlaceSets.{FirstOpen}
 use Rattle.packed.specs.PivotTables.{PivotsLong}
 use Rattle.packed.specs.Sequences.{squareComes}
-use Rattle.packed.proofs.BitLaws.{shift-one}
+use Rattle.residue.proofs.BitLaws.{shift-one}
 use Rattle.packed.proofs.Turns.{known-long, left-few, found-few, standard-long, leads-long, coefficients-long, some-left, square-skipped, square-fits, square-done, ended-as, inside-is, examine-fits, lead-fits, lead-done, standard-fits, standard-done}
 use mathlib.Core.Path.{_≡_, refl, sym, ap, _∙_, subst}
 use Prim.Native.Nat.{ℕ, _+_, _*_, _-_, _%_, _^_, _<_, _≤_}

@@ -4,8 +4,8 @@ use mathlib.Core.List.{List}
 use Prim.Native.Nat.{ℕ, _-_}
 use Rattle.residue.specs.Layout.{withPlace}
 use native.Mathlib.Omega.{arith}
-use Rattle.packed.specs.Words.{bitsOf}
-use Rattle.packed.proofs.BitLaws.{shift-one}
+use Rattle.residue.specs.Words.{bitsOf}
+use Rattle.residue.proofs.BitLaws.{shift-one}
 use borrow.Author.Needs.{needs}
 use Rattle.packed.proofs.keeping.keep_square.Statement.{statement}
 use Rattle.packed.proofs.keeping.keep_square.Tie as tie

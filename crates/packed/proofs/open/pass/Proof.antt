@@ -1,6 +1,6 @@
 -- `open::pass` meets its contract.
 use native.Mathlib.Omega.{arith}
-use Rattle.packed.proofs.BitLaws.{shift-one}
+use Rattle.residue.proofs.BitLaws.{shift-one}
 use Rattle.packed.proofs.PlaceLaws.{passed-one}
 use borrow.Author.Needs.{needs}
 use Rattle.packed.proofs.open.pass.Statement.{statement}

@@ -3,7 +3,7 @@ use Prim.Native.Nat.{_+_, _*_, _-_, _≤_}
 use native.Mathlib.Omega.{arith}
 use borrow.Author.Needs.{needs}
 use Rattle.packed.specs.PlaceSets.{Passed}
-use Rattle.packed.proofs.PlaceLaws.{From, passed-none, passed-more, passed-all, row-set}
+use Rattle.packed.proofs.MultipleLaws.{From, passed-none, passed-more, passed-all, row-set}
 use Rattle.packed.proofs.open.pass_above.Statement.{statement}
 use Rattle.packed.proofs.open.pass_above.Tie as tie
 use Rattle.packed.proofs.open.pass_above.Reads as reads

@@ -7,7 +7,7 @@ use Rattle.packed.proofs.Orthogonal.{lowest-lt}
 use native.Mathlib.Omega.{arith}
 use borrow.Author.Needs.{needs}
 use lib.Count.{trailingZeros}
-use Rattle.packed.proofs.PlaceLaws.{Common, common-none, common-more, passed-multiples, row-set}
+use Rattle.packed.proofs.MultipleLaws.{Common, common-none, common-more, passed-multiples, row-set}
 use Rattle.packed.proofs.open.pass_multiples.Statement.{statement}
 use Rattle.packed.proofs.open.pass_multiples.Tie as tie
 use Rattle.packed.proofs.open.pass_multiples.Reads as reads

@@ -5,7 +5,7 @@ use native.Mathlib.Omega.{arith}
 use borrow.Author.Needs.{needs}
 use lib.Count.{trailingZeros, trailing-le}
 use Rattle.packed.specs.Packed.{Words, words}
-use Rattle.packed.proofs.BitLaws.{shift-one}
+use Rattle.residue.proofs.BitLaws.{shift-one}
 use Rattle.packed.proofs.Orthogonal.{lowest-lt}
 use Rattle.packed.proofs.ExamineLaws.{kept-rows, left-is, examined-lead, examined-pivot}
 use Rattle.packed.proofs.pivots.examine.Statement.{statement}

@@ -1,0 +1,33 @@
+-- `drawing::draw_lex` meets its contract: the constant tables are those of lex.
+use borrow.Author.Needs.{needs}
+use Rattle.packed.proofs.SequenceTables.{lex-under}
+use Rattle.packed.proofs.drawing.draw_lex.Statement.{statement}
+use Rattle.packed.proofs.drawing.draw_lex.Tie as tie
+
+slice-aggregate-walk : tie.Need-slice-aggregate-walk
+slice-aggregate-walk c = search needs
+
+slice-aggregate-walk-2 : tie.Need-slice-aggregate-walk-2
+slice-aggregate-walk-2 c = search needs
+
+walk-requires : tie.Need-walk-requires
+walk-requires c κs =
+    let s = c .before .before .before .before .before .before .before .before .before in
+    ((s .pre .0 .0, s .pre .0 .1 .0), (lex-under (s .args .settings .order) (s .pre .0 .1 .1), s .pre .1))
+
+same-length : tie.Need-same-length
+same-length c = search needs
+
+same-length-2 : tie.Need-same-length-2
+same-length-2 c = search needs
+
+same-length-3 : tie.Need-same-length-3
+same-length-3 c = search needs
+
+returns : tie.Need-returns
+returns c = search needs
+
+pub draw-lex-spec : {M : Type 1} → statement M
+draw-lex-spec =
+    tie.close
+    (tie.spec slice-aggregate-walk slice-aggregate-walk-2 walk-requires same-length same-length-2 same-length-3 returns)
