@@ -2,3 +2,4 @@
 pub mod BySize
 pub mod ByNumber
 pub mod Written
+pub mod Weights

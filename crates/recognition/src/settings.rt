@@ -1,16 +1,17 @@
-// The refusals that look at the settings and at lengths and counts alone, 3 to 8, and the answer of a refused call.
+// The refusals that look at the settings and at lengths and counts alone, 3 to 8 and 15, and the answer of a refused call.
 use residue::level;
 use residue::sizes;
 use specification::answers::Answer;
 use specification::answers::Drawn;
 use specification::settings::Settings;
 ghost use mathlib.Core.Path.{_≡_};
-ghost use mathlib.Core.Bool.{not, false};
+ghost use mathlib.Core.Bool.{not, false, cond, _&&_};
 ghost use mathlib.Core.List.{[], _∷_, _++_};
-ghost use Prim.Native.Nat.{_%_};
-ghost use lib.Dec.{eqb};
+ghost use Prim.Native.Nat.{_%_, _≤_};
+ghost use lib.ListN.{length};
+ghost use lib.Dec.{eqb, leb};
 ghost use Rattle.specification.specs.Refusal.{firstOf};
-ghost use Rattle.specification.specs.Settings.{settingsCases};
+ghost use Rattle.specification.specs.Settings.{weighsFirst, rightWeights, settingsCases};
 ghost use Rattle.specification.specs.Tables.{shortLengths};
 
 // The answer of a refused call.
@@ -36,6 +37,43 @@ pub fn refused_drawing(refusal: u8) -> Drawn
     }
 }
 
+// Whether a weight is right: from 1 to 99 for a variable that the order weighs, else 0.
+fn is_weight(weighed: bool, weight: u8) -> bool
+    ensures { λ r. ⌜ r ≡ cond weighed (leb 1 weight && leb weight 99) (eqb weight 0) ⌝ }
+{
+    if weighed {
+        if weight < 1 {
+            return false;
+        }
+        return weight <= 99;
+    }
+    weight == 0
+}
+
+// Whether the first m of the eight weights are from 1 to 99, and those behind them 0.
+fn weighs_first(m: usize, weights: &[u8]) -> bool
+    requires { ⌜ (m ≤ 8) × (length (now weights) ≡ 8) ⌝ }
+    ensures { λ r. ⌜ r ≡ weighsFirst m (now (weights .entry)) ⌝ }
+{
+    for k in 0..8 {
+        if !is_weight(k < m, weights[k]) {
+            return false;
+        }
+    }
+    true
+}
+
+// Whether the weights are right, for settings with at most 8 variables.
+fn right_weights(settings: Settings) -> bool
+    requires { ⌜ settings .variables ≤ 8 ⌝ }
+    ensures { λ r. ⌜ r ≡ rightWeights settings ⌝ }
+{
+    if settings.order == 3 {
+        return weighs_first(settings.variables as usize, &settings.weights);
+    }
+    weighs_first(0, &settings.weights)
+}
+
 // The refusals that look at the settings alone.
 fn settings_refusal(settings: Settings) -> u8
     ensures { λ k. ⌜ k ≡ firstOf 0 (settingsCases settings) ⌝ }
@@ -47,10 +85,13 @@ fn settings_refusal(settings: Settings) -> u8
         if 8 < settings.variables {
             return 4;
         }
-        if 2 < settings.order {
+        if 3 < settings.order {
             return 5;
         }
-        return 0;
+        if right_weights(settings) {
+            return 0;
+        }
+        return 15;
     }
     3
 }
