@@ -13,12 +13,17 @@ use Rattle.monomial.proofs.Orders.Weights.{ones-cmp}
 use Rattle.specification.specs.declared.settings.Settings.{Settings}
 use Rattle.specification.specs.Settings.{noWeights, weighsFirst, rightWeights, settingsCases}
 use Rattle.specification.specs.Counted.{Counted, pointsOf, countsOf}
-use Rattle.specification.specs.BasisOf.{standardOf, leadsOf, rowsOf}
+use Rattle.specification.specs.Levels.{residues}
+use Rattle.specification.specs.BasisOf.{standardOf, leadsOf, rowsOf, interpolantOf, remainderOf}
 use Rattle.specification.specs.Instance.{Monomial, spaceBy}
 use Rattle.specification.specs.Tables.{Tables, spaceUnder, pointsUnder, rowCount, statesTable, standardTable, leadsTable, coefficientsTable, tablesOf, pointsIn, heldIn, recognised}
 use Rattle.specification.specs.Cancellations.{cancellationsOf}
 use Rattle.specification.specs.Adding.{holding, addCases, addRefusal, addOutcome, pointsOffered, drawCases, drawRefusal, cancellationsUnder, drawOutcome}
+use Rattle.specification.specs.Adding.{drawPackedOutcome}
 use Rattle.specification.specs.Withdrawing.{withdrawCases, withdrawRefusal, withdrawOutcome}
+use Rattle.specification.specs.Solving.{checkRefusal, valuesCases, interpolantIn, interpolateOutcome, wiringOutcome, remainderCases, polynomialUnder, remainderIn, remainderOutcome}
+use Rattle.specification.specs.Reference.{adding, withdrawing, outcomeOf}
+use Rattle.specification.specs.Calls.{Call, drawing, drawingPacked, handed, operating, checking, interpolating, dividing, wiring, endingOf}
 
 -- settings with m weights 1, and with grlex
 abbrev pub byOnes : ℕ → ℕ → Settings
@@ -26,6 +31,12 @@ byOnes p m = record { modulus = p; variables = m; order = 3; weights = replicate
 
 abbrev pub byDegree : ℕ → ℕ → Settings
 byDegree p m = record { modulus = p; variables = m; order = 1; weights = noWeights }
+
+-- a call under other settings
+abbrev pub under : Settings → Call → Call
+under u (drawing s t levels) = drawing u t levels
+under u (drawingPacked s t levels) = drawingPacked u t levels
+under u (handed q s n r t) = handed q u n r t
 
 -- none of these weights is wrong
 zeros-right : (k : ℕ) → weighsFirst 0 (replicate k 0) ≡ true
@@ -90,3 +101,27 @@ module _ (p m : ℕ) where
   pub ones-withdrawn : (n r : ℕ) (t : Tables) (levels : List ℤ) → withdrawOutcome (byOnes p m) n r t levels ≡ withdrawOutcome (byDegree p m) n r t levels
   unfolding withdrawOutcome withdrawRefusal withdrawCases holding heldIn pointsIn
   ones-withdrawn n r t levels = rw (ones-cases, ones-recognised, ones-sheet, ones-rows)
+
+  pub ones-interpolant : (n : ℕ) (t : Tables) (values : List ℤ) → interpolantIn (byOnes p m) n t values ≡ interpolantIn (byDegree p m) n t values
+  unfolding interpolantIn pointsIn orderOf
+  ones-interpolant n t values =
+      ap (λ c. interpolantOf (spaceBy (p - 1) m c) (pointsUnder (byDegree p m) (pointsIn (byDegree p m) n (t .states))) (residues p values)) same
+
+  pub ones-remainder : (n : ℕ) (t : Tables) (coefficients : List ℤ) (exponents : List ℕ)
+      → remainderIn (byOnes p m) n t coefficients exponents ≡ remainderIn (byDegree p m) n t coefficients exponents
+  unfolding remainderIn pointsIn orderOf
+  ones-remainder n t coefficients exponents =
+      ap (λ c. remainderOf (spaceBy (p - 1) m c) (pointsUnder (byDegree p m) (pointsIn (byDegree p m) n (t .states)))
+      (polynomialUnder (byDegree p m) coefficients exponents)) same
+
+  -- Every call, whatever it is handed, answers and leaves the same under both settings.
+  pub ones-calls : (c : Call) → endingOf (under (byOnes p m) c) ≡ endingOf (under (byDegree p m) c)
+  unfolding endingOf drawPackedOutcome outcomeOf checkRefusal interpolateOutcome valuesCases remainderOutcome remainderCases wiringOutcome pointsIn
+  ones-calls (drawing s t levels) = rw (ones-drawn t levels)
+  ones-calls (drawingPacked s t levels) = rw (ones-drawn t levels)
+  ones-calls (handed (operating (adding levels)) s n r t) = rw (ones-added n r t levels)
+  ones-calls (handed (operating (withdrawing levels)) s n r t) = rw (ones-withdrawn n r t levels)
+  ones-calls (handed checking s n r t) = rw (ones-cases, ones-recognised)
+  ones-calls (handed (interpolating values buffer) s n r t) = rw (ones-cases, ones-recognised, ones-interpolant)
+  ones-calls (handed (dividing coefficients exponents buffer) s n r t) = rw (ones-cases, ones-recognised, ones-remainder)
+  ones-calls (handed (wiring values buffer) s n r t) = rw (ones-cases, ones-recognised)
