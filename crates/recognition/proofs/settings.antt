@@ -2,4 +2,3 @@
 pub mod BySize
 pub mod ByNumber
 pub mod Written
-pub mod Weights

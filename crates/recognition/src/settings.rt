@@ -1,17 +1,17 @@
 // The refusals that look at the settings and at lengths and counts alone, 3 to 8 and 15, and the answer of a refused call.
+use points::weights::right_weights;
 use residue::level;
 use residue::sizes;
 use specification::answers::Answer;
 use specification::answers::Drawn;
 use specification::settings::Settings;
 ghost use mathlib.Core.Path.{_≡_};
-ghost use mathlib.Core.Bool.{not, false, cond, _&&_};
+ghost use mathlib.Core.Bool.{not, false};
 ghost use mathlib.Core.List.{[], _∷_, _++_};
-ghost use Prim.Native.Nat.{_%_, _≤_};
-ghost use lib.ListN.{length};
-ghost use lib.Dec.{eqb, leb};
+ghost use Prim.Native.Nat.{_%_};
+ghost use lib.Dec.{eqb};
 ghost use Rattle.specification.specs.Refusal.{firstOf};
-ghost use Rattle.specification.specs.Settings.{weighsFirst, rightWeights, settingsCases};
+ghost use Rattle.specification.specs.Settings.{settingsCases};
 ghost use Rattle.specification.specs.Tables.{shortLengths};
 
 // The answer of a refused call.
@@ -35,43 +35,6 @@ pub fn refused_drawing(refusal: u8) -> Drawn
         r: 0,
         cancellations: 0,
     }
-}
-
-// Whether a weight is right: from 1 to 99 for a variable that the order weighs, else 0.
-fn is_weight(weighed: bool, weight: u8) -> bool
-    ensures { λ r. ⌜ r ≡ cond weighed (leb 1 weight && leb weight 99) (eqb weight 0) ⌝ }
-{
-    if weighed {
-        if weight < 1 {
-            return false;
-        }
-        return weight <= 99;
-    }
-    weight == 0
-}
-
-// Whether the first m of the eight weights are from 1 to 99, and those behind them 0.
-fn weighs_first(m: usize, weights: &[u8]) -> bool
-    requires { ⌜ (m ≤ 8) × (length (now weights) ≡ 8) ⌝ }
-    ensures { λ r. ⌜ r ≡ weighsFirst m (now (weights .entry)) ⌝ }
-{
-    for k in 0..8 {
-        if !is_weight(k < m, weights[k]) {
-            return false;
-        }
-    }
-    true
-}
-
-// Whether the weights are right, for settings with at most 8 variables.
-fn right_weights(settings: Settings) -> bool
-    requires { ⌜ settings .variables ≤ 8 ⌝ }
-    ensures { λ r. ⌜ r ≡ rightWeights settings ⌝ }
-{
-    if settings.order == 3 {
-        return weighs_first(settings.variables as usize, &settings.weights);
-    }
-    weighs_first(0, &settings.weights)
 }
 
 // The refusals that look at the settings alone.

@@ -1,13 +1,13 @@
--- `settings::weighs_first` meets its contract: k weights are passed, and the others are right exactly where all are.
+-- `weights::weighs_first` meets its contract: k weights are passed, and the others are right exactly where all are.
 use mathlib.Core.Path.{_≡_, sym, ap, _∙_}
 use Prim.Native.Nat.{ℕ, _-_, _≤_}
 use native.Mathlib.Omega.{arith}
 use lib.ListN.{drop}
 use borrow.Author.Tests.{not-true, not-false}
 use Rattle.specification.specs.Settings.{weighsFirst}
-use Rattle.recognition.proofs.settings.Weights.{weight-on, weight-stop, weight-end}
-use Rattle.recognition.proofs.settings.weighs_first.Statement.{statement}
-use Rattle.recognition.proofs.settings.weighs_first.Tie as tie
+use Rattle.points.proofs.weights.Weights.{weight-on, weight-stop, weight-end}
+use Rattle.points.proofs.weights.weighs_first.Statement.{statement}
+use Rattle.points.proofs.weights.weighs_first.Tie as tie
 
 abbrev Inv-loop : tie.InvT-loop
 Inv-loop m weights k₀ k = (k ≤ 8) × (weighsFirst (m - k) (drop k weights) ≡ weighsFirst m weights)

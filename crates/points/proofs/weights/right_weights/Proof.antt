@@ -1,9 +1,9 @@
--- `settings::right_weights` meets its contract: order 3 weighs m variables, the others none.
+-- `weights::right_weights` meets its contract: order 3 weighs m variables, the others none.
 use borrow.Author.Needs.{needs}
 use borrow.Author.Tests.{eq-eqb, ne-eqb}
 use Rattle.specification.specs.Settings.{rightWeights}
-use Rattle.recognition.proofs.settings.right_weights.Statement.{statement}
-use Rattle.recognition.proofs.settings.right_weights.Tie as tie
+use Rattle.points.proofs.weights.right_weights.Statement.{statement}
+use Rattle.points.proofs.weights.right_weights.Tie as tie
 
 weighs-first-requires : tie.Need-weighs-first-requires
 weighs-first-requires c κs = search needs

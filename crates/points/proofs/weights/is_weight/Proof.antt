@@ -1,7 +1,7 @@
--- `settings::is_weight` meets its contract: at each return the tests that led there decide it.
+-- `weights::is_weight` meets its contract: at each return the tests that led there decide it.
 use borrow.Author.Tests.{le-leb, lt-leb}
-use Rattle.recognition.proofs.settings.is_weight.Statement.{statement}
-use Rattle.recognition.proofs.settings.is_weight.Tie as tie
+use Rattle.points.proofs.weights.is_weight.Statement.{statement}
+use Rattle.points.proofs.weights.is_weight.Tie as tie
 
 returns : tie.Need-returns
 returns c = simp (c .before .if1 .taken, lt-leb _ _ (c .if2 .taken))
