@@ -1,5 +1,6 @@
 // The calls that answer from the basis of lent tables: interpolant, remainder, wiring list.
 use crate::packing::pack_wired;
+use crate::packing::settings_given;
 use queries::remainders::remainder;
 use queries::values::interpolate;
 use queries::values::wiring;

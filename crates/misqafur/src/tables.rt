@@ -1,6 +1,7 @@
 // Adding to, withdrawing from, drawing up and checking the five lent tables. Levels are bytes that are read as signed ones, 255 as -1 (specs/Bytes).
 use crate::packing::pack_answer;
 use crate::packing::pack_drawn;
+use crate::packing::settings_given;
 use addition::adding;
 use basis::drawing;
 use basis::withdrawing;
