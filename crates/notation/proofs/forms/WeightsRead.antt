@@ -23,7 +23,7 @@ use Rattle.notation.proofs.fields.FieldSpans.{front-le, all-behind}
 use Rattle.notation.proofs.Grammar.LevelForm.{number-found}
 
 -- two digits write at most 99
-number-small : {l : List ℕ} {n : ℕ} → IsNumber l n → length l ≤ 2 → n ≤ 99
+pub number-small : {l : List ℕ} {n : ℕ} → IsNumber l n → length l ≤ 2 → n ≤ 99
 number-small (one h) k = omega arith
 number-small (two h i) k = omega arith
 number-small (three h i j) k = absurd (omega arith)
