@@ -70,9 +70,10 @@ pub record LeftReading : Type 0 where
   pub states : List ℕ
   pub values : List ℕ
   pub counts : List ℕ
+  pub weights : List ℕ
 
-abbrev pub leftReading : ℕ → List ℕ → List ℕ → List ℕ → LeftReading
-leftReading a states values counts = record { number = a; states = states; values = values; counts = counts }
+abbrev pub leftReading : ℕ → List ℕ → List ℕ → List ℕ → List ℕ → LeftReading
+leftReading a states values counts weights = record { number = a; states = states; values = values; counts = counts; weights = weights }
 
 unfoldable pub packedReading : TextOutcome → LeftReading
-packedReading o = record { number = packedRead (o .answer); states = o .states; values = o .values; counts = o .counts }
+packedReading o = record { number = packedRead (o .answer); states = o .states; values = o .values; counts = o .counts; weights = o .weights }
