@@ -83,7 +83,7 @@ def polynomials(path, p, states):
 
 
 def head(settings, refusal, n, *words):
-    p, m, order = settings
+    p, m, order = settings[:3]
     return p.to_bytes(2, "little") + bytes([m, order, refusal, n]) + b"".join(word.to_bytes(2, "little") for word in words)
 
 
@@ -97,7 +97,7 @@ def accepted(name, cancellations):
     text, result = (os.path.join(VECTORS, name + end) for end in (".csv", ".txt"))
     with open(text, "rb") as file:
         settings, records = levels_in(file.read())
-    p, m, _ = settings
+    p, m = settings[:2]
     levels = [level for record in records for level in record[:m]]
     states = b"".join(padded([level % p for level in record[:m]]) for record in records)
     r, standard, leads, coefficients, answers = printed(result, m)

@@ -16,18 +16,20 @@ record (2), modulus (2), variables, order and n (1 each).
 """
 import csv, io, os, re, sys
 
-ORDERS = {"": 2, "lex": 0, "grlex": 1, "grevlex": 2}
+ORDERS = {"": 2, "lex": 0, "grlex": 1, "grevlex": 2, "weight": 3}
+LAST_FIELD = r"mod ([0-9]{1,3})(?: (lex|grlex|grevlex)| (weight)((?: [0-9]{1,2})*))?"
 TESTS = os.path.join(os.path.dirname(os.path.abspath(__file__)), "..", "tests")
 
 
 def records_in(text):
-    """The settings and the levels of a text without faults of form, the value of each record last, by Python's csv module."""
+    """The settings, with as many weights as names by weight and else none, and the levels of a text without faults of form, the
+    value of each record last, by Python's csv module."""
     rows = list(csv.reader(io.StringIO(text.decode("latin-1"), newline=""), strict=True))
-    modulus, word = re.fullmatch(r"mod ([0-9]{1,3})(?: (.*))?", rows[0][-1]).groups("")
-    p, m = int(modulus), len(rows[0]) - 1
+    modulus, plain, weight, numbers = re.fullmatch(LAST_FIELD, rows[0][-1]).groups("")
+    m, weights = len(rows[0]) - 1, tuple(int(word) for word in numbers.split())
     levels = [[int(field) for field in row] for row in rows[1:]]
-    assert all(len(row) == m + 1 for row in levels)
-    return (p, m, ORDERS[word]), levels
+    assert all(len(row) == m + 1 for row in levels) and len(weights) == (m if weight else 0)
+    return (int(modulus), m, ORDERS[plain or weight], weights), levels
 
 
 def gathered(points):
@@ -38,7 +40,7 @@ def gathered(points):
 def refusal_of(settings, records):
     """The refusal among 9, 8, 13 and 14 of a text's records, with the record; None if there is none. Each is looked for over
     all records before the next."""
-    (p, m, _), times, values, late = settings, {}, {}, {}
+    (p, m, *_), times, values, late = settings, {}, {}, {}
     for at, record in enumerate(records, 2):
         if any(abs(level) >= p for level in record):
             return 9, at
@@ -63,7 +65,7 @@ def levels_in(text):
 
 def read(text):
     """What an accepted text says."""
-    (p, m, order), levels = levels_in(text)
+    (p, m, order, _), levels = levels_in(text)
     held = gathered([tuple(level % p for level in row[:m]) for row in levels])
     values = {tuple(level % p for level in row[:m]): row[m] % p for row in levels}
     points = b"".join(bytes(point) + bytes(8 - m) for point, _ in held)
