@@ -91,7 +91,7 @@ static uint32_t remainder_of_term(void)
 
 int main(void)
 {
-    uint32_t refusal = misqafur_sheet_init(&sheet, 5, VARIABLES, MISQAFUR_GRLEX);
+    uint32_t refusal = misqafur_sheet_init(&sheet, 5, VARIABLES, MISQAFUR_GRLEX, 0);
     if (refusal == 0) {
         add(0, 0);
         add(1, 2);
