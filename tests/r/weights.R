@@ -24,7 +24,7 @@ for (weight in c(1, 7, 99)) {
 
 # What is wrong is said, by refusal 15 or by an error; nothing is put right in silence.
 wrong <- list(list(c(0, 2), "and not so for Rb"), list(c(1, 100), "and not so for E2F"), list(c(E2F = -1, Rb = 300), "not so for Rb, E2F"),
-              list(c(1.5, 2), "not so for Rb"), list(c(NA, 2), "not so for Rb"), list(c(1, 2, 0), "each gene, 2, and 3 were given"), list(1, "and 1 were given"),
+              list(c(1.5, 2), "not so for Rb"), list(c(257, -255), "not so for Rb, E2F"), list(c(NA, 2), "not so for Rb"), list(c(1, 2, 0), "each gene, 2, and 3 were given"), list(1, "and 1 were given"),
               list(1:9, "and 9 were given"), list(numeric(0), "and 0 were given"))
 for (try in wrong) {
   expect(refusal(sheet(5, genes, weights = try[[1]])) == 15, paste("weights", deparse(try[[1]])))
