@@ -184,9 +184,9 @@ static void no_points(struct score *score)
     for (uint64_t order = 0; order < 4; order++)
         for (uint64_t m = 1; m <= 8; m++)
             say(score, "the basis of no points",
-                misqafur_check(5, m, order, order < MISQAFUR_WEIGHT ? 0 : weights >> 8 * (8 - m), 0, 1, zeros, MISQAFUR_STATES_SIZE, zeros, MISQAFUR_STANDARD_SIZE, zeros,
-                               MISQAFUR_LEADS_SIZE, zeros, MISQAFUR_COEFFICIENTS_SIZE, zeros,
-                               MISQAFUR_COUNTS_SIZE) == 0);
+                misqafur_check(5, m, order, order < MISQAFUR_WEIGHT ? 0 : weights >> 8 * (8 - m), 0, 1, zeros,
+                               MISQAFUR_STATES_SIZE, zeros, MISQAFUR_STANDARD_SIZE, zeros, MISQAFUR_LEADS_SIZE, zeros,
+                               MISQAFUR_COEFFICIENTS_SIZE, zeros, MISQAFUR_COUNTS_SIZE) == 0);
 }
 
 struct score examples(const struct options *options)

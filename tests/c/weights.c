@@ -58,7 +58,8 @@ static void every_byte(struct weighed *w)
                     const uint64_t right = weighs ? random_weights(&w->made.chance, m) : 0, byte = (uint64_t)255 << 8 * k;
                     const int wrong = weighs && k < m ? weight < 1 || weight > MISQAFUR_MAX_WEIGHT : weight != 0;
                     const enum kind kind = (enum kind)((m + order + k + weight) % READ_TEXT);
-                    say(w, "a byte of the weights", weight, judged(w, kind, m, order, (right & ~byte) | weight << 8 * k, wrong));
+                    const uint64_t weights = (right & ~byte) | weight << 8 * k;
+                    say(w, "a byte of the weights", weight, judged(w, kind, m, order, weights, wrong));
                 }
 }
 
@@ -157,6 +158,7 @@ static void texts(struct weighed *w)
 static void packed_weights(struct weighed *w, int number)
 {
     const int good = 1 <= number && number <= MISQAFUR_MAX_WEIGHT;
+    say(w, "a number as a weight", 0, misqafur_weight(number) == (good ? number : number == 0 ? 0 : 255));
     for (size_t m = 1; m <= 8; m++) {
         uint8_t weights[8] = {3, 1, 4, 1, 5, 9, 2, 6};
         weights[m - 1] = misqafur_weight(number);
@@ -171,6 +173,8 @@ static void numbers_of_weights(struct weighed *w)
         for (size_t given = 0; given <= 20; given++) {
             uint64_t packed = misqafur_pack_weights(given > 8 ? NULL : weights, given);
             say(w, "a number of weights packed", given, judged(w, CHECK, m, MISQAFUR_WEIGHT, packed, given != m));
+            for (size_t k = 0; k < 8; k++)
+                say(w, "each weight in its byte", k, (packed >> 8 * k & 255) == (given > 8 ? 255u : k < given ? weights[k] : 0));
         }
 }
 
