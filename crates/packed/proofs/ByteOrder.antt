@@ -1,5 +1,5 @@
 -- The bytes of a sequence as monomials of m variables: they are in order, and so are the squares.
-use mathlib.Core.Path.{_≡_, refl, sym, ap, ap₂, _∙_, subst}
+use mathlib.Core.Path.{_≡_, sym, ap, ap₂, _∙_, subst}
 use mathlib.Core.List.{List, _∷_}
 use mathlib.Core.Logic.{_↔_}
 use Prim.Native.Nat.{ℕ, zero, suc, _^_, _<_, _≤_}
@@ -39,8 +39,10 @@ long-square m k = length-timesVariable k (timesVariable k (one m)) ∙ length-ti
 
 pub square-fill : (m k : ℕ) → m ≤ 8 → k < m → fill 8 (squareIn m k) ≡ squareIn 8 k
 square-fill m k h u =
-    fill-timesVariable (timesVariable k (one m)) (subst (λ (n : ℕ). n ≤ 8) (sym (length-timesVariable k (one m) ∙ long-one m)) h) k (subst (λ (n : ℕ). k < n) (sym (length-timesVariable k (one m) ∙ long-one m)) u)
-    ∙ ap (timesVariable k) (fill-timesVariable (one m) (subst (λ (n : ℕ). n ≤ 8) (sym (long-one m)) h) k (subst (λ (n : ℕ). k < n) (sym (long-one m)) u) ∙ ap (timesVariable k) (zeros-fill m 8 h))
+    fill-timesVariable (timesVariable k (one m)) (subst (λ (n : ℕ). n ≤ 8) (sym (length-timesVariable k (one m) ∙ long-one m)) h) k
+    (subst (λ (n : ℕ). k < n) (sym (length-timesVariable k (one m) ∙ long-one m)) u)
+    ∙ ap (timesVariable k) (fill-timesVariable (one m) (subst (λ (n : ℕ). n ≤ 8) (sym (long-one m)) h) k (subst (λ (n : ℕ). k < n) (sym (long-one m)) u)
+    ∙ ap (timesVariable k) (zeros-fill m 8 h))
 
 module _ (q m : ℕ) (order : Order) (most : m ≤ 8) (bytes multiples : List ℕ) (Q : Sequence order bytes multiples)
     (squares before : List ℕ) (R : Squares order m bytes squares before) where
@@ -78,10 +80,12 @@ module _ (q m : ℕ) (order : Order) (most : m ≤ 8) (bytes multiples : List �
     at-less = λ i j h k u v. sym (byte-cmp (getD bytes i 0) (getD bytes j 0) u v) ∙ Q .rising i j h k;
     at-place = λ a f. place a (free-word q m order a f .0) (free-word q m order a f .1);
     at-free = λ i. word-free q m order (getD bytes i 0);
-    not-square = λ i k h e. word-free q m order (getD bytes i 0) k h (subst (λ (x : Monomial m). Divides D (square D k) x) (sym e) (divides-refl (square D k .0)));
+    not-square = λ i k h e. word-free q m order (getD bytes i 0) k h
+        (subst (λ (x : Monomial m). Divides D (square D k) x) (sym e) (divides-refl (square D k .0)));
     square-in = R .variable;
     square-each = R .each;
-    squares = λ j k h u. sym (cmp-fill (squareIn m (sq k)) (squareIn m (sq j)) (long-square m (sq k) ∙ sym (long-square m (sq j))) (subst (λ (n : ℕ). n ≤ 8) (sym (long-square m (sq k))) most) order)
+    squares = λ j k h u. sym (cmp-fill (squareIn m (sq k)) (squareIn m (sq j)) (long-square m (sq k) ∙ sym (long-square m (sq j)))
+        (subst (λ (n : ℕ). n ≤ 8) (sym (long-square m (sq k))) most) order)
         ∙ ap₂ (cmp order) (square-fill m (sq k) most (R .variable k u)) (square-fill m (sq j) most (R .variable j (omega arith))) ∙ R .falling j k h u;
   }
     where

@@ -5,14 +5,13 @@ use mathlib.Core.List.{List}
 use mathlib.Core.Logic.{_≢_}
 use Prim.Native.Nat.{ℕ, _^_, _<_}
 use native.Mathlib.Omega.{arith}
-use native.Mathlib.Decide.{ℕ-discrete}
 use lib.ListN.{length, getD, set, length-set}
 use lib.Seq.{getD-set-same, getD-set-other}
 use lib.Count.{ones, trailingZeros}
 use lib.Dec.{T, eqb, ltb, eqb→eq, ltb→lt}
 use borrow.Author.Tests.{ne-eqb}
-use Rattle.residue.proofs.Tests.{and-left, and-right, of-true}
-use Rattle.residue.proofs.level.Moduli.{below, below-at}
+use Rattle.residue.proofs.Tests.{and-left, and-right}
+use Rattle.residue.proofs.level.Moduli.{below-at}
 use Rattle.packed.specs.ByteColumns.{noted}
 
 variable-byte : (k : ℕ) → k < 8 → (eqb (ones (2 ^ k)) 1 ≡ true) × (trailingZeros 8 (2 ^ k) ≡ k)
@@ -29,7 +28,8 @@ told false u v e = absurd (subst T (sym e) tt)
 
 one-bit : (b : ℕ) → b < 256 → eqb (ones b) 1 ≡ true → b ≡ 2 ^ trailingZeros 8 b
 unfolding ones trailingZeros
-one-bit b h e = eqb→eq b _ (told (eqb (ones b) 1) (eqb b (2 ^ trailingZeros 8 b)) (below-at (λ b. cond (eqb (ones b) 1) (eqb b (2 ^ trailingZeros 8 b)) true) 256 tt b h) e)
+one-bit b h e = eqb→eq b _ (told (eqb (ones b) 1) (eqb b (2 ^ trailingZeros 8 b))
+    (below-at (λ b. cond (eqb (ones b) 1) (eqb b (2 ^ trailingZeros 8 b)) true) 256 tt b h) e)
 
 pub noted-length : (byte place : ℕ) (places : List ℕ) → length (noted byte place places) ≡ length places
 unfolding noted
@@ -54,7 +54,8 @@ noted-other k byte place places h n = go (eqb (ones byte) 1) refl
 -- as the code has it
 pub variable-low : (b : ℕ) → b < 256 → ones b ≡ 1 → trailingZeros 8 b < 8
 unfolding ones trailingZeros
-variable-low b h e = ltb→lt _ 8 (told (eqb (ones b) 1) (ltb (trailingZeros 8 b) 8) (below-at (λ b. cond (eqb (ones b) 1) (ltb (trailingZeros 8 b) 8) true) 256 tt b h) (rw e refl))
+variable-low b h e = ltb→lt _ 8
+    (told (eqb (ones b) 1) (ltb (trailingZeros 8 b) 8) (below-at (λ b. cond (eqb (ones b) 1) (ltb (trailingZeros 8 b) 8) true) 256 tt b h) (rw e refl))
 
 pub noted-variable : (byte place : ℕ) (places : List ℕ) → ones byte ≡ 1 → set places (trailingZeros 8 byte) place ≡ noted byte place places
 unfolding noted

@@ -1,8 +1,8 @@
--- The constant tables: one computed test each.
-use mathlib.Core.Path.{_≡_, refl}
+-- The constant tables: one computed test each. And the tables of each order by its number in the settings.
+use mathlib.Core.Path.{_≡_, refl, sym, ap, subst}
 use mathlib.Core.List.{List, [], _∷_}
 use Prim.Native.Nat.{ℕ, _≤_}
-use Rattle.monomial.specs.Order.{lex, grlex, grevlex, cmp, orderOf}
+use Rattle.monomial.specs.Order.{Order, lex, grlex, grevlex, weighted, cmp, orderOf, Light, LightOrder}
 use Rattle.residue.specs.Words.{bitOf, bitsOf, wordOf, columnOf}
 use Rattle.packed.specs.Sequences.{Sequence, Squares}
 use Rattle.packed.proofs.SquareTables.{inTurn, squareTest, fallTest, squares-in-turn}
@@ -71,3 +71,16 @@ grlex-under o w m e h = rw e (grlex-sequence, grlex-squares m h)
 pub grevlex-under : (o : ℕ) (w : List ℕ) (m : ℕ) → o ≡ 2 → m ≤ 8 → Sequence (orderOf o w) grevlexBytes grevlexMultiples × Squares (orderOf o w) m grevlexBytes inTurn grevlexBefore
 unfolding orderOf
 grevlex-under o w m e h = rw e (grevlex-sequence, grevlex-squares m h)
+
+third : (o : ℕ) (w : List ℕ) → o ≡ 3 → orderOf o w ≡ weighted w
+unfolding orderOf
+third o w e = ap (λ (n : ℕ). orderOf n w) e
+
+pub weighted-under : {m : ℕ} {bytes multiples squares before : List ℕ} (o : ℕ) (w : List ℕ) → o ≡ 3
+    → Sequence (weighted w) bytes multiples × Squares (weighted w) m bytes squares before
+    → Sequence (orderOf o w) bytes multiples × Squares (orderOf o w) m bytes squares before
+weighted-under {m} {bytes} {multiples} {squares} {before} o w e t =
+    subst (λ (a : Order). Sequence a bytes multiples × Squares a m bytes squares before) (sym (third o w e)) t
+
+pub light-of : (o : ℕ) (w : List ℕ) → o ≡ 3 → LightOrder (orderOf o w) → Light w
+light-of o w e h = subst LightOrder (third o w e) h

@@ -1,9 +1,9 @@
 -- The constant tables of the squares: of each, one test of the two monomials between which it comes.
-use mathlib.Core.Path.{_≡_, refl, sym, ap, _∙_, subst}
-use mathlib.Core.Bool.{Bool, true, false, _&&_, _||_}
+use mathlib.Core.Path.{_≡_, refl, sym, subst}
+use mathlib.Core.Bool.{Bool, false, _&&_, _||_}
 use mathlib.Core.List.{List, [], _∷_}
-use mathlib.Core.Logic.{_↔_, _≢_}
-use Prim.Native.Nat.{ℕ, zero, suc, _-_, _<_, _≤_, Ordering, Ordering·lt}
+use mathlib.Core.Logic.{_↔_}
+use Prim.Native.Nat.{ℕ, _-_, _<_, _≤_, Ordering·lt}
 use native.Mathlib.Omega.{arith}
 use native.Mathlib.Decide.{ℕ-discrete, decLt}
 use lib.ListN.{length, getD}
@@ -11,7 +11,7 @@ use lib.Dec.{T, eqb, ltb, leb, eqb→eq, ltb→lt, leb→le}
 use borrow.Author.Tests.{ne-eqb}
 use Rattle.residue.proofs.Tests.{and-left, and-right}
 use Rattle.residue.proofs.level.Moduli.{below, below-at}
-use Rattle.monomial.specs.Order.{Order, lex, grlex, grevlex, cmp}
+use Rattle.monomial.specs.Order.{Order, cmp}
 use Rattle.monomial.proofs.Orders.Lawful.{lawful, irrefl}
 use Rattle.residue.specs.Words.{bitsOf}
 use Rattle.packed.specs.Sequences.{isLess, Sequence, squareOf, Squares}
@@ -47,8 +47,13 @@ module _ (order : Order) (bytes multiples : List ℕ) (Q : Sequence order bytes 
     parts =
         let t = below-at (squareTest order bytes before) 8 test k h in
         let u = and-right (ltb 0 b) _ t in
-        let v = and-right (leb b 256) _ u in
-        (and-left (ltb 0 b) _ t, (and-left (leb b 256) _ u, (and-left (isLess (cmp order (at (b - 1)) (squareOf k))) _ v, and-right (isLess (cmp order (at (b - 1)) (squareOf k))) _ v)))
+        let v = and-right (leb b 256) _ u in (
+          and-left (ltb 0 b) _ t,
+          (
+            and-left (leb b 256) _ u,
+            (and-left (isLess (cmp order (at (b - 1)) (squareOf k))) _ v, and-right (isLess (cmp order (at (b - 1)) (squareOf k))) _ v),
+          ),
+        )
 
     some : 0 < b
     some = ltb→lt 0 b (parts .0)
@@ -74,9 +79,11 @@ module _ (order : Order) (bytes multiples : List ℕ) (Q : Sequence order bytes 
 
         over : cmp order (at j) (squareOf k) ≡ Ordering·lt → Dec (j < b) → Dec (b ≡ j) → j < b
         over e (yes v) _ = v
-        over e (no n) (yes z) = absurd (irrefl (cmp order) (lawful order) (squareOf k) (lawful order .chain (squareOf k) (at b) (squareOf k) (next-more (omega (arith, n, u)))
+        over e (no n) (yes z) = absurd (irrefl (cmp order) (lawful order) (squareOf k)
+            (lawful order .chain (squareOf k) (at b) (squareOf k) (next-more (omega (arith, n, u)))
             (subst (λ (x : ℕ). cmp order (at x) (squareOf k) ≡ Ordering·lt) (sym z) e)))
-        over e (no n) (no d) = absurd (irrefl (cmp order) (lawful order) (squareOf k) (lawful order .chain (squareOf k) (at b) (squareOf k) (next-more (omega (arith, n, u)))
+        over e (no n) (no d) = absurd (irrefl (cmp order) (lawful order) (squareOf k)
+            (lawful order .chain (squareOf k) (at b) (squareOf k) (next-more (omega (arith, n, u)))
             (lawful order .chain (at b) (at j) (squareOf k) (Q .rising b j (omega (arith, n, d)) u) e)))
 
   fall : (j k : ℕ) → j < k → k < 8 → cmp order (squareOf k) (squareOf j) ≡ Ordering·lt
@@ -92,5 +99,6 @@ module _ (order : Order) (bytes multiples : List ℕ) (Q : Sequence order bytes 
     falling = λ i j h u. subst (λ (x : ℕ). cmp order (squareOf x) (squareOf (getD inTurn i 0)) ≡ Ordering·lt) (sym (turn-at j (omega arith)))
         (subst (λ (x : ℕ). cmp order (squareOf j) (squareOf x) ≡ Ordering·lt) (sym (turn-at i (omega arith))) (fall i j h (omega arith)));
     most = λ i h. most i (omega arith);
-    below = λ i j h u. subst (λ (x : ℕ). (j < getD before i 0) ↔ (cmp order (at j) (squareOf x) ≡ Ordering·lt)) (sym (turn-at i (omega arith))) (told i (omega arith) j u);
+    below = λ i j h u. subst (λ (x : ℕ). (j < getD before i 0) ↔ (cmp order (at j) (squareOf x) ≡ Ordering·lt)) (sym (turn-at i (omega arith)))
+        (told i (omega arith) j u);
   }

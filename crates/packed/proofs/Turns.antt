@@ -43,7 +43,8 @@ comes-later left i before e n = leb-false _ _ (sym (rw (ne-eqb left 0 n) refl) �
 
 module _ {s : Settings} {n : ℕ} {points bytes multiples squares before : List ℕ} {whole : ℕ} {variables known : List ℕ} {left found r pivots : ℕ}
     {values places rows columns polynomials standard leads coefficients : List ℕ}
-    (H : AtHead s n points bytes multiples squares before whole variables known left found r pivots values places rows columns polynomials standard leads coefficients) where
+    (H : AtHead s n points bytes multiples squares before whole variables known left found r pivots values places rows columns polynomials standard leads
+    coefficients) where
   abbrev order : Order
   order = orderOf (s .order) (s .weights)
 
@@ -60,7 +61,10 @@ module _ {s : Settings} {n : ℕ} {points bytes multiples squares before : List 
   laws = L s n points (H .given) (H .two) bytes multiples (H .sequence) squares before (H .squares-are)
 
   ordered : Ordered D (λ i. getD bytes i 0 < 2 ^ m) (λ i. (bitsOf m (getD bytes i 0), length-bits m (getD bytes i 0))) (λ i. getD squares i 0)
-  ordered = O q m order (H .given .settings .few) bytes multiples (H .sequence) squares before (H .squares-are) laws (B s n points (H .given) (H .two) bytes multiples (H .sequence) squares before (H .squares-are)) (pointsUnder s (pointsIn s n points)) (distinct s n points (H .given) (H .two) bytes multiples (H .sequence) squares before (H .squares-are)) (few s n points (H .given) (H .two) bytes multiples (H .sequence) squares before (H .squares-are))
+  ordered = O q m order (H .given .settings .few) bytes multiples (H .sequence) squares before (H .squares-are) laws
+      (B s n points (H .given) (H .two) bytes multiples (H .sequence) squares before (H .squares-are)) (pointsUnder s (pointsIn s n points))
+      (distinct s n points (H .given) (H .two) bytes multiples (H .sequence) squares before (H .squares-are))
+      (few s n points (H .given) (H .two) bytes multiples (H .sequence) squares before (H .squares-are))
 
   pub known-long : length known ≡ 4
   known-long = H .now .state .places .long
@@ -69,8 +73,17 @@ module _ {s : Settings} {n : ℕ} {points bytes multiples squares before : List 
   left-few = let h = H .now .state .squares .few in omega (arith, h, H .given .settings .few)
 
   pub found-few : found ≤ 64
-  found-few = subst (λ (x : ℕ). x ≤ 64) (sym (H .now .tabled .found-is)) (ready-fit D (L s n points (H .given) (H .two) bytes multiples (H .sequence) squares before (H .squares-are)) (B s n points (H .given) (H .two) bytes multiples (H .sequence) squares before (H .squares-are)) (pointsUnder s (pointsIn s n points)) (distinct s n points (H .given) (H .two) bytes multiples (H .sequence) squares before (H .squares-are)) (few s n points (H .given) (H .two) bytes multiples (H .sequence) squares before (H .squares-are)) (λ i. getD bytes i 0 < 2 ^ m) (λ i. (bitsOf m (getD bytes i 0), length-bits m (getD bytes i 0))) (λ i. getD squares i 0)
-      (O q m order (most s n points (H .given) (H .two) bytes multiples (H .sequence) squares before (H .squares-are)) bytes multiples (H .sequence) squares before (H .squares-are) (L s n points (H .given) (H .two) bytes multiples (H .sequence) squares before (H .squares-are)) (B s n points (H .given) (H .two) bytes multiples (H .sequence) squares before (H .squares-are)) (pointsUnder s (pointsIn s n points)) (distinct s n points (H .given) (H .two) bytes multiples (H .sequence) squares before (H .squares-are)) (few s n points (H .given) (H .two) bytes multiples (H .sequence) squares before (H .squares-are))) (H .now .f) (H .now .o) (H .now .state .ready))
+  found-few = subst (λ (x : ℕ). x ≤ 64) (sym (H .now .tabled .found-is))
+      (ready-fit D (L s n points (H .given) (H .two) bytes multiples (H .sequence) squares before (H .squares-are))
+      (B s n points (H .given) (H .two) bytes multiples (H .sequence) squares before (H .squares-are)) (pointsUnder s (pointsIn s n points))
+      (distinct s n points (H .given) (H .two) bytes multiples (H .sequence) squares before (H .squares-are))
+      (few s n points (H .given) (H .two) bytes multiples (H .sequence) squares before (H .squares-are)) (λ i. getD bytes i 0 < 2 ^ m)
+      (λ i. (bitsOf m (getD bytes i 0), length-bits m (getD bytes i 0))) (λ i. getD squares i 0)
+      (O q m order (most s n points (H .given) (H .two) bytes multiples (H .sequence) squares before (H .squares-are)) bytes multiples
+      (H .sequence) squares before (H .squares-are) (L s n points (H .given) (H .two) bytes multiples (H .sequence) squares before (H .squares-are))
+      (B s n points (H .given) (H .two) bytes multiples (H .sequence) squares before (H .squares-are)) (pointsUnder s (pointsIn s n points))
+      (distinct s n points (H .given) (H .two) bytes multiples (H .sequence) squares before (H .squares-are))
+      (few s n points (H .given) (H .two) bytes multiples (H .sequence) squares before (H .squares-are))) (H .now .f) (H .now .o) (H .now .state .ready))
 
   pub standard-long : length standard ≡ 512
   standard-long = ap length (H .now .tabled .standard-table) ∙ length-fill 512 _
@@ -117,7 +130,8 @@ module _ {s : Settings} {n : ℕ} {points bytes multiples squares before : List 
           go (gt u) = u
 
       pub square-skipped : getD places (getD squares (left - 1) 0) 0 ≡ 0
-          → AtHead s n points bytes multiples squares before whole variables known (left - 1) found r pivots values places rows columns polynomials standard leads coefficients
+          → AtHead s n points bytes multiples squares before whole variables known
+          (left - 1) found r pivots values places rows columns polynomials standard leads coefficients
       square-skipped z = record {
         given = H .given;
         two = H .two;
@@ -125,15 +139,21 @@ module _ {s : Settings} {n : ℕ} {points bytes multiples squares before : List 
         squares-are = H .squares-are;
         variables-are = H .variables-are;
         whole-is = H .whole-is;
-        now = square-passed q m order _ bytes multiples (H .sequence) squares before (H .squares-are) _ _ _ _ _ known left found r pivots values places rows columns polynomials standard leads coefficients (H .now) i F (left - 1) split first z;
+        now = square-passed q m order _ bytes multiples (H .sequence) squares before
+            (H .squares-are) _ _ _ _ _ known left found r pivots values places rows columns polynomials standard leads coefficients (H .now) i F
+            (left - 1) split first z;
       }
 
       pub square-fits : getD places (getD squares (left - 1) 0) 0 ≢ 0 → (r < 449) × (getD places (getD squares (left - 1) 0) 0 ≤ 64)
-      square-fits z = square-room q m order _ bytes multiples (H .sequence) squares before (H .squares-are) _ _ _ _ _ known left found r pivots values places rows columns polynomials standard leads coefficients (H .now) i F (left - 1) split first z
+      square-fits z = square-room q m order _ bytes multiples (H .sequence) squares before
+          (H .squares-are) _ _ _ _ _ known left found r pivots values places rows columns polynomials standard leads coefficients (H .now) i F
+          (left - 1) split first z
 
-      pub square-done : getD places (getD squares (left - 1) 0) 0 ≢ 0 → (leads′ coefficients′ : List ℕ) → leads′ ≡ withPlace 8 r (squareIn 8 (getD squares (left - 1) 0)) leads
+      pub square-done : getD places (getD squares (left - 1) 0) 0 ≢ 0 → (leads′ coefficients′ : List ℕ)
+          → leads′ ≡ withPlace 8 r (squareIn 8 (getD squares (left - 1) 0)) leads
           → coefficients′ ≡ withPlace 64 r (bitsOf 64 (2 ^ (getD places (getD squares (left - 1) 0) 0 - 1))) coefficients
-          → AtHead s n points bytes multiples squares before whole variables known (left - 1) found (r + 1) pivots values places rows columns polynomials standard leads′ coefficients′
+          → AtHead s n points bytes multiples squares before whole variables known (left - 1) found
+          (r + 1) pivots values places rows columns polynomials standard leads′ coefficients′
       square-done z leads′ coefficients′ a b = record {
         given = H .given;
         two = H .two;
@@ -141,14 +161,18 @@ module _ {s : Settings} {n : ℕ} {points bytes multiples squares before : List 
         squares-are = H .squares-are;
         variables-are = H .variables-are;
         whole-is = H .whole-is;
-        now = square-kept q m order _ bytes multiples (H .sequence) squares before (H .squares-are) _ _ _ _ _ known left found r pivots values places rows columns polynomials standard leads coefficients (H .now) i F (left - 1) split first z leads′ coefficients′ a b;
+        now = square-kept q m order _ bytes multiples (H .sequence) squares before
+            (H .squares-are) _ _ _ _ _ known left found r pivots values places rows columns polynomials standard leads coefficients (H .now) i F
+            (left - 1) split first z leads′ coefficients′ a b;
       }
 
     -- the monomial of the first open place, or the end
     module _ (e : squareComes left i before ≡ false) where
       pub ended-as : i ≡ 256 → Tabled s (pointsIn s n points) r standard leads coefficients
-      ended-as z = walked-end s n points (H .given) (H .two) bytes multiples (H .sequence) squares before (H .squares-are) known found r pivots values places rows columns polynomials standard leads coefficients
-          (subst (λ (k : ℕ). Now s n points (H .given) (H .two) bytes multiples (H .sequence) squares before (H .squares-are) known k found r pivots values places rows columns polynomials standard leads coefficients)
+      ended-as z = walked-end s n points (H .given) (H .two) bytes multiples (H .sequence) squares before
+          (H .squares-are) known found r pivots values places rows columns polynomials standard leads coefficients
+          (subst (λ (k : ℕ). Now s n points (H .given) (H .two) bytes multiples (H .sequence) squares before
+          (H .squares-are) known k found r pivots values places rows columns polynomials standard leads coefficients)
           (done (ℕ-discrete left 0)) (H .now)) (subst (FirstOpen known) z F)
         where
           done : Dec (left ≡ 0) → left ≡ 0
@@ -164,7 +188,9 @@ module _ {s : Settings} {n : ℕ} {points bytes multiples squares before : List 
         inside-is = inside z
 
         after : (k : ℕ) → suc k ≡ left → ¬ Less D (square D (getD squares k 0)) here
-        after k u v = irrefl D laws {a = square D (getD squares k 0)} (trans D laws {a = square D (getD squares k 0)} {b = here} {c = square D (getD squares k 0)} v (here-below k (omega (arith, h, u)) inside-is .0 early))
+        after k u v = irrefl D laws {a = square D (getD squares k 0)}
+            (trans D laws {a = square D (getD squares k 0)} {b = here} {c = square D (getD squares k 0)} v
+            (here-below k (omega (arith, h, u)) inside-is .0 early))
           where
             h : left ≤ m
             h = H .now .state .squares .few
@@ -177,23 +203,32 @@ module _ {s : Settings} {n : ℕ} {points bytes multiples squares before : List 
 
         module _ (own : ℕ) (C : OwnColumn (getD bytes i 0) whole variables values own) where
           column : own ≡ columnOf (D .val here) (pointsUnder s (pointsIn s n points))
-          column = own-is q m order _ bytes multiples (H .sequence) squares before (H .squares-are) _ _ _ _ _ known left found r pivots values places rows columns polynomials standard leads coefficients (H .now) i F inside-is after
+          column = own-is q m order _ bytes multiples (H .sequence) squares before
+              (H .squares-are) _ _ _ _ _ known left found r pivots values places rows columns polynomials standard leads coefficients
+              (H .now) i F inside-is after
               whole own variables (ones-at s n points (H .given) (H .two) bytes multiples (H .sequence) squares before (H .squares-are) whole (H .whole-is))
               (variables-at s n points (H .given) (H .two) bytes multiples (H .sequence) squares before (H .squares-are) variables (H .variables-are)) C
 
           pub examine-fits : SomeKept own found pivots rows columns polynomials
-          examine-fits = kept-some q m order _ bytes multiples (H .sequence) squares before (H .squares-are) _ _ _ _ _ known left found r pivots values places rows columns polynomials standard leads coefficients (H .now) i F inside-is after own column
+          examine-fits = kept-some q m order _ bytes multiples (H .sequence) squares before
+              (H .squares-are) _ _ _ _ _ known left found r pivots values places rows columns polynomials standard leads coefficients
+              (H .now) i F inside-is after own column
 
           module _ (lead : Bool) (g pivots′ : ℕ) (rows′ columns′ polynomials′ : List ℕ)
-              (E : ExaminedAs own found lead g pivots pivots′ rows columns polynomials rows′ columns′ polynomials′) (long : PivotsLong rows′ columns′ polynomials′) where
+              (E : ExaminedAs own found lead g pivots pivots′ rows columns polynomials rows′ columns′ polynomials′)
+              (long : PivotsLong rows′ columns′ polynomials′) where
             module _ (y : lead ≡ true) where
               pub lead-fits : r < 449
-              lead-fits = lead-room q m order _ bytes multiples (H .sequence) squares before (H .squares-are) _ _ _ _ _ known left found r pivots values places rows columns polynomials standard leads coefficients (H .now) i F inside-is after
+              lead-fits = lead-room q m order _ bytes multiples (H .sequence) squares before
+                  (H .squares-are) _ _ _ _ _ known left found r pivots values places rows columns polynomials standard leads coefficients
+                  (H .now) i F inside-is after
                   own column lead g pivots′ rows′ columns′ polynomials′ E long y
 
-              pub lead-done : (known′ leads′ coefficients′ : List ℕ) → Passed (OfMultiple (getD bytes i 0) multiples) known known′ → leads′ ≡ withPlace 8 r (bitsOf 8 (getD bytes i 0)) leads
+              pub lead-done : (known′ leads′ coefficients′ : List ℕ) → Passed (OfMultiple (getD bytes i 0) multiples) known known′
+                  → leads′ ≡ withPlace 8 r (bitsOf 8 (getD bytes i 0)) leads
                   → coefficients′ ≡ withPlace 64 r (bitsOf 64 g) coefficients
-                  → AtHead s n points bytes multiples squares before whole variables known′ left found (r + 1) pivots′ values places rows′ columns′ polynomials′ standard leads′ coefficients′
+                  → AtHead s n points bytes multiples squares before whole variables known′ left found
+                  (r + 1) pivots′ values places rows′ columns′ polynomials′ standard leads′ coefficients′
               lead-done known′ leads′ coefficients′ T a b = record {
                 given = H .given;
                 two = H .two;
@@ -201,18 +236,24 @@ module _ {s : Settings} {n : ℕ} {points bytes multiples squares before : List 
                 squares-are = H .squares-are;
                 variables-are = H .variables-are;
                 whole-is = H .whole-is;
-                now = lead-kept q m order _ bytes multiples (H .sequence) squares before (H .squares-are) _ _ _ _ _ known left found r pivots values places rows columns polynomials standard leads coefficients (H .now) i F inside-is after
+                now = lead-kept q m order _ bytes multiples (H .sequence) squares before
+                    (H .squares-are) _ _ _ _ _ known left found r pivots values places rows columns polynomials standard leads coefficients
+                    (H .now) i F inside-is after
                     own column lead g pivots′ rows′ columns′ polynomials′ E long y known′ leads′ coefficients′ T a b;
               }
 
             module _ (y : lead ≡ false) where
               pub standard-fits : found < 64
-              standard-fits = standard-room q m order _ bytes multiples (H .sequence) squares before (H .squares-are) _ _ _ _ _ known left found r pivots values places rows columns polynomials standard leads coefficients (H .now) i F inside-is after
+              standard-fits = standard-room q m order _ bytes multiples (H .sequence) squares before
+                  (H .squares-are) _ _ _ _ _ known left found r pivots values places rows columns polynomials standard leads coefficients
+                  (H .now) i F inside-is after
                   own column lead g pivots′ rows′ columns′ polynomials′ E long y
 
-              pub standard-done : (known′ standard′ values′ places′ : List ℕ) → Passed (λ j. j ≡ i) known known′ → standard′ ≡ withPlace 8 found (bitsOf 8 (getD bytes i 0)) standard
+              pub standard-done : (known′ standard′ values′ places′ : List ℕ) → Passed (λ j. j ≡ i) known known′
+                  → standard′ ≡ withPlace 8 found (bitsOf 8 (getD bytes i 0)) standard
                   → values′ ≡ set values (getD bytes i 0) own → places′ ≡ noted (getD bytes i 0) (suc found) places
-                  → AtHead s n points bytes multiples squares before whole variables known′ left (found + 1) r pivots′ values′ places′ rows′ columns′ polynomials′ standard′ leads coefficients
+                  → AtHead s n points bytes multiples squares before whole variables known′ left
+                  (found + 1) r pivots′ values′ places′ rows′ columns′ polynomials′ standard′ leads coefficients
               standard-done known′ standard′ values′ places′ T a b c = record {
                 given = H .given;
                 two = H .two;
@@ -220,6 +261,8 @@ module _ {s : Settings} {n : ℕ} {points bytes multiples squares before : List 
                 squares-are = H .squares-are;
                 variables-are = H .variables-are;
                 whole-is = H .whole-is;
-                now = standard-kept q m order _ bytes multiples (H .sequence) squares before (H .squares-are) _ _ _ _ _ known left found r pivots values places rows columns polynomials standard leads coefficients (H .now) i F inside-is after
+                now = standard-kept q m order _ bytes multiples (H .sequence) squares before
+                    (H .squares-are) _ _ _ _ _ known left found r pivots values places rows columns polynomials standard leads coefficients
+                    (H .now) i F inside-is after
                     own column lead g pivots′ rows′ columns′ polynomials′ E long y known′ standard′ values′ places′ T a b c;
               }

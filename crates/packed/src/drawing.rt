@@ -21,7 +21,7 @@ use specification::settings::Settings;
 ghost use mathlib.Core.Path.{_≡_};
 ghost use lib.ListN.{length, replicate};
 ghost use Rattle.residue.specs.Sizes.{standardSize, leadsSize, coefficientsSize};
-ghost use Rattle.monomial.specs.Order.{orderOf};
+ghost use Rattle.monomial.specs.Order.{orderOf, weighted};
 ghost use Rattle.specification.specs.Settings.{Accepted};
 ghost use Rattle.specification.specs.Tables.{pointsIn};
 ghost use Rattle.construction.specs.Drawing.{PointsGiven, Tabled};
@@ -206,8 +206,8 @@ fn put_tables_under(
     requires { ⌜ Accepted settings × (settings .order ≡ 3) ⌝ }
     requires { ⌜ (length (now bytes) ≡ 256) × (length (now multiples) ≡ 32) ⌝ }
     requires { ⌜ (length (now squares) ≡ 8) × (length (now before) ≡ 8) ⌝ }
-    ensures { λ _. ⌜ Sequence (orderOf (settings .order) (settings .weights)) (now (bytes .exit)) (now (multiples .exit)) ⌝ }
-    ensures { λ _. ⌜ Squares (orderOf (settings .order) (settings .weights)) (settings .variables) (now (bytes .exit)) (now (squares .exit)) (now (before .exit)) ⌝ }
+    ensures { λ _. ⌜ Sequence (weighted (settings .weights)) (now (bytes .exit)) (now (multiples .exit)) ⌝ }
+    ensures { λ _. ⌜ Squares (weighted (settings .weights)) (settings .variables) (now (bytes .exit)) (now (squares .exit)) (now (before .exit)) ⌝ }
 {
     put_tables(
         settings.variables as usize,

@@ -4,7 +4,7 @@ ghost use Prim.Native.Nat.{_≤_};
 ghost use lib.ListN.{length};
 ghost use Rattle.packed.specs.Sequences.{squareComes};
 
-// Whether the last of the squares that are left comes before what stands at a place: no more monomials without squares are below it than stand before the place.
+// Whether the last of the squares that are left comes before what stands at a place: no more monomials without squares are below it than stand before that.
 pub fn square_comes(left: usize, at: usize, before: &[u16]) -> bool
     requires { ⌜ (left ≤ 8) × (length (now before) ≡ 8) ⌝ }
     ensures { λ r. ⌜ r ≡ squareComes left at (now (before .entry)) ⌝ }

@@ -25,9 +25,12 @@ cleared : {t : List ℕ} {k n : ℕ} → k ≡ n → t ≡ replicate k 0 → t �
 cleared l e = e ∙ ap (λ (k : ℕ). replicate k 0) l
 
 all-cleared : (k : tie.After-clear3)
-    → (k .before .before .before .before .before .before .before .before .clear .last .0 ≡ replicate standardSize 0) × ((k .before .before .before .before .clear2 .last .0 ≡ replicate leadsSize 0) × (k .clear3 .last .0 ≡ replicate coefficientsSize 0))
-all-cleared k =
-    (cleared (start k .pre .1 .0) (k .before .before .before .before .before .before .before .before .clear .ensures), (cleared (start k .pre .1 .1 .0) (k .before .before .before .before .clear2 .ensures), cleared (start k .pre .1 .1 .1) (k .clear3 .ensures)))
+    → (k .before .before .before .before .before .before .before .before .clear .last .0 ≡ replicate standardSize 0)
+    × ((k .before .before .before .before .clear2 .last .0 ≡ replicate leadsSize 0) × (k .clear3 .last .0 ≡ replicate coefficientsSize 0))
+all-cleared k = (
+  cleared (start k .pre .1 .0) (k .before .before .before .before .before .before .before .before .clear .ensures),
+  (cleared (start k .pre .1 .1 .0) (k .before .before .before .before .clear2 .ensures), cleared (start k .pre .1 .1 .1) (k .clear3 .ensures)),
+)
 
 last-order : (o : ℕ) → o ≤ 3 → o ≢ 0 → o ≢ 1 → o ≢ 2 → o ≡ 3
 last-order o h x y z = omega (arith, h, x, y, z)
@@ -94,8 +97,18 @@ returns-3 c = search needs
 
 draw-weighted-requires : tie.Need-draw-weighted-requires
 draw-weighted-requires c κs =
-    let k = c .before .before .before .before .before .before .before .before .before .before .before in
-    ((start k .pre .0 .0, (start k .pre .0 .1, last-order (start k .args .settings .order) (start k .pre .0 .0 .settings .order) (c .before .before .before .before .before .before .before .if1 .left) (c .before .before .before .before .before .if2 .left) (c .before .before .before .if3 .left))), all-cleared k)
+    let k = c .before .before .before .before .before .before .before .before .before .before .before in (
+      (
+        start k .pre .0 .0,
+        (
+          start k .pre .0 .1,
+          last-order (start k .args .settings .order) (start k .pre .0 .0 .settings .order)
+              (c .before .before .before .before .before .before .before .if1 .left) (c .before .before .before .before .before .if2 .left)
+              (c .before .before .before .if3 .left),
+        ),
+      ),
+      all-cleared k,
+    )
 
 same-length-10 : tie.Need-same-length-10
 same-length-10 c = search needs

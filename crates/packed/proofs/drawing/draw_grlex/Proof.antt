@@ -22,7 +22,8 @@ slice-aggregate-walk-4 c = search needs
 walk-requires : tie.Need-walk-requires
 walk-requires c κs =
     let s = c .before .before .before .before .before .before .before .before .before .before .before in
-    let t = grlex-under (s .args .settings .order) (s .args .settings .weights) (s .args .settings .variables) (s .pre .0 .1 .1) (s .pre .0 .0 .settings .few) in
+    let t = grlex-under (s .args .settings .order) (s .args .settings .weights) (s .args .settings .variables) (s .pre .0 .1 .1)
+    (s .pre .0 .0 .settings .few) in
     ((s .pre .0 .0, s .pre .0 .1 .0), (t .0, (t .1, s .pre .1)))
 
 same-length : tie.Need-same-length

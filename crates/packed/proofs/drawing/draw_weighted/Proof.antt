@@ -1,5 +1,6 @@
 -- `drawing::draw_weighted` meets its contract: the tables are computed, and the walk takes them.
 use borrow.Author.Needs.{needs}
+use Rattle.packed.proofs.SequenceTables.{weighted-under}
 use Rattle.packed.proofs.drawing.draw_weighted.Statement.{statement}
 use Rattle.packed.proofs.drawing.draw_weighted.Tie as tie
 use Rattle.packed.proofs.drawing.draw_weighted.Reads as reads
@@ -35,7 +36,12 @@ slice-aggregate-walk-4 : tie.Need-slice-aggregate-walk-4
 slice-aggregate-walk-4 c = search needs
 
 walk-requires : tie.Need-walk-requires
-walk-requires c κs = let s = c .before .before .before .before .before .before .before .before .before .before .before .before .before .before .before .before .before .before .before .before in let t = c .before .before .before .before .before .before .before .before .before .before .before .put-tables-under .ensures in ((s .pre .0 .0, s .pre .0 .1 .0), (t .0, (t .1, s .pre .1)))
+walk-requires c κs =
+    let s = c .before .before .before .before .before .before .before .before .before .before .before .before .before .before .before .before .before .before
+    .before .before in
+    let t = weighted-under (s .args .settings .order) (s .args .settings .weights) (s .pre .0 .1 .1)
+    (c .before .before .before .before .before .before .before .before .before .before .before .put-tables-under .ensures) in
+    ((s .pre .0 .0, s .pre .0 .1 .0), (t .0, (t .1, s .pre .1)))
 
 same-length : tie.Need-same-length
 same-length c = search needs

@@ -1,5 +1,5 @@
 -- `drawing::walk` meets its contract.
-use mathlib.Core.Path.{_≡_, refl, sym, ap, _∙_, subst}
+use mathlib.Core.Path.{_≡_, refl, sym, ap, _∙_}
 use mathlib.Core.Bool.{true, false}
 use mathlib.Core.List.{List}
 use mathlib.Core.Logic.{_≢_}
@@ -11,7 +11,20 @@ use Rattle.packed.specs.PlaceSets.{FirstOpen}
 use Rattle.packed.specs.PivotTables.{PivotsLong}
 use Rattle.packed.specs.Sequences.{squareComes}
 use Rattle.packed.proofs.Given.{Lent, AtHead, AtHeads, walked-start}
-use Rattle.packed.proofs.Turns.{known-long, left-few, found-few, standard-long, leads-long, coefficients-long, some-left, last-fits, square-skipped, square-fits, square-done, ended-as}
+use Rattle.packed.proofs.Turns.{
+  known-long,
+  left-few,
+  found-few,
+  standard-long,
+  leads-long,
+  coefficients-long,
+  some-left,
+  last-fits,
+  square-skipped,
+  square-fits,
+  square-done,
+  ended-as,
+}
 use Rattle.packed.proofs.Turns.{inside-is, examine-fits, lead-fits, lead-done, standard-fits, standard-done}
 use Rattle.packed.proofs.drawing.walk.Statement.{statement}
 use Rattle.packed.proofs.drawing.walk.Tie as tie
@@ -29,11 +42,14 @@ use Rattle.packed.proofs.pivots.examine.Reads as examine-reads
 use Rattle.packed.proofs.squares.square_comes.Reads as square-comes-reads
 
 abbrev Inv-loop : tie.InvT-loop
-Inv-loop n points bytes multiples squares before standard₀ leads₀ coefficients₀ whole variables left₀ known₀ values₀ places₀ rows₀ columns₀ polynomials₀ pivots₀ found₀ r₀ standard leads coefficients left known values places rows columns polynomials pivots found r =
-    AtHeads left₀ n points bytes multiples squares before whole variables known left found r pivots values places rows columns polynomials standard leads coefficients
+Inv-loop n points bytes multiples squares before standard₀ leads₀ coefficients₀ whole variables left₀ known₀ values₀ places₀ rows₀ columns₀ polynomials₀
+    pivots₀ found₀ r₀ standard leads coefficients left known values places rows columns polynomials pivots found r =
+    AtHeads left₀ n points bytes multiples squares before whole variables known left found r pivots values places rows columns polynomials standard leads
+    coefficients
 
 abbrev μ-loop : tie.MeasureT-loop
-μ-loop n points bytes multiples squares before standard₀ leads₀ coefficients₀ whole variables left₀ known₀ values₀ places₀ rows₀ columns₀ polynomials₀ pivots₀ found₀ r₀ standard leads coefficients left known values places rows columns polynomials pivots found r =
+μ-loop n points bytes multiples squares before standard₀ leads₀ coefficients₀ whole variables left₀ known₀ values₀ places₀ rows₀ columns₀ polynomials₀ pivots₀
+    found₀ r₀ standard leads coefficients left known values places rows columns polynomials pivots found r =
     left + ((64 - found) + (449 - r))
 
 -- what the walk is lent, and what holds at the head of the loop under its own settings
@@ -41,14 +57,17 @@ module _ (l : tie.At-loop Inv-loop μ-loop) where
   abbrev start : tie.Start Inv-loop μ-loop
   start = l .before .before .before .before .before .before .before .before .before .before .before .before .before .before .before .before
 
-  lent : Lent (start .args .settings) (start .args .n) (start .args .points .now) (start .args .bytes .now) (start .args .multiples .now) (start .args .squares .now) (start .args .before .now)
+  lent : Lent (start .args .settings) (start .args .n) (start .args .points .now) (start .args .bytes .now) (start .args .multiples .now)
+      (start .args .squares .now) (start .args .before .now)
   lent = record { given = start .pre .0 .0; two = start .pre .0 .1; sequence = start .pre .1 .0; squares-are = start .pre .1 .1 .0 }
 
   abbrev variables : List ℕ
   variables = l .before .before .before .before .before .put-variables .last .1 .1 .0
 
-  held : AtHead (start .args .settings) (start .args .n) (start .args .points .now) (start .args .bytes .now) (start .args .multiples .now) (start .args .squares .now) (start .args .before .now)
-      (l .before .before .before .before .before .before .before .ones .result) variables (l .loop .known) (l .loop .left) (l .loop .found) (l .loop .r) (l .loop .pivots) (l .loop .values) (l .loop .places) (l .loop .rows) (l .loop .columns)
+  held : AtHead (start .args .settings) (start .args .n) (start .args .points .now) (start .args .bytes .now) (start .args .multiples .now)
+      (start .args .squares .now) (start .args .before .now)
+      (l .before .before .before .before .before .before .before .ones .result) variables (l .loop .known) (l .loop .left) (l .loop .found) (l .loop .r)
+      (l .loop .pivots) (l .loop .values) (l .loop .places) (l .loop .rows) (l .loop .columns)
       (l .loop .polynomials) (l .loop .standard) (l .loop .leads) (l .loop .coefficients)
   held = l .loop .inv (start .args .settings) refl lent
 
@@ -101,24 +120,28 @@ slice-aggregate-put-variables : tie.Need-slice-aggregate-put-variables Inv-loop 
 slice-aggregate-put-variables c = refl
 
 put-variables-requires : tie.Need-put-variables-requires Inv-loop μ-loop
-put-variables-requires c κs = let a = c .before .before .before .before .before .before .before .before .before .before in (a .pre .0 .0 .most, (ap length (a .pre .0 .0 .table) ∙ length-fill 512 _, refl))
+put-variables-requires c κs = let a = c .before .before .before .before .before .before .before .before .before .before in
+    (a .pre .0 .0 .most, (ap length (a .pre .0 .0 .table) ∙ length-fill 512 _, refl))
 
 slice-aggregate-pass-above : tie.Need-slice-aggregate-pass-above Inv-loop μ-loop
 slice-aggregate-pass-above c = refl
 
 pass-above-requires : tie.Need-pass-above-requires Inv-loop μ-loop
-pass-above-requires c κs = let a = c .before .before .before .before .before .before .before .before .before .before .before .before .before in (a .pre .0 .0 .settings .few, (a .pre .1 .0 .multiples-long, refl))
+pass-above-requires c κs = let a = c .before .before .before .before .before .before .before .before .before .before .before .before .before in
+    (a .pre .0 .0 .settings .few, (a .pre .1 .0 .multiples-long, refl))
 
 loop-holds : tie.Need-loop-holds Inv-loop μ-loop
-loop-holds c = λ s m t. let a = c .before .before .before .before .before .before .before .before .before .before .before .before .before .before .before in record {
-  given = t .given;
-  two = t .two;
-  sequence = t .sequence;
-  squares-are = t .squares-are;
-  variables-are = c .before .before .before .before .put-variables .ensures;
-  whole-is = c .before .before .before .before .before .before .ones .ensures;
-  now = walked-start s _ _ (t .given) (t .two) _ _ (t .sequence) _ _ (t .squares-are) _ m _ _ _ _ (c .before .pass-above .ensures) (a .pre .1 .1 .1 .0) (a .pre .1 .1 .1 .1 .0) (a .pre .1 .1 .1 .1 .1);
-}
+loop-holds c = λ s m t. let a = c .before .before .before .before .before .before .before .before .before .before .before .before .before .before .before in
+    record {
+      given = t .given;
+      two = t .two;
+      sequence = t .sequence;
+      squares-are = t .squares-are;
+      variables-are = c .before .before .before .before .put-variables .ensures;
+      whole-is = c .before .before .before .before .before .before .ones .ensures;
+      now = walked-start s _ _ (t .given) (t .two) _ _ (t .sequence) _ _ (t .squares-are) _ m _ _ _ _ (c .before .pass-above .ensures) (a .pre .1 .1 .1 .0)
+          (a .pre .1 .1 .1 .1 .0) (a .pre .1 .1 .1 .1 .1);
+    }
 
 slice-aggregate-first-open : tie.Need-slice-aggregate-first-open Inv-loop μ-loop
 slice-aggregate-first-open c = sym (known-long (held (c .before)))
@@ -153,13 +176,15 @@ loop-less c = let u = c .before .before .before .before .before .before .before 
 
 loop-again : tie.Need-loop-again Inv-loop μ-loop
 loop-again c = λ s m t. let u = c .before .before .before .before .before .before .before in let k = c .before .before .before .before in
-    square-done (head (turn u .before) .loop .inv s m t) (place (turn u .before)) (opened (turn u .before)) (comes (turn u)) (u .if2 .taken) _ _ (k .keep-square .ensures .0) (k .keep-square .ensures .1)
+    square-done (head (turn u .before) .loop .inv s m t) (place (turn u .before)) (opened (turn u .before)) (comes (turn u)) (u .if2 .taken) _ _
+    (k .keep-square .ensures .0) (k .keep-square .ensures .1)
 
 loop-less-2 : tie.Need-loop-less-2 Inv-loop μ-loop
 loop-less-2 c = let z = some (c .before .before) in omega (arith, z)
 
 loop-again-2 : tie.Need-loop-again-2 Inv-loop μ-loop
-loop-again-2 c = λ s m t. let v = c .before .before in square-skipped (head (v .before) .loop .inv s m t) (place (v .before)) (opened (v .before)) (comes v) (c .if2 .left)
+loop-again-2 c = λ s m t. let v = c .before .before in
+    square-skipped (head (v .before) .loop .inv s m t) (place (v .before)) (opened (v .before)) (comes v) (c .if2 .left)
 
 same-length : tie.Need-same-length Inv-loop μ-loop
 same-length c = let l = head (c .before .before) in standard-long (held l) ∙ sym (ap length (start l .pre .1 .1 .1 .0))
@@ -178,20 +203,23 @@ module _ (x : tie.After-polynomials2 Inv-loop μ-loop) where
   abbrev before : tie.Else3 Inv-loop μ-loop
   before = x .before .before .before .before .before .before .before .before .before .before .before
 
-  lengths : PivotsLong (x .before .before .before .examine .last .1 .1 .1 .0) (x .before .before .before .examine .last .1 .1 .1 .1 .0) (x .before .before .before .examine .last .1 .1 .1 .1 .1 .0)
+  lengths : PivotsLong (x .before .before .before .examine .last .1 .1 .1 .0) (x .before .before .before .examine .last .1 .1 .1 .1 .0)
+      (x .before .before .before .examine .last .1 .1 .1 .1 .1 .0)
   lengths = let e = x .before .before .before in let h = held (head (before .before .before)) .now .pivots-long in
       (e .examine .kept .1 .1 .1 .0 ∙ h .0, (e .examine .kept .1 .1 .1 .1 .0 ∙ h .1 .0, e .examine .kept .1 .1 .1 .1 .1 .0 ∙ h .1 .1))
 
 module _ (u : tie.Then4 Inv-loop μ-loop) where
   lead-in : head (before (u .before) .before .before) .loop .r < 449
   lead-in = let t = before (u .before) in
-      lead-fits (held (head (t .before .before))) (place (t .before .before)) (opened (t .before .before)) (comes-not (t .before)) (t .if3 .left) _ (u .before .before .before .before .before .before .before .before .own-column .ensures) _ _ _ _ _ _
+      lead-fits (held (head (t .before .before))) (place (t .before .before)) (opened (t .before .before)) (comes-not (t .before)) (t .if3 .left) _
+      (u .before .before .before .before .before .before .before .before .own-column .ensures) _ _ _ _ _ _
       (u .before .before .before .before .examine .ensures) (lengths (u .before)) (u .if4 .taken)
 
 module _ (u : tie.Else4 Inv-loop μ-loop) where
   standard-in : head (before (u .before) .before .before) .loop .found < 64
   standard-in = let t = before (u .before) in
-      standard-fits (held (head (t .before .before))) (place (t .before .before)) (opened (t .before .before)) (comes-not (t .before)) (t .if3 .left) _ (u .before .before .before .before .before .before .before .before .own-column .ensures) _ _ _ _ _ _
+      standard-fits (held (head (t .before .before))) (place (t .before .before)) (opened (t .before .before)) (comes-not (t .before)) (t .if3 .left) _
+      (u .before .before .before .before .before .before .before .before .own-column .ensures) _ _ _ _ _ _
       (u .before .before .before .before .examine .ensures) (lengths (u .before)) (u .if4 .left)
 
 shared-slice-read-byte : tie.Need-shared-slice-read-byte Inv-loop μ-loop
@@ -204,7 +232,8 @@ slice-aggregate-own-column-2 : tie.Need-slice-aggregate-own-column-2 Inv-loop μ
 slice-aggregate-own-column-2 c = sym (held (c .before .before .before .before .before .before .before .before) .now .memory .values-long)
 
 own-column-requires : tie.Need-own-column-requires Inv-loop μ-loop
-own-column-requires c κs = let h = held (c .before .before .before .before .before .before .before .before) in (h .variables-are .long, h .now .memory .values-long)
+own-column-requires c κs = let h = held (c .before .before .before .before .before .before .before .before) in
+    (h .variables-are .long, h .now .memory .values-long)
 
 slice-aggregate-examine : tie.Need-slice-aggregate-examine Inv-loop μ-loop
 slice-aggregate-examine c = sym (held (c .before .before .before .before .before .before .before .before .before .before) .now .pivots-long .0)
@@ -213,17 +242,26 @@ slice-aggregate-examine-2 : tie.Need-slice-aggregate-examine-2 Inv-loop μ-loop
 slice-aggregate-examine-2 c = sym (held (c .before .before .before .before .before .before .before .before .before .before .before) .now .pivots-long .1 .0)
 
 slice-aggregate-examine-3 : tie.Need-slice-aggregate-examine-3 Inv-loop μ-loop
-slice-aggregate-examine-3 c = sym (held (c .before .before .before .before .before .before .before .before .before .before .before .before) .now .pivots-long .1 .1)
+slice-aggregate-examine-3 c = sym
+    (held (c .before .before .before .before .before .before .before .before .before .before .before .before) .now .pivots-long .1 .1)
 
 examine-requires : tie.Need-examine-requires Inv-loop μ-loop
-examine-requires c κs = let t = c .before .before .before .before .before .before .before in let h = held (c .before .before .before .before .before .before .before .before .before .before .before .before) in
-    (examine-fits h (place (t .before .before)) (opened (t .before .before)) (comes-not (t .before)) (t .if3 .left) _ (c .before .before .before .own-column .ensures), (h .now .pivots-long, found-few h))
+examine-requires c κs = let t = c .before .before .before .before .before .before .before in
+    let h = held (c .before .before .before .before .before .before .before .before .before .before .before .before) in (
+      examine-fits h (place (t .before .before)) (opened (t .before .before)) (comes-not (t .before)) (t .if3 .left) _
+          (c .before .before .before .own-column .ensures),
+      (h .now .pivots-long, found-few h),
+    )
 
 slice-aggregate-keep-lead : tie.Need-slice-aggregate-keep-lead Inv-loop μ-loop
-slice-aggregate-keep-lead c = sym (known-long (held (c .before .before .before .before .before .before .before .before .before .before .before .before .before .before .before .before .before .before)))
+slice-aggregate-keep-lead c = sym
+    (known-long (held (c .before .before .before .before .before .before .before .before .before .before .before .before .before .before .before .before
+    .before .before)))
 
 keep-lead-requires : tie.Need-keep-lead-requires Inv-loop μ-loop
-keep-lead-requires c κs = let h = held (c .before .before .before .before .before .before .before .before .before .before .before .before .before .before .before .before .before .before .before .before) in (lead-in (c .before .before .before), ((h .sequence .multiples-long, known-long h), (leads-long h, coefficients-long h)))
+keep-lead-requires c κs = let h =
+    held (c .before .before .before .before .before .before .before .before .before .before .before .before .before .before .before .before .before .before
+    .before .before) in (lead-in (c .before .before .before), ((h .sequence .multiples-long, known-long h), (leads-long h, coefficients-long h)))
 
 add-r-2 : tie.Need-add-r-2 Inv-loop μ-loop
 add-r-2 c = let h = lead-in (c .before .before .before .before .before .before .before .before .before) in record { fits = omega (arith, h) }
@@ -232,21 +270,43 @@ loop-less-3 : tie.Need-loop-less-3 Inv-loop μ-loop
 loop-less-3 c = let h = lead-in (c .before .before .before .before .before .before .before .before .before) in omega (arith, h)
 
 loop-again-3 : tie.Need-loop-again-3 Inv-loop μ-loop
-loop-again-3 c = λ s m w. let u = c .before .before .before .before .before .before .before .before .before in let t = c .before .before .before .before .before .before .before .before .before .before .before .before .before .before .before .before .before .before .before .before .before in let k = c .before .before .before .before .before in
-    lead-done (c .before .before .before .before .before .before .before .before .before .before .before .before .before .before .before .before .before .before .before .before .before .before .before .before .before .before .loop .inv s m w) (place (t .before .before)) (opened (t .before .before)) (comes-not (t .before)) (t .if3 .left) _ (c .before .before .before .before .before .before .before .before .before .before .before .before .before .before .before .before .before .own-column .ensures) _ _ _ _ _ _
-    (c .before .before .before .before .before .before .before .before .before .before .before .before .before .examine .ensures) (lengths (u .before)) (u .if4 .taken) _ _ _ (k .keep-lead .ensures .1 .1) (k .keep-lead .ensures .0) (k .keep-lead .ensures .1 .0)
+loop-again-3 c = λ s m w. let u = c .before .before .before .before .before .before .before .before .before in
+    let t = c .before .before .before .before .before .before .before .before .before .before .before .before .before .before .before .before .before .before
+    .before .before .before in let k = c .before .before .before .before .before in
+    lead-done (c .before .before .before .before .before .before .before .before .before .before .before .before .before .before .before .before .before
+    .before .before .before .before .before .before .before .before .before .loop .inv s m w) (place (t .before .before)) (opened (t .before .before))
+    (comes-not (t .before)) (t .if3 .left) _
+    (c .before .before .before .before .before .before .before .before .before .before .before .before .before .before .before .before .before .own-column
+    .ensures) _ _ _ _ _ _
+    (c .before .before .before .before .before .before .before .before .before .before .before .before .before .examine .ensures) (lengths (u .before))
+    (u .if4 .taken) _ _ _ (k .keep-lead .ensures .1 .1) (k .keep-lead .ensures .0) (k .keep-lead .ensures .1 .0)
 
 slice-aggregate-keep-standard : tie.Need-slice-aggregate-keep-standard Inv-loop μ-loop
-slice-aggregate-keep-standard c = sym (held (c .before .before .before .before .before .before .before .before .before .before .before .before .before .before .before .before .before .before) .now .memory .values-long)
+slice-aggregate-keep-standard c =
+    sym (held (c .before .before .before .before .before .before .before .before .before .before .before .before .before .before .before .before .before
+    .before) .now .memory .values-long)
 
 slice-aggregate-keep-standard-2 : tie.Need-slice-aggregate-keep-standard-2 Inv-loop μ-loop
-slice-aggregate-keep-standard-2 c = sym (held (c .before .before .before .before .before .before .before .before .before .before .before .before .before .before .before .before .before .before .before) .now .memory .places-long)
+slice-aggregate-keep-standard-2 c =
+    sym (held (c .before .before .before .before .before .before .before .before .before .before .before .before .before .before .before .before .before
+    .before .before) .now .memory .places-long)
 
 slice-aggregate-keep-standard-3 : tie.Need-slice-aggregate-keep-standard-3 Inv-loop μ-loop
-slice-aggregate-keep-standard-3 c = sym (known-long (held (c .before .before .before .before .before .before .before .before .before .before .before .before .before .before .before .before .before .before .before .before)))
+slice-aggregate-keep-standard-3 c =
+    sym (known-long (held (c .before .before .before .before .before .before .before .before .before .before .before .before .before .before .before .before
+    .before .before .before .before)))
 
 keep-standard-requires : tie.Need-keep-standard-requires Inv-loop μ-loop
-keep-standard-requires c κs = let h = held (c .before .before .before .before .before .before .before .before .before .before .before .before .before .before .before .before .before .before .before .before .before) in ((standard-in (c .before .before .before .before), within (c .before .before .before .before .before .before .before .before .before .before .before .before .before .before .before .before)), ((h .now .memory .values-long, (h .now .memory .places-long, known-long h)), standard-long h))
+keep-standard-requires c κs = let h =
+    held (c .before .before .before .before .before .before .before .before .before .before .before .before .before .before .before .before .before .before
+    .before .before .before) in (
+      (
+        standard-in (c .before .before .before .before),
+        within
+            (c .before .before .before .before .before .before .before .before .before .before .before .before .before .before .before .before),
+      ),
+      ((h .now .memory .values-long, (h .now .memory .places-long, known-long h)), standard-long h),
+    )
 
 add-found : tie.Need-add-found Inv-loop μ-loop
 add-found c = let h = standard-in (c .before .before .before .before .before .before .before .before .before .before) in record { fits = omega (arith, h) }
@@ -255,9 +315,16 @@ loop-less-4 : tie.Need-loop-less-4 Inv-loop μ-loop
 loop-less-4 c = let h = standard-in (c .before .before .before .before .before .before .before .before .before .before) in omega (arith, h)
 
 loop-again-4 : tie.Need-loop-again-4 Inv-loop μ-loop
-loop-again-4 c = λ s m w. let u = c .before .before .before .before .before .before .before .before .before .before in let t = c .before .before .before .before .before .before .before .before .before .before .before .before .before .before .before .before .before .before .before .before .before .before in let k = c .before .before .before .before .before in
-    standard-done (c .before .before .before .before .before .before .before .before .before .before .before .before .before .before .before .before .before .before .before .before .before .before .before .before .before .before .before .loop .inv s m w) (place (t .before .before)) (opened (t .before .before)) (comes-not (t .before)) (t .if3 .left) _ (c .before .before .before .before .before .before .before .before .before .before .before .before .before .before .before .before .before .before .own-column .ensures) _ _ _ _ _ _
-    (c .before .before .before .before .before .before .before .before .before .before .before .before .before .before .examine .ensures) (lengths (u .before)) (u .if4 .left) _ _ _ _ (k .keep-standard .ensures .1 .1) (k .keep-standard .ensures .0) (k .keep-standard .ensures .1 .0 .0)
+loop-again-4 c = λ s m w. let u = c .before .before .before .before .before .before .before .before .before .before in
+    let t = c .before .before .before .before .before .before .before .before .before .before .before .before .before .before .before .before .before .before
+    .before .before .before .before in let k = c .before .before .before .before .before in
+    standard-done (c .before .before .before .before .before .before .before .before .before .before .before .before .before .before .before .before .before
+    .before .before .before .before .before .before .before .before .before .before .loop .inv s m w) (place (t .before .before))
+    (opened (t .before .before)) (comes-not (t .before)) (t .if3 .left) _
+    (c .before .before .before .before .before .before .before .before .before .before .before .before .before .before .before .before .before .before
+    .own-column .ensures) _ _ _ _ _ _
+    (c .before .before .before .before .before .before .before .before .before .before .before .before .before .before .examine .ensures)
+    (lengths (u .before)) (u .if4 .left) _ _ _ _ (k .keep-standard .ensures .1 .1) (k .keep-standard .ensures .0) (k .keep-standard .ensures .1 .0 .0)
     (k .keep-standard .ensures .1 .0 .1)
 
 pub walk-spec : {M : Type 1} → statement M

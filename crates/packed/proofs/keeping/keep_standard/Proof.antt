@@ -56,7 +56,14 @@ returns c =
     let a = c .before .before .before .before .before .before .before .before .before .before .before .before .before .before .before .before .before in
     let e = c .before .before .before .before .before .before .before .before .before .before in (
       e .keep-eight .ensures ∙ ap (λ (l : List ℕ). withPlace 8 (a .args .found) l (a .args .standard .now)) (e .before .before .spread .ensures),
-      ((refl, c .before .before .before .before .before .before .note-variable .ensures ∙ ap (λ (x : ℕ). noted (a .args .byte) x (a .args .places .now)) (add-one (a .args .found))), c .before .before .pass .ensures),
+      (
+        (
+          refl,
+          c .before .before .before .before .before .before .note-variable .ensures
+              ∙ ap (λ (x : ℕ). noted (a .args .byte) x (a .args .places .now)) (add-one (a .args .found)),
+        ),
+        c .before .before .pass .ensures,
+      ),
     )
 
 pub keep-standard-spec : {M : Type 1} → statement M

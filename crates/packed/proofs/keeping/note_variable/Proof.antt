@@ -1,6 +1,4 @@
 -- `keeping::note_variable` meets its contract.
-use mathlib.Core.Path.{_≡_, sym, subst}
-use Prim.Native.Nat.{ℕ, _<_}
 use native.Mathlib.Omega.{arith}
 use Rattle.packed.proofs.NotedLaws.{noted-variable, noted-none, variable-low}
 use borrow.Author.Needs.{needs}
