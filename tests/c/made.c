@@ -57,7 +57,7 @@ uint8_t random_level(struct chance *c, int p, uint8_t residue)
 uint64_t random_weights(struct chance *c, uint64_t variables)
 {
     uint64_t packed = 0, style = below(c, 4), same = 1 + below(c, MISQAFUR_MAX_WEIGHT);
-    for (uint64_t k = 0; k < variables; k++) {
+    for (uint64_t k = 0; k < variables && k < MISQAFUR_MAX_VARIABLES; k++) {
         const uint64_t any = 1 + below(c, MISQAFUR_MAX_WEIGHT), few = 1 + below(c, 3);
         const uint64_t edge = once_in(c, 2) ? 1 : MISQAFUR_MAX_WEIGHT;
         packed |= (style == 0 ? any : style == 1 ? few : style == 2 ? edge : same) << 8 * k;

@@ -56,7 +56,7 @@ size_t random_levels(struct chance *c, int p, size_t m, const uint8_t *points, s
 /* Any order for the call's number of variables; by weight, weights of many kinds. */
 void random_order(struct chance *c, struct call *call);
 
-/* Weights for so many variables, packed: any, few different ones, the least and the greatest, or all the same. */
+/* Weights for so many variables, or for eight if there are more, packed: any, few different ones, the least and the greatest, or all the same. */
 uint64_t random_weights(struct chance *c, uint64_t variables);
 
 /* A signed byte with this residue. */
