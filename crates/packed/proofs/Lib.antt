@@ -39,5 +39,6 @@ pub mod Sorting
 pub mod DoublingLaws
 pub mod WeighingLaws
 pub mod WeighingTurns
+pub mod GatherLaws
 pub mod InsertionLaws
 pub mod SquaresUnder
