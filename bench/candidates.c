@@ -3,27 +3,27 @@
 
 #include <string.h>
 
-/* Digits of 7 bits. lex: e1 to e8; grlex: the degree, e1 to e7; grevlex: the degree, then the sums of
- * the first 7, 6 .. 1 exponents. */
-static uint64_t variable_rank(unsigned order, unsigned k)
+/* Digits of 7 bits. lex: e1 to e8; grlex: the degree, e1 to e7; by weight: the sum of weight times exponent, which has 13 bits,
+ * e1 to e7; grevlex: the degree, then the sums of the first 7, 6 .. 1 exponents. */
+static uint64_t variable_rank(unsigned order, uint64_t weight, unsigned k)
 {
     uint64_t sum = 0;
     if (order == 0)
         return (uint64_t)1 << 7 * (7 - k);
-    if (order == 1)
-        return ((uint64_t)1 << 49) + (k < 7 ? (uint64_t)1 << 7 * (6 - k) : 0);
+    if (order == 1 || order == 3)
+        return (weight << 49) + (k < 7 ? (uint64_t)1 << 7 * (6 - k) : 0);
     for (unsigned i = k; i < 8; i++)
         sum += (uint64_t)1 << 7 * i;
     return sum;
 }
 
-void candidates_begin(struct candidates *c, unsigned m, unsigned order)
+void candidates_begin(struct candidates *c, unsigned m, unsigned order, uint64_t weights)
 {
     c->m = m;
     c->found = 0;
     memset(c->at, 0, sizeof c->at);
     for (unsigned k = 0; k < m; k++)
-        c->step[k] = variable_rank(order, k);
+        c->step[k] = variable_rank(order, order == 3 ? weights >> 8 * k & 255 : 1, k);
 }
 
 void candidates_found(struct candidates *c, const struct candidate *monomial)

@@ -23,7 +23,7 @@ struct candidate {
     uint8_t exponents[8];
 };
 
-void candidates_begin(struct candidates *c, unsigned m, unsigned order);
+void candidates_begin(struct candidates *c, unsigned m, unsigned order, uint64_t weights);
 
 /* The monomial is standard. */
 void candidates_found(struct candidates *c, const struct candidate *monomial);

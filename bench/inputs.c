@@ -3,6 +3,11 @@
 
 #include <string.h>
 
+const char *const order_words[4] = {"lex", "grlex", "grevlex", "weight"};
+
+/* Eight weights, of which an input by weight has the first m: x1 is neither the greatest variable nor the smallest. */
+static const uint8_t weights[8] = {3, 1, 5, 2, 7, 2, 1, 4};
+
 /* The minimal standard generator of Park and Miller: enough for points. */
 static uint64_t next_number(uint64_t *state)
 {
@@ -33,6 +38,7 @@ void input_make(struct input *input, uint64_t p, uint64_t m, uint64_t order, uin
     input->p = p;
     input->m = m;
     input->order = order;
+    input->weights = order == MISQAFUR_WEIGHT ? misqafur_pack_weights(weights, m) : 0;
     input->n = n;
     for (uint64_t found = 0; found < n;) {
         uint8_t *point = input->levels + m * found;

@@ -14,7 +14,7 @@ struct lent {
 #define MOST_TERMS 32
 
 struct input {
-    uint64_t p, m, order, n;
+    uint64_t p, m, order, weights, n;
     uint8_t levels[512];           /* n points */
     uint8_t rounds[MISQAFUR_MAX_COUNT * 512]; /* the n points over and over, each as often as it can be counted */
     struct lent before;            /* the basis of all points but the last */
@@ -25,7 +25,11 @@ struct input {
 /* Whether p^m is enough for n distinct points. */
 int input_exists(uint64_t p, uint64_t m, uint64_t n);
 
-/* Distinct random points and a random polynomial. The two bases are left to be drawn up. */
+/* An order in a word. */
+extern const char *const order_words[4];
+
+/* Distinct random points, the same in every order, and a random polynomial; by weight some weights. The two bases are left to be
+ * drawn up. */
 void input_make(struct input *input, uint64_t p, uint64_t m, uint64_t order, uint64_t n);
 
 #endif

@@ -25,9 +25,9 @@ enum side { PACKED, GENERAL, PLAIN, SIDES };
 static uint32_t draw(enum side side, const struct boolean_input *in, struct lent *to)
 {
     if (side == GENERAL)
-        return (uint32_t)misqafur_draw_up(2, in->m, in->order, LENT(to), in->levels, in->m * in->n);
-    return (side == PACKED ? misqafur_draw_up_packed : plain_draw_up_packed)(2, in->m, in->order, LENT(to), in->levels,
-                                                                            in->m * in->n);
+        return (uint32_t)misqafur_draw_up(2, in->m, in->order, 0, LENT(to), in->levels, in->m * in->n);
+    return (side == PACKED ? misqafur_draw_up_packed : plain_draw_up_packed)(2, in->m, in->order, 0, LENT(to),
+                                                                            in->levels, in->m * in->n);
 }
 
 /* Whether all sides leave the same for an input. */
@@ -117,7 +117,6 @@ static int compare(struct boolean_input inputs[INPUTS], enum shape shape)
 /* One line. */
 static int measure(struct boolean_input inputs[INPUTS], enum shape shape)
 {
-    static const char *const words[3] = {"lex", "grlex", "grevlex"};
     const struct boolean_input *in = &inputs[0];
     double one[SIDES], many[SIDES];
     int differing = compare(inputs, shape);
@@ -126,7 +125,7 @@ static int measure(struct boolean_input inputs[INPUTS], enum shape shape)
     const double ratios[RATIOS] = {one[GENERAL] / one[PACKED], one[PACKED] / one[PLAIN], many[GENERAL] / many[PACKED],
                                    many[PACKED] / many[PLAIN]};
     printf("%-8s %3d  %-8s %3d %10.2f %10.2f %6.2f %10.2f %6.2f %8.2f %6.2f\n", shape_names[shape], (int)in->m,
-           words[in->order], (int)in->n, one[PACKED], one[GENERAL], ratios[FASTER], one[PLAIN], ratios[SLOWER],
+           order_words[in->order], (int)in->n, one[PACKED], one[GENERAL], ratios[FASTER], one[PLAIN], ratios[SLOWER],
            ratios[FASTER_IN_TURN], ratios[SLOWER_IN_TURN]);
     fflush(stdout);
     for (int k = 0; k < RATIOS; k++) {

@@ -5,7 +5,7 @@
 
 #include <string.h>
 
-uint64_t plain_draw_up(uint64_t modulus, uint64_t variables, uint64_t order,
+uint64_t plain_draw_up(uint64_t modulus, uint64_t variables, uint64_t order, uint64_t weights,
                        uint8_t *states, size_t states_length, uint8_t *standard, size_t standard_length,
                        uint8_t *leads, size_t leads_length, uint8_t *coefficients, size_t coefficients_length,
                        uint8_t *counts, size_t counts_length, const uint8_t *levels, size_t levels_length)
@@ -17,13 +17,14 @@ uint64_t plain_draw_up(uint64_t modulus, uint64_t variables, uint64_t order,
     unsigned refusal = gather_points(p, m, levels_length / variables, levels, states, counts, &n);
     if (refusal != 0)
         return refusal;
-    tableau_begin(&t, p, m, (unsigned)order, n, states);
+    tableau_begin(&t, p, m, (unsigned)order, weights, n, states);
     tableau_draw(&t, &to);
     return 256 * n + 65536 * to.r;
 }
 
 /* The rest is drawn up anew: nothing of the old basis serves. */
-uint32_t plain_withdraw_point(uint64_t modulus, uint64_t variables, uint64_t order, uint64_t n, uint64_t r,
+uint32_t plain_withdraw_point(uint64_t modulus, uint64_t variables, uint64_t order, uint64_t weights,
+                              uint64_t n, uint64_t r,
                               uint8_t *states, size_t states_length, uint8_t *standard, size_t standard_length,
                               uint8_t *leads, size_t leads_length, uint8_t *coefficients, size_t coefficients_length,
                               uint8_t *counts, size_t counts_length, const uint8_t *levels, size_t levels_length)
@@ -34,7 +35,7 @@ uint32_t plain_withdraw_point(uint64_t modulus, uint64_t variables, uint64_t ord
     uint8_t point[8] = {0};
     unsigned p = (unsigned)modulus, left = (unsigned)n - 1;
     (void)states_length, (void)standard_length, (void)leads_length, (void)coefficients_length, (void)counts_length;
-    if (!good_tables(&t, &old, modulus, variables, order, n, r, states, standard, leads, coefficients, counts))
+    if (!good_tables(&t, &old, modulus, variables, order, weights, n, r, states, standard, leads, coefficients, counts))
         return 10;
     for (size_t k = 0; k < levels_length; k++)
         point[k] = residue(p, levels[k]);
@@ -49,12 +50,13 @@ uint32_t plain_withdraw_point(uint64_t modulus, uint64_t variables, uint64_t ord
     counts[left] = 0;
     memmove(states + 8 * place, states + 8 * place + 8, 8 * (left - place));
     memset(states + 8 * left, 0, 8);
-    tableau_begin(&t, p, (unsigned)variables, (unsigned)order, left, states);
+    tableau_begin(&t, p, (unsigned)variables, (unsigned)order, weights, left, states);
     tableau_draw(&t, &to);
     return 256 * left + 65536 * to.r;
 }
 
-uint32_t plain_check(uint64_t modulus, uint64_t variables, uint64_t order, uint64_t n, uint64_t r,
+uint32_t plain_check(uint64_t modulus, uint64_t variables, uint64_t order, uint64_t weights,
+                     uint64_t n, uint64_t r,
                      const uint8_t *states, size_t states_length,
                      const uint8_t *standard, size_t standard_length,
                      const uint8_t *leads, size_t leads_length,
@@ -64,7 +66,7 @@ uint32_t plain_check(uint64_t modulus, uint64_t variables, uint64_t order, uint6
     struct tableau t;
     struct redrawn to;
     (void)states_length, (void)standard_length, (void)leads_length, (void)coefficients_length, (void)counts_length;
-    return good_tables(&t, &to, modulus, variables, order, n, r, states, standard, leads, coefficients, counts) ? 0 : 10;
+    return good_tables(&t, &to, modulus, variables, order, weights, n, r, states, standard, leads, coefficients, counts) ? 0 : 10;
 }
 
 /* Powers of the residues: a^e for e from 1 to p - 1, after which they repeat. */
@@ -102,7 +104,8 @@ static void add_term(const struct tableau *t, const struct powers *powers, uint1
         values[i] = reduce((uint16_t)(values[i] + term[i]), magic, p);
 }
 
-uint32_t plain_remainder(uint64_t modulus, uint64_t variables, uint64_t order, uint64_t n, uint64_t r,
+uint32_t plain_remainder(uint64_t modulus, uint64_t variables, uint64_t order, uint64_t weights,
+                         uint64_t n, uint64_t r,
                          const uint8_t *states, size_t states_length,
                          const uint8_t *standard, size_t standard_length,
                          const uint8_t *leads, size_t leads_length,
@@ -118,7 +121,7 @@ uint32_t plain_remainder(uint64_t modulus, uint64_t variables, uint64_t order, u
     unsigned p = (unsigned)modulus;
     (void)states_length, (void)standard_length, (void)leads_length, (void)coefficients_length, (void)counts_length;
     (void)exponents_length, (void)out_length;
-    if (!good_tables(&t, &to, modulus, variables, order, n, r, states, standard, leads, coefficients, counts))
+    if (!good_tables(&t, &to, modulus, variables, order, weights, n, r, states, standard, leads, coefficients, counts))
         return 10;
     make_powers(&t, &powers);
     for (size_t i = 0; i < term_coefficients_length; i++)

@@ -138,14 +138,15 @@ static unsigned put_rows(const struct addition *a, uint8_t *leads, uint8_t *coef
     return r;
 }
 
-uint32_t plain_add_point(uint64_t modulus, uint64_t variables, uint64_t order, uint64_t n, uint64_t r,
+uint32_t plain_add_point(uint64_t modulus, uint64_t variables, uint64_t order, uint64_t weights,
+                         uint64_t n, uint64_t r,
                          uint8_t *states, size_t states_length, uint8_t *standard, size_t standard_length,
                          uint8_t *leads, size_t leads_length, uint8_t *coefficients, size_t coefficients_length,
                          uint8_t *counts, size_t counts_length, const uint8_t *levels, size_t levels_length)
 {
     struct addition a;
     (void)states_length, (void)standard_length, (void)leads_length, (void)coefficients_length, (void)counts_length;
-    if (!good_tables(&a.t, &a.old, modulus, variables, order, n, r, states, standard, leads, coefficients, counts))
+    if (!good_tables(&a.t, &a.old, modulus, variables, order, weights, n, r, states, standard, leads, coefficients, counts))
         return 10;
     memset(a.point, 0, 8);
     for (size_t k = 0; k < levels_length; k++)

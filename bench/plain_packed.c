@@ -127,7 +127,7 @@ static void begin(struct packed *d, unsigned m, unsigned n, int falling, uint8_t
         d->known[0] = ~(uint64_t)0 << (1u << m);
 }
 
-uint32_t plain_draw_up_packed(uint64_t modulus, uint64_t variables, uint64_t order,
+uint32_t plain_draw_up_packed(uint64_t modulus, uint64_t variables, uint64_t order, uint64_t weights,
                               uint8_t *states, size_t states_length, uint8_t *standard, size_t standard_length,
                               uint8_t *leads, size_t leads_length, uint8_t *coefficients, size_t coefficients_length,
                               uint8_t *counts, size_t counts_length, const uint8_t *levels, size_t levels_length)
@@ -140,6 +140,8 @@ uint32_t plain_draw_up_packed(uint64_t modulus, uint64_t variables, uint64_t ord
         return 4;
     if (order > 2)
         return 5;
+    if (weights != 0)
+        return 15;
     if (states_length < MISQAFUR_STATES_SIZE || standard_length < MISQAFUR_STANDARD_SIZE ||
         leads_length < MISQAFUR_LEADS_SIZE || coefficients_length < MISQAFUR_COEFFICIENTS_SIZE ||
         counts_length < MISQAFUR_COUNTS_SIZE)

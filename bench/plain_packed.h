@@ -18,7 +18,7 @@
 
 #include "misqafur.h"
 
-/* Has every refusal of the call. */
+/* Has every refusal of the call, and takes no order by weight: 5 is for every number above 2. */
 __typeof__(misqafur_draw_up_packed) plain_draw_up_packed;
 
 #define MOST_LEADS 449

@@ -56,16 +56,16 @@ static int good_points(const uint8_t *states, const uint8_t *counts, unsigned p,
     return 1;
 }
 
-int good_tables(struct tableau *t, struct redrawn *to, uint64_t modulus, uint64_t variables, uint64_t order, uint64_t n,
-                uint64_t r, const uint8_t *states, const uint8_t *standard, const uint8_t *leads,
-                const uint8_t *coefficients, const uint8_t *counts)
+int good_tables(struct tableau *t, struct redrawn *to, uint64_t modulus, uint64_t variables, uint64_t order,
+                uint64_t weights, uint64_t n, uint64_t r, const uint8_t *states, const uint8_t *standard,
+                const uint8_t *leads, const uint8_t *coefficients, const uint8_t *counts)
 {
     if (!good_points(states, counts, (unsigned)modulus, (unsigned)variables, (unsigned)n))
         return 0;
     to->drawn.standard = to->standard;
     to->drawn.leads = to->leads;
     to->drawn.coefficients = to->coefficients;
-    tableau_begin(t, (unsigned)modulus, (unsigned)variables, (unsigned)order, (unsigned)n, states);
+    tableau_begin(t, (unsigned)modulus, (unsigned)variables, (unsigned)order, weights, (unsigned)n, states);
     tableau_draw(t, &to->drawn);
     return to->drawn.r == r && memcmp(to->standard, standard, sizeof to->standard) == 0 &&
            memcmp(to->leads, leads, sizeof to->leads) == 0 &&

@@ -26,8 +26,8 @@ struct redrawn {
 };
 
 /* Draws up the points again; whether n, r and the tables are the ones handed in. */
-int good_tables(struct tableau *t, struct redrawn *to, uint64_t modulus, uint64_t variables, uint64_t order, uint64_t n,
-                uint64_t r, const uint8_t *states, const uint8_t *standard, const uint8_t *leads,
-                const uint8_t *coefficients, const uint8_t *counts);
+int good_tables(struct tableau *t, struct redrawn *to, uint64_t modulus, uint64_t variables, uint64_t order,
+                uint64_t weights, uint64_t n, uint64_t r, const uint8_t *states, const uint8_t *standard,
+                const uint8_t *leads, const uint8_t *coefficients, const uint8_t *counts);
 
 #endif

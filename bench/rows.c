@@ -129,20 +129,21 @@ static const uint8_t *inverses(uint8_t p)
     return inverse[p];
 }
 
-static void begin(struct rows *w, uint8_t p, unsigned m, unsigned order, unsigned n, const uint8_t *states)
+static void begin(struct rows *w, uint8_t p, unsigned m, unsigned order, uint64_t weights, unsigned n,
+                  const uint8_t *states)
 {
     w->p = p;
     w->n = n;
     w->cancellations = 0;
     w->inverse = inverses(p);
-    candidates_begin(&w->candidates, m, order);
+    candidates_begin(&w->candidates, m, order, weights);
     memset(w->coordinate, 0, sizeof w->coordinate);
     for (unsigned k = 0; k < m; k++)
         for (unsigned i = 0; i < n; i++)
             w->coordinate[k][i] = states[8 * i + k];
 }
 
-uint64_t rows_draw_up(uint64_t modulus, uint64_t variables, uint64_t order,
+uint64_t rows_draw_up(uint64_t modulus, uint64_t variables, uint64_t order, uint64_t weights,
                       uint8_t *states, size_t states_length, uint8_t *standard, size_t standard_length,
                       uint8_t *leads, size_t leads_length, uint8_t *coefficients, size_t coefficients_length,
                       uint8_t *counts, size_t counts_length, const uint8_t *levels, size_t levels_length)
@@ -156,7 +157,7 @@ uint64_t rows_draw_up(uint64_t modulus, uint64_t variables, uint64_t order,
                                      counts, &n);
     if (refusal != 0)
         return refusal;
-    begin(&w, (uint8_t)modulus, (unsigned)variables, (unsigned)order, n, states);
+    begin(&w, (uint8_t)modulus, (unsigned)variables, (unsigned)order, weights, n, states);
     memset(standard, 0, MISQAFUR_STANDARD_SIZE);
     memset(leads, 0, MISQAFUR_LEADS_SIZE);
     memset(coefficients, 0, MISQAFUR_COEFFICIENTS_SIZE);

@@ -3,10 +3,17 @@
 
 #include <stdio.h>
 
-static const char *const order_words[3] = {"lex", "grlex", "grevlex"};
-
 /* Runs over which Singular's time is averaged. */
 #define RUNS 50
+
+/* An input's weights, divided by commas, between two words. */
+static void print_weights(const struct input *in, const char *before, const char *behind)
+{
+    printf("%s", before);
+    for (uint64_t k = 0; k < in->m; k++)
+        printf("%s%d", k == 0 ? "" : ",", (int)(in->weights >> 8 * k & 255));
+    printf("%s", behind);
+}
 
 void singular_begin(void)
 {
@@ -28,7 +35,11 @@ static void singular_points(const struct input *in)
 void singular_input(const struct input *in)
 {
     static const char *const orders[3] = {"lp", "Dp", "dp"};
-    printf("ring r = %d,(x(1..%d)),%s;\n", (int)in->p, (int)in->m, orders[in->order]);
+    printf("ring r = %d,(x(1..%d)),", (int)in->p, (int)in->m);
+    if (in->order == MISQAFUR_WEIGHT)
+        print_weights(in, "(a(", "),lp);\n");
+    else
+        printf("%s;\n", orders[in->order]);
     singular_points(in);
     printf("intvec once = 1:%d;\nideal g;\nbegan = timer;\n", (int)in->n);
     printf("for (i = 0; i < %d; i++) { g = interpolation(points, once); }\nbegan = timer - began;\n", RUNS);
@@ -44,8 +55,12 @@ void macaulay2_begin(void)
 void macaulay2_input(const struct input *in)
 {
     static const char *const orders[3] = {"Lex", "GLex", "GRevLex"};
-    printf("R = ZZ/%d[x_1..x_%d, MonomialOrder => %s];\nM = matrix(ZZ/%d, {", (int)in->p, (int)in->m, orders[in->order],
-           (int)in->p);
+    printf("R = ZZ/%d[x_1..x_%d, MonomialOrder => ", (int)in->p, (int)in->m);
+    if (in->order == MISQAFUR_WEIGHT)
+        print_weights(in, "{Weights => {", "}, Lex}];\n");
+    else
+        printf("%s];\n", orders[in->order]);
+    printf("M = matrix(ZZ/%d, {", (int)in->p);
     for (uint64_t k = 0; k < in->m; k++) {
         printf("%s{", k == 0 ? "" : ",");
         for (uint64_t i = 0; i < in->n; i++)

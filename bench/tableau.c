@@ -5,9 +5,10 @@
 
 #define LANES 8
 
-void tableau_begin(struct tableau *t, unsigned p, unsigned m, unsigned order, unsigned n, const uint8_t *points)
+void tableau_begin(struct tableau *t, unsigned p, unsigned m, unsigned order, uint64_t weights, unsigned n,
+                   const uint8_t *points)
 {
-    candidates_begin(&t->candidates, m, order);
+    candidates_begin(&t->candidates, m, order, weights);
     t->p = p;
     t->m = m;
     t->n = n;

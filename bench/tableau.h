@@ -35,7 +35,8 @@ struct drawn {
 };
 
 /* Gets ready for n points of m residues, 8 bytes each. */
-void tableau_begin(struct tableau *t, unsigned p, unsigned m, unsigned order, unsigned n, const uint8_t *points);
+void tableau_begin(struct tableau *t, unsigned p, unsigned m, unsigned order, uint64_t weights, unsigned n,
+                   const uint8_t *points);
 
 /* Draws up the basis of its points. */
 void tableau_draw(struct tableau *t, struct drawn *to);

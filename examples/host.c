@@ -1,5 +1,5 @@
 /* An example host: pots one after another into a sheet, two of them in the same state; one was mislabelled and is
- * withdrawn. Then an interpolant, a wiring list and a remainder.
+ * withdrawn. Then an interpolant, a wiring list and a remainder; and an interpolant by weight, where x2 is used last.
  * Build: cc host.c $(pkg-config --cflags --libs misqafur) -o host */
 #include <misqafur.h>
 
@@ -89,9 +89,22 @@ static uint32_t remainder_of_term(void)
     return 0;
 }
 
+/* The same states by weight: x2 is believed to act late, and has the larger weight. */
+static uint32_t by_weight(void)
+{
+    const uint8_t weights[VARIABLES] = {1, 9}, levels[3 * VARIABLES] = {0, 0, 1, 2, 2, 1};
+    uint32_t refusal = misqafur_sheet_init(&sheet, 5, VARIABLES, MISQAFUR_WEIGHT, misqafur_pack_weights(weights, VARIABLES));
+    if (refusal == 0)
+        refusal = misqafur_sheet_draw_up(&sheet, levels, sizeof levels);
+    if (refusal != 0)
+        return refusal;
+    printf("by weight\n");
+    return interpolate();
+}
+
 int main(void)
 {
-    uint32_t refusal = misqafur_sheet_init(&sheet, 5, VARIABLES, MISQAFUR_GRLEX);
+    uint32_t refusal = misqafur_sheet_init(&sheet, 5, VARIABLES, MISQAFUR_GRLEX, 0);
     if (refusal == 0) {
         add(0, 0);
         add(1, 2);
@@ -106,6 +119,8 @@ int main(void)
     }
     if (refusal == 0)
         refusal = remainder_of_term();
+    if (refusal == 0)
+        refusal = by_weight();
     if (refusal != 0)
         fprintf(stderr, "host: %s\n", misqafur_refusal_text(refusal));
     return refusal != 0;

@@ -7,8 +7,12 @@
  *
  * Settings, in every call but the reader, any 64-bit numbers:
  *   modulus    p, one of 2 3 5 7 11 13 17 19 23 29 31 37 41 43 47 53 59 61
- *   variables  m, 1 to 8; x1 is the greatest variable, xm the smallest
- *   order      0 lex, 1 grlex, 2 grevlex
+ *   variables  m, 1 to 8
+ *   order      0 lex, 1 grlex, 2 grevlex, 3 by weight; in the first three x1 is the greatest variable, xm the smallest
+ *   weights    with order 3 one for each variable, 1 to 99, as one number, w1 + 256 w2 + 65536 w3 and so on; with any
+ *              other order 0. misqafur_pack_weights makes the number of bytes
+ * By weight, the monomial with the larger sum of weight times exponent is greater, between equal sums by lex: a variable
+ * with a large weight is used last. With all weights 1 that is grlex.
  *
  * Levels, values and the coefficients of a polynomial are signed bytes from -(p-1) to p-1, handed
  * in as plain bytes of the same bits: 255 is -1. A negative one has p added, any other is kept.
@@ -38,14 +42,14 @@
  * all. No byte that a call may write may be lent to it twice; buffers that are only read may overlap.
  *
  * Refusals. A call that succeeds answers refusal 0 with its numbers. Otherwise it answers the first
- * of these that holds, in this order, but that 8 for points is looked for directly before 13; and no
- * lent byte has changed. The number comes alone, all else in the answer being 0; only the reader adds
- * the record at fault:
+ * of these that holds, in this order, but that 15 is looked for directly after 5, and 8 for points directly
+ * before 13; and no lent byte has changed. The number comes alone, all else in the answer being 0; only the
+ * reader adds the record at fault:
  *    1  the text is longer than 16,384 bytes
  *    2  the text breaks the rules, or a record's field count differs from the header's
  *    3  the modulus is not one of the 18, or in misqafur_draw_up_packed not 2
  *    4  the number of variables is not 1 to 8
- *    5  the order is not 0, 1 or 2
+ *    5  the order is not 0, 1, 2 or 3
  *    6  a lent table or answer buffer is shorter than its size
  *    7  a length is wrong
  *    8  an n above 64, or more than 256 terms; directly before 13: more than 64 distinct points
@@ -57,6 +61,8 @@
  *   12  a point that is to be withdrawn is not there (compared by residues)
  *   13  a point would be counted more than 255 times
  *   14  in a text, a replicate has another value than its point has (compared by residues)
+ *   15  with order 3 a variable's weight is not 1 to 99, or a byte of the weights behind the m-th is not 0; with
+ *       another order the weights are not 0
  * Beside each call stand the refusals that it can answer, in the order in which they are looked for.
  *
  * Calls use no heap, open no files, keep nothing between them and share nothing: any number of
@@ -78,7 +84,7 @@
  *       const uint8_t levels[6] = {0, 0, 1, 2, 2, 1};
  *       const uint8_t values[3] = {1, 0, misqafur_level(-2)};
  *       uint8_t interpolant[MISQAFUR_RESIDUES_SIZE];
- *       uint32_t refusal = misqafur_sheet_init(&sheet, 5, 2, MISQAFUR_GRLEX);
+ *       uint32_t refusal = misqafur_sheet_init(&sheet, 5, 2, MISQAFUR_GRLEX, 0);
  *       if (refusal == 0)
  *           refusal = misqafur_sheet_draw_up(&sheet, levels, 6);
  *       if (refusal == 0)
@@ -102,11 +108,11 @@
 
 /* The interface's number, which changes when a call's arguments or tables do; it is in the shared library's name, and the
  * first of the version's three. The second goes up with each further call. */
-#define MISQAFUR_ABI 2
-#define MISQAFUR_VERSION_MAJOR 2
-#define MISQAFUR_VERSION_MINOR 1
+#define MISQAFUR_ABI 3
+#define MISQAFUR_VERSION_MAJOR 3
+#define MISQAFUR_VERSION_MINOR 0
 #define MISQAFUR_VERSION_PATCH 0
-#define MISQAFUR_VERSION "2.1.0"
+#define MISQAFUR_VERSION "3.0.0"
 #define MISQAFUR_VERSION_NUMBER \
     (10000 * MISQAFUR_VERSION_MAJOR + 100 * MISQAFUR_VERSION_MINOR + MISQAFUR_VERSION_PATCH)
 
@@ -117,17 +123,20 @@
 #define MISQAFUR_COUNTS_SIZE 64
 #define MISQAFUR_RESIDUES_SIZE 64 /* an interpolant, a remainder, the values read from a text */
 #define MISQAFUR_WIRING_SIZE 8
+#define MISQAFUR_WEIGHTS_SIZE 8
 #define MISQAFUR_LEVELS_SIZE 512 /* what misqafur_pack_levels asks for: 8 levels for each of 64 points */
 
 #define MISQAFUR_MAX_POINTS 64
 #define MISQAFUR_MAX_COUNT 255
 #define MISQAFUR_MAX_VARIABLES 8
+#define MISQAFUR_MAX_WEIGHT 99
 #define MISQAFUR_MAX_TERMS 256
 #define MISQAFUR_MAX_TEXT 16384
 
 #define MISQAFUR_LEX 0
 #define MISQAFUR_GRLEX 1
 #define MISQAFUR_GREVLEX 2
+#define MISQAFUR_WEIGHT 3
 
 /* Bytes of stack that are enough for any call. */
 #define MISQAFUR_STACK 163840
@@ -148,7 +157,8 @@ enum misqafur_refusals {
     MISQAFUR_REFUSED_REPEATED = 11, /* by no call */
     MISQAFUR_REFUSED_ABSENT = 12,
     MISQAFUR_REFUSED_REPLICATES = 13,
-    MISQAFUR_REFUSED_OTHER_VALUE = 14
+    MISQAFUR_REFUSED_OTHER_VALUE = 14,
+    MISQAFUR_REFUSED_WEIGHT = 15
 };
 
 /* An answer is to be looked at: compilers that know how warn where it is not. */
@@ -162,7 +172,7 @@ enum misqafur_refusals {
 extern "C" {
 #endif
 
-/* misqafur_abi_2, with the number of this header's interface in its name: a library of another interface has no such
+/* misqafur_abi_3, with the number of this header's interface in its name: a library of another interface has no such
  * call. Answers the library's version, as MISQAFUR_VERSION_NUMBER is this header's. A host calls it as misqafur_version. */
 #define MISQAFUR_NUMBERED(number) misqafur_abi_##number
 #define MISQAFUR_ABI_CALL(number) MISQAFUR_NUMBERED(number)
@@ -173,9 +183,10 @@ uint32_t MISQAFUR_ABI_CALL(MISQAFUR_ABI)(void);
  * Reads: the settings, n, r, the five tables, m levels (a copy: states itself is written).
  * Writes: the five tables, to their sizes.
  * Answers the new n and r (misqafur_points, misqafur_elements).
- * Refusals: 3, 4, 5, 6, 7 (levels_length is not m), 8 (n is above 64), 9, 10, 8 (64 points are there, and this
+ * Refusals: 3, 4, 5, 15, 6, 7 (levels_length is not m), 8 (n is above 64), 9, 10, 8 (64 points are there, and this
  * one is new), 13 (its count is 255). */
-uint32_t misqafur_add_point(uint64_t modulus, uint64_t variables, uint64_t order, uint64_t n, uint64_t r,
+uint32_t misqafur_add_point(uint64_t modulus, uint64_t variables, uint64_t order, uint64_t weights,
+                            uint64_t n, uint64_t r,
                             uint8_t *states, size_t states_length, uint8_t *standard, size_t standard_length,
                             uint8_t *leads, size_t leads_length, uint8_t *coefficients, size_t coefficients_length,
                             uint8_t *counts, size_t counts_length, const uint8_t *levels, size_t levels_length);
@@ -187,8 +198,9 @@ uint32_t misqafur_add_point(uint64_t modulus, uint64_t variables, uint64_t order
  * Reads: the settings, n, r, the five tables, m levels (a copy: states itself is written).
  * Writes: the five tables, to their sizes.
  * Answers the new n and r (misqafur_points, misqafur_elements); without points n = 0 and r = 1.
- * Refusals: 3, 4, 5, 6, 7 (levels_length is not m), 8 (n is above 64), 9, 10, 12. */
-uint32_t misqafur_withdraw_point(uint64_t modulus, uint64_t variables, uint64_t order, uint64_t n, uint64_t r,
+ * Refusals: 3, 4, 5, 15, 6, 7 (levels_length is not m), 8 (n is above 64), 9, 10, 12. */
+uint32_t misqafur_withdraw_point(uint64_t modulus, uint64_t variables, uint64_t order, uint64_t weights,
+                                 uint64_t n, uint64_t r,
                                  uint8_t *states, size_t states_length, uint8_t *standard, size_t standard_length,
                                  uint8_t *leads, size_t leads_length,
                                  uint8_t *coefficients, size_t coefficients_length,
@@ -204,9 +216,9 @@ uint32_t misqafur_withdraw_point(uint64_t modulus, uint64_t variables, uint64_t 
  * on the order of the points: monomials are examined in increasing order, multiples of leading ones passed
  * over; each one's column of values meets the pivots found before, in their order, and an entry at a
  * pivot's point that is not 0 then is one cancellation.
- * Refusals: 3, 4, 5, 6, 7 (levels_length is no multiple of m), 9, 8 (more than 64 distinct points), 13 (a point
+ * Refusals: 3, 4, 5, 15, 6, 7 (levels_length is no multiple of m), 9, 8 (more than 64 distinct points), 13 (a point
  * comes more than 255 times). */
-uint64_t misqafur_draw_up(uint64_t modulus, uint64_t variables, uint64_t order,
+uint64_t misqafur_draw_up(uint64_t modulus, uint64_t variables, uint64_t order, uint64_t weights,
                           uint8_t *states, size_t states_length, uint8_t *standard, size_t standard_length,
                           uint8_t *leads, size_t leads_length, uint8_t *coefficients, size_t coefficients_length,
                           uint8_t *counts, size_t counts_length, const uint8_t *levels, size_t levels_length);
@@ -217,9 +229,9 @@ uint64_t misqafur_draw_up(uint64_t modulus, uint64_t variables, uint64_t order,
  * Reads: the settings, the levels (-1, 0 and 1); of the tables their lengths alone.
  * Writes: the five tables, to their sizes.
  * Answers n and r (misqafur_points, misqafur_elements).
- * Refusals: 3 (the modulus is not 2, also where it is another of the 18), 4, 5, 6, 7 (levels_length is no multiple of m),
+ * Refusals: 3 (the modulus is not 2, also where it is another of the 18), 4, 5, 15, 6, 7 (levels_length is no multiple of m),
  * 9, 8 (more than 64 distinct points), 13 (a point comes more than 255 times). */
-uint32_t misqafur_draw_up_packed(uint64_t modulus, uint64_t variables, uint64_t order,
+uint32_t misqafur_draw_up_packed(uint64_t modulus, uint64_t variables, uint64_t order, uint64_t weights,
                                  uint8_t *states, size_t states_length, uint8_t *standard, size_t standard_length,
                                  uint8_t *leads, size_t leads_length,
                                  uint8_t *coefficients, size_t coefficients_length,
@@ -228,8 +240,9 @@ uint32_t misqafur_draw_up_packed(uint64_t modulus, uint64_t variables, uint64_t 
 /* Says whether n, r and the tables are the basis of their points under the settings.
  * Reads: the settings, n, r, the five tables. Writes nothing.
  * Answers 0 if they are.
- * Refusals: 3, 4, 5, 6, 8 (n is above 64), 10. */
-uint32_t misqafur_check(uint64_t modulus, uint64_t variables, uint64_t order, uint64_t n, uint64_t r,
+ * Refusals: 3, 4, 5, 15, 6, 8 (n is above 64), 10. */
+uint32_t misqafur_check(uint64_t modulus, uint64_t variables, uint64_t order, uint64_t weights,
+                        uint64_t n, uint64_t r,
                         const uint8_t *states, size_t states_length,
                         const uint8_t *standard, size_t standard_length,
                         const uint8_t *leads, size_t leads_length,
@@ -240,8 +253,9 @@ uint32_t misqafur_check(uint64_t modulus, uint64_t variables, uint64_t order, ui
  * Reads: the settings, n, r, the five tables, n values in the points' order.
  * Writes: 64 bytes of out, a residue for each standard monomial in table order, then zeros.
  * Answers 0.
- * Refusals: 3, 4, 5, 6 (also: out_length is below 64), 7 (values_length is not n), 8 (n is above 64), 9, 10. */
-uint32_t misqafur_interpolate(uint64_t modulus, uint64_t variables, uint64_t order, uint64_t n, uint64_t r,
+ * Refusals: 3, 4, 5, 15, 6 (also: out_length is below 64), 7 (values_length is not n), 8 (n is above 64), 9, 10. */
+uint32_t misqafur_interpolate(uint64_t modulus, uint64_t variables, uint64_t order, uint64_t weights,
+                              uint64_t n, uint64_t r,
                               const uint8_t *states, size_t states_length,
                               const uint8_t *standard, size_t standard_length,
                               const uint8_t *leads, size_t leads_length,
@@ -255,9 +269,10 @@ uint32_t misqafur_interpolate(uint64_t modulus, uint64_t variables, uint64_t ord
  * Reads: the settings, n, r, the five tables, the terms.
  * Writes: 64 bytes of out, a residue for each standard monomial in table order, then zeros.
  * Answers 0.
- * Refusals: 3, 4, 5, 6 (also: out_length is below 64), 7 (exponents_length is not 8 times
+ * Refusals: 3, 4, 5, 15, 6 (also: out_length is below 64), 7 (exponents_length is not 8 times
  * term_coefficients_length), 8 (n is above 64, or more than 256 terms), 9, 10. */
-uint32_t misqafur_remainder(uint64_t modulus, uint64_t variables, uint64_t order, uint64_t n, uint64_t r,
+uint32_t misqafur_remainder(uint64_t modulus, uint64_t variables, uint64_t order, uint64_t weights,
+                            uint64_t n, uint64_t r,
                             const uint8_t *states, size_t states_length,
                             const uint8_t *standard, size_t standard_length,
                             const uint8_t *leads, size_t leads_length,
@@ -271,8 +286,9 @@ uint32_t misqafur_remainder(uint64_t modulus, uint64_t variables, uint64_t order
  * Reads: the settings, n, r, the five tables, n values in the points' order.
  * Writes: 8 bytes of out, the variables' numbers from 1, increasing, then zeros.
  * Answers how many they are (misqafur_wiring_count).
- * Refusals: 3, 4, 5, 6 (also: out_length is below 8), 7 (values_length is not n), 8 (n is above 64), 9, 10. */
-uint32_t misqafur_wiring(uint64_t modulus, uint64_t variables, uint64_t order, uint64_t n, uint64_t r,
+ * Refusals: 3, 4, 5, 15, 6 (also: out_length is below 8), 7 (values_length is not n), 8 (n is above 64), 9, 10. */
+uint32_t misqafur_wiring(uint64_t modulus, uint64_t variables, uint64_t order, uint64_t weights,
+                         uint64_t n, uint64_t r,
                          const uint8_t *states, size_t states_length,
                          const uint8_t *standard, size_t standard_length,
                          const uint8_t *leads, size_t leads_length,
@@ -282,8 +298,9 @@ uint32_t misqafur_wiring(uint64_t modulus, uint64_t variables, uint64_t order, u
 
 /* Reads settings, points and values from a text of comma-separated records (RFC 4180; LF or CRLF).
  * The header holds m names and a last field: mod, a space, one to three digits, and optionally a
- * space and lex, grlex or grevlex (without the word: grevlex). Each further record has m levels and a
- * value, each an optional minus sign and one to three digits.
+ * space and lex, grlex or grevlex (without the word: grevlex), or weight and then m weights of one or two
+ * digits, a space before each. Each further record has m levels and a value, each an optional minus sign and
+ * one to three digits.
  * Reads: the text; of the other buffers their lengths alone.
  * Records may repeat a point, where they repeat its value: they are replicates.
  * Writes: 512 bytes of states, the distinct points' residues in the layout of that table, in the order in
@@ -291,15 +308,19 @@ uint32_t misqafur_wiring(uint64_t modulus, uint64_t variables, uint64_t order, u
  * 64 bytes of counts, how many records have each point, then zeros. Residues are levels, so the
  * values can be handed on as they are; a point has 8 bytes here and m levels in misqafur_draw_up,
  * for which misqafur_pack_levels packs them. Drawn up so, each point counts once; the counts of the text,
- * copied over those of the basis, make it the basis of all records.
+ * copied over those of the basis, make it the basis of all records. And 8 bytes of weights, that of xk in byte
+ * k-1, then zeros, and zeros alone where the order is not 3: misqafur_pack_weights makes of all 8 what the calls
+ * take, whatever the order.
  * Answers n and the settings (misqafur_read_points, _modulus, _variables, _order).
  * A refusal comes with the record at fault, the header being 1 (misqafur_read_record).
- * Refusals: 1 (record 0), 2 (the earliest such record), 3 and 4 (record 1), 6 (record 0; a buffer
- * below 512, 64 or 64 bytes), 9 (the earliest such record), 8 (the record that brings the 65th distinct
- * point), 13 (the earliest that brings the 256th of a point), 14 (the earliest with another value than the
- * first record of its point). Each is looked for over the whole text before the next. */
+ * Refusals: 1 (record 0), 2 (the earliest such record; the header, if it has not as many weights as names), 3,
+ * 4 and 15 (record 1), 6 (record 0; a buffer below 512, 64, 64 or 8 bytes), 9 (the earliest such record), 8
+ * (the record that brings the 65th distinct point), 13 (the earliest that brings the 256th of a point), 14 (the
+ * earliest with another value than the first record of its point). Each is looked for over the whole text
+ * before the next. */
 uint64_t misqafur_read_text(const uint8_t *text, size_t text_length, uint8_t *states, size_t states_length,
-                            uint8_t *values, size_t values_length, uint8_t *counts, size_t counts_length);
+                            uint8_t *values, size_t values_length, uint8_t *counts, size_t counts_length,
+                            uint8_t *weights, size_t weights_length);
 
 /* What compilers that know how are told of the calls above: the answer is to be looked at, and a call reads or
  * writes as many bytes of a buffer as its length says, at most. The numbers are the arguments' places. */
@@ -319,25 +340,25 @@ uint64_t misqafur_read_text(const uint8_t *text, size_t text_length, uint8_t *st
 #pragma GCC diagnostic push
 #pragma GCC diagnostic ignored "-Wredundant-decls"
 MISQAFUR_TOLD(MISQAFUR_ABI_CALL(MISQAFUR_ABI), );
-MISQAFUR_TOLD(misqafur_add_point, MISQAFUR_LENT_TABLES(read_write, 6) MISQAFUR_LENT(read_only, 16));
-MISQAFUR_TOLD(misqafur_withdraw_point, MISQAFUR_LENT_TABLES(read_write, 6) MISQAFUR_LENT(read_only, 16));
-MISQAFUR_TOLD(misqafur_draw_up, MISQAFUR_LENT_TABLES(write_only, 4) MISQAFUR_LENT(read_only, 14));
-MISQAFUR_TOLD(misqafur_draw_up_packed, MISQAFUR_LENT_TABLES(write_only, 4) MISQAFUR_LENT(read_only, 14));
-MISQAFUR_TOLD(misqafur_check, MISQAFUR_LENT_TABLES(read_only, 6));
+MISQAFUR_TOLD(misqafur_add_point, MISQAFUR_LENT_TABLES(read_write, 7) MISQAFUR_LENT(read_only, 17));
+MISQAFUR_TOLD(misqafur_withdraw_point, MISQAFUR_LENT_TABLES(read_write, 7) MISQAFUR_LENT(read_only, 17));
+MISQAFUR_TOLD(misqafur_draw_up, MISQAFUR_LENT_TABLES(write_only, 5) MISQAFUR_LENT(read_only, 15));
+MISQAFUR_TOLD(misqafur_draw_up_packed, MISQAFUR_LENT_TABLES(write_only, 5) MISQAFUR_LENT(read_only, 15));
+MISQAFUR_TOLD(misqafur_check, MISQAFUR_LENT_TABLES(read_only, 7));
 MISQAFUR_TOLD(misqafur_interpolate,
-              MISQAFUR_LENT_TABLES(read_only, 6) MISQAFUR_LENT(read_only, 16) MISQAFUR_LENT(write_only, 18));
-MISQAFUR_TOLD(misqafur_remainder, MISQAFUR_LENT_TABLES(read_only, 6) MISQAFUR_LENT(read_only, 16)
-                                      MISQAFUR_LENT(read_only, 18) MISQAFUR_LENT(write_only, 20));
+              MISQAFUR_LENT_TABLES(read_only, 7) MISQAFUR_LENT(read_only, 17) MISQAFUR_LENT(write_only, 19));
+MISQAFUR_TOLD(misqafur_remainder, MISQAFUR_LENT_TABLES(read_only, 7) MISQAFUR_LENT(read_only, 17)
+                                      MISQAFUR_LENT(read_only, 19) MISQAFUR_LENT(write_only, 21));
 MISQAFUR_TOLD(misqafur_wiring,
-              MISQAFUR_LENT_TABLES(read_only, 6) MISQAFUR_LENT(read_only, 16) MISQAFUR_LENT(write_only, 18));
+              MISQAFUR_LENT_TABLES(read_only, 7) MISQAFUR_LENT(read_only, 17) MISQAFUR_LENT(write_only, 19));
 MISQAFUR_TOLD(misqafur_read_text,
               MISQAFUR_LENT(read_only, 1) MISQAFUR_LENT(write_only, 3) MISQAFUR_LENT(write_only, 5)
-                  MISQAFUR_LENT(write_only, 7));
+                  MISQAFUR_LENT(write_only, 7) MISQAFUR_LENT(write_only, 9));
 #undef MISQAFUR_TOLD
 #undef MISQAFUR_LENT_TABLES
 #undef MISQAFUR_LENT
 
-/* Refers to misqafur_abi_2 wherever this header is included, whatever of it is used: an object compiled with the header of
+/* Refers to misqafur_abi_3 wherever this header is included, whatever of it is used: an object compiled with the header of
  * another interface does not link with the library, in place of handing it tables that it does not know. A linker keeps the
  * reference where the compiler's assembler can tell it to; where it cannot, the compiler would warn, and only that is lost. */
 #if defined(__has_attribute)
@@ -354,7 +375,7 @@ static uint32_t (*const misqafur_linked)(void) MISQAFUR_KEPT = MISQAFUR_ABI_CALL
 #pragma GCC diagnostic pop
 #endif
 
-/* The version of the library that the host is linked with, or has loaded: 20100 for 2.1.0. */
+/* The version of the library that the host is linked with, or has loaded: 30000 for 3.0.0. */
 static inline uint32_t misqafur_version(void)
 {
     return MISQAFUR_ABI_CALL(MISQAFUR_ABI)();
@@ -389,6 +410,28 @@ static inline size_t misqafur_pack_levels(const uint8_t *states, uint64_t n, uin
         for (size_t k = 0; k < variables; k++)
             levels[count++] = states[8 * i + k];
     return count;
+}
+
+/* A weight as a byte of those that misqafur_pack_weights takes. Any number outside 0 to 99 becomes 255: with every order
+ * that byte is refused with 15, as the number itself is to be. */
+static inline uint8_t misqafur_weight(int weight)
+{
+    if (weight < 0 || weight > MISQAFUR_MAX_WEIGHT)
+        return 255;
+    return (uint8_t)weight;
+}
+
+/* Packs weights, one for each variable, x1's first, as the number that the calls take; of those that misqafur_read_text
+ * leaves all 8. Too few or too many are refused with 15 by the calls: a weight that is missing counts as 0, one behind the
+ * m-th has to be 0, and of more than 8 none is read, every byte of the number being 255 then. */
+static inline uint64_t misqafur_pack_weights(const uint8_t *weights, size_t count)
+{
+    uint64_t packed = 0;
+    if (count > MISQAFUR_MAX_VARIABLES)
+        return UINT64_MAX;
+    for (size_t k = count; k > 0; k--)
+        packed = 256 * packed + weights[k - 1];
+    return packed;
 }
 
 /* The refusal in the answer of any call but the reader; 0 for none. */
@@ -469,7 +512,7 @@ static inline const char *misqafur_refusal_text(uint32_t refusal)
     case MISQAFUR_REFUSED_VARIABLES:
         return "the number of genes is not 1 to 8";
     case MISQAFUR_REFUSED_ORDER:
-        return "the order is not lex, grlex or grevlex (0, 1 or 2)";
+        return "the order is not lex, grlex, grevlex or by weight (0, 1, 2 or 3)";
     case MISQAFUR_REFUSED_SIZE:
         return "a lent table or buffer is shorter than its size";
     case MISQAFUR_REFUSED_LENGTH:
@@ -488,6 +531,8 @@ static inline const char *misqafur_refusal_text(uint32_t refusal)
         return "a state would be counted more than 255 times";
     case MISQAFUR_REFUSED_OTHER_VALUE:
         return "a replicate has another value than its state";
+    case MISQAFUR_REFUSED_WEIGHT:
+        return "a weight is wrong: by weight each gene has one from 1 to 99, in any other order none has";
     default:
         return "no refusal has this number";
     }
@@ -496,14 +541,14 @@ static inline const char *misqafur_refusal_text(uint32_t refusal)
 /* ---- A whole sheet: its settings, its n and r and its tables in one place of the host's ---- */
 
 struct misqafur_sheet {
-    uint64_t modulus, variables, order;
+    uint64_t modulus, variables, order, weights;
     uint64_t n, r;
     uint8_t states[MISQAFUR_STATES_SIZE], standard[MISQAFUR_STANDARD_SIZE];
     uint8_t leads[MISQAFUR_LEADS_SIZE], coefficients[MISQAFUR_COEFFICIENTS_SIZE], counts[MISQAFUR_COUNTS_SIZE];
 };
 
 /* What the calls are handed of a sheet: its settings, and its tables with their lengths. */
-#define MISQAFUR_SHEET_SETTINGS(sheet) (sheet)->modulus, (sheet)->variables, (sheet)->order
+#define MISQAFUR_SHEET_SETTINGS(sheet) (sheet)->modulus, (sheet)->variables, (sheet)->order, (sheet)->weights
 #define MISQAFUR_SHEET_TABLES(sheet)                                                                       \
     (sheet)->states, sizeof (sheet)->states, (sheet)->standard, sizeof (sheet)->standard, (sheet)->leads, \
         sizeof (sheet)->leads, (sheet)->coefficients, sizeof (sheet)->coefficients, (sheet)->counts,          \
@@ -527,21 +572,24 @@ static inline MISQAFUR_ANSWER uint32_t misqafur_sheet_check(const struct misqafu
     return misqafur_check(MISQAFUR_SHEET_SETTINGS(sheet), sheet->n, sheet->r, MISQAFUR_SHEET_TABLES(sheet));
 }
 
-/* Makes the sheet of no points under these settings. Answers 3, 4 or 5 where no call takes them. These are looked for first,
- * and tables of no length are refused with 6 behind them: so the settings are judged before a byte of the sheet is written. */
+/* Makes the sheet of no points under these settings, the weights being 0 but with MISQAFUR_WEIGHT, where
+ * misqafur_pack_weights makes them. Answers 3, 4, 5 or 15 where no call takes them. These are looked for first, and tables of no
+ * length are refused with 6 behind them: so the settings are judged before a byte of the sheet is written. */
 static inline MISQAFUR_ANSWER uint32_t misqafur_sheet_init(struct misqafur_sheet *sheet, uint64_t modulus,
-                                                           uint64_t variables, uint64_t order)
+                                                           uint64_t variables, uint64_t order, uint64_t weights)
 {
-    const uint32_t refusal = misqafur_check(modulus, variables, order, 0, 1, NULL, 0, NULL, 0, NULL, 0, NULL, 0, NULL, 0);
+    const uint32_t refusal =
+        misqafur_check(modulus, variables, order, weights, 0, 1, NULL, 0, NULL, 0, NULL, 0, NULL, 0, NULL, 0);
     if (refusal != MISQAFUR_REFUSED_SIZE)
         return refusal;
     memset(sheet, 0, sizeof *sheet);
     sheet->modulus = modulus;
     sheet->variables = variables;
     sheet->order = order;
+    sheet->weights = weights;
     sheet->r = 1;
 #if !defined(__GNUC__)
-    (void)misqafur_version(); /* here the helpers refer to misqafur_abi_2 */
+    (void)misqafur_version(); /* here the helpers refer to misqafur_abi_3 */
 #endif
     return MISQAFUR_TAKEN;
 }

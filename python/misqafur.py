@@ -1,7 +1,7 @@
 """Model sheets of gene states modulo a small prime, over the shared library of Misqafur.
 
     import misqafur
-    sheet = misqafur.Sheet(5, 2, "grlex")                  # modulus, number of genes (or their names), order
+    sheet = misqafur.Sheet(5, 2, "grlex")                  # modulus, number of genes (or their names), order (or weights=[2, 1])
     sheet.draw_up([(0, 0), (1, 2), (2, 1)])
     print(sheet.basis[0])                                  # g2^2 + g2 + 4*g1
     print(sheet.interpolate([1, 0, 3]))                    # 1 + 2*g2
@@ -32,11 +32,11 @@ import sys
 import textwrap
 from xml.sax.saxutils import escape
 
-__version__ = "2.1.0"
-ABI = 2
-ORDERS = ("lex", "grlex", "grevlex")
+__version__ = "3.0.0"
+ABI = 3
+ORDERS = ("lex", "grlex", "grevlex", "weight")
 TABLES = {"states": 512, "standard": 512, "leads": 3592, "coefficients": 28736, "counts": 64}
-RESIDUES, WIRING, MOST_GENES = 64, 8, 8
+RESIDUES, WIRING, MOST_GENES, MOST_WEIGHT = 64, 8, 8, 99
 
 # The header's sentences, and for a person what to do.
 REFUSALS = {
@@ -46,7 +46,7 @@ REFUSALS = {
     3: ("the modulus is not one of the 18 primes from 2 to 61, or not 2 where a sheet is drawn up packed",
         "Take 2, 3, 5, 7, 11, 13, 17, 19, 23, 29, 31, 37, 41, 43, 47, 53, 59 or 61."),
     4: ("the number of genes is not 1 to 8", "Choose at most 8 genes."),
-    5: ("the order is not lex, grlex or grevlex (0, 1 or 2)", "Name one of these three."),
+    5: ("the order is not lex, grlex, grevlex or by weight (0, 1, 2 or 3)", "Name one of these: lex, grlex, grevlex, weight."),
     6: ("a lent table or buffer is shorter than its size", "This is a fault of the program that lends it."),
     7: ("a length is wrong: a state needs one level for each gene, and each state one value",
         "Give each state as many levels as there are genes, and as many values as states."),
@@ -62,6 +62,8 @@ REFUSALS = {
     14: ("a replicate has another value than its state",
          "Replicates have to agree: correct a level or the value, or leave the record out. "
          "States and values are compared modulo p: modulo 5, -1 and 4 are the same."),
+    15: ("a weight is wrong: by weight each gene has one from 1 to 99, in any other order none has",
+         "Give each gene a weight from 1 to 99; a gene with a large weight is used last."),
 }
 
 # What a wiring list says of the target.
@@ -85,7 +87,7 @@ class Refusal(ValueError):
 
 # ---- The library
 
-_SETTINGS, _COUNTS, _BUFFER = [ctypes.c_uint64] * 3, [ctypes.c_uint64] * 2, [ctypes.c_void_p, ctypes.c_size_t]
+_SETTINGS, _COUNTS, _BUFFER = [ctypes.c_uint64] * 4, [ctypes.c_uint64] * 2, [ctypes.c_void_p, ctypes.c_size_t]
 _SHEET = _SETTINGS + _COUNTS + _BUFFER * len(TABLES)
 _CALLS = {
     "add_point": (ctypes.c_uint32, _SHEET + _BUFFER),
@@ -96,7 +98,7 @@ _CALLS = {
     "interpolate": (ctypes.c_uint32, _SHEET + _BUFFER * 2),
     "remainder": (ctypes.c_uint32, _SHEET + _BUFFER * 3),
     "wiring": (ctypes.c_uint32, _SHEET + _BUFFER * 2),
-    "read_text": (ctypes.c_uint64, _BUFFER * 4),
+    "read_text": (ctypes.c_uint64, _BUFFER * 5),
     f"abi_{ABI}": (ctypes.c_uint32, []),
 }
 
@@ -188,27 +190,35 @@ def _levels(values):
     return bytes(number & 255 if abs(number) < 128 else 128 for number in numbers)
 
 
+def _packed(weights, genes):
+    """Weights, if there are any, as the one number that the library takes; 255 stands for any that no order takes, and for all of
+    them where they are not as many as the genes."""
+    if len(weights) not in (0, genes) or len(weights) > MOST_GENES:
+        weights = [255] * MOST_GENES
+    return int.from_bytes(bytes(weight if 0 <= weight <= 255 else 255 for weight in weights), "little")
+
+
 # ---- Names
 
 def _quoted(names):
     return ", ".join(map(repr, names)) or "none"
 
 
-def _order_of(labels, genes):
+def _order_of(labels, genes, what="level"):
     """For each gene the place of its label: where labels are names, they decide. Whole numbers that increase, as pandas gives them
     to columns without names, are no names, and what stands below them is taken by place; of any other labels nothing is guessed."""
     if all(isinstance(label, numbers.Integral) for label in labels) and list(labels) == sorted(set(labels)):
         return range(len(labels))
     if not all(isinstance(label, str) for label in labels):
-        raise ValueError(f"the labels {_quoted(labels)} are neither names nor places in their order, so they do not say which level is whose")
+        raise ValueError(f"the labels {_quoted(labels)} are neither names nor places in their order, so they do not say which {what} is whose")
     for names in (labels, genes):
         repeated = sorted({name for name in names if list(names).count(name) > 1})
         if repeated:
-            raise ValueError(f"names cannot tell which level is whose: {_quoted(repeated)} stands more than once in {_quoted(names)}")
+            raise ValueError(f"names cannot tell which {what} is whose: {_quoted(repeated)} stands more than once in {_quoted(names)}")
     missing, unexpected = ([name for name in of if name not in others] for of, others in ((genes, labels), (labels, genes)))
     if missing or unexpected:
         raise ValueError(f"the names are not the genes: missing {_quoted(missing)}, unexpected {_quoted(unexpected)} (the genes are {_quoted(genes)}, "
-                         f"handed over were {_quoted(labels)}). Make the sheet with these names, or hand levels over without names, in the genes' order")
+                         f"handed over were {_quoted(labels)}). Make the sheet with these names, or hand {what}s over without names, in the genes' order")
     return [labels.index(gene) for gene in genes]
 
 
@@ -222,19 +232,19 @@ def _is_frame(data):
     return hasattr(type(data), "columns")
 
 
-def _state(state, genes):
-    """A number for each gene, in the genes' order: every state goes in through here, by itself or as a row of a table."""
+def _state(state, genes, what="level"):
+    """A number for each gene, in the genes' order: every state goes in through here, by itself or as a row of a table, and weights."""
     if _is_frame(state):
-        rows = _states(state, genes)
+        rows = _states(state, genes, what)
         if len(rows) != 1:
-            raise ValueError(f"one state is wanted, and this table has {len(rows)} rows")
+            raise ValueError(f"one row of {what}s is wanted, and this table has {len(rows)} rows")
         return rows[0]
     labels = state.keys() if hasattr(type(state), "keys") else _fields(state)
     levels = list(state.values()) if isinstance(state, collections.abc.Mapping) else _plain(state)
-    return levels if labels is None else [levels[place] for place in _order_of(list(labels), genes)]
+    return levels if labels is None else [levels[place] for place in _order_of(list(labels), genes, what)]
 
 
-def _states(table, genes):
+def _states(table, genes, what="level"):
     """A table's states: its columns in the genes' order, or each of its rows as a state by itself."""
     if isinstance(table, collections.abc.Mapping):
         labels, columns = list(table), [_plain(column) for column in table.values()]
@@ -246,7 +256,7 @@ def _states(table, genes):
         labels, rows = list(table.columns if _is_frame(table) else _fields(table)), _plain(table)
     else:
         return [_state(row, genes) for row in _plain(table)]
-    places = _order_of(labels, genes)
+    places = _order_of(labels, genes, what)
     return [[row[place] for place in places] for row in rows]
 
 
@@ -359,24 +369,47 @@ class Sheet:
 
     Genes are a number, and then called g1, g2 and so on, or a list of names. States that come with names are put in the genes'
     order by them, and by place else. A copy, also by pickle, is a sheet of its own.
+    The order is lex, grlex or grevlex, which it is if none is named, or by weight: with `weights`, 1 to 99 for each gene, by place or
+    by the genes' names, the monomial with the larger sum of weight times exponent is greater, between equal sums by lex.
     A state that comes again is a replicate: it raises the state's count, and the rest of the sheet stays as it is.
     After a drawing up `cancellations` says how many that took, which its time goes with; else, also after a packed one, it is None.
     """
 
-    def __init__(self, modulus, genes, order="grevlex"):
+    def __init__(self, modulus, genes, order=None, *, weights=None):
         if isinstance(genes, (str, set, frozenset)):
             raise TypeError("genes are a number, or a list of names, whose order matters")
         named = hasattr(genes, "__iter__")
         self.names = tuple(str(name) for name in genes) if named else tuple(f"g{k}" for k in range(1, min(_number(genes), 99) + 1))
         self.modulus = _number(modulus)
+        self.weights = () if weights is None else tuple(_integer(weight) for weight in _state(weights, self.names, "weight"))
+        if order is None:
+            order = "grevlex" if weights is None else "weight"
         self.order = order if order in ORDERS else dict(enumerate(ORDERS)).get(order)
+        if self.weights and self.order != "weight":
+            raise ValueError(f"weights belong to the order 'weight', and the order given is {order!r}: leave one of the two out")
         self._n, self._r, self.cancellations = 0, 1, None
         self._tables = {name: (ctypes.c_uint8 * size)() for name, size in TABLES.items()}
-        self.check()
+        try:
+            self.check()
+        except Refusal as refusal:
+            raise Refusal(refusal.number, more=self._weights_wanted() if refusal.number == 15 else None) from None
+
+    def _weights_wanted(self):
+        if len(self.weights) != len(self.names):
+            return f"One weight is wanted for each gene, {len(self.names)}, and {len(self.weights)} were given"
+        wrong = [f"{name} has {weight}" for name, weight in zip(self.names, self.weights) if not 1 <= weight <= MOST_WEIGHT]
+        return f"Weights run from 1 to {MOST_WEIGHT}, and {', '.join(wrong)}"
 
     @property
     def _settings(self):
-        return self.modulus, len(self.names), ORDERS.index(self.order) if self.order in ORDERS else len(ORDERS)
+        order = ORDERS.index(self.order) if self.order in ORDERS else len(ORDERS)
+        return self.modulus, len(self.names), order, _packed(self.weights, len(self.names))
+
+    def _order_said(self, names):
+        """The order as people say it, the genes by these names."""
+        if self.order != "weight":
+            return self.order
+        return f"by weight ({', '.join(f'{name} {weight}' for name, weight in zip(names, self.weights))})"
 
     def _handed(self):
         return (*self._settings, self._n, self._r, *self._tables.values())
@@ -498,10 +531,18 @@ class Sheet:
         """A polynomial in the genes of this sheet, from text as str prints it."""
         return Polynomial.parse(self.modulus, self.names, text)
 
+    def _exported_order(self, syntax):
+        """The order in the words of a package; sympy has none by weight, and its script says so."""
+        numbers = ",".join(map(str, self.weights))
+        by_weight = {"singular": f"(a({numbers}),lp)", "macaulay2": f"{{Weights => {{{numbers}}}, Lex}}",
+                     "sympy": f"{self._order_said(safe_names(self.names))}, which sympy does not have: what it says of leading terms is of another order"}
+        named = {"singular": ("lp", "Dp", "dp"), "macaulay2": ("Lex", "GLex", "GRevLex"), "sympy": ORDERS}
+        return by_weight[syntax] if self.order == "weight" else named[syntax][ORDERS.index(self.order)]
+
     def export(self, syntax):
         """The basis as a script for Singular, Macaulay2 or sympy."""
         names, texts = safe_names(self.names), [polynomial.text(syntax) for polynomial in self.basis]
-        order = {"singular": ("lp", "Dp", "dp"), "macaulay2": ("Lex", "GLex", "GRevLex"), "sympy": ORDERS}[syntax][ORDERS.index(self.order)]
+        order = self._exported_order(syntax)
         said = f"{len(self)} states, {', '.join(map(repr, self.names))}"
         if syntax == "singular":
             return f"// {said}\nring sheet = {self.modulus}, ({', '.join(names)}), {order};\nideal basis = {', '.join(texts)};\n"
@@ -521,12 +562,12 @@ class Sheet:
 
     def __setstate__(self, kept):
         tables = kept["_tables"]
-        if {name: len(table) for name, table in tables.items()} != TABLES:
+        if {name: len(table) for name, table in tables.items()} != TABLES or "weights" not in kept:
             raise ValueError("this sheet was stored by a module of another interface")
         self.__dict__.update(kept, _tables={name: (ctypes.c_uint8 * size).from_buffer_copy(tables[name]) for name, size in TABLES.items()})
 
     def __repr__(self):
-        return f"<sheet of {self._n} states of {', '.join(self.names)} modulo {self.modulus}, {self.order}>"
+        return f"<sheet of {self._n} states of {', '.join(self.names)} modulo {self.modulus}, {self._order_said(self.names)}>"
 
 
 def _exponents(exponents, genes):
@@ -571,22 +612,24 @@ def _said(field):
 
 
 def read(text):
-    """The sheet and the values of a text, as bytes: gene names, `mod P` and an order in its header, states below.
+    """The sheet and the values of a text, as bytes: gene names, `mod P` and an order, by weight with its weights, in its header, states
+    below.
 
     A value belongs to a state of the sheet; records that repeat a state, with the same value, are its replicates.
     """
-    states, values, counts = ((ctypes.c_uint8 * size)() for size in (TABLES["states"], RESIDUES, TABLES["counts"]))
-    answer = _call("read_text", bytes(text), states, values, counts)
+    states, values, counts, weights = ((ctypes.c_uint8 * size)() for size in (TABLES["states"], RESIDUES, TABLES["counts"], MOST_GENES))
+    answer = _call("read_text", bytes(text), states, values, counts, weights)
     n, modulus, genes, order = (answer >> shift & 255 for shift in (0, 8, 16, 24))
     names = [_said(field).removeprefix("\ufeff") for field in _records(text)[0][:-1]]
-    sheet = Sheet(modulus, names, ORDERS[order])
+    sheet = Sheet(modulus, names, ORDERS[order], weights=weights[:genes] if ORDERS[order] == "weight" else None)
     sheet.draw_up([states[8 * i:8 * i + genes] for i in range(n) for _ in range(counts[i])])
     return sheet, list(values[:n])
 
 
 # ---- Reports
 
-_LAST_FIELD = rb"mod \d{1,3}( (lex|grlex|grevlex))?"
+_BY_WEIGHT = rb"mod \d{1,3} weight((?: \d{1,2})*)"
+_LAST_FIELD = rb"mod \d{1,3}( (lex|grlex|grevlex))?|" + _BY_WEIGHT
 _MARK = b"\xef\xbb\xbf"
 
 
@@ -614,14 +657,21 @@ def _record_hints(text, refusal):
     if not number or number > len(records):
         return
     header, fields = records[0], records[number - 1]
-    if refusal.number == 2 and number == 1 and not re.fullmatch(_LAST_FIELD, header[-1]):
-        yield f"The header's last field has to be `mod P`, as `mod 5` or `mod 5 grlex`, and is `{_said(header[-1])[:60]}`."
+    by_weight = re.fullmatch(_BY_WEIGHT, header[-1])
+    weights = [int(word) for word in by_weight.group(1).split()] if by_weight else []
+    if refusal.number == 2 and number == 1 and by_weight and len(weights) != len(header) - 1:
+        yield f"The header has {_counted(len(header) - 1, 'gene name')} and {_counted(len(weights), 'weight')}: one is wanted for each gene."
+    elif refusal.number == 2 and number == 1 and not re.fullmatch(_LAST_FIELD, header[-1]):
+        yield ("The header's last field has to be `mod P`, as `mod 5`, `mod 5 grlex` or for two genes `mod 5 weight 2 1`, and is "
+               f"`{_said(header[-1])[:60]}`.")
     elif refusal.number == 2 and len(fields) != len(header):
         yield f"Record {number} has {len(fields)} field{'s' * (len(fields) != 1)}, the header {len(header)}."
     elif refusal.number == 2:
         for field in fields:
             if not re.fullmatch(rb"-?\d{1,3}", field):
                 yield f"Record {number}: `{_said(field)[:60]}` is no level: an optional minus sign and one to three digits, no blank, no point."
+    if refusal.number == 15:
+        yield f"The weight is 0 of {', '.join(_said(name) or 'a gene without a name' for name, weight in zip(header, weights) if weight == 0)}."
     modulus = re.match(rb"mod (\d+)", header[-1])
     p = int(modulus.group(1)) if modulus else 0
     if refusal.number == 9:
@@ -664,7 +714,7 @@ def report(sheet, values, habits=()):
     wiring = ", ".join(names[k - 1] for k in sheet.wiring(values)) or "none"
     standard = ", ".join(str(Polynomial(sheet.modulus, sheet.names, [(1, e)])) for e in sheet.standard) or "none"
     size = f"{_counted(len(sheet), 'state')} of {_counted(len(names), 'gene')} ({', '.join(names)})"
-    lines = [_wrapped(f"{size}, levels modulo {sheet.modulus}, order {sheet.order}")]
+    lines = [_wrapped(f"{size}, levels modulo {sheet.modulus}, order {sheet._order_said(names)}")]
     lines += [_wrapped(f"{name} is {own!r}") for name, own in zip(names, sheet.names) if name != own]
     replicates = [f"{state} {count} times" for state, count in zip(sheet.states, sheet.counts) if count > 1]
     lines += [_wrapped(f"replicates: {', '.join(replicates)}")] if replicates else []
@@ -734,7 +784,7 @@ def staircase(sheet, genes=(1, 2)):
 def _caption(sheet, standard, leads):
     hidden = len(sheet) - len(standard), len(sheet.leads) - len(leads)
     more = f"; {hidden[0]} standard and {hidden[1]} leading ones with other genes are not drawn" if any(hidden) else ""
-    return f"{_counted(len(sheet), 'state')}, modulo {sheet.modulus}, {sheet.order}{more}"
+    return f"{_counted(len(sheet), 'state')}, modulo {sheet.modulus}, {sheet._order_said(shown_names(sheet.names))}{more}"
 
 
 def _stairs(standard, rows, columns, cell, left, top):

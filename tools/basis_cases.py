@@ -83,7 +83,7 @@ def polynomials(path, p, states):
 
 
 def head(settings, refusal, n, *words):
-    p, m, order = settings
+    p, m, order = settings[:3]
     return p.to_bytes(2, "little") + bytes([m, order, refusal, n]) + b"".join(word.to_bytes(2, "little") for word in words)
 
 
@@ -97,7 +97,7 @@ def accepted(name, cancellations):
     text, result = (os.path.join(VECTORS, name + end) for end in (".csv", ".txt"))
     with open(text, "rb") as file:
         settings, records = levels_in(file.read())
-    p, m, _ = settings
+    p, m = settings[:2]
     levels = [level for record in records for level in record[:m]]
     states = b"".join(padded([level % p for level in record[:m]]) for record in records)
     r, standard, leads, coefficients, answers = printed(result, m)
@@ -117,15 +117,16 @@ def refused(settings, levels, refusal):
 
 
 def refusals():
-    """The examples of docs/SCOPE.md that are refused, by name: moduli, numbers of variables, orders, a 65th point, a
-    256th replicate."""
+    """The examples of docs/SCOPE.md that are refused, by name: moduli, numbers of variables, orders, no weights where they are
+    wanted, a 65th point, a 256th replicate."""
     primes = [p for p in range(2, 62) if all(p % d for d in range(2, p))]
     for p in [p for p in range(68) if p not in primes] + [256 + p for p in primes]:
         yield "modulus-%d" % p, refused((p, 1, 0), [1], 3)
     for m in (0, 9, 16, 64, 255):
         yield "variables-%d" % m, refused((61, m, 2), [1] * m, 4)
-    for order in (3, 255):
+    for order in (4, 255):
         yield "order-%d" % order, refused((61, 1, order), [1], 5)
+    yield "order-3-without-weights", refused((61, 1, 3), [1], 15)
     points = [level for k in range(64) for level in (k % 11 - 11 * (k % 3 == 0 < k % 11), k // 11)]
     for name, last in (("outside", [11, 0]), ("far", [127, -128])):
         yield "points-64-%s" % name, refused((11, 2, 1), points[:-2] + last, 9)

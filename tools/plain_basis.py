@@ -4,8 +4,9 @@ results anew. Nothing of the library or of its tests is used."""
 SIZES = (512, 512, 3592, 28736, 64)
 
 
-def key(order, e):
-    return (tuple(e), (sum(e), *e), (sum(e), *(-x for x in reversed(e))))[order]
+def key(order, e, weights):
+    by_weight = (sum(weight * x for weight, x in zip(weights, e)), *e)
+    return (tuple(e), (sum(e), *e), (sum(e), *(-x for x in reversed(e))), by_weight)[order]
 
 
 def value(p, e, point):
@@ -18,12 +19,12 @@ def value(p, e, point):
 class Basis:
     """Standard monomials, leads and coefficients of distinct points, and how many cancellations they took."""
 
-    def __init__(self, p, m, order, points):
+    def __init__(self, p, m, order, points, weights=()):
         self.p, self.points, self.standard, self.leads, self.rows = p, points, [], [], []
         self.kept, self.cancellations = [], 0
         waiting = {(0,) * m}
         while waiting:
-            e = min(waiting, key=lambda e: key(order, e))
+            e = min(waiting, key=lambda e: key(order, e, weights))
             waiting.remove(e)
             if any(all(x <= y for x, y in zip(lead, e)) for lead in self.leads):
                 continue

@@ -148,11 +148,11 @@ def reading_with_counts(block):
     lengths += [64] if len(lengths) == 2 else []
     left = [FILLING] * lengths[2]
     if said["number"][0] == "0":
-        (p, m, _), records = records_in(text_of(said))
+        (p, m, *_), records = records_in(text_of(said))
         counts = [count for _, count in gathered([tuple(x % p for x in record[:m]) for record in records])]
         assert len(counts) == int(said["number"][1]), block
         left = counts + [0] * (64 - len(counts)) + left[64:]
-    new = {"buffers": lengths, "answers": said["answers"][:2] + ["%016x" % fnv(bytes(left))]}
+    new = {"buffers": lengths, "answers": said["answers"][:2] + ["%016x" % fnv(bytes(left))] + said["answers"][3:]}
     return [" ".join([word, *(str(x) for x in new[word])]) if (word := line.split()[0]) in new else line for line in block]
 
 
@@ -227,11 +227,11 @@ def print_of(text):
     refusal = refusal_of(settings, records)
     if refusal:
         return "refused %d %d\n" % refusal
-    (p, m, order), held = settings, {}
+    (p, m, order, weights), held = settings, {}
     for record in records:
         held.setdefault(tuple(x % p for x in record[:m]), record[m] % p)
     points, values = list(held), list(held.values())
-    basis = Basis(p, m, order, points)
+    basis = Basis(p, m, order, points, weights)
     lines = [["points", len(points), "standard", len(points), "rows", len(basis.leads)]]
     lines += [["standard", *e] for e in basis.standard]
     lines += [["row", *lead, ":", *row, *[0] * (len(points) - len(row))] for lead, row in zip(basis.leads, basis.rows)]
@@ -268,7 +268,7 @@ def told_of(text, told):
     refusal = refusal_of(settings, records)
     if refusal:
         return "refused %d %d" % refusal
-    p, m, order = settings
+    p, m, order = settings[:3]
     return "read %d %d %d %d" % (p, m, order, len(gathered([tuple(x % p for x in record[:m]) for record in records])))
 
 

@@ -10,24 +10,27 @@ with the compiler's assumptions checked takes at most about a second for each. T
 (NAME.csv with the expected print in NAME.txt) and of tests/c/data/fuzz.txt (lines `HEX -> refused N R` and
 `HEX -> read P M ORDER N`). Points and values are read by Python's own csv module, and replicates counted here.
 
-A case is 15 bytes, the text, and for an accepted text 8n bytes of points, n of values and n of counts. The 15 bytes: the
-text's length (3 bytes, the lowest first), the lengths to lend for states (2), values (1) and counts (1), refusal (1),
-record (2), modulus (2), variables, order and n (1 each).
+A case is 16 bytes, the text, and for an accepted text 8n bytes of points, n of values, n of counts and 8 of weights. The 16
+bytes: the text's length (3 bytes, the lowest first), the lengths to lend for states (2), values, counts and weights (1 each),
+refusal (1), record (2), modulus (2), variables, order and n (1 each).
 """
 import csv, io, os, re, sys
 
-ORDERS = {"": 2, "lex": 0, "grlex": 1, "grevlex": 2}
+ORDERS = {"": 2, "lex": 0, "grlex": 1, "grevlex": 2, "weight": 3}
+LAST_FIELD = r"mod ([0-9]{1,3})(?: (lex|grlex|grevlex)| (weight)((?: [0-9]{1,2})*))?"
+BUFFERS = ("states", "values", "counts", "weights")
 TESTS = os.path.join(os.path.dirname(os.path.abspath(__file__)), "..", "tests")
 
 
 def records_in(text):
-    """The settings and the levels of a text without faults of form, the value of each record last, by Python's csv module."""
+    """The settings, with as many weights as names by weight and else none, and the levels of a text without faults of form, the
+    value of each record last, by Python's csv module."""
     rows = list(csv.reader(io.StringIO(text.decode("latin-1"), newline=""), strict=True))
-    modulus, word = re.fullmatch(r"mod ([0-9]{1,3})(?: (.*))?", rows[0][-1]).groups("")
-    p, m = int(modulus), len(rows[0]) - 1
+    modulus, plain, weight, numbers = re.fullmatch(LAST_FIELD, rows[0][-1]).groups("")
+    m, weights = len(rows[0]) - 1, tuple(int(word) for word in numbers.split())
     levels = [[int(field) for field in row] for row in rows[1:]]
-    assert all(len(row) == m + 1 for row in levels)
-    return (p, m, ORDERS[word]), levels
+    assert all(len(row) == m + 1 for row in levels) and len(weights) == (m if weight else 0)
+    return (int(modulus), m, ORDERS[plain or weight], weights), levels
 
 
 def gathered(points):
@@ -38,7 +41,7 @@ def gathered(points):
 def refusal_of(settings, records):
     """The refusal among 9, 8, 13 and 14 of a text's records, with the record; None if there is none. Each is looked for over
     all records before the next."""
-    (p, m, _), times, values, late = settings, {}, {}, {}
+    (p, m, *_), times, values, late = settings, {}, {}, {}
     for at, record in enumerate(records, 2):
         if any(abs(level) >= p for level in record):
             return 9, at
@@ -63,21 +66,22 @@ def levels_in(text):
 
 def read(text):
     """What an accepted text says."""
-    (p, m, order), levels = levels_in(text)
+    (p, m, order, weights), levels = levels_in(text)
     held = gathered([tuple(level % p for level in row[:m]) for row in levels])
     values = {tuple(level % p for level in row[:m]): row[m] % p for row in levels}
     points = b"".join(bytes(point) + bytes(8 - m) for point, _ in held)
-    return (p, m, order, len(held)), points + bytes(values[point] for point, _ in held) + bytes(count for _, count in held)
+    counts = bytes(count for _, count in held)
+    return (p, m, order, len(held)), points + bytes(values[point] for point, _ in held) + counts + bytes(weights) + bytes(8 - len(weights))
 
 
-def case(text, settings=None, refusal=0, record=0, states=520, values=70, counts=68):
+def case(text, settings=None, refusal=0, record=0, states=520, values=70, counts=68, weights=12):
     """One case; settings are what an accepted text must have, where they are stored too."""
     said, behind = (0, 0, 0, 0), b""
     if refusal == 0:
         said, behind = read(text)
         assert settings is None or settings == said, (settings, said)
     p, m, order, n = said
-    head = len(text).to_bytes(3, "little") + states.to_bytes(2, "little") + bytes([values, counts, refusal])
+    head = len(text).to_bytes(3, "little") + states.to_bytes(2, "little") + bytes([values, counts, weights, refusal])
     return head + record.to_bytes(2, "little") + p.to_bytes(2, "little") + bytes([m, order, n]) + text + behind
 
 
@@ -112,20 +116,43 @@ def fuzz(path):
 
 def lengths():
     """Short and long buffers: refusal 6, with what comes before and behind it."""
-    good = b"g1,g2,mod 5 grlex\n0,0,1\n1,2,0\n"
-    for states, values, counts in ((512, 64, 64), (520, 64, 64), (512, 70, 64), (512, 64, 68)):
-        yield case(good, states=states, values=values, counts=counts)
+    good = b"g1,g2,mod 5 weight 2 1\n0,0,1\n1,2,0\n"
+    for sizes in ((512, 64, 64, 8), (520, 64, 64, 8), (512, 70, 64, 8), (512, 64, 68, 8), (512, 64, 64, 12)):
+        yield case(good, **dict(zip(BUFFERS, sizes)))
     many = b"a,b,mod 61\n" + b"".join(b"%d,%d,1\n" % (k % 61, k // 61) for k in range(65))
     often = b"a,mod 5\n" + b"4,1\n" * 255 + b"-1,1\n"
-    for states, values, counts in ((511, 64, 64), (512, 63, 64), (512, 64, 63), (0, 0, 0), (520, 0, 68), (0, 70, 68), (520, 70, 0)):
-        lent = {"states": states, "values": values, "counts": counts}
+    for sizes in ((511, 64, 64, 8), (512, 63, 64, 8), (512, 64, 63, 8), (512, 64, 64, 7), (0, 0, 0, 0), (520, 0, 68, 12), (0, 70, 68, 12),
+                  (520, 70, 0, 12), (520, 70, 68, 0)):
+        lent = dict(zip(BUFFERS, sizes))
         for text in (good, b"a,mod 5\n5,1\n", b"a,mod 5\n4,1\n-1,2\n", many, often):
             yield case(text, refusal=6, **lent)
         yield case(b"a,mod 6\n", refusal=3, record=1, **lent)
         yield case(b"mod 5\n", refusal=4, record=1, **lent)
+        yield case(b"a,mod 5 weight 0\n", refusal=15, record=1, **lent)
         yield case(b"a,mod 5\n1\n", refusal=2, record=2, **lent)
     yield case(many, refusal=8, record=66)
     yield case(often, refusal=13, record=257)
+
+
+def weights():
+    """Headers with weights: as many as there are names, each of one or two digits and none of them 0; 15 behind 3 and 4."""
+    for m in range(1, 9):
+        names = b"".join(b"g%d," % k for k in range(m))
+        for text in (b"%smod 7 weight%s\n", b'%s"mod 7 weight%s"\r\n'):
+            yield case(text % (names, b" 1" * m))
+            yield case(text % (names, b"".join(b" %02d" % (99 - 13 * k) for k in range(m))))
+            for k in range(m):
+                yield case(text % (names, b" 7" * k + b" 0" + b" 99" * (m - k - 1)), refusal=15, record=1)
+                yield case(text % (names, b" 7" * k + b" 100" + b" 99" * (m - k - 1)), refusal=2, record=1)
+            for told in (b" 1" * (m - 1), b" 1" * (m + 1), b" 1" * (m - 1) + b" ", b" 1" * m + b" ", b"  1" * m, b" 1" * (m - 1) + b" -1"):
+                yield case(text % (names, told), refusal=2, record=1)
+    for m, told, refusal in ((0, b"", 4), (0, b" 1", 2), (9, b" 1" * 9, 4), (9, b" 0" * 9, 4), (9, b" 1" * 8, 2), (9, b" 1" * 8 + b" 100", 2), (40, b" 09" * 40, 4)):
+        yield case(b"a," * m + b"mod 5 weight" + told + b"\n", refusal=refusal, record=1)
+    for last, refusal in ((b"mod 4 weight 0", 3), (b"mod 5 Weight 1", 2), (b"mod 5 weights 1", 2), (b"mod 5 weight1", 2), (b"mod 5  weight 1", 2),
+                          (b"mod 5 grlex 1", 2), (b"mod 5weight 1", 2)):
+        yield case(b"a," + last + b"\n", refusal=refusal, record=1)
+    yield case(b"a,mod 5 weight 0\n1\n", refusal=2, record=2)
+    yield case(b"a,mod 5 weight 0\n7,1\n", refusal=15, record=1)
 
 
 def write(cases, print_of, cases_file, stdout_file):
@@ -168,9 +195,10 @@ MOST_BYTES = 4000000
 
 
 def main():
-    cases = [c for name in ("vectors", "refusals", "edges", "lex-word", "M-104", "replicates", "M-106") for c in stored(os.path.join(TESTS, "texts", name))]
+    cases = [c for name in ("vectors", "refusals", "edges", "lex-word", "M-104", "replicates", "M-106", "M-109") for c in stored(os.path.join(TESTS, "texts", name))]
     cases += fuzz(os.path.join(TESTS, "c", "data", "fuzz.txt"))
     cases += lengths()
+    cases += weights()
     if sys.argv[1] == "--parts":
         write_parts(parts(cases, len, MOST_BYTES), print_of, sys.argv[2])
     else:

@@ -56,7 +56,7 @@ def print_due(text, print_):
     lines = load(print_).decode().split("\n")
     if lines[0].startswith("refused"):
         return load(print_), [], []
-    (p, m, _), records = levels_in(load(text))
+    (p, m, *_), records = levels_in(load(text))
     due = needed(p, m, [record[:m] for record in records], [record[m] for record in records])
     assert lines[-2].split()[0] == "wiring" and lines[-1] == ""
     old = [int(word) for word in lines[-2].split()[1:]]

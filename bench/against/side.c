@@ -1,12 +1,22 @@
 /* One side of the comparison. Compiled for each archive, whose calls are renamed from misqafur_CALL to SIDE_CALL; ABI is its
- * MISQAFUR_ABI: before 2 a basis had no counts. */
+ * MISQAFUR_ABI: before 2 a basis had no counts, before 3 settings no weights, which are 0 here. */
 #include "side.h"
 
 #define JOINED(a, b) a##_##b
 #define NAMED(a, b) JOINED(a, b)
 #define CALL(call) NAMED(SIDE, call)
 
+#if ABI < 3
 #define SETTINGS uint64_t, uint64_t, uint64_t
+#define UNDER(T) (T)->in.p, (T)->in.m, (T)->in.order
+#define WEIGHTS
+#define LENT_WEIGHTS(T)
+#else
+#define SETTINGS uint64_t, uint64_t, uint64_t, uint64_t
+#define UNDER(T) (T)->in.p, (T)->in.m, (T)->in.order, 0
+#define WEIGHTS , BYTES
+#define LENT_WEIGHTS(T) , (T)->weights, sizeof (T)->weights
+#endif
 #define BYTES uint8_t *, size_t
 #define READ const uint8_t *, size_t
 #if ABI < 2
@@ -28,9 +38,8 @@ uint32_t CALL(check)(SETTINGS, uint64_t, uint64_t, TABLES);
 uint32_t CALL(interpolate)(SETTINGS, uint64_t, uint64_t, TABLES, READ, BYTES);
 uint32_t CALL(remainder)(SETTINGS, uint64_t, uint64_t, TABLES, READ, READ, BYTES);
 uint32_t CALL(wiring)(SETTINGS, uint64_t, uint64_t, TABLES, READ, BYTES);
-uint64_t CALL(read_text)(READ, BYTES, BYTES COUNTS);
+uint64_t CALL(read_text)(READ, BYTES, BYTES COUNTS WEIGHTS);
 
-#define UNDER(T) (T)->in.p, (T)->in.m, (T)->in.order
 #define BASIS(L) (L)->n, (L)->r, LENT(L)
 
 static void draw_up(const struct task *t, struct left *to, unsigned times)
@@ -89,7 +98,7 @@ static void read_text(const struct task *t, struct left *to, unsigned times)
 {
     for (unsigned i = 0; i < times; i++)
         to->answer = CALL(read_text)(t->text, t->text_length, to->lent.states, sizeof to->lent.states, to->out,
-                                     sizeof to->out LENT_COUNTS(&to->lent));
+                                     sizeof to->out LENT_COUNTS(&to->lent) LENT_WEIGHTS(to));
 }
 
 repeated *const CALL(side)[CALLS] = {draw_up, add, withdraw, check, interpolate, remainder_of, wiring, read_text};

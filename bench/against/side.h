@@ -15,7 +15,7 @@ struct task {
 struct left {
     uint64_t answer;
     struct lent lent;
-    uint8_t out[MISQAFUR_RESIDUES_SIZE];
+    uint8_t out[MISQAFUR_RESIDUES_SIZE], weights[MISQAFUR_WEIGHTS_SIZE]; /* the weights of a text are 0 here */
 };
 
 #define CALLS 8

@@ -7,7 +7,7 @@ const char *const kind_names[KINDS] = {"add_point", "withdraw_point", "draw_up",
                                        "interpolate", "remainder", "wiring", "read_text"};
 
 /* Those that every call over tables can answer, and those of one that is handed levels, values or terms beside. */
-#define EARLY (1 << 3 | 1 << 4 | 1 << 5 | 1 << 6)
+#define EARLY (1 << 3 | 1 << 4 | 1 << 5 | 1 << 15 | 1 << 6)
 #define ANSWERING (EARLY | 1 << 7 | 1 << 8 | 1 << 9 | 1 << 10)
 #define DRAWING (EARLY | 1 << 7 | 1 << 8 | 1 << 9 | 1 << 13)
 
@@ -20,7 +20,7 @@ const uint32_t possible_refusals[KINDS] = {[ADD_POINT] = ANSWERING | 1 << 13,
                                            [REMAINDER] = ANSWERING,
                                            [WIRING] = ANSWERING,
                                            [READ_TEXT] = 1 << 1 | 1 << 2 | 1 << 3 | 1 << 4 | 1 << 6 | 1 << 8 |
-                                                         1 << 9 | 1 << 13 | 1 << 14};
+                                                         1 << 9 | 1 << 13 | 1 << 14 | 1 << 15};
 
 const size_t table_sizes[TABLES] = {MISQAFUR_STATES_SIZE, MISQAFUR_STANDARD_SIZE, MISQAFUR_LEADS_SIZE,
                                     MISQAFUR_COEFFICIENTS_SIZE, MISQAFUR_COUNTS_SIZE};
@@ -37,6 +37,8 @@ size_t buffer_size(enum kind kind, enum buffer which)
 {
     if (which == STATES || which == COUNTS || (which < TABLES && kind != READ_TEXT))
         return table_sizes[which];
+    if (which == WEIGHTS && kind == READ_TEXT)
+        return MISQAFUR_WEIGHTS_SIZE;
     if (which != OUT)
         return 0;
     if (kind == WIRING)
@@ -46,7 +48,7 @@ size_t buffer_size(enum kind kind, enum buffer which)
 
 #define LENT(I) b[I].at, b[I].length
 #define ALL_TABLES LENT(STATES), LENT(STANDARD), LENT(LEADS), LENT(COEFFICIENTS), LENT(COUNTS)
-#define SETTINGS c->modulus, c->variables, c->order
+#define SETTINGS c->modulus, c->variables, c->order, c->weights
 
 uint64_t perform(const struct calls *by, const struct call *c)
 {
@@ -69,6 +71,6 @@ uint64_t perform(const struct calls *by, const struct call *c)
     case WIRING:
         return by->wiring(SETTINGS, c->n, c->r, ALL_TABLES, LENT(GIVEN), LENT(OUT));
     default:
-        return by->read_text(LENT(GIVEN), LENT(STATES), LENT(OUT), LENT(COUNTS));
+        return by->read_text(LENT(GIVEN), LENT(STATES), LENT(OUT), LENT(COUNTS), LENT(WEIGHTS));
     }
 }

@@ -44,6 +44,7 @@ enum buffer {
     GIVEN,     /* levels, values, coefficients of terms, or text */
     EXPONENTS, /* of terms */
     OUT,       /* interpolant, remainder, wiring list, or the values read */
+    WEIGHTS,   /* those that are read from a text */
     BUFFERS
 };
 
@@ -51,7 +52,7 @@ enum buffer {
 #define TABLES 5
 
 /* The refusals are numbered from 1 on and below this. */
-#define REFUSALS 15
+#define REFUSALS 16
 
 /* Bit k of a kind's entry: the call can answer refusal k. */
 extern const uint32_t possible_refusals[KINDS];
@@ -66,7 +67,7 @@ struct bytes {
 
 struct call {
     enum kind kind;
-    uint64_t modulus, variables, order, n, r;
+    uint64_t modulus, variables, order, weights, n, r;
     struct bytes buffer[BUFFERS];
 };
 

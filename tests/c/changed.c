@@ -15,11 +15,12 @@ static const enum kind readers[] = {ADD_POINT, WITHDRAW_POINT, CHECK, INTERPOLAT
 /* Bytes past each size. */
 #define SURPLUS 8
 
-/* The basis of these points. */
-static void make_basis(struct made *made, uint64_t p, uint64_t m, uint64_t order, const uint8_t *levels, size_t n)
+/* The basis of these points in grlex, or with weights by weight. */
+static void make_basis(struct made *made, uint64_t p, uint64_t m, uint64_t weights, const uint8_t *levels, size_t n)
 {
     memset(made, 0, sizeof *made);
-    made->call = (struct call){.kind = DRAW_UP, .modulus = p, .variables = m, .order = order};
+    made->call = (struct call){.kind = DRAW_UP, .modulus = p, .variables = m, .weights = weights};
+    made->call.order = weights == 0 ? MISQAFUR_GRLEX : MISQAFUR_WEIGHT;
     for (int t = 0; t < TABLES; t++) {
         memset(made->bytes[t], 170, table_sizes[t] + SURPLUS);
         made->call.buffer[t] = (struct bytes){made->bytes[t], table_sizes[t] + SURPLUS};
@@ -111,12 +112,12 @@ struct score changed_bytes(const struct options *options)
     for (size_t i = 0; i < sizeof many; i++)
         many[i] = (uint8_t)below(&chance, 60);
     for (size_t k = 0; k < READERS; k++) {
-        make_basis(made, 5, 2, MISQAFUR_GRLEX, three, 3);
+        make_basis(made, 5, 2, 0, three, 3);
         set_kind(made, readers[k]);
         change_inside(&score, guard, made, 0, 1);
         change_counts(&score, guard, made);
         change_past(&score, guard, made);
-        make_basis(made, 61, 8, MISQAFUR_GREVLEX, many, MISQAFUR_MAX_POINTS - 1);
+        make_basis(made, 61, 8, 0x0301630205070904, many, MISQAFUR_MAX_POINTS - 1);
         set_kind(made, readers[k]);
         change_inside(&score, guard, made, k, READERS);
         change_past(&score, guard, made);

@@ -1,5 +1,5 @@
 /* Part "changes": the stored calls in data/changes, a file for each change request, those of before M-106 with counts
- * of 1 (tools/replicates.py). A file begins with
+ * of 1 (tools/replicates.py), those of before M-109 without weights (tools/weights.py). A file begins with
  * `landed K`; each block ends with `end` and is a call or a run of calls, what it is handed, and after it the
  * number returned and the FNV-1a hash of every lent table and answer buffer. */
 #define _DEFAULT_SOURCE
@@ -31,18 +31,24 @@ static int tables_hold(const struct call *call, const struct block *b)
     return 1;
 }
 
+/* The buffers that the reader fills. */
+static int answers_hold(const struct call *call, const struct block *b)
+{
+    for (int i = 0; i < READ; i++)
+        if (hash(&call->buffer[read_buffers[i]]) != b->answers[i])
+            return 0;
+    return 1;
+}
+
 static int call_holds(struct guard *guard, const struct block *b, uint64_t choice)
 {
     struct call lent = guard_lend(guard, &b->call, choice);
     performing = "a block of a change request";
     if (!number_holds(b, perform(&archive, &lent)) || !guard_intact(guard))
         return 0;
-    int reads = b->call.kind == READ_TEXT;
-    if (!reads && !tables_hold(&lent, b))
+    if (b->call.kind == READ_TEXT ? !answers_hold(&lent, b) : !tables_hold(&lent, b))
         return 0;
-    if (reads && (hash(&lent.buffer[STATES]) != b->answers[0] || hash(&lent.buffer[COUNTS]) != b->answers[2]))
-        return 0;
-    if (buffer_size(b->call.kind, OUT) > 0 && hash(&lent.buffer[OUT]) != b->answers[reads])
+    if (b->call.kind != READ_TEXT && buffer_size(b->call.kind, OUT) > 0 && hash(&lent.buffer[OUT]) != b->answers[0])
         return 0;
     for (int i = GIVEN; i <= EXPONENTS; i++)
         if (hash(&lent.buffer[i]) != hash(&b->call.buffer[i]))

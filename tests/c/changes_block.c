@@ -73,7 +73,7 @@ static void read_lengths(struct block *b, const char *rest)
     b->known &= numbers(rest, lengths, TABLES) == TABLES;
     memset(b->bytes, 170, TABLES * sizeof b->bytes[0]);
     if (b->based)
-        b->known &= (reference_draw_up(b->base[0], b->base[1], b->base[2], b->bytes[STATES], ROOM,
+        b->known &= (reference_draw_up(b->base[0], b->base[1], b->base[2], b->base[3], b->bytes[STATES], ROOM,
                                        b->bytes[STANDARD], ROOM, b->bytes[LEADS], ROOM, b->bytes[COEFFICIENTS], ROOM,
                                        b->bytes[COUNTS], ROOM, b->points, b->points_read) & 255u) == 0;
     memcpy(b->bytes[COUNTS], b->counts, b->counts_read);
@@ -110,14 +110,16 @@ static void read_segments(struct block *b, const char *rest)
     lend(b, GIVEN, (long)length);
 }
 
-/* The answer buffers; the reader's are states, values and counts. */
-static void read_buffers(struct block *b, const char *rest)
+const enum buffer read_buffers[READ] = {STATES, OUT, COUNTS, WEIGHTS};
+
+/* The answer buffers. */
+static void read_lent(struct block *b, const char *rest)
 {
-    static const enum buffer read[3] = {STATES, OUT, COUNTS}, answer[1] = {OUT};
-    const size_t due = b->call.kind == READ_TEXT ? 3 : 1;
-    const enum buffer *which = due == 3 ? read : answer;
-    long lengths[3];
-    if (numbers(rest, lengths, 3) != due) {
+    static const enum buffer answer[1] = {OUT};
+    const size_t due = b->call.kind == READ_TEXT ? READ : 1;
+    const enum buffer *which = due == READ ? read_buffers : answer;
+    long lengths[READ];
+    if (numbers(rest, lengths, READ) != due) {
         b->known = 0;
         return;
     }
@@ -161,7 +163,7 @@ static void take_expected(struct block *b, const char *word, const char *rest)
     else if (strcmp(word, "tables") == 0)
         read_hashes(b->tables, TABLES, rest);
     else if (strcmp(word, "answers") == 0)
-        read_hashes(b->answers, 3, rest);
+        read_hashes(b->answers, READ, rest);
     else if (strcmp(word, "do") == 0)
         read_step(b, rest);
     else if (strcmp(word, "finally") == 0)
@@ -173,14 +175,14 @@ static void take_expected(struct block *b, const char *word, const char *rest)
 void block_take(struct block *b, const char *word, const char *rest)
 {
     struct call *c = &b->call;
-    uint64_t weights = 0;
     if (strcmp(word, "call") == 0)
         begin(b, rest);
     else if (strcmp(word, "settings") == 0)
-        sscanf(rest, "%" SCNu64 " %" SCNu64 " %" SCNu64 " %" SCNu64, &c->modulus, &c->variables, &c->order, &weights);
+        b->known &= sscanf(rest, "%" SCNu64 " %" SCNu64 " %" SCNu64 " %" SCNu64, &c->modulus, &c->variables, &c->order,
+                           &c->weights) == 4;
     else if (strcmp(word, "base") == 0)
         b->based = sscanf(rest, "%" SCNu64 " %" SCNu64 " %" SCNu64 " %" SCNu64, &b->base[0], &b->base[1], &b->base[2],
-                          &weights) == 4;
+                          &b->base[3]) == 4;
     else if (strcmp(word, "state") == 0)
         read_state(b, rest);
     else if (strcmp(word, "counts") == 0)
@@ -198,8 +200,7 @@ void block_take(struct block *b, const char *word, const char *rest)
     else if (strcmp(word, "text") == 0)
         read_segments(b, rest);
     else if (strcmp(word, "buffers") == 0)
-        read_buffers(b, rest);
+        read_lent(b, rest);
     else
         take_expected(b, word, rest);
-    b->known &= weights == 0;
 }

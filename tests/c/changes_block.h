@@ -8,7 +8,7 @@
  *   buffers L..: the answer buffers in the order of the arguments, filled with 170
  *   number .. and shown .. are for the reader of the file
  *   returned U                       tables H..                   answers H..
- * W is 0. With the kind run, the tables are at first those of no points, and the calls stand in steps:
+ * W is the number of the weights. With the kind run, the tables are at first those of no points, and the calls stand in steps:
  *   do add K v.. returns U           do withdraw K v.. returns U   finally N R
  * A block with a kind or a word that is not known is marked as such. */
 #ifndef CHANGES_BLOCK_H
@@ -18,6 +18,10 @@
 
 #define STEPS 1024
 #define STEP_LEVELS 16
+
+/* The reader's answer buffers, in the order of its arguments. */
+#define READ 4
+extern const enum buffer read_buffers[READ];
 
 /* One call of a run. */
 struct step {
@@ -31,7 +35,7 @@ struct block {
     struct call call;
     int known;        /* its kind and every word so far */
     int based;        /* the tables are those of a basis */
-    uint64_t base[3]; /* modulus, variables, order */
+    uint64_t base[4]; /* modulus, variables, order, weights */
     uint8_t points[512];
     size_t points_read;
     uint8_t counts[MISQAFUR_COUNTS_SIZE];
@@ -40,7 +44,7 @@ struct block {
     struct step steps[STEPS];
     size_t steps_read;
     uint64_t finally[2]; /* n and r after the last step that was taken */
-    uint64_t returned, tables[TABLES], answers[3];
+    uint64_t returned, tables[TABLES], answers[READ];
     uint8_t bytes[BUFFERS][ROOM];
 };
 

@@ -17,9 +17,19 @@ static uint64_t odd_number(struct chance *c, uint64_t old)
 
 static void settings(struct made *made)
 {
-    uint64_t *const numbers[3] = {&made->call.modulus, &made->call.variables, &made->call.order};
-    uint64_t *number = numbers[below(&made->chance, 3)];
+    uint64_t *const numbers[4] = {&made->call.modulus, &made->call.variables, &made->call.order, &made->call.weights};
+    uint64_t *number = numbers[below(&made->chance, 4)];
     *number = odd_number(&made->chance, *number);
+}
+
+/* Another weight of some variable, at the edges of what it may be, or of one that is not there. */
+static void one_weight(struct made *made)
+{
+    static const uint64_t edges[] = {0, 1, 2, 98, 99, 100, 127, 128, 227, 255};
+    struct chance *c = &made->chance;
+    uint64_t shift = 8 * below(c, once_in(c, 2) ? 8 : made->call.variables % 9 + 1) % 64;
+    uint64_t weight = once_in(c, 2) ? below(c, 256) : edges[below(c, sizeof edges / sizeof *edges)];
+    made->call.weights = (made->call.weights & ~((uint64_t)255 << shift)) | weight << shift;
 }
 
 /* Settings that are taken, but perhaps not the tables' own. */
@@ -34,7 +44,7 @@ static void other_settings(struct made *made)
         made->call.variables = 1 + below(c, 8);
         break;
     default:
-        made->call.order = below(c, 3);
+        random_order(c, &made->call);
     }
 }
 
@@ -206,9 +216,9 @@ static void terms(struct made *made)
 
 void damage(struct made *made)
 {
-    static void (*const any[])(struct made *) = {settings,     other_settings, numbers,      short_buffer,
-                                                 table_change, table_change,   count_change, table_rows,
-                                                 given_length, given_byte,     repeat_point};
+    static void (*const any[])(struct made *) = {settings,     other_settings, one_weight, numbers,
+                                                 short_buffer, table_change,   table_change, count_change,
+                                                 table_rows,   given_length,   given_byte,   repeat_point};
     enum kind kind = made->call.kind;
     if (kind == REMAINDER && once_in(&made->chance, 4))
         terms(made);

@@ -112,7 +112,7 @@ struct score emptied(const struct options *options)
     struct sheet *sheet = malloc(sizeof *sheet);
     if (sheet == NULL)
         abort();
-    for (uint64_t i = 0; i < 18 * 3; i++) {
+    for (uint64_t i = 0; i < 18 * 4; i++) {
         memset(sheet, 0, sizeof *sheet);
         sheet->made.chance.state = options->seed * 1000003 + i;
         int holds = sheet_holds(sheet, primes[i % 18], i / 18);

@@ -40,17 +40,17 @@ static uint32_t keep(struct tables *t, uint64_t answer)
 
 static uint32_t add(struct tables *t, uint64_t p, uint64_t m, const uint8_t *levels)
 {
-    return keep(t, misqafur_add_point(p, m, MISQAFUR_GREVLEX, t->n, t->r, LENT(t), levels, m));
+    return keep(t, misqafur_add_point(p, m, MISQAFUR_GREVLEX, 0, t->n, t->r, LENT(t), levels, m));
 }
 
 static uint32_t withdraw(struct tables *t, uint64_t p, uint64_t m, const uint8_t *levels)
 {
-    return keep(t, misqafur_withdraw_point(p, m, MISQAFUR_GREVLEX, t->n, t->r, LENT(t), levels, m));
+    return keep(t, misqafur_withdraw_point(p, m, MISQAFUR_GREVLEX, 0, t->n, t->r, LENT(t), levels, m));
 }
 
 static uint32_t draw(struct tables *t, uint64_t p, uint64_t m, const uint8_t *levels, size_t length)
 {
-    return misqafur_refusal(misqafur_draw_up(p, m, MISQAFUR_GREVLEX, LENT(t), levels, length));
+    return misqafur_refusal(misqafur_draw_up(p, m, MISQAFUR_GREVLEX, 0, LENT(t), levels, length));
 }
 
 static void settings(struct score *score, struct tables *t)
@@ -122,7 +122,7 @@ static void full(struct score *score, struct tables *t)
     static struct tables before;
     uint8_t levels[130];
     many_points(levels);
-    say(score, "64 points drawn up", keep(t, misqafur_draw_up(61, 2, MISQAFUR_GREVLEX, LENT(t), levels, 128)) == 0);
+    say(score, "64 points drawn up", keep(t, misqafur_draw_up(61, 2, MISQAFUR_GREVLEX, 0, LENT(t), levels, 128)) == 0);
     before = *t;
     say(score, "of 64 points none is the 65th", withdraw(t, 61, 2, levels + 128) == 12);
     say(score, "refused without a trace", memcmp(t, &before, sizeof before) == 0);
@@ -154,12 +154,13 @@ static uint64_t read_records(int records, int last)
 {
     static char text[8192];
     uint8_t states[MISQAFUR_STATES_SIZE], values[MISQAFUR_RESIDUES_SIZE], counts[MISQAFUR_COUNTS_SIZE];
+    uint8_t weights[MISQAFUR_WEIGHTS_SIZE];
     int length = snprintf(text, sizeof text, "g1,g2,mod 61\n");
     for (int i = 0; i < records; i++)
         length += snprintf(text + length, sizeof text - (size_t)length, "%d,%d,0\n", i % 61,
                            i + 1 == records ? last : i / 61);
     return misqafur_read_text((const uint8_t *)text, (size_t)length, states, sizeof states, values, sizeof values, counts,
-                              sizeof counts);
+                              sizeof counts, weights, sizeof weights);
 }
 
 static void texts(struct score *score)
@@ -179,12 +180,13 @@ static void texts(struct score *score)
 static void no_points(struct score *score)
 {
     static const uint8_t zeros[MISQAFUR_COEFFICIENTS_SIZE];
-    for (uint64_t order = 0; order < 3; order++)
+    const uint64_t weights = 0x6301020304050663;
+    for (uint64_t order = 0; order < 4; order++)
         for (uint64_t m = 1; m <= 8; m++)
             say(score, "the basis of no points",
-                misqafur_check(5, m, order, 0, 1, zeros, MISQAFUR_STATES_SIZE, zeros, MISQAFUR_STANDARD_SIZE, zeros,
-                               MISQAFUR_LEADS_SIZE, zeros, MISQAFUR_COEFFICIENTS_SIZE, zeros,
-                               MISQAFUR_COUNTS_SIZE) == 0);
+                misqafur_check(5, m, order, order < MISQAFUR_WEIGHT ? 0 : weights >> 8 * (8 - m), 0, 1, zeros,
+                               MISQAFUR_STATES_SIZE, zeros, MISQAFUR_STANDARD_SIZE, zeros, MISQAFUR_LEADS_SIZE, zeros,
+                               MISQAFUR_COEFFICIENTS_SIZE, zeros, MISQAFUR_COUNTS_SIZE) == 0);
 }
 
 struct score examples(const struct options *options)

@@ -12,10 +12,10 @@ int has_fault(uint32_t faults, int refusal)
     return (int)(faults >> refusal & 1);
 }
 
-/* In the order of checking: since M-106 it is no longer that of the numbers. */
+/* In the order of checking, which is not that of the numbers. */
 int first_fault(uint32_t faults)
 {
-    static const int order[] = {1, 2, 3, 4, 5, 6, 7, 8, 9, 10, 12, FULL, 13, 14};
+    static const int order[] = {1, 2, 3, 4, 5, 15, 6, 7, 8, 9, 10, 12, FULL, 13, 14};
     for (size_t i = 0; i < sizeof order / sizeof *order; i++)
         if (has_fault(faults, order[i]))
             return order[i];

@@ -4,19 +4,43 @@
 
 #include <string.h>
 
+/* Every second call is by weight, the others in turn in the orders without weights. */
+static uint64_t order_of(uint32_t variant)
+{
+    return variant % 2 == 0 ? MISQAFUR_WEIGHT : variant / 2 % 3;
+}
+
+/* x1 is the smallest of two variables; eight have any weights. */
+#define TWO_WEIGHTS 0x0201
+#define EIGHT_WEIGHTS 0x6301020203056301
+
+/* The weights of a good call, or as fault 15 others: by weight none or too great a one, one behind the last variable, none at
+ * all; else some, also only above 32 bits. */
+static uint64_t weights_of(uint64_t order, int packed, uint32_t faults, uint32_t variant)
+{
+    static const uint64_t wrong[3][5] = {{0x0200, 0x6401, 0x010201, 0, UINT64_MAX},
+                                         {0x6301020203056300, 0x6401020203056301, 0x63010202ff056301, 0, UINT64_MAX},
+                                         {1, (uint64_t)1 << 56, 0x0101010101010101, 0x100000000, UINT64_MAX}};
+    const int by_weight = order_of(variant) == MISQAFUR_WEIGHT;
+    if (has_fault(faults, 15))
+        return wrong[!by_weight ? 2 : packed][variant / 2 % 5];
+    return order != MISQAFUR_WEIGHT ? 0 : packed ? EIGHT_WEIGHTS : TWO_WEIGHTS;
+}
+
 /* Numbers that are not in range, some of which would be if they were cut to fewer bits. */
 static void set_settings(struct call *call, uint32_t faults, uint32_t variant)
 {
     static const uint64_t moduli[8] = {67, 1, 0, 9, 256 + 11, 65536 + 11, 0x100000000 + 11, UINT64_MAX};
     static const uint64_t variables[8] = {9, 0, 10, 255, 256 + 2, 65536 + 2, 0x100000000 + 2, UINT64_MAX};
-    static const uint64_t orders[8] = {3, 4, 100, 255, 256, 65536 + 1, 0x100000000 + 1, UINT64_MAX};
+    static const uint64_t orders[8] = {4, 5, 100, 255, 256 + 3, 65536 + 1, 0x100000000 + 3, UINT64_MAX};
     static const uint64_t no_twos[10] = {3, 61, 0, 1, 256 + 2, 65536 + 2, 0x100000000 + 2, UINT64_MAX, 5, 4};
     const int packed = call->kind == DRAW_UP_PACKED;
     call->modulus = packed ? 2 : 11;
     if (has_fault(faults, 3))
         call->modulus = packed ? no_twos[variant % 10] : moduli[variant % 8];
     call->variables = has_fault(faults, 4) ? variables[variant % 8] : packed ? 8 : 2;
-    call->order = has_fault(faults, 5) ? orders[variant % 8] : variant % 3;
+    call->order = has_fault(faults, 5) ? orders[variant % 8] : order_of(variant);
+    call->weights = weights_of(call->order, packed, faults, variant);
 }
 
 /* A point of a grid; (1, 2) is point 23. */
@@ -31,7 +55,7 @@ static void put_grid_point(uint8_t *levels, int i, int negative)
  * the first 64 points of the grid. */
 static const struct made *basis_of(int full, uint64_t order)
 {
-    static struct made kept[2][3];
+    static struct made kept[2][4];
     static uint8_t three[6] = {0, 0, 1, 2, 2, 1}, many[2 * MISQAFUR_MAX_POINTS];
     struct made *made = &kept[full][order];
     if (made->call.r != 0)
@@ -39,6 +63,7 @@ static const struct made *basis_of(int full, uint64_t order)
     for (int i = 0; i < MISQAFUR_MAX_POINTS; i++)
         put_grid_point(many + 2 * i, i, 0);
     made->call = (struct call){.kind = DRAW_UP, .modulus = 11, .variables = 2, .order = order};
+    made->call.weights = weights_of(order, 0, 0, 0);
     for (int t = 0; t < TABLES; t++) {
         memset(made->bytes[t], 170, table_sizes[t] + 8);
         lend(made, (enum buffer)t, table_sizes[t]);
@@ -55,7 +80,7 @@ static const struct made *basis_of(int full, uint64_t order)
 static void set_tables(struct made *made, uint32_t faults, uint32_t variant)
 {
     int full = has_fault(faults, FULL);
-    const struct made *basis = basis_of(full, variant % 3);
+    const struct made *basis = basis_of(full, order_of(variant));
     for (int t = 0; t < TABLES; t++)
         if (draws_up(made->call.kind))
             memset(made->bytes[t], 170, table_sizes[t] + 8);

@@ -41,6 +41,16 @@ static int variables_of(uint32_t faults, uint32_t variant)
     return has_fault(faults, 13) ? fewest[variant % 4] : has_fault(faults, FULL) ? fewer[variant % 4] : some[variant % 4];
 }
 
+/* As many weights as names; as fault 15 one of them is 0. */
+static void put_weights(struct made *made, int m, uint32_t faults, uint32_t variant)
+{
+    static const char *const weights[4] = {" 1", " 99", " 07", " 30"}, *const none[2] = {" 0", " 00"};
+    const int wrong = has_fault(faults, 15) ? (int)variant % (m < 1 ? 1 : m) : m;
+    put(made, " weight");
+    for (int k = 0; k < m; k++)
+        put(made, k == wrong ? none[variant / 2 % 2] : weights[(k + (int)variant) % 4]);
+}
+
 static void put_header(struct made *made, int m, uint32_t faults, uint32_t variant)
 {
     static const int moduli[8] = {67, 1, 0, 9, 256 + 11, 256, 999, 62};
@@ -49,7 +59,10 @@ static void put_header(struct made *made, int m, uint32_t faults, uint32_t varia
         put(made, "g,");
     put(made, "mod ");
     put_number(made, has_fault(faults, 3) ? moduli[variant % 8] : 11);
-    put(made, orders[variant % 4]);
+    if (has_fault(faults, 15) || variant % 5 == 4)
+        put_weights(made, m, faults, variant);
+    else
+        put(made, orders[variant % 4]);
 }
 
 /* A level of point i of a grid, in replicates the negative one of the same residue. */
@@ -122,13 +135,14 @@ uint64_t make_faulty_text(struct made *made, uint32_t faults, uint32_t variant)
     static const int sequences[6][3] = {{0, 1, 2}, {2, 1, 0}, {1, 0, 2}, {2, 0, 1}, {0, 2, 1}, {1, 2, 0}};
     int m = variables_of(faults, variant), broken = (int)variant * 5 % (RECORDS + 1); /* 0 is the header */
     const char *how = breaks[variant % 10];
-    struct told told = {.at = {[2] = (uint64_t)broken + (*how == '\n' ? 2 : 1), [3] = 1, [4] = 1,
+    struct told told = {.at = {[2] = (uint64_t)broken + (*how == '\n' ? 2 : 1), [3] = 1, [4] = 1, [15] = 1,
                                [9] = (uint64_t)(variant % RECORDS) + 2}};
     made->call = (struct call){.kind = READ_TEXT};
     made->call.buffer[GIVEN] = (struct bytes){made->bytes[GIVEN], 0};
     memset(made->bytes[STATES], 170, MISQAFUR_STATES_SIZE + 8);
     memset(made->bytes[OUT], 170, MISQAFUR_RESIDUES_SIZE + 8);
     memset(made->bytes[COUNTS], 170, MISQAFUR_COUNTS_SIZE + 8);
+    memset(made->bytes[WEIGHTS], 170, MISQAFUR_WEIGHTS_SIZE + 8);
     set_faulty_sizes(made, faults, variant);
     put_header(made, m, faults, variant);
     if (has_fault(faults, 2) && broken == 0)

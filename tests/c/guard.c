@@ -21,7 +21,8 @@ struct guard {
 };
 
 static const char *const buffer_names[BUFFERS] = {"states", "standard", "leads",     "coefficients",
-                                                  "counts", "given",    "exponents", "out"};
+                                                  "counts", "given",    "exponents", "out",
+                                                  "weights"};
 
 _Thread_local const char *performing = "a call";
 

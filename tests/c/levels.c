@@ -83,18 +83,20 @@ static int takes_values(const struct made *made, int p, size_t n, const uint8_t 
     return 1;
 }
 
-/* From the text of a call on: the points packed and drawn up, the counts of the text in the place of theirs, and the
+/* From the text of a call on: the points and the weights packed and drawn up, the counts of the text in the place of theirs, and the
  * interpolant of the values. */
 static int text_leads_on(struct made *made, uint64_t answer)
 {
     static uint8_t points[MISQAFUR_STATES_SIZE], values[MISQAFUR_RESIDUES_SIZE], levels[MISQAFUR_LEVELS_SIZE];
     static uint8_t counts[MISQAFUR_COUNTS_SIZE];
+    uint64_t weights = misqafur_pack_weights(made->bytes[WEIGHTS], MISQAFUR_WEIGHTS_SIZE);
     uint32_t n = misqafur_read_points(answer), p = misqafur_read_modulus(answer), m = misqafur_read_variables(answer);
     memcpy(points, made->bytes[STATES], sizeof points);
     memcpy(values, made->bytes[OUT], sizeof values);
     memcpy(counts, made->bytes[COUNTS], sizeof counts);
     size_t length = misqafur_pack_levels(points, n, m, levels);
-    made->call = (struct call){.kind = DRAW_UP, .modulus = p, .variables = m, .order = misqafur_read_order(answer)};
+    made->call = (struct call){.kind = DRAW_UP, .modulus = p, .variables = m, .order = misqafur_read_order(answer),
+                               .weights = weights};
     for (int i = 0; i < BUFFERS; i++)
         lend(made, (enum buffer)i, buffer_size(INTERPOLATE, (enum buffer)i));
     made->call.buffer[GIVEN] = (struct bytes){levels, length};

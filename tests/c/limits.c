@@ -15,7 +15,7 @@
 /* A call that is to succeed, but for the length of a buffer. */
 static void make_good(struct made *made, enum kind kind)
 {
-    static const char text[] = "g1,mod 5\n1,2\n";
+    static const char text[] = "g1,mod 5 weight 7\n1,2\n";
     memset(made, 0, sizeof *made);
     made->chance.state = 7;
     make_call(made, kind == READ_TEXT ? INTERPOLATE : kind);
@@ -23,6 +23,7 @@ static void make_good(struct made *made, enum kind kind)
     if (kind == READ_TEXT) {
         memcpy(made->bytes[GIVEN], text, sizeof text - 1);
         made->call.buffer[GIVEN].length = sizeof text - 1;
+        lend(made, WEIGHTS, MISQAFUR_WEIGHTS_SIZE);
     }
 }
 

@@ -139,7 +139,7 @@ static int list_holds(struct guard *guard, struct made *made, struct made *other
     struct chance *c = &made->chance;
     struct list list;
     uint64_t number, p = primes[index % 18];
-    list_begin(&list, made, (int)p, 1 + (int)(index / 18 % 8), below(c, 3));
+    list_begin(&list, made, (int)p, 1 + (int)(index / 18 % 8), below(c, 4));
     uint64_t few = p < 3 ? 2 : 3, residues = once_in(c, 3) ? few : p, times = once_in(c, 2) ? 2 : 12;
     for (size_t turns = below(c, 150); turns > 0; turns--)
         if (!turn_holds(guard, made, other, &list, residues, times, tally))

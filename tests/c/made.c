@@ -54,12 +54,29 @@ uint8_t random_level(struct chance *c, int p, uint8_t residue)
     return residue != 0 && once_in(c, 2) ? (uint8_t)(residue - p) : residue;
 }
 
+uint64_t random_weights(struct chance *c, uint64_t variables)
+{
+    uint64_t packed = 0, style = below(c, 4), same = 1 + below(c, MISQAFUR_MAX_WEIGHT);
+    for (uint64_t k = 0; k < variables && k < MISQAFUR_MAX_VARIABLES; k++) {
+        const uint64_t any = 1 + below(c, MISQAFUR_MAX_WEIGHT), few = 1 + below(c, 3);
+        const uint64_t edge = once_in(c, 2) ? 1 : MISQAFUR_MAX_WEIGHT;
+        packed |= (style == 0 ? any : style == 1 ? few : style == 2 ? edge : same) << 8 * k;
+    }
+    return packed;
+}
+
+void random_order(struct chance *c, struct call *call)
+{
+    call->order = below(c, 4);
+    call->weights = call->order == MISQAFUR_WEIGHT ? random_weights(c, call->variables) : 0;
+}
+
 static void random_settings(struct made *made)
 {
     struct chance *c = &made->chance;
     made->call.modulus = made->call.kind == DRAW_UP_PACKED ? 2 : primes[once_in(c, 2) ? below(c, 4) : below(c, 18)];
     made->call.variables = 1 + below(c, 8);
-    made->call.order = below(c, 3);
+    random_order(c, &made->call);
 }
 
 void lend(struct made *made, enum buffer which, size_t length)

@@ -53,6 +53,12 @@ size_t random_points(struct chance *c, int p, int m, size_t n, uint8_t points[51
 /* The levels, in either sign, of n points of m residues, 8 bytes each; gives their number. */
 size_t random_levels(struct chance *c, int p, size_t m, const uint8_t *points, size_t n, uint8_t *levels);
 
+/* Any order for the call's number of variables; by weight, weights of many kinds. */
+void random_order(struct chance *c, struct call *call);
+
+/* Weights for so many variables, or for eight if there are more, packed: any, few different ones, the least and the greatest, or all the same. */
+uint64_t random_weights(struct chance *c, uint64_t variables);
+
 /* A signed byte with this residue. */
 uint8_t random_level(struct chance *c, int p, uint8_t residue);
 

@@ -49,11 +49,21 @@ static void put_long_name(struct made *made)
     put(made, ",", 1);
 }
 
+/* ` weight` and a weight for each name, of one digit or two; now and then one is 0, or there are others than names. */
+static void weigh(struct chance *c, size_t m, char *word, size_t room)
+{
+    const uint64_t packed = random_weights(c, 8), none = once_in(c, 12) ? below(c, m + 1) : m;
+    size_t count = once_in(c, 20) ? below(c, m + 3) : m, length = (size_t)snprintf(word, room, " weight");
+    for (size_t k = 0; k < count; k++)
+        length += (size_t)snprintf(word + length, room - length, " %0*d", once_in(c, 6) ? 2 : 1,
+                                   k == none ? 0 : (int)(packed >> 8 * (k % 8) & 255));
+}
+
 static void put_header(struct made *made, size_t m, int p)
 {
     static const char *const words[] = {"", " lex", " grlex", " grevlex"};
     struct chance *c = &made->chance;
-    char content[32];
+    char content[96], word[64];
     int odd = once_in(c, 30) ? (int)below(c, 1100) : p;
     for (size_t k = 0; k < m; k++) {
         if (k == 0 && once_in(c, 40))
@@ -61,7 +71,11 @@ static void put_header(struct made *made, size_t m, int p)
         else
             put_name(made);
     }
-    snprintf(content, sizeof content, "mod %0*d%s", once_in(c, 6) ? 3 : 1, odd, words[below(c, 4)]);
+    if (once_in(c, 3))
+        weigh(c, m, word, sizeof word);
+    else
+        snprintf(word, sizeof word, "%s", words[below(c, 4)]);
+    snprintf(content, sizeof content, "mod %0*d%s", once_in(c, 6) ? 3 : 1, odd, word);
     put_field(made, content);
 }
 
@@ -88,7 +102,7 @@ static size_t random_records(struct chance *c)
 /* Changes, inserts or removes one byte. */
 static void mistype(struct made *made)
 {
-    static const char bytes[] = ",\"\r\n-0123456789 modlexgrv+\0\xff";
+    static const char bytes[] = ",\"\r\n-0123456789 modlexgrvwiht+\0\xff";
     struct chance *c = &made->chance;
     struct bytes *text = &made->call.buffer[GIVEN];
     size_t at = below(c, text->length + 1);
@@ -151,12 +165,15 @@ void make_text(struct made *made)
     memset(made->bytes[STATES], 170, 800);
     memset(made->bytes[OUT], 170, 400);
     memset(made->bytes[COUNTS], 170, 400);
+    memset(made->bytes[WEIGHTS], 170, 400);
     size_t states = once_in(c, 40) ? below(c, 512) : 512 + below(c, 200);
     size_t values = once_in(c, 40) ? below(c, 64) : 64 + below(c, 200);
     made->call.buffer[STATES] = (struct bytes){made->bytes[STATES], states};
     size_t counts = once_in(c, 40) ? below(c, 64) : 64 + below(c, 200);
+    size_t weights = once_in(c, 40) ? below(c, 8) : 8 + below(c, 200);
     made->call.buffer[OUT] = (struct bytes){made->bytes[OUT], values};
     made->call.buffer[COUNTS] = (struct bytes){made->bytes[COUNTS], counts};
+    made->call.buffer[WEIGHTS] = (struct bytes){made->bytes[WEIGHTS], weights};
     put_header(made, m, p);
     put_records(made, m, p, random_records(c));
     if (once_in(c, 2))

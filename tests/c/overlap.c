@@ -7,7 +7,7 @@
 #include <stdlib.h>
 #include <string.h>
 
-#define CALLS_OF_EACH_KIND 300
+#define CALLS_OF_EACH_KIND 500
 
 /* The buffers that are only read, greatest first. Exponents and values follow the tables that they may lie in. */
 static const enum buffer only_read[] = {COEFFICIENTS, LEADS, STATES, STANDARD, COUNTS, EXPONENTS, GIVEN};

@@ -1,6 +1,7 @@
 /* Part "packed": drawing up modulo 2 by words against the general way and the reference, which knows nothing of words: every
  * set of states of up to three genes, every face of a cube, the states of few ones, 64 random states of eight genes, with
- * replicates and without; and every modulus but 2 is refused. */
+ * replicates and without, in every order, by weight with random weights and with equal ones; and every modulus but 2 is
+ * refused. */
 #include "packed.h"
 
 #include "made.h"
@@ -51,16 +52,29 @@ static void set_states(struct made *made, uint64_t m, uint64_t order, const uint
     lend(made, GIVEN, m * count);
 }
 
+/* By weight in turn: random weights, others, the same for every gene. */
+#define BY_WEIGHT 3
+
+static uint64_t weights_of(struct chance *c, uint64_t m, uint64_t turn)
+{
+    const uint64_t same = 0x0101010101010101 * (1 + below(c, MISQAFUR_MAX_WEIGHT));
+    return turn + 1 < BY_WEIGHT ? random_weights(c, m) : same >> 8 * (8 - m);
+}
+
 /* These states under every order: by the archive in both ways, and by the reference. */
 static void try_states(struct ways *b, uint64_t m, const uint8_t *states, size_t count_of, const char *name)
 {
-    for (uint64_t order = 0; order < 3; order++) {
+    for (uint64_t turn = 0; turn < MISQAFUR_WEIGHT + BY_WEIGHT; turn++) {
+        const uint64_t order = turn < MISQAFUR_WEIGHT ? turn : MISQAFUR_WEIGHT;
         uint64_t number = 0;
         set_states(&b->made, m, order, states, count_of);
-        int holds = agrees(b->packed, &b->made.call, order, name, &number) &&
-                    drawn_both_ways(b->general, b->packed, &b->made.call, order, name);
+        if (order == MISQAFUR_WEIGHT)
+            b->made.call.weights = weights_of(&b->made.chance, m, turn - MISQAFUR_WEIGHT);
+        int holds = agrees(b->packed, &b->made.call, turn, name, &number) &&
+                    drawn_both_ways(b->general, b->packed, &b->made.call, turn, name);
         if (!holds)
-            fprintf(stderr, "packed: %s, %zu of %" PRIu64 " genes, order %" PRIu64 "\n", name, count_of, m, order);
+            fprintf(stderr, "packed: %s, %zu of %" PRIu64 " genes, order %" PRIu64 ", weights %" PRIx64 " (hex)\n", name,
+                    count_of, m, order, b->made.call.weights);
         b->taken += (number & 255) == 0;
         count(&b->score, holds);
     }
@@ -169,7 +183,7 @@ static void other_settings(struct ways *b)
         set_states(&b->made, 8, 0, states, 2);
         b->made.call.variables = k < 1 || k > 8 ? k : 9;
         count(&b->score, refuses(b->packed, &b->made.call, k, 4, "another number of genes, packed"));
-        set_states(&b->made, 1, k + 3, states, 2);
+        set_states(&b->made, 1, k + 4, states, 2);
         count(&b->score, refuses(b->packed, &b->made.call, k, 5, "another order, packed"));
     }
 }

@@ -43,5 +43,6 @@ struct score changed_bytes(const struct options *options);
 struct score wrong_numbers(const struct options *options);
 struct score packed_drawing(const struct options *options);
 struct score replicates(const struct options *options);
+struct score weights(const struct options *options);
 
 #endif

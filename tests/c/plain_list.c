@@ -7,6 +7,8 @@ void list_begin(struct list *list, struct made *made, int p, int m, uint64_t ord
 {
     *list = (struct list){.p = p, .m = m};
     made->call = (struct call){.modulus = (uint64_t)p, .variables = (uint64_t)m, .order = order, .r = 1};
+    if (order == MISQAFUR_WEIGHT)
+        made->call.weights = random_weights(&made->chance, (uint64_t)m);
     for (int t = 0; t < TABLES; t++)
         lend(made, (enum buffer)t, table_sizes[t]);
 }

@@ -18,7 +18,7 @@ struct list {
 /* How many points that are, each as often as its count. */
 size_t list_arrivals(const struct list *list);
 
-/* An empty list modulo p in m variables, and a call on fresh tables under these settings. */
+/* An empty list modulo p in m variables, and a call on fresh tables under these settings; by weight with random weights. */
 void list_begin(struct list *list, struct made *made, int p, int m, uint64_t order);
 
 /* Has the archive add or withdraw, by the call's kind, and keeps n and r. Whether the list's own answer came back,

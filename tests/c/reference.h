@@ -21,7 +21,7 @@ __typeof__(misqafur_read_text) reference_read_text;
 /* The basis of some points and their counts, with the inverse of the matrix that evaluates standard monomials at
  * the points. */
 struct basis {
-    int p, m, order, n, r, cancellations;
+    int p, m, order, weights[8], n, r, cancellations;
     uint8_t states[512], standard[512], leads[3592], coefficients[28736], counts[64];
     int inverse[64][64]; /* row: standard monomial; column: point */
 };
@@ -35,8 +35,8 @@ void reference_solve(const struct basis *b, const int values[64], uint8_t coeffi
 /* The value of x1^e1 ... x8^e8 at a point; 0 to the power 0 is 1. */
 int reference_value(int p, const uint8_t *exponents, const uint8_t *point);
 
-/* 3, 4, 5 or 0. */
-int reference_settings_refusal(uint64_t modulus, uint64_t variables, uint64_t order);
+/* 3, 4, 5, 15 or 0. */
+int reference_settings_refusal(uint64_t modulus, uint64_t variables, uint64_t order, uint64_t weights);
 
 /* Points as they come, one after the other: the distinct ones, and how often each came. There is room for the 65th. */
 struct arrivals {

@@ -23,7 +23,8 @@ static int values_refusal(const struct handed *h, struct basis *b, const uint8_t
     return 0;
 }
 
-uint32_t reference_interpolate(uint64_t modulus, uint64_t variables, uint64_t order, uint64_t n, uint64_t r,
+uint32_t reference_interpolate(uint64_t modulus, uint64_t variables, uint64_t order, uint64_t weights,
+                               uint64_t n, uint64_t r,
                                const uint8_t *states, size_t states_length,
                                const uint8_t *standard, size_t standard_length,
                                const uint8_t *leads, size_t leads_length,
@@ -53,7 +54,8 @@ static int only_difference(const uint8_t *a, const uint8_t *b)
 }
 
 /* A variable is listed if two points differ in it alone and have different values; in increasing order. */
-uint32_t reference_wiring(uint64_t modulus, uint64_t variables, uint64_t order, uint64_t n, uint64_t r,
+uint32_t reference_wiring(uint64_t modulus, uint64_t variables, uint64_t order, uint64_t weights,
+                          uint64_t n, uint64_t r,
                           const uint8_t *states, size_t states_length,
                           const uint8_t *standard, size_t standard_length,
                           const uint8_t *leads, size_t leads_length,
@@ -88,7 +90,8 @@ static int terms_are_good(uint64_t p, uint64_t m, const uint8_t *coefficients, c
     return reference_all_in_range(p, coefficients, count);
 }
 
-uint32_t reference_remainder(uint64_t modulus, uint64_t variables, uint64_t order, uint64_t n, uint64_t r,
+uint32_t reference_remainder(uint64_t modulus, uint64_t variables, uint64_t order, uint64_t weights,
+                             uint64_t n, uint64_t r,
                              const uint8_t *states, size_t states_length,
                              const uint8_t *standard, size_t standard_length,
                              const uint8_t *leads, size_t leads_length,

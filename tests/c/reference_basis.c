@@ -1,104 +1,9 @@
 /* The basis of a list of points by docs/SCOPE.md's definitions: every monomial that could matter is
  * looked at in increasing order, and the coefficients come from solving linear equations. */
-#include "reference.h"
+#include "reference_candidates.h"
 
 #include <stdlib.h>
 #include <string.h>
-#include <threads.h>
-
-/* Every divisor of a standard monomial is standard, and so is every proper divisor of a row's lead.
- * So with n points both have at most n + 1 divisors: the candidates. */
-#define MOST_DIVISORS 65
-
-struct candidate {
-    uint8_t exponents[8];
-    uint8_t divisors;
-};
-
-struct candidates {
-    struct candidate *list;
-    size_t count, room;
-};
-
-/* For each number of variables and each order: all candidates, increasing. */
-static struct candidates all_candidates[9][3];
-static once_flag candidates_made = ONCE_FLAG_INIT;
-
-static int degree(const uint8_t *e)
-{
-    int sum = 0;
-    for (int k = 0; k < 8; k++)
-        sum += e[k];
-    return sum;
-}
-
-/* The three orders: negative where a is smaller, positive where a is greater. */
-static int compare_lex(const void *left, const void *right)
-{
-    const uint8_t *a = left, *b = right;
-    for (int k = 0; k < 8; k++)
-        if (a[k] != b[k])
-            return a[k] - b[k];
-    return 0;
-}
-
-static int compare_grlex(const void *left, const void *right)
-{
-    int difference = degree(left) - degree(right);
-    return difference != 0 ? difference : compare_lex(left, right);
-}
-
-static int compare_grevlex(const void *left, const void *right)
-{
-    const uint8_t *a = left, *b = right;
-    int difference = degree(a) - degree(b);
-    if (difference != 0)
-        return difference;
-    for (int k = 7; k >= 0; k--)
-        if (a[k] != b[k])
-            return b[k] - a[k];
-    return 0;
-}
-
-static int (*const compare[3])(const void *, const void *) = {compare_lex, compare_grlex, compare_grevlex};
-
-static void append(struct candidates *to, const uint8_t exponents[8], int divisors)
-{
-    if (to->count == to->room) {
-        to->room = 2 * to->room + 64;
-        to->list = realloc(to->list, to->room * sizeof *to->list);
-        if (to->list == NULL)
-            abort();
-    }
-    memcpy(to->list[to->count].exponents, exponents, 8);
-    to->list[to->count].divisors = (uint8_t)divisors;
-    to->count++;
-}
-
-/* All candidates whose first k exponents are given, those having so many divisors. */
-static void extend(struct candidates *to, int m, uint8_t exponents[8], int k, int divisors)
-{
-    if (k == m) {
-        append(to, exponents, divisors);
-        return;
-    }
-    for (int e = 0; divisors * (e + 1) <= MOST_DIVISORS; e++) {
-        exponents[k] = (uint8_t)e;
-        extend(to, m, exponents, k + 1, divisors * (e + 1));
-    }
-    exponents[k] = 0;
-}
-
-static void make_candidates(void)
-{
-    for (int m = 1; m <= 8; m++)
-        for (int order = 0; order < 3; order++) {
-            struct candidates *to = &all_candidates[m][order];
-            uint8_t exponents[8] = {0};
-            extend(to, m, exponents, 0, 1);
-            qsort(to->list, to->count, sizeof *to->list, compare[order]);
-        }
-}
 
 static int inverse_of(int p, int a)
 {
@@ -170,7 +75,8 @@ static int depends(struct echelon *kept, int p, int n, const int values[64])
 /* The standard monomials and the leads that no other lead divides properly. */
 static void find_monomials(struct basis *b)
 {
-    const struct candidates *from = &all_candidates[b->m][b->order];
+    struct candidates weighed = {NULL, 0, 0};
+    const struct candidates *from = reference_candidates(b, &weighed);
     struct echelon kept = {.count = 0, .cancellations = 0};
     for (size_t i = 0; i < from->count; i++) {
         const uint8_t *monomial = from->list[i].exponents;
@@ -184,6 +90,7 @@ static void find_monomials(struct basis *b)
         else
             memcpy(b->standard + 8 * found, monomial, 8);
     }
+    free(weighed.list);
     if (kept.count != b->n)
         abort();
     b->cancellations = kept.cancellations;
@@ -252,7 +159,6 @@ static void find_rows(struct basis *b)
 
 void reference_basis(struct basis *b)
 {
-    call_once(&candidates_made, make_candidates);
     b->r = 0;
     memset(b->standard, 0, sizeof b->standard);
     memset(b->leads, 0, sizeof b->leads);

@@ -16,7 +16,7 @@ static uint32_t write_out(struct basis *b, uint8_t *states, uint8_t *standard, u
     return 256 * (uint32_t)b->n + 65536 * (uint32_t)b->r;
 }
 
-/* Refusals 3 to 10 of a call that is handed one point's levels; without one, b is the basis handed in and point has
+/* Refusals 3 to 10, and 15, of a call that is handed one point's levels; without one, b is the basis handed in and point has
  * the residues. */
 static int point_refusal(const struct handed *h, const uint8_t *levels, size_t levels_length, struct basis *b,
                          uint8_t point[8])
@@ -38,7 +38,8 @@ static int point_refusal(const struct handed *h, const uint8_t *levels, size_t l
     return 0;
 }
 
-uint32_t reference_add_point(uint64_t modulus, uint64_t variables, uint64_t order, uint64_t n, uint64_t r,
+uint32_t reference_add_point(uint64_t modulus, uint64_t variables, uint64_t order, uint64_t weights,
+                             uint64_t n, uint64_t r,
                              uint8_t *states, size_t states_length, uint8_t *standard, size_t standard_length,
                              uint8_t *leads, size_t leads_length, uint8_t *coefficients, size_t coefficients_length,
                              uint8_t *counts, size_t counts_length, const uint8_t *levels, size_t levels_length)
@@ -60,7 +61,8 @@ uint32_t reference_add_point(uint64_t modulus, uint64_t variables, uint64_t orde
     return write_out(&b, states, standard, leads, coefficients, counts);
 }
 
-uint32_t reference_withdraw_point(uint64_t modulus, uint64_t variables, uint64_t order, uint64_t n, uint64_t r,
+uint32_t reference_withdraw_point(uint64_t modulus, uint64_t variables, uint64_t order, uint64_t weights,
+                                  uint64_t n, uint64_t r,
                                   uint8_t *states, size_t states_length, uint8_t *standard, size_t standard_length,
                                   uint8_t *leads, size_t leads_length,
                                   uint8_t *coefficients, size_t coefficients_length,
@@ -111,7 +113,7 @@ static int gather(struct basis *b, const uint8_t *levels, size_t points)
     return 0;
 }
 
-uint64_t reference_draw_up(uint64_t modulus, uint64_t variables, uint64_t order,
+uint64_t reference_draw_up(uint64_t modulus, uint64_t variables, uint64_t order, uint64_t weights,
                            uint8_t *states, size_t states_length, uint8_t *standard, size_t standard_length,
                            uint8_t *leads, size_t leads_length, uint8_t *coefficients, size_t coefficients_length,
                            uint8_t *counts, size_t counts_length, const uint8_t *levels, size_t levels_length)
@@ -126,9 +128,7 @@ uint64_t reference_draw_up(uint64_t modulus, uint64_t variables, uint64_t order,
         return 7;
     if (!reference_all_in_range(modulus, levels, levels_length))
         return 9;
-    b.p = (int)modulus;
-    b.m = (int)variables;
-    b.order = (int)order;
+    reference_take_settings(&h, &b);
     refusal = gather(&b, levels, levels_length / variables);
     if (refusal != 0)
         return (uint64_t)refusal;
@@ -137,7 +137,7 @@ uint64_t reference_draw_up(uint64_t modulus, uint64_t variables, uint64_t order,
 }
 
 /* What drawing up leaves and answers, without its cancellations: there is one definition of a basis. */
-uint32_t reference_draw_up_packed(uint64_t modulus, uint64_t variables, uint64_t order,
+uint32_t reference_draw_up_packed(uint64_t modulus, uint64_t variables, uint64_t order, uint64_t weights,
                                   uint8_t *states, size_t states_length, uint8_t *standard, size_t standard_length,
                                   uint8_t *leads, size_t leads_length,
                                   uint8_t *coefficients, size_t coefficients_length,
@@ -145,12 +145,13 @@ uint32_t reference_draw_up_packed(uint64_t modulus, uint64_t variables, uint64_t
 {
     if (modulus != 2)
         return 3;
-    return (uint32_t)reference_draw_up(modulus, variables, order, states, states_length, standard, standard_length, leads,
-                                       leads_length, coefficients, coefficients_length, counts, counts_length, levels,
-                                       levels_length);
+    return (uint32_t)reference_draw_up(modulus, variables, order, weights, states, states_length, standard,
+                                       standard_length, leads, leads_length, coefficients, coefficients_length, counts,
+                                       counts_length, levels, levels_length);
 }
 
-uint32_t reference_check(uint64_t modulus, uint64_t variables, uint64_t order, uint64_t n, uint64_t r,
+uint32_t reference_check(uint64_t modulus, uint64_t variables, uint64_t order, uint64_t weights,
+                         uint64_t n, uint64_t r,
                          const uint8_t *states, size_t states_length,
                          const uint8_t *standard, size_t standard_length,
                          const uint8_t *leads, size_t leads_length,

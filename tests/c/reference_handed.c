@@ -5,7 +5,24 @@
 
 static const size_t sizes[5] = {512, 512, 3592, 28736, 64};
 
-int reference_settings_refusal(uint64_t modulus, uint64_t variables, uint64_t order)
+/* Gene k has its weight in byte k - 1. */
+static int weight_of(uint64_t weights, int k)
+{
+    return (int)(weights >> 8 * (k - 1) & 255);
+}
+
+/* Order 3 has a weight from 1 to 99 for each gene; no other order has one, and no gene behind the last. */
+static int weights_are_good(int m, int order, uint64_t weights)
+{
+    for (int k = 1; k <= 8; k++) {
+        int weight = weight_of(weights, k), weighed = order == 3 && k <= m;
+        if (weighed ? weight < 1 || weight > 99 : weight != 0)
+            return 0;
+    }
+    return 1;
+}
+
+int reference_settings_refusal(uint64_t modulus, uint64_t variables, uint64_t order, uint64_t weights)
 {
     static const uint64_t primes[18] = {2, 3, 5, 7, 11, 13, 17, 19, 23, 29, 31, 37, 41, 43, 47, 53, 59, 61};
     int known = 0;
@@ -15,7 +32,9 @@ int reference_settings_refusal(uint64_t modulus, uint64_t variables, uint64_t or
         return 3;
     if (variables < 1 || variables > 8)
         return 4;
-    return order > 2 ? 5 : 0;
+    if (order > 3)
+        return 5;
+    return weights_are_good((int)variables, (int)order, weights) ? 0 : 15;
 }
 
 int reference_in_range(int p, int level)
@@ -38,7 +57,7 @@ int reference_all_in_range(uint64_t p, const uint8_t *levels, size_t count)
 
 int reference_early_refusal(const struct handed *h, size_t out_length, size_t out_size)
 {
-    int refusal = reference_settings_refusal(h->modulus, h->variables, h->order);
+    int refusal = reference_settings_refusal(h->modulus, h->variables, h->order, h->weights);
     if (refusal != 0)
         return refusal;
     for (int t = 0; t < 5; t++)
@@ -86,11 +105,18 @@ static int counts_are_good(const uint8_t counts[64], int n)
     return 1;
 }
 
-int reference_table_refusal(const struct handed *h, struct basis *b)
+void reference_take_settings(const struct handed *h, struct basis *b)
 {
     b->p = (int)h->modulus;
     b->m = (int)h->variables;
     b->order = (int)h->order;
+    for (int k = 1; k <= 8; k++)
+        b->weights[k - 1] = weight_of(h->weights, k);
+}
+
+int reference_table_refusal(const struct handed *h, struct basis *b)
+{
+    reference_take_settings(h, b);
     b->n = (int)h->n;
     memset(b->states, 0, sizeof b->states);
     memcpy(b->states, h->table[0], 8 * (size_t)b->n);

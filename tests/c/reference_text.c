@@ -1,6 +1,6 @@
 /* The text reader by docs/SCOPE.md: first the records and the contents of their fields, then their
  * form, then the remaining refusals in order. */
-#include "reference.h"
+#include "reference_header.h"
 
 #include <stdlib.h>
 #include <string.h>
@@ -97,50 +97,15 @@ static void read_records(struct records *to, const uint8_t *text, size_t length)
     }
 }
 
-/* One to three digits: their number; anything else: -1. */
-static int digits(const uint8_t *bytes, size_t length)
-{
-    int number = 0;
-    if (length < 1 || length > 3)
-        return -1;
-    for (size_t i = 0; i < length; i++) {
-        if (bytes[i] < '0' || bytes[i] > '9')
-            return -1;
-        number = 10 * number + bytes[i] - '0';
-    }
-    return number;
-}
-
 /* An optional minus sign and one to three digits. */
 static int read_level(const struct records *from, size_t field, int *level)
 {
     const uint8_t *bytes = from->bytes + from->fields[field].start;
     size_t length = from->fields[field].length;
     int negative = length > 0 && bytes[0] == '-';
-    int number = digits(bytes + negative, length - (size_t)negative);
+    int number = reference_digits(bytes + negative, length - (size_t)negative, 3);
     *level = negative ? -number : number;
     return number >= 0;
-}
-
-/* `mod`, a space, one to three digits, and optionally a space and an order's word; without it grevlex. */
-static int read_settings(const struct records *from, size_t field, int *modulus, int *order)
-{
-    static const char *const words[4] = {" lex", " grlex", " grevlex", ""};
-    static const int orders[4] = {0, 1, 2, 2};
-    const uint8_t *bytes = from->bytes + from->fields[field].start;
-    size_t length = from->fields[field].length;
-    if (length < 4 || memcmp(bytes, "mod ", 4) != 0)
-        return 0;
-    for (int i = 0; i < 4; i++) {
-        size_t word = strlen(words[i]);
-        if (length < 4 + word || memcmp(bytes + length - word, words[i], word) != 0)
-            continue;
-        *modulus = digits(bytes + 4, length - 4 - word);
-        *order = orders[i];
-        if (*modulus >= 0)
-            return 1;
-    }
-    return 0;
 }
 
 static int record_is_good(const struct records *from, size_t record, size_t header_fields)
@@ -159,10 +124,18 @@ static uint64_t refused(uint64_t refusal, uint64_t record)
     return refusal + 256 * record;
 }
 
-/* The record with refusal 2, or 0; then the settings. */
-static size_t fault_of_form(const struct records *from, int *modulus, int *order)
+/* Reads the header's last field, the others being names; says whether it is one. */
+static int read_last_field(const struct records *from, struct header *header)
 {
-    if (from->count == 0 || !read_settings(from, from->first_field[1] - 1, modulus, order))
+    header->names = from->first_field[1] - 1;
+    const struct field *last = &from->fields[header->names];
+    return reference_header(from->bytes + last->start, last->length, header);
+}
+
+/* The record with refusal 2, or 0; then the settings. */
+static size_t fault_of_form(const struct records *from, struct header *header)
+{
+    if (from->count == 0 || !read_last_field(from, header))
         return 1;
     for (size_t record = 1; record < from->count; record++)
         if (!record_is_good(from, record, from->first_field[1]))
@@ -217,44 +190,54 @@ static uint64_t gather(const struct records *from, int p, int m, struct arrivals
     return other_value != 0 ? refused(14, other_value) : 0;
 }
 
-static uint64_t read_whole(struct records *from, uint8_t *states, size_t states_length, uint8_t *values,
-                           size_t values_length, uint8_t *counts, size_t counts_length)
+/* The lent buffers. */
+struct read {
+    uint8_t *states, *values, *counts, *weights;
+    int sized; /* whether none is shorter than its size */
+};
+
+static uint64_t read_whole(struct records *from, const struct read *to)
 {
     struct arrivals found = {.n = 0};
+    struct header header = {.modulus = 0};
     uint8_t residues[64] = {0};
-    int modulus = 0, order = 0;
-    size_t fault = fault_of_form(from, &modulus, &order);
+    size_t fault = fault_of_form(from, &header);
     if (fault != 0)
         return refused(2, fault);
-    size_t m = from->first_field[1] - 1;
-    int refusal = reference_settings_refusal((uint64_t)modulus, m, 0);
+    int p = header.modulus, m = (int)header.names;
+    int refusal = reference_settings_refusal((uint64_t)p, header.names, header.order, header.packed);
     if (refusal != 0)
         return refused((uint64_t)refusal, 1);
-    if (states_length < 512 || values_length < 64 || counts_length < 64)
+    if (!to->sized)
         return refused(6, 0);
-    uint64_t late = find_outside(from, modulus, (int)m);
+    uint64_t late = find_outside(from, p, m);
     if (late == 0)
-        late = gather(from, modulus, (int)m, &found, residues);
+        late = gather(from, p, m, &found, residues);
     if (late != 0)
         return late;
-    memset(states, 0, 512);
-    memcpy(states, found.points, 8 * (size_t)found.n);
-    memcpy(values, residues, 64);
+    memset(to->states, 0, 512);
+    memcpy(to->states, found.points, 8 * (size_t)found.n);
+    memcpy(to->values, residues, 64);
     for (int i = 0; i < 64; i++)
-        counts[i] = (uint8_t)(i < found.n ? found.times[i] : 0);
-    return 256 * (uint64_t)found.n + 65536 * (uint64_t)modulus + (m << 24) + ((uint64_t)order << 32);
+        to->counts[i] = (uint8_t)(i < found.n ? found.times[i] : 0);
+    for (int k = 0; k < 8; k++)
+        to->weights[k] = (uint8_t)(header.packed >> 8 * k & 255);
+    return 256 * (uint64_t)found.n + 65536 * (uint64_t)p + ((uint64_t)m << 24) + (header.order << 32);
 }
 
 uint64_t reference_read_text(const uint8_t *text, size_t text_length, uint8_t *states, size_t states_length,
-                             uint8_t *values, size_t values_length, uint8_t *counts, size_t counts_length)
+                             uint8_t *values, size_t values_length, uint8_t *counts, size_t counts_length,
+                             uint8_t *weights, size_t weights_length)
 {
+    const int sized = states_length >= 512 && values_length >= 64 && counts_length >= 64 && weights_length >= 8;
+    const struct read to = {states, values, counts, weights, sized};
     if (text_length > MOST_TEXT)
         return refused(1, 0);
     struct records *records = malloc(sizeof *records);
     if (records == NULL)
         abort();
     read_records(records, text, text_length);
-    uint64_t answer = read_whole(records, states, states_length, values, values_length, counts, counts_length);
+    uint64_t answer = read_whole(records, &to);
     free(records);
     return answer;
 }

@@ -100,6 +100,7 @@ static void drawn_times(struct score *score)
         s.modulus = 5;
         s.variables = 2;
         s.order = MISQAFUR_GRLEX;
+        s.weights = 0;
         before = s;
         once.counts[1] = (uint8_t)times;
         uint64_t answer = draw(&s, levels, 2 * (times + 2));
@@ -151,12 +152,13 @@ static void longest_text(struct score *score)
 {
     static char text[MISQAFUR_MAX_TEXT + 1];
     uint8_t states[MISQAFUR_STATES_SIZE], values[MISQAFUR_RESIDUES_SIZE], counts[MISQAFUR_COUNTS_SIZE];
+    uint8_t weights[MISQAFUR_WEIGHTS_SIZE];
     size_t length = (size_t)snprintf(text, sizeof text, "g,mod 61\n"), records = 0;
     int same = 1;
     for (; length + 8 < sizeof text; records++)
         length += (size_t)snprintf(text + length, sizeof text - length, "%d,%d\n", (int)(records % 61), (int)(records % 61));
     uint64_t answer = misqafur_read_text((const uint8_t *)text, length, states, sizeof states, values, sizeof values, counts,
-                                         sizeof counts);
+                                         sizeof counts, weights, sizeof weights);
     for (size_t i = 0; i < MISQAFUR_COUNTS_SIZE; i++)
         same &= counts[i] == (i < 61 ? records / 61 + (i < records % 61) : 0) && values[i] == (i < 61 ? i : 0);
     say(score, "a text of many records", records, records > 2500 && misqafur_read_refusal(answer) == 0 &&

@@ -16,7 +16,7 @@
 #define STORED_CALLS 560
 #define STORED_TEXTS 2115
 
-/* One block of calls.txt: the call, and what is expected of it. */
+/* One block of calls.txt: the call, which has no weights, and what is expected of it. */
 struct block {
     struct call call;
     uint64_t base[3]; /* modulus, variables, order */
@@ -91,7 +91,7 @@ static void read_lengths(struct block *b, const char *line)
     need(numbers(line, lengths, TABLES) == TABLES);
     memset(b->bytes, 170, TABLES * sizeof b->bytes[0]);
     if (b->call.kind != DRAW_UP)
-        need((reference_draw_up(b->base[0], b->base[1], b->base[2], b->bytes[STATES], ROOM,
+        need((reference_draw_up(b->base[0], b->base[1], b->base[2], 0, b->bytes[STATES], ROOM,
                                 b->bytes[STANDARD], ROOM, b->bytes[LEADS], ROOM, b->bytes[COEFFICIENTS], ROOM,
                                 b->bytes[COUNTS], ROOM, b->points, b->points_read) & 255u) == 0);
     for (int t = 0; t < TABLES; t++)
@@ -249,7 +249,7 @@ static uint64_t expected_reading(const char *result)
     abort();
 }
 
-/* The stored line gives the number; the reference gives the residues and the counts. */
+/* The stored line gives the number; the reference gives the residues, the counts and the weights. */
 static int text_holds(struct guard *guard, const struct call *call, uint64_t expected, uint64_t choice)
 {
     uint64_t number;
@@ -260,13 +260,14 @@ struct score stored_texts(const struct options *options)
 {
     static char line[LINE];
     static uint8_t text[LINE / 2], states[MISQAFUR_STATES_SIZE + 3], values[MISQAFUR_RESIDUES_SIZE + 3];
-    static uint8_t counts[MISQAFUR_COUNTS_SIZE + 3];
+    static uint8_t counts[MISQAFUR_COUNTS_SIZE + 3], weights[MISQAFUR_WEIGHTS_SIZE + 3];
     struct score score = {0, 0};
     struct guard *guard = guard_new();
     FILE *file = open_data(options->data, "fuzz.txt");
     memset(states, 170, sizeof states);
     memset(values, 170, sizeof values);
     memset(counts, 170, sizeof counts);
+    memset(weights, 170, sizeof weights);
     for (long at = 1; fgets(line, LINE, file) != NULL; at++) {
         char *result = strstr(line, " -> ");
         need(result != NULL);
@@ -278,6 +279,7 @@ struct score stored_texts(const struct options *options)
         call.buffer[STATES] = (struct bytes){states, sizeof states};
         call.buffer[OUT] = (struct bytes){values, sizeof values};
         call.buffer[COUNTS] = (struct bytes){counts, sizeof counts};
+        call.buffer[WEIGHTS] = (struct bytes){weights, sizeof weights};
         int holds = text_holds(guard, &call, expected_reading(result + 4), (uint64_t)at);
         if (!holds)
             fprintf(stderr, "fuzz.txt: line %ld does not hold\n", at);

@@ -1,7 +1,7 @@
 /* The header's helpers over whole sheets against the plain calls: the same random call is made both ways on equal sheets,
  * and refusal, counts and every byte have to be equal afterwards; and after a refusal every byte as it was before.
  * usage: helpers CALLS [SEED] */
-#include "misqafur.h"
+#include "settings.h"
 
 #include <stdio.h>
 #include <stdlib.h>
@@ -18,21 +18,7 @@ struct ends {
     uint8_t out[80];
 };
 
-static uint64_t state = 1;
 static long passed, failed, seen[HELPERS][16];
-
-static uint32_t below(uint32_t bound)
-{
-    state ^= state << 13;
-    state ^= state >> 7;
-    state ^= state << 17;
-    return (uint32_t)((state >> 32) % bound);
-}
-
-static uint32_t rarely(void)
-{
-    return below(12) == 0;
-}
 
 static void expect(int good, const char *what, long index)
 {
@@ -46,16 +32,17 @@ static void expect(int good, const char *what, long index)
 static struct ends plainly(enum kind kind, struct misqafur_sheet *s, const struct terms *t, struct ends ends)
 {
     uint32_t answer = 0;
-#define SHEET s->modulus, s->variables, s->order, s->n, s->r, TABLES
+#define SETTINGS s->modulus, s->variables, s->order, s->weights
+#define SHEET SETTINGS, s->n, s->r, TABLES
 #define TABLES s->states, 512, s->standard, 512, s->leads, 3592, s->coefficients, 28736, s->counts, 64
     if (kind == ADD)
         answer = misqafur_add_point(SHEET, t->levels, t->levels_length);
     if (kind == WITHDRAW)
         answer = misqafur_withdraw_point(SHEET, t->levels, t->levels_length);
     if (kind == DRAW_UP)
-        answer = (uint32_t)misqafur_draw_up(s->modulus, s->variables, s->order, TABLES, t->levels, t->levels_length);
+        answer = (uint32_t)misqafur_draw_up(SETTINGS, TABLES, t->levels, t->levels_length);
     if (kind == PACKED)
-        answer = misqafur_draw_up_packed(s->modulus, s->variables, s->order, TABLES, t->levels, t->levels_length);
+        answer = misqafur_draw_up_packed(SETTINGS, TABLES, t->levels, t->levels_length);
     if (kind == CHECK)
         answer = misqafur_check(SHEET);
     if (kind == INTERPOLATE)
@@ -142,6 +129,16 @@ static void answered(enum kind kind, long index, const struct misqafur_sheet *sh
            "refused, and yet an answer was written", index);
 }
 
+/* Changes a byte of a sheet from n on, a count, or a weight to one that is too great. */
+static void damage(struct misqafur_sheet *sheet)
+{
+    switch (below(3)) {
+    case 0: ((uint8_t *)sheet)[offsetof(struct misqafur_sheet, n) + below(6000)] ^= 1; break;
+    case 1: sheet->counts[below(64)] ^= 1; break;
+    default: sheet->weights ^= (uint64_t)128 << 8 * below(8);
+    }
+}
+
 /* One call both ways; now and then the sheet handed in is a damaged copy. */
 static void try_call(long index, struct misqafur_sheet *sheet)
 {
@@ -155,10 +152,8 @@ static void try_call(long index, struct misqafur_sheet *sheet)
     make_terms(&terms, kind, sheet);
     memset(before.out, 170, sizeof before.out);
     ours = *sheet;
-    if (damaged && below(2) == 0)
-        ((uint8_t *)&ours)[offsetof(struct misqafur_sheet, n) + below(6000)] ^= 1;
-    else if (damaged)
-        ours.counts[below(64)] ^= 1;
+    if (damaged)
+        damage(&ours);
     theirs = was = ours;
     plain = plainly(kind, &theirs, &terms, before);
     helped = by_helper(kind, &ours, &terms, before);
@@ -175,20 +170,20 @@ static void begin(long index, struct misqafur_sheet *sheet)
     static struct misqafur_sheet was;
     const struct ends before = {99, 99, {0}};
     struct ends ends = before;
-    static const uint64_t primes[] = {2, 2, 3, 5, 7, 61, 4, 0};
     static const uint8_t zeros[MISQAFUR_COEFFICIENTS_SIZE] = {0};
-    uint64_t p = primes[below(8)], m = p == 2 && below(3) == 0 ? 7 + below(2) : below(10), order = below(4);
-    uint32_t due = p == 4 || p == 0 ? 3 : m < 1 || m > 8 ? 4 : order > 2 ? 5 : 0;
+    uint64_t p, m, order, weights;
+    const uint32_t due = make_settings(&p, &m, &order, &weights);
     if (below(2) == 0)
         memset(sheet, 170, sizeof *sheet);
     was = *sheet;
-    ends.refusal = misqafur_sheet_init(sheet, p, m, order);
+    ends.refusal = misqafur_sheet_init(sheet, p, m, order, weights);
     expect(ends.refusal == due, "the refusal of settings", index);
     answered(INIT, index, sheet, &was, ends, before);
     if (due != 0)
-        expect(misqafur_sheet_init(sheet, p = 5, m = 2, order = MISQAFUR_GREVLEX) == 0, "settings that are taken", index);
-    expect(sheet->modulus == p && sheet->variables == m && sheet->order == order && sheet->n == 0 && sheet->r == 1 &&
-               memcmp(sheet->states, zeros, 512) == 0 && memcmp(sheet->standard, zeros, 512) == 0 &&
+        expect(misqafur_sheet_init(sheet, p = 5, m = 2, order = MISQAFUR_GREVLEX, weights = 0) == 0, "settings that are taken",
+               index);
+    expect(sheet->modulus == p && sheet->variables == m && sheet->order == order && sheet->weights == weights &&
+               sheet->n == 0 && sheet->r == 1 && memcmp(sheet->states, zeros, 512) == 0 && memcmp(sheet->standard, zeros, 512) == 0 &&
                memcmp(sheet->leads, zeros, 3592) == 0 && memcmp(sheet->coefficients, zeros, 28736) == 0 &&
                memcmp(sheet->counts, zeros, 64) == 0,
            "the fresh sheet", index);
@@ -199,17 +194,18 @@ static void texts(void)
 {
     for (uint32_t a = 0; a < 256; a++)
         for (uint32_t b = 0; b < a; b++)
-            expect((strcmp(misqafur_refusal_text(a), misqafur_refusal_text(b)) == 0) == (b > MISQAFUR_REFUSED_OTHER_VALUE),
+            expect((strcmp(misqafur_refusal_text(a), misqafur_refusal_text(b)) == 0) == (b > MISQAFUR_REFUSED_WEIGHT),
                    "the sentences of refusals", (long)a);
 }
 
 /* With enough calls, each helper was taken and refused in the ways that it can be. */
 static void all_seen(void)
 {
-    static const int due[HELPERS][6] = {{0, 7, 9, 10, 13}, {0, 7, 9, 10, 12}, {0, 7, 8, 9, 13}, {0, 3, 7, 8, 9, 13},
-                                        {0, 10}, {0, 6, 7, 9, 10}, {0, 6, 7, 8, 9, 10}, {0, 6, 7, 9, 10}, {0, 3, 4, 5}};
+    static const int due[HELPERS][7] = {{0, 15, 7, 9, 10, 13},   {0, 15, 7, 9, 10, 12}, {0, 15, 7, 8, 9, 13},
+                                        {0, 3, 15, 7, 8, 9, 13}, {0, 15, 10},           {0, 15, 6, 7, 9, 10},
+                                        {0, 15, 6, 7, 8, 9, 10}, {0, 15, 6, 7, 9, 10},  {0, 3, 4, 5, 15}};
     for (int kind = 0; kind < HELPERS; kind++)
-        for (int i = 0; i < 6; i++)
+        for (int i = 0; i < 7; i++)
             expect(seen[kind][due[kind][i]] > 0, "an answer that never came", 10 * kind + due[kind][i]);
 }
 

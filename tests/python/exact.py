@@ -7,9 +7,18 @@ and this is the reduced Groebner basis. Nothing of the library is used."""
 import itertools
 
 
-def key(order, e):
+def any_order(chance, genes):
+    """What a sheet is told of its order: any of those with a name, or weights."""
+    if chance.random() < 0.3:
+        most = chance.choice((1, 3, 99))
+        return {"weights": [chance.randrange(1, most + 1) for _ in range(genes)]}
+    return {"order": chance.choice(("lex", "grlex", "grevlex"))}
+
+
+def key(sheet, e):
     """Larger for the greater monomial."""
-    return {"lex": tuple(e), "grlex": (sum(e), *e), "grevlex": (sum(e), *(-x for x in reversed(e)))}[order]
+    return {"lex": tuple(e), "grlex": (sum(e), *e), "grevlex": (sum(e), *(-x for x in reversed(e))),
+            "weight": (sum(weight * x for weight, x in zip(sheet.weights, e)), *e)}[sheet.order]
 
 
 def value(p, exponents, state):
@@ -33,8 +42,8 @@ def outsiders(standard, genes):
 
 def faults(sheet):
     p, genes, states, standard = sheet.modulus, len(sheet.names), sheet.states, sheet.standard
-    keys = [key(sheet.order, e) for e in standard]
-    lead_keys = [key(sheet.order, e) for e in sheet.leads]
+    keys = [key(sheet, e) for e in standard]
+    lead_keys = [key(sheet, e) for e in sheet.leads]
     if len(set(states)) != len(states) or any(not 0 <= x < p for x in itertools.chain(*states)):
         yield "states repeat or are no residues"
     if len(standard) != len(states) or keys != sorted(set(keys)) or lead_keys != sorted(set(lead_keys)):
@@ -46,7 +55,7 @@ def faults(sheet):
         yield "the leads are not the minimal outsiders"
     for lead, polynomial in zip(sheet.leads, sheet.basis):
         rest = dict((e, c) for c, e in polynomial.terms)
-        if rest.pop(lead, 0) != 1 or not set(rest) <= set(standard) or any(key(sheet.order, e) > key(sheet.order, lead) for e in rest):
+        if rest.pop(lead, 0) != 1 or not set(rest) <= set(standard) or any(key(sheet, e) > key(sheet, lead) for e in rest):
             yield f"the polynomial of {lead} is no lead and smaller standard monomials"
         if any((value(p, lead, s) + sum(c * value(p, e, s) for e, c in rest.items())) % p for s in states):
             yield f"the polynomial of {lead} is not 0 at every state"

@@ -29,8 +29,8 @@ class CellCycle(unittest.TestCase):
 
     def test_rules(self):
         states = [tuple(state.values()) for state in rules.states()]
-        for order in misqafur.ORDERS:
-            sheet = misqafur.Sheet(2, rules.GENES, order).draw_up(states)
+        for order in ({"order": "lex"}, {"order": "grlex"}, {"order": "grevlex"}, {"weights": range(1, len(rules.GENES) + 1)}):
+            sheet = misqafur.Sheet(2, rules.GENES, **order).draw_up(states)
             for target in rules.TARGETS:
                 values = {s: rules.step(dict(zip(rules.GENES, s)))[target] for s in states}
                 self.assertEqual({e for _, e in sheet.interpolate(values.values()).terms}, anf(values, len(rules.GENES)))

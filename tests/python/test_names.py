@@ -22,7 +22,7 @@ def sheet_of(states=STATES, genes=GENES):
 
 def kept(sheet):
     """All that a sheet is."""
-    return {name: bytes(table) for name, table in sheet._tables.items()}, sheet.names, sheet.modulus, sheet.order, sheet._n, sheet._r, sheet.cancellations
+    return {name: bytes(table) for name, table in sheet._tables.items()}, sheet.names, sheet.modulus, sheet.order, sheet.weights, sheet._n, sheet._r, sheet.cancellations
 
 
 def by_names(names, state):
@@ -161,7 +161,7 @@ class Names(unittest.TestCase):
         for wrong in ([1, 0, 2], ["Rb", 1, 2], [0.5, 1.5, 2.5], pandas.MultiIndex.from_product([["a"], GENES])):
             self.assertNames(sheet.draw_up, plain.set_axis(wrong, axis=1), "neither names nor places")
         self.assertEqual(sheet_of([]).add(frame[["E2F", "p27-kip", "Rb"]].iloc[[1]]).states, [(1, 2, 3)])
-        self.assertNames(sheet.add, frame, "one state is wanted, and this table has 5 rows")
+        self.assertNames(sheet.add, frame, "one row of levels is wanted, and this table has 5 rows")
         self.assertEqual(kept(misqafur.Sheet(5, frame.columns, "grlex").draw_up(frame[GENES[::-1]])), kept(sheet))
         self.assertEqual(len(sheet_of(frame[:0])), 0)
         self.assertEqual(kept(sheet_of(dict(frame[GENES[::-1]].items()))), kept(sheet))

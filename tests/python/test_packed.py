@@ -18,8 +18,8 @@ def bytes_of(sheet):
 
 
 class Packed(unittest.TestCase):
-    def both(self, genes, order, states):
-        general, packed = (misqafur.Sheet(2, genes, order).draw_up(states, packed=packed) for packed in (False, True))
+    def both(self, genes, states, **order):
+        general, packed = (misqafur.Sheet(2, genes, **order).draw_up(states, packed=packed) for packed in (False, True))
         self.assertEqual(bytes_of(packed), bytes_of(general))
         self.assertIsInstance(general.cancellations, int)
         self.assertIsNone(packed.cancellations)
@@ -28,18 +28,18 @@ class Packed(unittest.TestCase):
     def test_same_sheet(self):
         chance = random.Random(1)
         for _ in range(200):
-            genes, order = chance.randrange(1, 9), chance.choice(misqafur.ORDERS)
+            genes = chance.randrange(1, 9)
             most = min(64, 2**genes)
             numbers = chance.sample(range(2**genes), chance.randrange(most + 1))
             numbers += [chance.choice(numbers) for _ in range(chance.randrange(9))] if numbers else []
             states = [[-(number >> k & 1) if chance.random() < 0.5 else number >> k & 1 for k in range(genes)] for number in numbers]
-            sheet = self.both(genes, order, states)
+            sheet = self.both(genes, states, **exact.any_order(chance, genes))
             self.assertTrue(sheet.check())
             self.assertEqual((sum(sheet.counts), list(exact.faults(sheet))), (len(numbers), []))
 
     def test_squares(self):
         """The example of the request: of the states 0 and 1 the row is g1^2 + g1."""
-        sheet = self.both(1, "lex", [(0,), (1,)])
+        sheet = self.both(1, [(0,), (1,)], order="lex")
         self.assertEqual(list(map(str, sheet.basis)), ["g1^2 + g1"])
 
     def test_names(self):
@@ -94,16 +94,16 @@ class Refusals(unittest.TestCase):
 class Versions(unittest.TestCase):
     @unittest.skipUnless(shutil.which("gcc"), "gcc is not installed")
     def test_older_library(self):
-        """A library of this interface that has no packed call yet is told as that, in a sentence."""
+        """A library of this interface that has not every call is told as that, in a sentence."""
         with tempfile.TemporaryDirectory() as folder:
-            older = pathlib.Path(folder) / "libmisqafur.so.2"
-            names = [name for name in misqafur._CALLS if name not in ("draw_up_packed", "abi_2")]
-            code = "int misqafur_abi_2(void) { return 20000; }\n" + "".join(f"int misqafur_{name}(void) {{ return 0; }}\n" for name in names)
+            older = pathlib.Path(folder) / f"libmisqafur.so.{misqafur.ABI}"
+            names = [name for name in misqafur._CALLS if name not in ("draw_up_packed", f"abi_{misqafur.ABI}")]
+            code = f"int misqafur_abi_{misqafur.ABI}(void) {{ return {10000 * misqafur.ABI}; }}\n" + "".join(f"int misqafur_{name}(void) {{ return 0; }}\n" for name in names)
             subprocess.run(["gcc", "-shared", "-fPIC", "-xc", "-", "-o", str(older)], input=code, text=True, check=True)
             said = subprocess.run([sys.executable, "-m", "misqafur", "report", "-"], input="g1,mod 5\n1,1\n", capture_output=True, text=True,
                                   env={**os.environ, "MISQAFUR_LIBRARY": str(older)}, check=False)
         self.assertEqual((said.returncode, said.stdout), (2, ""))
-        self.assertIn(f"{older} has no misqafur_draw_up_packed: it is of version 2.0.0", said.stderr)
+        self.assertIn(f"{older} has no misqafur_draw_up_packed: it is of version {misqafur.ABI}.0.0", said.stderr)
         self.assertEqual(said.stderr.count("\n"), 1)
 
 

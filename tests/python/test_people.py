@@ -17,8 +17,8 @@ A = [(0, 0), (1, 2), (2, 1)]
 THREE = b"g1,g2,mod 5 grlex\n0,0,1\n1,2,0\n2,1,3\n"
 
 
-def sheet_of(names=2, order="grlex"):
-    return misqafur.Sheet(5, names, order).draw_up(A)
+def sheet_of(names=2, order="grlex", weights=None):
+    return misqafur.Sheet(5, names, order, weights=weights).draw_up(A)
 
 
 def has(module):
@@ -70,24 +70,36 @@ class Exports(unittest.TestCase):
         for names in (["a b", "c"], ["ring", "x"], ["if", "x"], ["a", "a"], ["b_1", "b_2"]):
             self.assertIn("(x1, x2), dp;", sheet_of(names, "grevlex").export("singular"))
 
+    def test_by_weight(self):
+        """Two packages have an order by weight; sympy has none, and its script names no other."""
+        sheet = sheet_of(2, "weight", [2, 1])
+        self.assertIn("ring sheet = 5, (g1, g2), (a(2,1),lp);\n", sheet.export("singular"))
+        self.assertIn("sheet = ZZ/5[g1, g2, MonomialOrder => {Weights => {2,1}, Lex}];\n", sheet.export("macaulay2"))
+        self.assertIn("; order by weight (g1 2, g2 1), which sympy does not have: what it says of leading terms is of another order\n",
+                      sheet.export("sympy"))
+
     @unittest.skipUnless(shutil.which("Singular"), "Singular is not installed")
     def test_singular(self):
-        for order in misqafur.ORDERS:
-            script = sheet_of(2, order).export("singular") + "ideal s = std(basis); vdim(s); size(s); size(reduce(s, basis));\nquit;\n"
+        for order in (("lex",), ("grlex",), ("grevlex",), ("weight", [2, 1]), ("weight", [1, 99])):
+            sheet = sheet_of(2, *order)
+            script = sheet.export("singular") + "ideal s = std(basis); vdim(s); size(s); size(reduce(s, basis));\nquit;\n"
             said = subprocess.run(["Singular", "-q"], input=script, capture_output=True, text=True, timeout=3600).stdout
-            self.assertEqual([line for line in said.split("\n") if line.isdigit()], ["3", str(len(sheet_of(2, order).basis)), "0"])
+            self.assertEqual([line for line in said.split("\n") if line.isdigit()], ["3", str(len(sheet.basis)), "0"])
 
     @unittest.skipUnless(shutil.which("M2"), "Macaulay2 is not installed")
     def test_macaulay2(self):
-        script = sheet_of().export("macaulay2") + 'print("degree " | toString degree basis\');\n'
-        said = subprocess.run(["M2", "--stop", "--silent", "-e", script + "exit 0"], capture_output=True, text=True, timeout=3600).stdout
-        self.assertIn("degree 3", said)
+        for order in (("grlex",), ("weight", [2, 1])):
+            script = sheet_of(2, *order).export("macaulay2") + 'print("degree " | toString degree basis\');\n'
+            said = subprocess.run(["M2", "--stop", "--silent", "-e", script + "exit 0"], capture_output=True, text=True, timeout=3600).stdout
+            self.assertIn("degree 3", said)
 
     @unittest.skipUnless(has("sympy"), "sympy is not installed")
     def test_sympy(self):
-        space = {}
-        exec(sheet_of().export("sympy"), space)
-        self.assertEqual([[p.eval(dict(zip(space["genes"], s))) % 5 for s in A] for p in space["basis"]], [[0] * 3] * 3)
+        for order in (("grlex",), ("weight", [2, 1])):
+            space = {}
+            exec(sheet_of(2, *order).export("sympy"), space)
+            self.assertEqual([[p.eval(dict(zip(space["genes"], s))) % 5 for s in A] for p in space["basis"]],
+                             [[0] * 3 for _ in sheet_of(2, *order).basis])
 
     @unittest.skipUnless(has("numpy"), "numpy is not installed")
     def test_numpy(self):

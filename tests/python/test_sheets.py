@@ -74,7 +74,7 @@ class Refusals(unittest.TestCase):
             self.refused(3, misqafur.Sheet, modulus, 2)
         for genes in (0, 9, 200, -1, 2**64 + 2, ["a"] * 9, []):
             self.refused(4, misqafur.Sheet, 5, genes)
-        for order in ("Lex", "", 3, -1, None):
+        for order in ("Lex", "", 4, -1, "by weight"):
             self.refused(5, misqafur.Sheet, 5, 2, order)
         self.refused(3, misqafur.Sheet, 4, 9, "no")
         with self.assertRaises(TypeError):
@@ -137,8 +137,9 @@ class RandomCalls(unittest.TestCase):
         self.assertEqual(list(exact.solution_faults(sheet, sheet.remainder(terms), at_states)), [])
 
     def one_list(self, chance):
-        modulus, genes, order = chance.choice(PRIMES), chance.randrange(1, 9), chance.choice(misqafur.ORDERS)
-        sheet, counts = misqafur.Sheet(modulus, genes, order), {}
+        modulus, genes = chance.choice(PRIMES), chance.randrange(1, 9)
+        order = exact.any_order(chance, genes)
+        sheet, counts = misqafur.Sheet(modulus, genes, **order), {}
         for _ in range(chance.randrange(1, 40)):
             levels = [chance.randrange(1 - modulus, modulus) for _ in range(genes)]
             if counts and chance.random() < 0.4:
@@ -157,7 +158,7 @@ class RandomCalls(unittest.TestCase):
         self.assertEqual(list(exact.faults(sheet)), [])
         pots = [state for state, count in counts.items() for _ in range(count)]
         chance.shuffle(pots)
-        drawn = misqafur.Sheet(modulus, genes, order).draw_up(pots)
+        drawn = misqafur.Sheet(modulus, genes, **order).draw_up(pots)
         self.assertEqual((drawn.standard, drawn.basis), (sheet.standard, sheet.basis))
         self.assertEqual(dict(zip(drawn.states, drawn.counts)), counts)
         self.assertTrue(sheet.check())
@@ -172,11 +173,11 @@ class RandomCalls(unittest.TestCase):
     def test_full_sheets(self):
         chance = random.Random(2)
         for modulus, genes in ((2, 8), (3, 4), (61, 1), (61, 8), (31, 2), (5, 3)):
-            for order in misqafur.ORDERS:
+            for _ in range(5):
                 states = set()
                 while len(states) < min(64, modulus**genes):
                     states.add(tuple(chance.randrange(modulus) for _ in range(genes)))
-                sheet = misqafur.Sheet(modulus, genes, order).draw_up(list(states))
+                sheet = misqafur.Sheet(modulus, genes, **exact.any_order(chance, genes)).draw_up(list(states))
                 self.assertEqual(list(exact.faults(sheet)), [])
                 self.answered(sheet, chance)
 

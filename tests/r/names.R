@@ -45,7 +45,7 @@ expect_error(add_state(sheet(5, c("a", "a")), c(a = 1, b = 2)), "\"a\" stands mo
 expect_error(add_state(due, c(Rb = 1, E2F = 2, 3)), "one is missing in \"Rb\", \"E2F\", \"\"")
 expect_error(draw_up(due, c(Rb = 1, E2F = 2, `p27-kip` = 3)), "is no table of states")
 expect_error(draw_up(due, as.list(pots)), "is no table of states")
-expect_error(add_state(due, pots[1:2, ]), "one state is wanted, and this table has 2 rows")
+expect_error(add_state(due, pots[1:2, ]), "one row of levels is wanted, and this table has 2 rows")
 expect(identical(draw_up(sheet(5, 3, "grlex"), setNames(pots[3:1], c("g3", "g2", "g1")))$raw, due$raw), "g1, g2 and g3 are names")
 expect(nrow(states(add_state(sheet(5, c("a", "a")), c(1, 2)))) == 1, "a state without names in genes of one name")
 

@@ -1,4 +1,4 @@
-# The R package on the stored texts, on refusals, names and copies (names.R) and on random calls: what the program prints, made from its answers, is held
+# The R package on the stored texts, on refusals, names and copies (names.R), weights (weights.R) and on random calls: what the program prints, made from its answers, is held
 # to the stored print; a polynomial is evaluated in R at every state. usage: Rscript test.R ROOT
 library(misqafur)
 root <- commandArgs(TRUE)[1]
@@ -52,7 +52,7 @@ damaged <- three
 damaged$raw[100] <- as.raw(3)
 expect(refusal(check_sheet(damaged)) == 10 && refusal(basis(damaged)) == 10, "a damaged sheet")
 
-source(file.path(root, "tests/r/names.R"), local = new.env())
+for (part in c("names.R", "weights.R")) source(file.path(root, "tests/r", part), local = new.env())
 
 # Replicates: the example of the requirement, one state 255 times, and pots that come and go.
 example <- draw_up(sheet(5, 1), matrix(c(4, 0, -1), 3))
@@ -70,13 +70,17 @@ value <- function(s, text, state) {
   power <- function(e) Reduce(function(a, k) (a * Reduce(function(x, i) (x * state[k]) %% s$modulus, seq_len(e[k]), 1)) %% s$modulus, seq_along(e), 1)
   sum(terms$coefficients * apply(terms$exponents, 1, power)) %% s$modulus
 }
+any_sheet <- function(p, genes) {
+  if (sample(3, 1) == 1) sheet(p, genes, weights = sample(99, genes, TRUE)) else sheet(p, genes, sample(0:2, 1))
+}
 set.seed(1)
 for (i in 1:25) {
   p <- sample(c(2, 3, 5, 7, 31, 61), 1)
   genes <- sample(1:8, 1)
   points <- unique(matrix(sample(0:(p - 1), 12 * genes, TRUE), 12))
-  s <- draw_up(sheet(p, genes, sample(0:2, 1)), points)
-  one <- Reduce(function(a, k) add_state(a, points[k, ] - sample(c(0, p), 1) * (points[k, ] > 0)), seq_len(nrow(points)), sheet(p, genes, s$order))
+  empty <- any_sheet(p, genes)
+  s <- draw_up(empty, points)
+  one <- Reduce(function(a, k) add_state(a, points[k, ] - sample(c(0, p), 1) * (points[k, ] > 0)), seq_len(nrow(points)), empty)
   values <- sample(0:(p - 1), nrow(points), TRUE)
   expect(all(outer(basis(s), seq_len(nrow(points)), Vectorize(function(b, k) value(s, b, points[k, ]))) == 0), "a basis")
   expect(identical(one$raw, s$raw) && check_sheet(s), "adding one by one")
@@ -87,7 +91,7 @@ for (i in 1:25) {
 for (i in 1:40) {
   genes <- sample(1:8, 1)
   points <- matrix(sample(-1:1, 30 * genes, TRUE), 30)
-  empty <- sheet(2, genes, sample(0:2, 1))
+  empty <- any_sheet(2, genes)
   expect(identical(draw_up(empty, points, packed = TRUE)$raw, draw_up(empty, points)$raw), "a packed sheet")
 }
 square <- draw_up(sheet(2, 1, "lex"), matrix(0:1, 2), packed = TRUE)

@@ -32,6 +32,7 @@ fn wide_word(low: u8, high: u8) -> u64 {
     word(low, high) as u64
 }
 
+// The stored cases have no weights.
 fn read_head(fd: i32) -> Head {
     let mut head = [0u8; 20];
     let got = buffers::read_all(fd, &mut head);
@@ -39,6 +40,7 @@ fn read_head(fd: i32) -> Head {
         modulus: wide_word(head[0], head[1]),
         variables: wide(head[2]),
         order: wide(head[3]),
+        weights: [0u8; 8],
     };
     Head {
         more: got,

@@ -16,8 +16,11 @@ use residue::bytes;
 use residue::sizes;
 use specification::settings::Settings;
 ghost use mathlib.Core.Path.{_≡_};
+ghost use Prim.Native.Nat.{_≤_};
 ghost use lib.ListN.{length, replicate};
 ghost use Rattle.residue.specs.Sizes.{standardSize, leadsSize, coefficientsSize};
+ghost use Rattle.monomial.specs.Order.{orderOf};
+ghost use Rattle.monomial.specs.Rank.{stepsOf};
 ghost use Rattle.specification.specs.Tables.{pointsIn};
 ghost use Rattle.specification.specs.Adding.{cancellationsUnder};
 ghost use Rattle.construction.specs.Drawing.{RowsLong, PointsGiven, Tabled, DrawnUp, pivotBytes, pivotRowsUnder};
@@ -26,6 +29,14 @@ ghost use Rattle.construction.specs.Drawing.{RowsLong, PointsGiven, Tabl
 pub struct Counts {
     pub r: usize,
     pub cancellations: usize,
+}
+
+// The ranks of the variables under the settings.
+fn put_steps_under(settings: Settings, steps: &mut [u64])
+    requires { ⌜ (settings .order ≤ 3) × (length (now steps) ≡ 8) ⌝ }
+    ensures { λ _. ⌜ now (steps .exit) ≡ stepsOf (orderOf (settings .order) (settings .weights)) ⌝ }
+{
+    put_steps(settings.order as u8, &settings.weights, steps);
 }
 
 // Fills the tables of the points' basis and its pivot rows.
@@ -50,7 +61,7 @@ pub fn draw(
 {
     let p = settings.modulus as u8;
     let mut steps = [0u64; 8];
-    put_steps(settings.order as u8, &mut steps);
+    put_steps_under(settings, &mut steps);
     let mut columns = [0u8; sizes::COLUMNS];
     put_columns(n, points, &mut columns);
     let mut values = [0u8; sizes::VALUES];

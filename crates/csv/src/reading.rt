@@ -3,12 +3,14 @@ mod entries;
 mod gathering;
 mod records;
 
+use points::weights::right_weights;
 use residue::sizes;
+use specification::settings::Settings;
 ghost use mathlib.Core.Path.{_≡_};
 ghost use Prim.Native.Nat.{_≤_};
 ghost use lib.ListN.{length, drop};
 ghost use Rattle.specification.specs.Refusal.{firstOf};
-ghost use Rattle.csv.specs.reading.Text.{headerCases, notRefused, textEnded, readOutcome};
+ghost use Rattle.csv.specs.reading.Text.{shortBuffers, headerCases, notRefused, textEnded, readOutcome};
 ghost use Rattle.csv.specs.reading.Records.{entriesAt, countedEntries};
 ghost use Rattle.csv.specs.reading.Points.{entriesOutcome};
 ghost use Rattle.csv.specs.declared.reading.records.Entries.the-variants.{Count};
@@ -32,32 +34,39 @@ pub struct Read {
     pub n: u8,
 }
 
-// What the settings and the lent lengths decide.
-fn settings_refusal(
-    modulus: u16,
-    variables: usize,
-    states: usize,
-    values: usize,
-    counts: usize,
-) -> Refusal
-    ensures { λ r. ⌜ r ≡ firstOf notRefused (headerCases modulus variables states values counts) ⌝ }
+// Whether a buffer lent for states, values, counts or weights, of these lengths, is too short.
+fn short_buffers(states: usize, values: usize, counts: usize, weights: usize) -> bool
+    ensures { λ r. ⌜ r ≡ shortBuffers states values counts weights ⌝ }
 {
-    if !residue::level::is_modulus(modulus as u64) {
-        return Refusal { refusal: 3, at: 1 };
-    }
-    if variables < 1 {
-        return Refusal { refusal: 4, at: 1 };
-    }
-    if 8 < variables {
-        return Refusal { refusal: 4, at: 1 };
-    }
     if states < sizes::STATES {
-        return Refusal { refusal: 6, at: 0 };
+        return true;
     }
     if values < sizes::POINTS {
-        return Refusal { refusal: 6, at: 0 };
+        return true;
     }
     if counts < sizes::COUNTS {
+        return true;
+    }
+    weights < 8
+}
+
+// What the settings decide, and whether a lent buffer is too short.
+fn settings_refusal(settings: Settings, short: bool) -> Refusal
+    ensures { λ r. ⌜ r ≡ firstOf notRefused (headerCases settings short) ⌝ }
+{
+    if !residue::level::is_modulus(settings.modulus) {
+        return Refusal { refusal: 3, at: 1 };
+    }
+    if settings.variables < 1 {
+        return Refusal { refusal: 4, at: 1 };
+    }
+    if 8 < settings.variables {
+        return Refusal { refusal: 4, at: 1 };
+    }
+    if !right_weights(settings) {
+        return Refusal { refusal: 15, at: 1 };
+    }
+    if short {
         return Refusal { refusal: 6, at: 0 };
     }
     Refusal { refusal: 0, at: 0 }
@@ -81,25 +90,26 @@ fn refused(refusal: u8, at: u16) -> Read
 fn read_entries(
     text: &[u8],
     from: usize,
-    modulus: u16,
-    variables: usize,
-    order: u8,
+    settings: Settings,
     entries: usize,
     states: &mut [u8],
     values: &mut [u8],
     counts: &mut [u8],
+    weights: &mut [u8],
 ) -> Read
     requires { ⌜ (from ≤ length (now text)) × (length (now text) ≤ 16384) ⌝ }
-    requires { ⌜ countedEntries 0 (entriesAt variables (drop from (now text))) ≡ Count entries ⌝ }
-    ensures { λ r. ⌜ textEnded r (now (states .exit)) (now (values .exit)) (now (counts .exit))
-        ≡ entriesOutcome modulus variables order (drop from (now (text .entry))) (now (states .entry)) (now (values .entry)) (now (counts .entry)) ⌝ }
+    requires { ⌜ (settings .order ≤ 3) × (length (settings .weights) ≡ 8) ⌝ }
+    requires { ⌜ countedEntries 0 (entriesAt (settings .variables) (drop from (now text))) ≡ Count entries ⌝ }
+    ensures { λ r. ⌜ textEnded r (now (states .exit)) (now (values .exit)) (now (counts .exit)) (now (weights .exit))
+        ≡ entriesOutcome settings (drop from (now (text .entry))) (now (states .entry)) (now (values .entry)) (now (counts .entry)) (now (weights .entry)) ⌝ }
 {
-    let first = settings_refusal(modulus, variables, states.len(), values.len(), counts.len());
+    let short = short_buffers(states.len(), values.len(), counts.len(), weights.len());
+    let first = settings_refusal(settings, short);
     let refusal = first.refusal;
     if refusal != 0 {
         return refused(refusal, first.at);
     }
-    let p = modulus as u8;
+    let p = settings.modulus as u8;
     let mut rows = [0u8; sizes::STATES];
     let mut times = [0u8; sizes::COUNTS];
     let mut residues = [0u8; sizes::POINTS];
@@ -107,7 +117,7 @@ fn read_entries(
         text,
         from,
         p,
-        variables,
+        settings.variables as usize,
         entries,
         &mut rows,
         &mut times,
@@ -120,45 +130,53 @@ fn read_entries(
     bytes::copy(&rows, states);
     bytes::copy(&residues, values);
     bytes::copy(&times, counts);
+    let said = settings.weights;
+    bytes::copy(&said, weights);
     Read {
         refusal: 0,
         at: 0,
-        modulus,
-        variables: variables as u8,
-        order,
+        modulus: p as u16,
+        variables: settings.variables as u8,
+        order: settings.order as u8,
         n: all.n,
     }
 }
 
-// The settings of a text and the number of its distinct points; the points, the values of their first records and their counts into the lent buffers.
-pub fn read_text(text: &[u8], states: &mut [u8], values: &mut [u8], counts: &mut [u8]) -> Read
-    ensures { λ r. ⌜ textEnded r (now (states .exit)) (now (values .exit)) (now (counts .exit))
-        ≡ readOutcome (now (text .entry)) (now (states .entry)) (now (values .entry)) (now (counts .entry)) ⌝ }
+// The settings of a text and the number of its distinct points; the points, the values of their first records, their counts and the settings' weights into the
+// lent buffers.
+pub fn read_text(
+    text: &[u8],
+    states: &mut [u8],
+    values: &mut [u8],
+    counts: &mut [u8],
+    weights: &mut [u8],
+) -> Read
+    ensures { λ r. ⌜ textEnded r (now (states .exit)) (now (values .exit)) (now (counts .exit)) (now (weights .exit))
+        ≡ readOutcome (now (text .entry)) (now (states .entry)) (now (values .entry)) (now (counts .entry)) (now (weights .entry)) ⌝ }
 {
     if 16384 < text.len() {
         return refused(1, 0);
     }
+    let mut said = [0u8; 8];
     let HeaderAt::Header {
         modulus,
         variables,
         order,
         next,
-    } = records::read_header(text)
+    } = records::read_header(text, &mut said)
     else {
         return refused(2, 1);
     };
     match records::check_entries(text, next, variables) {
         Entries::Refused { refusal, at } => refused(refusal, at as u16),
-        Entries::Count(n) => read_entries(
-            text,
-            next,
-            modulus,
-            variables,
-            order,
-            n,
-            states,
-            values,
-            counts,
-        ),
+        Entries::Count(n) => {
+            let settings = Settings {
+                modulus: modulus as u64,
+                variables: variables as u64,
+                order: order as u64,
+                weights: said,
+            };
+            read_entries(text, next, settings, n, states, values, counts, weights)
+        }
     }
 }

@@ -53,8 +53,8 @@ fn read_front(fd: i32, buffer: &mut [u8], n: usize) {
     }
 }
 
-// An accepted text leaves n points, values and counts, zeros behind them, and nothing beyond the sizes.
-fn filled(fd: i32, n: u8, states: &[u8], values: &[u8], counts: &[u8]) -> bool {
+// An accepted text leaves n points, values and counts, and the weights, zeros behind them, and nothing beyond the sizes.
+fn filled(fd: i32, n: u8, states: &[u8], values: &[u8], counts: &[u8], weights: &[u8]) -> bool {
     let count = n as usize;
     if 64 < count {
         return false;
@@ -65,24 +65,32 @@ fn filled(fd: i32, n: u8, states: &[u8], values: &[u8], counts: &[u8]) -> bool {
     read_front(fd, &mut residues, count);
     let mut times = [0u8; 64];
     read_front(fd, &mut times, count);
+    let mut eight = [0u8; 8];
+    read_front(fd, &mut eight, 8);
     if !holds(states, &points, &[170u8; 8]) {
         return false;
     }
     if !holds(values, &residues, &[170u8; 6]) {
         return false;
     }
-    holds(counts, &times, &[170u8; 4])
+    if !holds(counts, &times, &[170u8; 4]) {
+        return false;
+    }
+    holds(weights, &eight, &[170u8; 4])
 }
 
 // A refused text leaves the buffers as they were.
-fn untouched(states: &[u8], values: &[u8], counts: &[u8]) -> bool {
+fn untouched(states: &[u8], values: &[u8], counts: &[u8], weights: &[u8]) -> bool {
     if !bytes::same(states, &[170u8; 520]) {
         return false;
     }
     if !bytes::same(values, &[170u8; 70]) {
         return false;
     }
-    bytes::same(counts, &[170u8; 68])
+    if !bytes::same(counts, &[170u8; 68]) {
+        return false;
+    }
+    bytes::same(weights, &[170u8; 12])
 }
 
 // What a case lends: so many bytes of each buffer.
@@ -90,6 +98,7 @@ struct Lent {
     states: usize,
     values: usize,
     counts: usize,
+    weights: usize,
 }
 
 // What stands for a case that lends more than there is.
@@ -112,10 +121,12 @@ fn read_parts(
     states: &mut [u8],
     values: &mut [u8],
     counts: &mut [u8],
+    weights: &mut [u8],
 ) -> Read {
     let a = lent.states;
     let b = lent.values;
     let c = lent.counts;
+    let d = lent.weights;
     if text.len() < length {
         return unread();
     }
@@ -128,11 +139,15 @@ fn read_parts(
     if counts.len() < c {
         return unread();
     }
+    if weights.len() < d {
+        return unread();
+    }
     reading::read_text(
         &text[..length],
         &mut states[..a],
         &mut values[..b],
         &mut counts[..c],
+        &mut weights[..d],
     )
 }
 
@@ -142,20 +157,29 @@ fn run_text(fd: i32, length: usize, lent: Lent, want: Read) -> u8 {
     let mut states = [170u8; 520];
     let mut values = [170u8; 70];
     let mut counts = [170u8; 68];
+    let mut weights = [170u8; 12];
     let refusal = want.refusal;
     let n = want.n;
     read_front(fd, &mut text, length);
-    let got = read_parts(&text, length, lent, &mut states, &mut values, &mut counts);
+    let got = read_parts(
+        &text,
+        length,
+        lent,
+        &mut states,
+        &mut values,
+        &mut counts,
+        &mut weights,
+    );
     if !same_answer(got, want) {
         return 2;
     }
     if refusal == 0 {
-        if filled(fd, n, &states, &values, &counts) {
+        if filled(fd, n, &states, &values, &counts, &weights) {
             return 1;
         }
         return 2;
     }
-    if untouched(&states, &values, &counts) {
+    if untouched(&states, &values, &counts, &weights) {
         return 1;
     }
     2
@@ -163,9 +187,9 @@ fn run_text(fd: i32, length: usize, lent: Lent, want: Read) -> u8 {
 
 // The next case, or 0 where there is none left.
 fn run_case(fd: i32) -> u8 {
-    let mut head = [0u8; 15];
+    let mut head = [0u8; 16];
     let got = io::read_full(fd, &mut head);
-    if got < 15 {
+    if got < 16 {
         return 0;
     }
     let length = size(head[0], head[1], head[2]);
@@ -173,14 +197,15 @@ fn run_case(fd: i32) -> u8 {
         states: size(head[3], head[4], 0),
         values: size(head[5], 0, 0),
         counts: size(head[6], 0, 0),
+        weights: size(head[7], 0, 0),
     };
     let want = Read {
-        refusal: head[7],
-        at: word(head[8], head[9]),
-        modulus: word(head[10], head[11]),
-        variables: head[12],
-        order: head[13],
-        n: head[14],
+        refusal: head[8],
+        at: word(head[9], head[10]),
+        modulus: word(head[11], head[12]),
+        variables: head[13],
+        order: head[14],
+        n: head[15],
     };
     run_text(fd, length, lent, want)
 }

@@ -19,7 +19,7 @@ use Rattle.residue.proofs.Tests.{true-of}
 use Rattle.residue.proofs.Layouts.{fill-exact, below-fill}
 use Rattle.residue.proofs.Places.{places-append, over-zeros, place-more}
 use Rattle.monomial.specs.Monomial.{monomialAt}
-use Rattle.monomial.specs.Order.{orderOf}
+use Rattle.monomial.specs.Order.{Order}
 use Rattle.monomial.proofs.Padding.{value-fill}
 use Rattle.specification.specs.declared.settings.Settings.{Settings}
 use Rattle.specification.specs.Levels.{isAmong}
@@ -40,7 +40,7 @@ use Rattle.specification.proofs.ideal.Basis.{row-is}
 use Rattle.specification.proofs.ideal.Counts.{leads-length, standard-length}
 use Rattle.specification.proofs.ideal.Permutation.{basis-snoc}
 use Rattle.construction.specs.Drawing.{PointsGiven, Tabled, DrawnUp}
-use Rattle.growth.specs.Growing.{valueOfRow, firstFrom, Grown, grown, standardGrown, grownBy, allPoints, NewPoint}
+use Rattle.growth.specs.Growing.{orderUnder, valueOfRow, firstFrom, Grown, grown, standardGrown, grownBy, allPoints, NewPoint}
 use Rattle.construction.proofs.drawing.Given.{given-count, given-points}
 use Rattle.construction.proofs.drawing.Grounds.{ground, places-below}
 use Rattle.growth.proofs.Corrections.{valuesAt}
@@ -75,12 +75,12 @@ same-search : {p p′ n n′ r r′ : ℕ} {point point′ vs vs′ leads leads�
     → firstFrom (valueOfRow p n point vs leads rows) 0 r ≡ firstFrom (valueOfRow p′ n′ point′ vs′ leads′ rows′) 0 r′
 same-search a b c d e f g = cc
 
-same-grown : (m o : ℕ) (rows pivots : List ℕ) {p p′ n n′ r r′ j j′ : ℕ} {points points′ standard standard′ leads leads′ table table′ point point′ vs vs′ : List ℕ} → p ≡ p′ → n ≡ n′ → r ≡ r′ → points ≡ points′
+same-grown : (m : ℕ) (o : Order) (rows pivots : List ℕ) {p p′ n n′ r r′ j j′ : ℕ} {points points′ standard standard′ leads leads′ table table′ point point′ vs vs′ : List ℕ} → p ≡ p′ → n ≡ n′ → r ≡ r′ → points ≡ points′
     → standard ≡ standard′ → leads ≡ leads′ → table ≡ table′ → point ≡ point′ → vs ≡ vs′ → j ≡ j′
     → grownBy p m o n r points standard leads table rows pivots point vs j ≡ grownBy p′ m o n′ r′ points′ standard′ leads′ table′ rows pivots point′ vs′ j′
 same-grown m o rows pivots a b c d e f g h i k = cc
 
-same-standard : (o : ℕ) {n n′ j j′ : ℕ} {standard standard′ leads leads′ : List ℕ} → n ≡ n′ → standard ≡ standard′ → leads ≡ leads′ → j ≡ j′
+same-standard : (o : Order) {n n′ j j′ : ℕ} {standard standard′ leads leads′ : List ℕ} → n ≡ n′ → standard ≡ standard′ → leads ≡ leads′ → j ≡ j′
     → standardGrown o n standard (rowAt 8 j leads) ≡ standardGrown o n′ standard′ (rowAt 8 j′ leads′)
 same-standard o a b c d = cc
 
@@ -92,8 +92,8 @@ module _ {s : Settings} {n r : ℕ} {points standard leads coefficients rows piv
   abbrev m : ℕ
   m = s .variables
 
-  abbrev o : ℕ
-  o = s .order
+  abbrev o : Order
+  o = orderUnder s
 
   abbrev q : ℕ
   q = p - 1
@@ -108,7 +108,7 @@ module _ {s : Settings} {n r : ℕ} {points standard leads coefficients rows piv
   D = spaceUnder s
 
   L : Laws D
-  L = laws q m (orderOf o) (ground given .prime)
+  L = laws q m o (ground given .prime)
 
   d : Distinct D S
   d = ground given .distinct
@@ -185,7 +185,7 @@ module _ {s : Settings} {n r : ℕ} {points standard leads coefficients rows piv
 
   lead-below : (a : List ℕ) → Among a (map (λ (a : Monomial m). a .0) (leadsUnder s K)) → Below 255 a
   lead-below a mem i h = let w = among-map (λ (a : Monomial m). a .0) (leadsUnder s K) a mem in
-      rw (w .2) (omega (arith, lead-exponent q m (orderOf o) (ground given .prime) S d (w .0) (w .1) i, many))
+      rw (w .2) (omega (arith, lead-exponent q m o (ground given .prime) S d (w .0) (w .1) i, many))
 
   -- how many points there are now, and that they have few rows
   every : Points s (allPoints s n points point)
@@ -228,7 +228,7 @@ module _ {s : Settings} {n r : ℕ} {points standard leads coefficients rows piv
 
   -- the values of the standard monomials
   abbrev due : List ℕ
-  due = valuesAt q m (orderOf o) (given .settings .few) (standardUnder s K) P (few-standard q m o (given .settings .few) L S d many (given .settings .some) fits P far)
+  due = valuesAt q m o (given .settings .few) (standardUnder s K) P (few-standard q m o (given .settings .few) L S d many (given .settings .some) fits P far)
 
   standard-count : length (standardUnder s K) ≡ n
   standard-count = standard-length D L S d ∙ count
@@ -256,13 +256,13 @@ module _ {s : Settings} {n r : ℕ} {points standard leads coefficients rows piv
   -- what the functions find and leave
   module _ (vs : List ℕ) (ev : vs ≡ over (map (λ a. monomialAt point a % p) (groups 8 n standard)) (replicate 64 0)) (j : ℕ) (ej : j ≡ firstFrom (valueOfRow p n point vs leads coefficients) 0 r) where
     abbrev wanted : ℕ
-    wanted = lost q m (orderOf o) (given .settings .few) L S d (short q m o (given .settings .few) L S d many (given .settings .some) fits P far) (most q m o (given .settings .few) L S d many (given .settings .some) fits P far) P far
+    wanted = lost q m o (given .settings .few) L S d (short q m o (given .settings .few) L S d many (given .settings .some) fits P far) (most q m o (given .settings .few) L S d many (given .settings .some) fits P far) P far
 
     found : j ≡ wanted
     found = ej ∙ same-search raised (sym count) rows-many point-is (ev ∙ values-are) leads-are rows-are
 
     pub inside : j < r
-    inside = rw (found, rows-many) (lost-one q m (orderOf o) (given .settings .few) L S d (short q m o (given .settings .few) L S d many (given .settings .some) fits P far) (most q m o (given .settings .few) L S d many (given .settings .some) fits P far) P far)
+    inside = rw (found, rows-many) (lost-one q m o (given .settings .few) L S d (short q m o (given .settings .few) L S d many (given .settings .some) fits P far) (most q m o (given .settings .few) L S d many (given .settings .some) fits P far) P far)
 
     pub added : (k : ℕ) (ns nl nc : List ℕ) → ns ≡ standardGrown o n standard (rowAt 8 j leads) → grown k nl nc ≡ grownBy p m o n r points standard leads coefficients rows pivots point vs j
         → Tabled s (allPoints s n points point) k ns nl nc

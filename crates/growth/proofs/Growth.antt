@@ -11,7 +11,7 @@ use lib.Seq.{length-take-le}
 use Rattle.residue.specs.Inverse.{inverseOf}
 use Rattle.residue.specs.Layout.{groups, rowAt}
 use Rattle.monomial.specs.Monomial.{timesVariable}
-use Rattle.monomial.specs.Order.{orderOf, cmp}
+use Rattle.monomial.specs.Order.{Order, cmp}
 use Rattle.monomial.specs.Insert.{placeOf, dividedBy, withRowAt}
 use Rattle.monomial.proofs.insert.Searches.{place-within}
 use Rattle.growth.specs.Growing.{Grown, grown, rowValueAt, othersOf, othersCorrected, grownBy, correctedRow, reducedRow, putWithRow, productPut, productsPut}
@@ -31,14 +31,14 @@ with-length w k i row t h l e =
     let b : length (take (w * k - w * i) (drop (w * i) t)) ≡ w * k - w * i = length-take-le (w * k - w * i) (drop (w * i) t) (simp length-drop (omega arith)) in
     simp (length-append, length-drop) (omega arith)
 
-module _ (p order n : ℕ) (points rows pivots : List ℕ) (place inverse : ℕ) (gone point values : List ℕ) where
+module _ (p : ℕ) (order : Order) (n : ℕ) (points rows pivots : List ℕ) (place inverse : ℕ) (gone point values : List ℕ) where
   abbrev pub put : List ℕ → Grown → Grown
   put = putWithRow p order n points rows pivots place inverse gone point values
 
   put-sized : (k v : ℕ) (a : List ℕ) (g : Grown) → length a ≡ 8 → k + v ≤ 448 → GrownSized k v g → GrownSized k (v + 1) (put a g)
   unfolding putWithRow
   put-sized k v a g l h z =
-      let i = place-within (cmp (orderOf order)) a (g .leads) (g .count) in
+      let i = place-within (cmp order) a (g .leads) (g .count) in
       record {
         most = omega (arith, z .most);
         leads = with-length 8 (g .count) _ a (g .leads) i (omega (arith, z .most, z .leads)) l ∙ z .leads;
@@ -56,7 +56,7 @@ module _ (p order n : ℕ) (points rows pivots : List ℕ) (place inverse : ℕ)
     product-put a g e = ap (λ (b : Bool). cond b g (put a g)) e
 
     pub product-taken : (a : List ℕ) (count : ℕ) (leads coefficients : List ℕ) (i : ℕ) (leads′ coefficients′ : List ℕ) → dividedBy (groups 8 k others) a ≡ false
-        → i ≡ placeOf (cmp (orderOf order)) a (groups 8 count leads) → leads′ ≡ withRowAt 8 count i a leads
+        → i ≡ placeOf (cmp order) a (groups 8 count leads) → leads′ ≡ withRowAt 8 count i a leads
         → coefficients′ ≡ withRowAt 64 count i (correctedRow p place inverse gone point values a (reducedRow p n points rows pivots a)) coefficients
         → grown (count + 1) leads′ coefficients′ ≡ productPut p order n points rows pivots place inverse gone point values k others a (grown count leads coefficients)
     unfolding putWithRow
@@ -93,8 +93,8 @@ module _ (p order n : ℕ) (points rows pivots : List ℕ) (place inverse : ℕ)
           go false g z y = record { most = omega (arith, y .most); leads = y .leads; coefficients = y .coefficients }
 
 -- what the functions made of the tables, put together
-pub grown-by : {g : Grown} (p m order n r : ℕ) (points standard leads coefficients rows pivots point values : List ℕ) (j : ℕ) (lead gone : List ℕ) (place i : ℕ) (others coefficients′ : List ℕ)
-    → lead ≡ rowAt 8 j leads → gone ≡ rowAt 64 j coefficients → place ≡ placeOf (cmp (orderOf order)) lead (groups 8 n standard) → i ≡ inverseOf p (rowValueAt p point values lead gone)
+pub grown-by : {g : Grown} (p m : ℕ) (order : Order) (n r : ℕ) (points standard leads coefficients rows pivots point values : List ℕ) (j : ℕ) (lead gone : List ℕ) (place i : ℕ) (others coefficients′ : List ℕ)
+    → lead ≡ rowAt 8 j leads → gone ≡ rowAt 64 j coefficients → place ≡ placeOf (cmp order) lead (groups 8 n standard) → i ≡ inverseOf p (rowValueAt p point values lead gone)
     → others ≡ othersOf r j leads → coefficients′ ≡ othersCorrected p place i gone point values r j leads coefficients
     → g ≡ productsPut p order n points rows pivots place i gone point values (r - 1) others lead m (grown (r - 1) others coefficients′) → g ≡ grownBy p m order n r points standard leads coefficients rows pivots point values j
 unfolding grownBy

@@ -16,7 +16,7 @@ use Rattle.residue.proofs.vector.Vectors.{map-at}
 use Rattle.residue.proofs.Places.{table-groups, place-at, rows-filled, over-table}
 use Rattle.residue.proofs.Tests.{Decides, so, not-so}
 use Rattle.monomial.specs.Monomial.{timesVariable, divides}
-use Rattle.monomial.specs.Order.{orderOf, cmp}
+use Rattle.monomial.specs.Order.{Order, cmp}
 use Rattle.monomial.specs.Increasing.{inserted}
 use Rattle.monomial.specs.Insert.{removedAt, placeOf, dividedBy, takenOut, withRowAt}
 use Rattle.monomial.proofs.Algebra.Division.{divides-refl}
@@ -40,9 +40,9 @@ use Rattle.growth.proofs.Corrections.{valuesAt, inverseAt, row-value-fi
 use Rattle.growth.proofs.LostRow.{leadsTable, rowsTable, lead-at, row-at, standard-count, lost, lost-one, lost-first, lost-nonzero}
 use Rattle.growth.proofs.NewRows.{reduced-is}
 
-module _ (q m o : ℕ) (few : m ≤ 8) (L : Laws (spaceOf q m (orderOf o))) where
+module _ (q m : ℕ) (o : Order) (few : m ≤ 8) (L : Laws (spaceOf q m o)) where
   abbrev D : Space
-  D = spaceOf q m (orderOf o)
+  D = spaceOf q m o
 
   abbrev pub bytes : Monomial m → List ℕ
   bytes a = fill 8 (a .0)
@@ -51,8 +51,8 @@ module _ (q m o : ℕ) (few : m ≤ 8) (L : Laws (spaceOf q m (orderOf o))) wher
   abbrev pub table : ℕ → List (Monomial m) → List ℕ
   table N l = fill N (inPlaces 8 (map (λ (a : Monomial m). a .0) l))
 
-  cmp-bytes : (a b : Monomial m) → cmp (orderOf o) (bytes a) (bytes b) ≡ D .cmp a b
-  cmp-bytes a b = cmp-fill (a .0) (b .0) (a .1 ∙ sym (b .1)) (rw (a .1) few) (orderOf o)
+  cmp-bytes : (a b : Monomial m) → cmp o (bytes a) (bytes b) ≡ D .cmp a b
+  cmp-bytes a b = cmp-fill (a .0) (b .0) (a .1 ∙ sym (b .1)) (rw (a .1) few) o
 
   divides-bytes : (a b : Monomial m) → divides (bytes a) (bytes b) ≡ D .divides a b
   divides-bytes a b = divides-fill (a .0) (b .0) (a .1 ∙ sym (b .1)) (rw (a .1) few)
@@ -62,8 +62,8 @@ module _ (q m o : ℕ) (few : m ≤ 8) (L : Laws (spaceOf q m (orderOf o))) wher
       let n = length-map l (λ (a : Monomial m). a .0) in
       ap (λ (k : ℕ). groups 8 k (table N l)) (sym n) ∙ table-groups 8 N (map (λ (a : Monomial m). a .0) l) (omega arith) ∙ map-map (fill 8) (λ (a : Monomial m). a .0) l
 
-  place-bytes : (N : ℕ) (a : Monomial m) (l : List (Monomial m)) → 8 * length l ≤ N → placeOf (cmp (orderOf o)) (bytes a) (groups 8 (length l) (table N l)) ≡ placeOf (D .cmp) a l
-  place-bytes N a l h = ap (placeOf (cmp (orderOf o)) (bytes a)) (read N l h) ∙ place-map (D .cmp) (cmp (orderOf o)) bytes a l (λ b mem. cmp-bytes a b)
+  place-bytes : (N : ℕ) (a : Monomial m) (l : List (Monomial m)) → 8 * length l ≤ N → placeOf (cmp o) (bytes a) (groups 8 (length l) (table N l)) ≡ placeOf (D .cmp) a l
+  place-bytes N a l h = ap (placeOf (cmp o) (bytes a)) (read N l h) ∙ place-map (D .cmp) (cmp o) bytes a l (λ b mem. cmp-bytes a b)
 
   -- a new monomial put in
   put-bytes : (N : ℕ) (a : Monomial m) (l : List (Monomial m)) → 8 * length l + 8 ≤ N → ((b : Monomial m) → Among b l → a ≢ b)
@@ -101,14 +101,14 @@ module _ (q m o : ℕ) (few : m ≤ 8) (L : Laws (spaceOf q m (orderOf o))) wher
     most = omega arith
 
     pub few-standard : length (standardOf D S) ≤ 64
-    few-standard = omega (arith, standard-count q m (orderOf o) few L S d short most P)
+    few-standard = omega (arith, standard-count q m o few L S d short most P)
 
     -- the lost row, its lead, and the other leads
     abbrev j : ℕ
-    j = lost q m (orderOf o) few L S d short most P far
+    j = lost q m o few L S d short most P far
 
     inside : j < length (leadsOf D S)
-    inside = lost-one q m (orderOf o) few L S d short most P far
+    inside = lost-one q m o few L S d short most P far
 
     abbrev α : Monomial m
     α = getD (leadsOf D S) j (D .one)
@@ -120,7 +120,7 @@ module _ (q m o : ℕ) (few : m ≤ 8) (L : Laws (spaceOf q m (orderOf o))) wher
     fresh b mem e = staircase D L S d .outside α (getD-among (leadsOf D S) j (D .one) inside) (subst (λ (c : Monomial m). Among c (standardOf D S)) (sym e) mem)
 
     grows : (standardOf D (P ∷ S) ≡ inserted (D .cmp) α (standardOf D S)) × (leadsOf D (P ∷ S) ≡ extended D (leadsOf D S) α m)
-    grows = grow-at D L S d P j inside (lost-first q m (orderOf o) few L S d short most P far) (lost-nonzero q m (orderOf o) few L S d short most P far)
+    grows = grow-at D L S d P j inside (lost-first q m o few L S d short most P far) (lost-nonzero q m o few L S d short most P far)
 
     others-at : others ≡ removedAt j (leadsOf D S)
     others-at = without-at D L (leadsOf D S) j (staircase D L S d .leads-increasing) inside
@@ -133,7 +133,7 @@ module _ (q m o : ℕ) (few : m ≤ 8) (L : Laws (spaceOf q m (orderOf o))) wher
     place = placeOf (D .cmp) α (standardOf D S)
 
     abbrev inverse : ℕ
-    inverse = inverseAt q m (orderOf o) few (standardOf D S) P few-standard α (rowOf D S α) (row-is D L S d α .long)
+    inverse = inverseAt q m o few (standardOf D S) P few-standard α (rowOf D S α) (row-is D L S d α .long)
 
     abbrev gone : List ℕ
     gone = fill 64 (rowOf D S α)
@@ -142,20 +142,20 @@ module _ (q m o : ℕ) (few : m ≤ 8) (L : Laws (spaceOf q m (orderOf o))) wher
     point = fill 8 (P .0)
 
     abbrev pub values : List ℕ
-    values = valuesAt q m (orderOf o) few (standardOf D S) P few-standard
+    values = valuesAt q m o few (standardOf D S) P few-standard
 
     abbrev rowsOver : (Monomial m → List ℕ) → List (Monomial m) → List ℕ
     rowsOver f l = fill 28736 (inPlaces 64 (map f l))
 
     row-new : (a : Monomial m) → correctedRow (suc q) place inverse gone point values (bytes a) (fill 64 (rowOf D S a)) ≡ fill 64 (rowOf D (P ∷ S) a)
-    row-new a = corrected-is q m (orderOf o) few (standardOf D S) P few-standard α (rowOf D S α) (row-is D L S d α .long) L fresh a (rowOf D S a) (row-is D L S d a .long)
-        ∙ ap (fill 64) (row-grown D L S d P j inside (lost-first q m (orderOf o) few L S d short most P far) (lost-nonzero q m (orderOf o) few L S d short most P far) a)
+    row-new a = corrected-is q m o few (standardOf D S) P few-standard α (rowOf D S α) (row-is D L S d α .long) L fresh a (rowOf D S a) (row-is D L S d a .long)
+        ∙ ap (fill 64) (row-grown D L S d P j inside (lost-first q m o few L S d short most P far) (lost-nonzero q m o few L S d short most P far) a)
 
     abbrev leadsT : List ℕ
-    leadsT = leadsTable q m (orderOf o) few L S d short most P
+    leadsT = leadsTable q m o few L S d short most P
 
     abbrev rowsT : List ℕ
-    rowsT = rowsTable q m (orderOf o) few L S d short most P
+    rowsT = rowsTable q m o few L S d short most P
 
     taken : (f : Monomial m → List ℕ) (w N : ℕ) → w * length (leadsOf D S) ≤ N
         → over (takenOut w (length (leadsOf D S)) j (fill N (inPlaces w (map f (leadsOf D S))))) (replicate N 0) ≡ fill N (inPlaces w (map f others))
@@ -218,13 +218,13 @@ module _ (q m o : ℕ) (few : m ≤ 8) (L : Laws (spaceOf q m (orderOf o))) wher
           → putWithRow (suc q) o (length S) points rows pivots place inverse gone point values (bytes a) (leadsOver l) ≡ leadsOver (inserted (D .cmp) a l)
       unfolding putWithRow
       put-one a l h out =
-          let i : placeOf (cmp (orderOf o)) (bytes a) (groups 8 (length l) (table 3592 l)) ≡ placeOf (D .cmp) a l = place-bytes 3592 a l (omega arith) in
+          let i : placeOf (cmp o) (bytes a) (groups 8 (length l) (table 3592 l)) ≡ placeOf (D .cmp) a l = place-bytes 3592 a l (omega arith) in
           let row : correctedRow (suc q) place inverse gone point values (bytes a) (reducedRow (suc q) (length S) points rows pivots (bytes a)) ≡ fill 64 (rowOf D (P ∷ S) a) =
-          ap (correctedRow (suc q) place inverse gone point values (bytes a)) (reduced-is q m (orderOf o) few L S d short rows pivots solves a) ∙ row-new a in
+          ap (correctedRow (suc q) place inverse gone point values (bytes a)) (reduced-is q m o few L S d short rows pivots solves a) ∙ row-new a in
           let count : length l + 1 ≡ length (inserted (D .cmp) a l) = omega (arith, ap length (inserted-at D L a l out), inserted-long (placeOf (D .cmp) a l) a l) in
-          let leads : withRowAt 8 (length l) (placeOf (cmp (orderOf o)) (bytes a) (groups 8 (length l) (table 3592 l))) (bytes a) (table 3592 l) ≡ table 3592 (inserted (D .cmp) a l) =
+          let leads : withRowAt 8 (length l) (placeOf (cmp o) (bytes a) (groups 8 (length l) (table 3592 l))) (bytes a) (table 3592 l) ≡ table 3592 (inserted (D .cmp) a l) =
           ap (λ (k : ℕ). withRowAt 8 (length l) k (bytes a) (table 3592 l)) i ∙ put-bytes 3592 a l (omega arith) out in
-          let kept : withRowAt 64 (length l) (placeOf (cmp (orderOf o)) (bytes a) (groups 8 (length l) (table 3592 l))) (correctedRow (suc q) place inverse gone point values (bytes a) (reducedRow (suc q) (length S) points rows pivots (bytes a))) (rowsOver (rowOf D (P ∷ S)) l)
+          let kept : withRowAt 64 (length l) (placeOf (cmp o) (bytes a) (groups 8 (length l) (table 3592 l))) (correctedRow (suc q) place inverse gone point values (bytes a) (reducedRow (suc q) (length S) points rows pivots (bytes a))) (rowsOver (rowOf D (P ∷ S)) l)
           ≡ rowsOver (rowOf D (P ∷ S)) (inserted (D .cmp) a l) =
           ap₂ (λ (k : ℕ) (z : List ℕ). withRowAt 64 (length l) k z (rowsOver (rowOf D (P ∷ S)) l)) i row ∙ put-row (rowOf D (P ∷ S)) 28736 a l (omega arith) out in
           ap₂ (grown (length l + 1)) leads kept ∙ ap (λ (n : ℕ). grown n (table 3592 (inserted (D .cmp) a l)) (rowsOver (rowOf D (P ∷ S)) (inserted (D .cmp) a l))) count
@@ -260,23 +260,23 @@ module _ (q m o : ℕ) (few : m ≤ 8) (L : Laws (spaceOf q m (orderOf o))) wher
       -- all three tables
       pub grown-are : grownBy (suc q) m o (length S) (length (leadsOf D S)) points (table 512 (standardOf D S)) leadsT rowsT rows pivots point values j ≡ leadsOver (leadsOf D (P ∷ S))
       grown-are =
-          let n : length (standardOf D S) ≡ length S = standard-count q m (orderOf o) few L S d short most P in
+          let n : length (standardOf D S) ≡ length S = standard-count q m o few L S d short most P in
           let k : length (leadsOf D S) - 1 ≡ length others = omega (arith, others-count) in
-          let lead : bytes α ≡ rowAt 8 j leadsT = sym (lead-at q m (orderOf o) few L S d short most P j inside) in
-          let at : place ≡ placeOf (cmp (orderOf o)) (bytes α) (groups 8 (length S) (table 512 (standardOf D S))) =
-          sym (ap (λ (i : ℕ). placeOf (cmp (orderOf o)) (bytes α) (groups 8 i (table 512 (standardOf D S)))) (sym n) ∙ place-bytes 512 α (standardOf D S) (omega arith)) in
+          let lead : bytes α ≡ rowAt 8 j leadsT = sym (lead-at q m o few L S d short most P j inside) in
+          let at : place ≡ placeOf (cmp o) (bytes α) (groups 8 (length S) (table 512 (standardOf D S))) =
+          sym (ap (λ (i : ℕ). placeOf (cmp o) (bytes α) (groups 8 i (table 512 (standardOf D S)))) (sym n) ∙ place-bytes 512 α (standardOf D S) (omega arith)) in
           let i : inverse ≡ inverseOf (suc q) (rowValueAt (suc q) point values (bytes α) gone) =
-          sym (ap (inverseOf (suc q)) (row-value-filled q m (orderOf o) few (standardOf D S) P few-standard α (rowOf D S α) (row-is D L S d α .long))) in
+          sym (ap (inverseOf (suc q)) (row-value-filled q m o few (standardOf D S) P few-standard α (rowOf D S α) (row-is D L S d α .long))) in
           sym (grown-by (suc q) m o (length S) (length (leadsOf D S)) points (table 512 (standardOf D S)) leadsT rowsT rows pivots point values j (bytes α) gone place inverse (table 3592 others)
-          (rowsOver (rowOf D (P ∷ S)) others) lead (sym (row-at q m (orderOf o) few L S d short most P j inside)) at i (sym others-are) (sym kept-are) refl)
+          (rowsOver (rowOf D (P ∷ S)) others) lead (sym (row-at q m o few L S d short most P j inside)) at i (sym others-are) (sym kept-are) refl)
           ∙ ap (λ (t : ℕ). productsPut (suc q) o (length S) points rows pivots place inverse gone point values t (table 3592 others) (bytes α) m (grown t (table 3592 others) (rowsOver (rowOf D (P ∷ S)) others))) k
           ∙ products-are m (omega arith) ∙ ap leadsOver (sym (grows .1))
 
     pub standard-are : standardGrown o (length S) (table 512 (standardOf D S)) (rowAt 8 j leadsT) ≡ table 512 (standardOf D (P ∷ S))
     unfolding standardGrown
     standard-are =
-        let n : length (standardOf D S) ≡ length S = standard-count q m (orderOf o) few L S d short most P in
-        ap (λ (z : List ℕ). withRowAt 8 (length S) (placeOf (cmp (orderOf o)) z (groups 8 (length S) (table 512 (standardOf D S)))) z (table 512 (standardOf D S))) (lead-at q m (orderOf o) few L S d short most P j inside)
-        ∙ ap (λ (k : ℕ). withRowAt 8 k (placeOf (cmp (orderOf o)) (bytes α) (groups 8 k (table 512 (standardOf D S)))) (bytes α) (table 512 (standardOf D S))) (sym n)
+        let n : length (standardOf D S) ≡ length S = standard-count q m o few L S d short most P in
+        ap (λ (z : List ℕ). withRowAt 8 (length S) (placeOf (cmp o) z (groups 8 (length S) (table 512 (standardOf D S)))) z (table 512 (standardOf D S))) (lead-at q m o few L S d short most P j inside)
+        ∙ ap (λ (k : ℕ). withRowAt 8 k (placeOf (cmp o) (bytes α) (groups 8 k (table 512 (standardOf D S)))) (bytes α) (table 512 (standardOf D S))) (sym n)
         ∙ ap (λ (k : ℕ). withRowAt 8 (length (standardOf D S)) k (bytes α) (table 512 (standardOf D S))) (place-bytes 512 α (standardOf D S) (omega arith))
         ∙ put-bytes 512 α (standardOf D S) (omega arith) fresh ∙ ap (table 512) (sym (grows .0))

@@ -1,6 +1,7 @@
 // Adding a point, by Lemma 2 of Farr and Gao: a row is lost, its lead becomes standard, and its products with the variables become leads.
 use crate::correcting;
 use crate::products::add_products;
+use crate::products::put_under;
 use monomial::insert;
 use monomial::value::values_at;
 use residue::bytes;
@@ -16,7 +17,7 @@ ghost use Rattle.elimination.specs.Elimination.{Multiplied};
 ghost use Rattle.residue.specs.Layout.{rowAt};
 ghost use Rattle.specification.specs.Tables.{pointsIn};
 ghost use Rattle.specification.specs.Settings.{Accepted};
-ghost use Rattle.growth.specs.Growing.{grown, othersOf, othersCorrected, standardGrown, grownBy, allPoints, NewPoint};
+ghost use Rattle.growth.specs.Growing.{orderUnder, grown, othersOf, othersCorrected, standardGrown, grownBy, allPoints, NewPoint};
 ghost use Rattle.construction.specs.Drawing.{PointsGiven, Tabled, DrawnUp};
 
 // The leads but that of row j, and their rows corrected.
@@ -87,19 +88,18 @@ fn grow(
     requires { ⌜ ((i : ℕ) → getD (now leads) i 0 < 255) ⌝ }
     requires { ⌜ (now «new_standard» ≡ replicate standardSize 0) × (now «new_leads» ≡ replicate leadsSize 0)
         × (now «new_coefficients» ≡ replicate coefficientsSize 0) ⌝ }
-    ensures { λ _. ⌜ now («new_standard» .exit) ≡ standardGrown (settings .order) n (now (standard .entry)) (rowAt 8 j (now (leads .entry))) ⌝ }
+    ensures { λ _. ⌜ now («new_standard» .exit) ≡ standardGrown (orderUnder settings) n (now (standard .entry)) (rowAt 8 j (now (leads .entry))) ⌝ }
     ensures { λ k. ⌜ grown k (now («new_leads» .exit)) (now («new_coefficients» .exit))
-        ≡ grownBy (settings .modulus) (settings .variables) (settings .order) n r (now (points .entry)) (now (standard .entry)) (now (leads .entry))
+        ≡ grownBy (settings .modulus) (settings .variables) (orderUnder settings) n r (now (points .entry)) (now (standard .entry)) (now (leads .entry))
         (now (coefficients .entry)) (now (rows .entry)) (now (pivots .entry)) (now (point .entry)) (now (values .entry)) j ⌝ }
 {
     let p = settings.modulus as u8;
-    let order = settings.order as u8;
     let lead = &leads[8 * j..8 * j + 8];
     let mut gone = [0u8; sizes::POINTS];
     bytes::copy(&coefficients[64 * j..64 * j + 64], &mut gone);
     let i = inverse(p, correcting::row_value(p, point, values, lead, &gone));
     bytes::copy(standard, new_standard);
-    let place = insert::put_in(order, n, new_standard, lead);
+    let place = put_under(settings, n, new_standard, lead);
     keep_others(
         p,
         place,

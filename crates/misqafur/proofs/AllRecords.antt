@@ -18,7 +18,7 @@ use Rattle.residue.proofs.Layouts.{fill-exact, take-over}
 use Rattle.residue.proofs.Tests.{true-of}
 use Rattle.specification.specs.declared.settings.Settings.{Settings}
 use Rattle.specification.specs.Refusal.{firstOf}
-use Rattle.specification.specs.Settings.{settingsOf, Accepted}
+use Rattle.specification.specs.Settings.{Accepted}
 use Rattle.specification.specs.Levels.{inRange}
 use Rattle.specification.specs.Points.{Points, IsPoint}
 use Rattle.specification.specs.Counted.{Counted, pointsOf, countsOf, enteredAll, gathered, overfull}
@@ -32,14 +32,21 @@ use Rattle.specification.proofs.counted.Gathered.{among-gathered, once-gathered
 use Rattle.specification.proofs.CallByCall.{drawn-number}
 use Rattle.specification.proofs.Records.{whole-of, range-of, offered-of, draw-counted}
 use Rattle.notation.specs.Fields.{recordsOf}
-use Rattle.csv.specs.reading.Text.{headerIn, Contents, contentsOf, entryPoint, Valued, valuedPoint, valuedPoints, firstOutside, firstAfter, tooOften}
-use Rattle.csv.specs.reading.Text.{textAccepted, TextOutcome}
+use Rattle.csv.specs.reading.Text.{noHeader, headerIn, Contents, contentsOf, entryPoint, Valued, valuedPoint, valuedPoints, firstOutside, firstAfter, tooOften}
+use Rattle.csv.specs.reading.Text.{settingsBy, textAccepted, TextOutcome}
+use Rattle.csv.specs.declared.reading.Read.{Read}
 use Rattle.csv.proofs.reading.FirstPlaces.{fault-step}
 use Rattle.csv.proofs.reading.FirstValues.{few-points}
 use Rattle.csv.proofs.reading.EntryLengths.{AllLong, point-long}
 use Rattle.csv.proofs.reading.AcceptedPoints.{no-fault, all-long, all-inside}
 use Rattle.csv.proofs.reading.PassedText.{PassedText, range-take}
+use Rattle.csv.proofs.reading.SaidText.{says-found}
+use Rattle.csv.proofs.reading.HeaderWeights.{header-eight}
 use Rattle.misqafur.proofs.ReadBack.{says, o, r, refusal-is, accepted-is, taken}
+
+-- the settings that a host reads from an answer and the buffer of weights
+abbrev pub settingsRead : Read → List ℕ → Settings
+settingsRead r weights = record { modulus = r .modulus; variables = r .variables; order = r .order; weights = take 8 weights }
 
 -- no entry is once too often: no count is above 255
 few-times : (seen l : List Valued) → Lists.some (ltb 255) (countsOf (gathered (pointsOf seen))) ≡ false → firstAfter tooOften seen l ≡ 0
@@ -50,10 +57,10 @@ few-times seen (q ∷ l) h z =
     let s = fault-step (Lists.some (ltb 255) (countsOf (gathered (pointsOf (seen ++ (q ∷ [])))))) (firstAfter tooOften (seen ++ (q ∷ [])) l) z in
     rw (← append-assoc seen (q ∷ []) l) (few-times (seen ++ (q ∷ [])) l (s .0) (s .1))
 
-module _ (text states values counts : List ℕ) (z : r text states values counts .refusal ≡ 0) where
+module _ (text states values counts weights : List ℕ) (z : r text states values counts weights .refusal ≡ 0) where
   -- what the text says, and its settings
   abbrev e : Contents
-  e = says text states values counts
+  e = says text states values counts weights
 
   abbrev p : ℕ
   p = e .header .modulus
@@ -62,10 +69,10 @@ module _ (text states values counts : List ℕ) (z : r text states values counts
   m = e .header .variables
 
   abbrev s : Settings
-  s = settingsOf p m (e .header .order)
+  s = settingsBy (e .header)
 
   w : PassedText text
-  w = taken text states values counts z
+  w = taken text states values counts weights z
 
   ok : Accepted s
   ok = w .settings
@@ -79,7 +86,7 @@ module _ (text states values counts : List ℕ) (z : r text states values counts
 
   long : AllLong (suc m) (e .entries)
   unfolding contentsOf
-  long = all-long m (recordsOf text) (no-fault (headerIn (recordsOf text)) (record { variables = 0; modulus = 0; order = 0 }) (recordsOf text) (w .form))
+  long = all-long m (recordsOf text) (no-fault (headerIn (recordsOf text)) noHeader (recordsOf text) (w .form))
 
   inside : (zs : List ℤ) → Among zs (e .entries) → T (inRange p zs)
   unfolding firstOutside
@@ -138,13 +145,17 @@ module _ (text states values counts : List ℕ) (z : r text states values counts
       ap (fill countsSize) (ap (λ (k : ℕ). take k (over (fill countsSize (countsOf G)) counts)) (sym l) ∙ take-over (fill countsSize (countsOf G)) counts)
       ∙ fill-exact countsSize (fill countsSize (countsOf G)) l
 
+  copied-weights : take 8 (over (e .header .weights) weights) ≡ e .header .weights
+  copied-weights = ap (λ (k : ℕ). take k (over (e .header .weights) weights)) (sym (header-eight (e .header) (says-found text (w .form) .header)))
+      ∙ take-over (e .header .weights) weights
+
   -- The settings, points and counts that a reader's outcome has, drawn up and copied.
   abbrev Basis : TextOutcome → Tables → Type 0
-  Basis x t = let u = settingsOf (x .answer .modulus) (x .answer .variables) (x .answer .order) in
+  Basis x t = let u = settingsRead (x .answer) (x .weights) in
       counting (take 64 (x .counts)) (drawOutcome u t (asLevels u (pointsIn u (x .answer .n) (x .states)))) ≡ drawOutcome u t (asLevels u S)
 
-  pub text-basis : (t : Tables) → tooShort t ≡ false → Basis (o text states values counts) t
+  pub text-basis : (t : Tables) → tooShort t ≡ false → Basis (o text states values counts weights) t
   unfolding textAccepted counting
   text-basis t large =
-      subst (λ (x : TextOutcome). Basis x t) (sym (accepted-is text states values counts (sym (refusal-is text states values counts) ∙ z)))
-      (rw (packed-points, copied) (once t large))
+      subst (λ (x : TextOutcome). Basis x t) (sym (accepted-is text states values counts weights (sym (refusal-is text states values counts weights) ∙ z)))
+      (rw (copied-weights, packed-points, copied) (once t large))

@@ -1,5 +1,6 @@
 -- The lemmas of the crate misqafur.
 pub mod Packed
+pub mod Handed
 pub mod Unpacked
 pub mod ReadBack
 pub mod AllRecords

@@ -23,6 +23,6 @@ pub packs-list : {w : Wired} {b : List ℕ} {o : Listed} {k : ℕ} → listed w 
 unfolding packedList
 packs-list {b = b} h n = ap (λ (k : ℕ). leftList k b) n ∙ ap packedList h
 
-pub packs-read : {r : Read} {b c d : List ℕ} {o : TextOutcome} {k : ℕ} → textEnded r b c d ≡ o → k ≡ packedRead r → leftReading k b c d ≡ packedReading o
+pub packs-read : {r : Read} {b c d e : List ℕ} {o : TextOutcome} {k : ℕ} → textEnded r b c d e ≡ o → k ≡ packedRead r → leftReading k b c d e ≡ packedReading o
 unfolding packedReading
-packs-read {b = b} {c = c} {d = d} h n = ap (λ (k : ℕ). leftReading k b c d) n ∙ ap packedReading h
+packs-read {b = b} {c = c} {d = d} {e = e} h n = ap (λ (k : ℕ). leftReading k b c d e) n ∙ ap packedReading h

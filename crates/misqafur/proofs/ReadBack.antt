@@ -18,7 +18,7 @@ use Rattle.csv.specs.declared.reading.Refusal.{Refusal}
 use Rattle.csv.specs.declared.reading.Read.{Read}
 use Rattle.csv.specs.reading.Text.{headerIn, formFault, Contents, valuedPoints, notRefused, TextCase}
 use Rattle.csv.specs.reading.Text.{TextOutcome}
-use Rattle.csv.specs.reading.Text.{headerCases, pointsCases, entriesCases, readCases, textAccepted, textRefused, textDecided, readOutcome}
+use Rattle.csv.specs.reading.Text.{shortBuffers, headerCases, pointsCases, entriesCases, readCases, textAccepted, textRefused, textDecided, readOutcome}
 use Rattle.csv.proofs.reading.FirstValues.{few-points}
 use Rattle.csv.proofs.reading.PassedText.{saidIn, PassedText, text-passed}
 use Rattle.csv.proofs.reading.WholeText.{text-never-eleven}
@@ -36,30 +36,30 @@ record-back : (a b : ℕ) → a ≤ 255 → (refusalFrom (packed (a ∷ b ∷ []
 unfolding refusalFrom faultFrom
 record-back a b h = (omega arith, omega arith)
 
-module _ (text states values counts : List ℕ) where
+module _ (text states values counts weights : List ℕ) where
   -- what the text says, if its form is right; the cases in which it is refused, and what they decide
   abbrev pub says : Contents
   says = saidIn text
 
   abbrev pub cases : List TextCase
-  cases = readCases text (formFault (headerIn (recordsOf text)) (recordsOf text)) says (length states) (length values) (length counts)
+  cases = readCases text (formFault (headerIn (recordsOf text)) (recordsOf text)) says (shortBuffers (length states) (length values) (length counts) (length weights))
 
   abbrev pub decided : Refusal
   decided = firstOf notRefused cases
 
   abbrev pub o : TextOutcome
-  o = readOutcome text states values counts
+  o = readOutcome text states values counts weights
 
   abbrev pub r : Read
   r = o .answer
 
-  pub accepted-is : decided .refusal ≡ 0 → o ≡ textAccepted says states values counts
+  pub accepted-is : decided .refusal ≡ 0 → o ≡ textAccepted says states values counts weights
   unfolding readOutcome textDecided
-  accepted-is e = ap (λ (b : Bool). cond b (textAccepted says states values counts) (textRefused decided states values counts)) (eq-eqb (decided .refusal) 0 e)
+  accepted-is e = ap (λ (b : Bool). cond b (textAccepted says states values counts weights) (textRefused decided states values counts weights)) (eq-eqb (decided .refusal) 0 e)
 
-  refused-is : decided .refusal ≢ 0 → o ≡ textRefused decided states values counts
+  refused-is : decided .refusal ≢ 0 → o ≡ textRefused decided states values counts weights
   unfolding readOutcome textDecided
-  refused-is n = ap (λ (b : Bool). cond b (textAccepted says states values counts) (textRefused decided states values counts)) (ne-eqb (decided .refusal) 0 n)
+  refused-is n = ap (λ (b : Bool). cond b (textAccepted says states values counts weights) (textRefused decided states values counts weights)) (ne-eqb (decided .refusal) 0 n)
 
   pub refusal-is : r .refusal ≡ decided .refusal
   unfolding textAccepted textRefused
@@ -69,16 +69,16 @@ module _ (text states values counts : List ℕ) where
       go (yes e) = ap (λ (x : TextOutcome). x .answer .refusal) (accepted-is e) ∙ sym e
       go (no n) = ap (λ (x : TextOutcome). x .answer .refusal) (refused-is n)
 
-  refusal-few : r .refusal ≤ 14
+  refusal-few : r .refusal ≤ 15
   unfolding readCases headerCases entriesCases pointsCases
-  refusal-few = rw refusal-is (at-most (λ c. c .refusal) 14 notRefused cases (omega arith) tt)
+  refusal-few = rw refusal-is (at-most (λ c. c .refusal) 15 notRefused cases (omega arith) tt)
 
   -- what an accepted text has passed
   pub taken : r .refusal ≡ 0 → PassedText text
-  taken z = text-passed text (length states) (length values) (length counts) (sym refusal-is ∙ z)
+  taken z = text-passed text (shortBuffers (length states) (length values) (length counts) (length weights)) (sym refusal-is ∙ z)
 
   -- so its numbers lie within a byte
-  settings-few : r .refusal ≡ 0 → (r .n ≤ 64) × (r .modulus ≤ 61) × (r .variables ≤ 8) × (r .order ≤ 2)
+  settings-few : r .refusal ≡ 0 → (r .n ≤ 64) × (r .modulus ≤ 61) × (r .variables ≤ 8) × (r .order ≤ 3)
   unfolding textAccepted gathered enteredAll
   settings-few z = let w = taken z in
       subst Few (sym (accepted-is (sym refusal-is ∙ z))) (
@@ -89,7 +89,7 @@ module _ (text states values counts : List ℕ) where
       )
     where
       Few : TextOutcome → Type 0
-      Few x = (x .answer .n ≤ 64) × (x .answer .modulus ≤ 61) × (x .answer .variables ≤ 8) × (x .answer .order ≤ 2)
+      Few x = (x .answer .n ≤ 64) × (x .answer .modulus ≤ 61) × (x .answer .variables ≤ 8) × (x .answer .order ≤ 3)
 
       none-few : length (gathered []) ≤ 64
       none-few = omega arith
@@ -120,14 +120,14 @@ module _ (text states values counts : List ℕ) where
 
   -- A refusal comes with its record alone, and no lent byte has changed.
   pub read-alone : r .refusal ≢ 0
-      → ((r .n ≡ 0) × (r .modulus ≡ 0) × (r .variables ≡ 0) × (r .order ≡ 0)) × (o .states ≡ states) × (o .values ≡ values) × (o .counts ≡ counts)
+      → ((r .n ≡ 0) × (r .modulus ≡ 0) × (r .variables ≡ 0) × (r .order ≡ 0)) × (o .states ≡ states) × (o .values ≡ values) × (o .counts ≡ counts) × (o .weights ≡ weights)
   unfolding textRefused
-  read-alone n = subst Same (sym (refused-is (λ z. n (refusal-is ∙ z)))) ((refl, refl, refl, refl), refl, refl, refl)
+  read-alone n = subst Same (sym (refused-is (λ z. n (refusal-is ∙ z)))) ((refl, refl, refl, refl), refl, refl, refl, refl)
     where
       Same : TextOutcome → Type 0
       Same x = ((x .answer .n ≡ 0) × (x .answer .modulus ≡ 0) × (x .answer .variables ≡ 0) × (x .answer .order ≡ 0))
-          × (x .states ≡ states) × (x .values ≡ values) × (x .counts ≡ counts)
+          × (x .states ≡ states) × (x .values ≡ values) × (x .counts ≡ counts) × (x .weights ≡ weights)
 
   -- no text is refused with 11
   pub read-never-eleven : refusalFrom (packedRead r) ≢ 11
-  read-never-eleven e = text-never-eleven text states values counts (sym read-refusal ∙ e)
+  read-never-eleven e = text-never-eleven text states values counts weights (sym read-refusal ∙ e)

@@ -41,7 +41,7 @@ plain : (a b c : ℕ) → packed (a ∷ b ∷ c ∷ []) ≡ packed (a ∷ b ∷ 
 plain a b c = omega arith
 
 -- refusal and count
-count-back : (a b : ℕ) → a ≤ 13 → (refusalFrom (packed (a ∷ b ∷ [])) ≡ a) × (countFrom (packed (a ∷ b ∷ [])) ≡ b)
+count-back : (a b : ℕ) → a ≤ 15 → (refusalFrom (packed (a ∷ b ∷ [])) ≡ a) × (countFrom (packed (a ∷ b ∷ [])) ≡ b)
 unfolding refusalFrom countFrom
 count-back a b h = (omega arith, omega arith)
 
@@ -68,7 +68,7 @@ module _ (o : Operation) (s : Settings) (n r : ℕ) (t : Tables) where
       go (yes e) = let h = operation-leaves o s n r t e in (omega (arith, h .count, h .few-points), omega (arith, h .rows, h .few-rows))
       go (no e) = let z = both-zero (a .n) (a .r) [] (refused-alone (handed (operating o) s n r t) e .parts) in (omega (arith, z .0), omega (arith, z .1))
 
-  number-few : a .refusal ≤ 13
+  number-few : a .refusal ≤ 15
   unfolding endingOf
   number-few = few-numbers (handed (operating o) s n r t)
 
@@ -143,7 +143,7 @@ module _ (s : Settings) (t : Tables) (levels : List ℤ) where
       (ap refusalFrom e ∙ k .0, ap pointsFrom e ∙ k .1, ap elementsFrom e ∙ k .2)
 
 -- a refusal alone
-alone : {k : ℕ} → k ≤ 13 → refusalFrom k ≡ k
+alone : {k : ℕ} → k ≤ 15 → refusalFrom k ≡ k
 unfolding refusalFrom
 alone h = omega arith
 

@@ -3,6 +3,7 @@ use mathlib.Core.Bool.{cond}
 use mathlib.Core.List.{List, [], _∷_}
 use Prim.Native.Nat.{ℕ, _+_, _*_}
 use lib.Dec.{eqb}
+use Rattle.residue.specs.Words.{bytesOf}
 use Rattle.specification.specs.declared.settings.Settings.{Settings}
 use Rattle.specification.specs.declared.answers.Answer.{Answer}
 use Rattle.specification.specs.declared.answers.Drawn.{Drawn}
@@ -17,6 +18,10 @@ use Rattle.csv.specs.reading.Text.{TextOutcome}
 abbrev pub packed : List ℕ → ℕ
 packed [] = 0
 packed (a ∷ l) = a + 256 * packed l
+
+-- The settings that a call is handed: the weights as one number, w1 + 256 w2 + 65536 w3 + ...
+abbrev pub settingsGiven : ℕ → ℕ → ℕ → ℕ → Settings
+settingsGiven modulus variables order weights = record { modulus = modulus; variables = variables; order = order; weights = bytesOf 8 weights }
 
 -- refusal + 256 n + 65536 r
 abbrev pub packedAnswer : Answer → ℕ
@@ -65,9 +70,10 @@ pub record LeftReading : Type 0 where
   pub states : List ℕ
   pub values : List ℕ
   pub counts : List ℕ
+  pub weights : List ℕ
 
-abbrev pub leftReading : ℕ → List ℕ → List ℕ → List ℕ → LeftReading
-leftReading a states values counts = record { number = a; states = states; values = values; counts = counts }
+abbrev pub leftReading : ℕ → List ℕ → List ℕ → List ℕ → List ℕ → LeftReading
+leftReading a states values counts weights = record { number = a; states = states; values = values; counts = counts; weights = weights }
 
 unfoldable pub packedReading : TextOutcome → LeftReading
-packedReading o = record { number = packedRead (o .answer); states = o .states; values = o .values; counts = o .counts }
+packedReading o = record { number = packedRead (o .answer); states = o .states; values = o .values; counts = o .counts; weights = o .weights }

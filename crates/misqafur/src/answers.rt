@@ -1,14 +1,13 @@
 // The calls that answer from the basis of lent tables: interpolant, remainder, wiring list.
 use crate::packing::pack_wired;
+use crate::packing::settings_given;
 use queries::remainders::remainder;
 use queries::values::interpolate;
 use queries::values::wiring;
-use specification::settings::Settings;
 ghost use mathlib.Core.Path.{_≡_};
 ghost use Rattle.specification.specs.Tables.{fiveTables};
 ghost use Rattle.specification.specs.Solving.{answering, interpolateOutcome, remainderOutcome, wiringOutcome};
-ghost use Rattle.specification.specs.Settings.{settingsOf};
-ghost use Rattle.misqafur.specs.Packing.{leftList, packedList};
+ghost use Rattle.misqafur.specs.Packing.{settingsGiven, leftList, packedList};
 
 // The interpolant of n values, in the order of the points.
 #[no_mangle]
@@ -16,6 +15,7 @@ pub extern "C" fn misqafur_interpolate(
     modulus: u64,
     variables: u64,
     order: u64,
+    weights: u64,
     n: u64,
     r: u64,
     states: &[u8],
@@ -27,15 +27,11 @@ pub extern "C" fn misqafur_interpolate(
     out: &mut [u8],
 ) -> u32
     ensures { λ a. ⌜ answering a (now (out .exit))
-        ≡ interpolateOutcome (settingsOf modulus variables order) n r
+        ≡ interpolateOutcome (settingsGiven modulus variables order weights) n r
         (fiveTables (now (states .entry)) (now (standard .entry)) (now (leads .entry)) (now (coefficients .entry)) (now (counts .entry)))
         (now (values .entry)) (now (out .entry)) ⌝ }
 {
-    let settings = Settings {
-        modulus,
-        variables,
-        order,
-    };
+    let settings = settings_given(modulus, variables, order, weights);
     interpolate(
         settings,
         n,
@@ -56,6 +52,7 @@ pub extern "C" fn misqafur_remainder(
     modulus: u64,
     variables: u64,
     order: u64,
+    weights: u64,
     n: u64,
     r: u64,
     states: &[u8],
@@ -68,15 +65,11 @@ pub extern "C" fn misqafur_remainder(
     out: &mut [u8],
 ) -> u32
     ensures { λ a. ⌜ answering a (now (out .exit))
-        ≡ remainderOutcome (settingsOf modulus variables order) n r
+        ≡ remainderOutcome (settingsGiven modulus variables order weights) n r
         (fiveTables (now (states .entry)) (now (standard .entry)) (now (leads .entry)) (now (coefficients .entry)) (now (counts .entry)))
         (now («term_coefficients» .entry)) (now (exponents .entry)) (now (out .entry)) ⌝ }
 {
-    let settings = Settings {
-        modulus,
-        variables,
-        order,
-    };
+    let settings = settings_given(modulus, variables, order, weights);
     remainder(
         settings,
         n,
@@ -98,6 +91,7 @@ pub extern "C" fn misqafur_wiring(
     modulus: u64,
     variables: u64,
     order: u64,
+    weights: u64,
     n: u64,
     r: u64,
     states: &[u8],
@@ -109,15 +103,11 @@ pub extern "C" fn misqafur_wiring(
     out: &mut [u8],
 ) -> u32
     ensures { λ a. ⌜ leftList a (now (out .exit))
-        ≡ packedList (wiringOutcome (settingsOf modulus variables order) n r
+        ≡ packedList (wiringOutcome (settingsGiven modulus variables order weights) n r
         (fiveTables (now (states .entry)) (now (standard .entry)) (now (leads .entry)) (now (coefficients .entry)) (now (counts .entry)))
         (now (values .entry)) (now (out .entry))) ⌝ }
 {
-    let settings = Settings {
-        modulus,
-        variables,
-        order,
-    };
+    let settings = settings_given(modulus, variables, order, weights);
     pack_wired(wiring(
         settings,
         n,

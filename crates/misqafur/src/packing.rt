@@ -1,10 +1,32 @@
-// Answers as one number.
+// What C hands over and gets back in one number: the weights of the settings, and the parts of an answer.
 use csv::reading::Read;
 use specification::answers::Answer;
 use specification::answers::Drawn;
 use specification::answers::Wired;
+use specification::settings::Settings;
 ghost use mathlib.Core.Path.{_≡_};
-ghost use Rattle.misqafur.specs.Packing.{packedAnswer, packedDrawn, packedWired, packedRead};
+ghost use Rattle.misqafur.specs.Packing.{settingsGiven, packedAnswer, packedDrawn, packedWired, packedRead};
+
+// The settings as they are handed over: the weight of x_k is byte k-1 of one number, which has therefore no length that could be wrong.
+pub fn settings_given(modulus: u64, variables: u64, order: u64, weights: u64) -> Settings
+    ensures { λ s. ⌜ s ≡ settingsGiven modulus variables order weights ⌝ }
+{
+    Settings {
+        modulus,
+        variables,
+        order,
+        weights: [
+            (weights % 256) as u8,
+            (weights / 256 % 256) as u8,
+            (weights / 65536 % 256) as u8,
+            (weights / 16777216 % 256) as u8,
+            (weights / 4294967296 % 256) as u8,
+            (weights / 1099511627776 % 256) as u8,
+            (weights / 281474976710656 % 256) as u8,
+            (weights / 72057594037927936 % 256) as u8,
+        ],
+    }
+}
 
 pub fn pack_answer(a: Answer) -> u32
     ensures { λ k. ⌜ k ≡ packedAnswer a ⌝ }

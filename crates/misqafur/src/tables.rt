@@ -1,18 +1,17 @@
 // Adding to, withdrawing from, drawing up and checking the five lent tables. Levels are bytes that are read as signed ones, 255 as -1 (specs/Bytes).
 use crate::packing::pack_answer;
 use crate::packing::pack_drawn;
+use crate::packing::settings_given;
 use addition::adding;
 use basis::drawing;
 use basis::withdrawing;
 use queries::checking;
-use specification::settings::Settings;
 ghost use mathlib.Core.Path.{_≡_};
 ghost use Rattle.specification.specs.Tables.{fiveTables};
 ghost use Rattle.specification.specs.Adding.{addOutcome, drawOutcome, drawPackedOutcome};
 ghost use Rattle.specification.specs.Withdrawing.{withdrawOutcome};
 ghost use Rattle.specification.specs.Solving.{checkRefusal};
-ghost use Rattle.specification.specs.Settings.{settingsOf};
-ghost use Rattle.misqafur.specs.Packing.{left, packedOutcome, packedDrawing};
+ghost use Rattle.misqafur.specs.Packing.{settingsGiven, left, packedOutcome, packedDrawing};
 
 // Adding one point to the n points of the tables.
 #[no_mangle]
@@ -20,6 +19,7 @@ pub extern "C" fn misqafur_add_point(
     modulus: u64,
     variables: u64,
     order: u64,
+    weights: u64,
     n: u64,
     r: u64,
     states: &mut [u8],
@@ -30,15 +30,11 @@ pub extern "C" fn misqafur_add_point(
     levels: &[i8],
 ) -> u32
     ensures { λ a. ⌜ left a (now (states .exit)) (now (standard .exit)) (now (leads .exit)) (now (coefficients .exit)) (now (counts .exit))
-        ≡ packedOutcome (addOutcome (settingsOf modulus variables order) n r
+        ≡ packedOutcome (addOutcome (settingsGiven modulus variables order weights) n r
         (fiveTables (now (states .entry)) (now (standard .entry)) (now (leads .entry)) (now (coefficients .entry)) (now (counts .entry)))
         (now (levels .entry))) ⌝ }
 {
-    let settings = Settings {
-        modulus,
-        variables,
-        order,
-    };
+    let settings = settings_given(modulus, variables, order, weights);
     let a = adding::add_point(
         settings,
         n,
@@ -59,6 +55,7 @@ pub extern "C" fn misqafur_withdraw_point(
     modulus: u64,
     variables: u64,
     order: u64,
+    weights: u64,
     n: u64,
     r: u64,
     states: &mut [u8],
@@ -69,15 +66,11 @@ pub extern "C" fn misqafur_withdraw_point(
     levels: &[i8],
 ) -> u32
     ensures { λ a. ⌜ left a (now (states .exit)) (now (standard .exit)) (now (leads .exit)) (now (coefficients .exit)) (now (counts .exit))
-        ≡ packedOutcome (withdrawOutcome (settingsOf modulus variables order) n r
+        ≡ packedOutcome (withdrawOutcome (settingsGiven modulus variables order weights) n r
         (fiveTables (now (states .entry)) (now (standard .entry)) (now (leads .entry)) (now (coefficients .entry)) (now (counts .entry)))
         (now (levels .entry))) ⌝ }
 {
-    let settings = Settings {
-        modulus,
-        variables,
-        order,
-    };
+    let settings = settings_given(modulus, variables, order, weights);
     let a = withdrawing::withdraw_point(
         settings,
         n,
@@ -98,6 +91,7 @@ pub extern "C" fn misqafur_draw_up(
     modulus: u64,
     variables: u64,
     order: u64,
+    weights: u64,
     states: &mut [u8],
     standard: &mut [u8],
     leads: &mut [u8],
@@ -106,15 +100,11 @@ pub extern "C" fn misqafur_draw_up(
     levels: &[i8],
 ) -> u64
     ensures { λ a. ⌜ left a (now (states .exit)) (now (standard .exit)) (now (leads .exit)) (now (coefficients .exit)) (now (counts .exit))
-        ≡ packedDrawing (drawOutcome (settingsOf modulus variables order)
+        ≡ packedDrawing (drawOutcome (settingsGiven modulus variables order weights)
         (fiveTables (now (states .entry)) (now (standard .entry)) (now (leads .entry)) (now (coefficients .entry)) (now (counts .entry)))
         (now (levels .entry))) ⌝ }
 {
-    let settings = Settings {
-        modulus,
-        variables,
-        order,
-    };
+    let settings = settings_given(modulus, variables, order, weights);
     let a = drawing::draw_up(
         settings,
         states,
@@ -133,6 +123,7 @@ pub extern "C" fn misqafur_draw_up_packed(
     modulus: u64,
     variables: u64,
     order: u64,
+    weights: u64,
     states: &mut [u8],
     standard: &mut [u8],
     leads: &mut [u8],
@@ -141,15 +132,11 @@ pub extern "C" fn misqafur_draw_up_packed(
     levels: &[i8],
 ) -> u32
     ensures { λ a. ⌜ left a (now (states .exit)) (now (standard .exit)) (now (leads .exit)) (now (coefficients .exit)) (now (counts .exit))
-        ≡ packedOutcome (drawPackedOutcome (settingsOf modulus variables order)
+        ≡ packedOutcome (drawPackedOutcome (settingsGiven modulus variables order weights)
         (fiveTables (now (states .entry)) (now (standard .entry)) (now (leads .entry)) (now (coefficients .entry)) (now (counts .entry)))
         (now (levels .entry))) ⌝ }
 {
-    let settings = Settings {
-        modulus,
-        variables,
-        order,
-    };
+    let settings = settings_given(modulus, variables, order, weights);
     let a = drawing::draw_up_packed(
         settings,
         states,
@@ -168,6 +155,7 @@ pub extern "C" fn misqafur_check(
     modulus: u64,
     variables: u64,
     order: u64,
+    weights: u64,
     n: u64,
     r: u64,
     states: &[u8],
@@ -177,14 +165,10 @@ pub extern "C" fn misqafur_check(
     counts: &[u8],
 ) -> u32
     ensures { λ a. ⌜ a
-        ≡ checkRefusal (settingsOf modulus variables order) n r
+        ≡ checkRefusal (settingsGiven modulus variables order weights) n r
         (fiveTables (now (states .entry)) (now (standard .entry)) (now (leads .entry)) (now (coefficients .entry)) (now (counts .entry))) ⌝ }
 {
-    let settings = Settings {
-        modulus,
-        variables,
-        order,
-    };
+    let settings = settings_given(modulus, variables, order, weights);
     let refusal = checking::check(
         settings,
         n,

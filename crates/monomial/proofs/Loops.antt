@@ -12,12 +12,15 @@ use lib.Seq.{drop-cons}
 use Rattle.residue.specs.Congruence.{Mod}
 use Rattle.residue.proofs.Congruence.{rfl, of, _then_, _times_, reduce}
 use Rattle.monomial.specs.Monomial.{degree, divides, monomialAt}
-use Rattle.monomial.specs.Order.{orderOf, andThen, byFirst, byLast, cmp}
+use Rattle.monomial.specs.Order.{orderOf, andThen, byFirst, byLast, cmp, weigh, grade}
 use Rattle.monomial.proofs.Algebra.Products.{Aligned, nil, cons, aligned}
 use Rattle.monomial.proofs.Orders.Answers.{Says, same, said, compare-self}
 
 pub degree-turn : (a : List ℕ) (i : ℕ) → i < length a → degree (drop i a) ≡ getD a i 0 + degree (drop (i + 1) a)
 degree-turn a i h = rw (add-one, drop-cons a i 0)
+
+pub weigh-turn : (w a : List ℕ) (i : ℕ) → i < length w → i < length a → weigh (drop i w) (drop i a) ≡ getD w i 0 * getD a i 0 + weigh (drop (i + 1) w) (drop (i + 1) a)
+weigh-turn w a i h k = rw (add-one, drop-cons w i 0, drop-cons a i 0)
 
 then-found : (o p : Ordering) → ¬ (o ≡ Ordering·eq) → andThen o p ≡ o
 then-found Ordering·lt p n = refl
@@ -68,26 +71,45 @@ module _ (a b : List ℕ) (la : length a ≡ 8) (lb : length b ≡ 8) (i : ℕ) 
   divides-end h v = rw (drop-of-length-le a {i = i} (omega arith)) at v
 
 -- a comparison by the order's number
-module _ (a b : List ℕ) where
-  pub number-lex : (n : ℕ) → n ≡ 0 → byFirst a b ≡ cmp (orderOf n) a b
+pub grade-degree : (w a : List ℕ) (n : ℕ) → n < 3 → degree a ≡ grade (orderOf n w) a
+unfolding orderOf grade
+grade-degree w a zero h = refl
+grade-degree w a (suc zero) h = refl
+grade-degree w a (suc (suc zero)) h = refl
+grade-degree w a (suc (suc (suc n))) h = absurd (omega arith)
+
+pub grade-weight : (w a : List ℕ) (n : ℕ) → 3 ≤ n → weigh w a ≡ grade (orderOf n w) a
+unfolding orderOf grade
+grade-weight w a zero h = absurd (omega arith)
+grade-weight w a (suc zero) h = absurd (omega arith)
+grade-weight w a (suc (suc zero)) h = absurd (omega arith)
+grade-weight w a (suc (suc (suc n))) h = refl
+
+module _ (w a b : List ℕ) where
+  pub number-lex : (n : ℕ) → n ≡ 0 → byFirst a b ≡ cmp (orderOf n w) a b
   unfolding orderOf cmp
   number-lex n e = rw e
 
-  pub number-degree : (n : ℕ) → ¬ (n ≡ 0) → (o : Ordering) → ¬ (o ≡ Ordering·eq) → Says (degree a) (degree b) o → o ≡ cmp (orderOf n) a b
-  unfolding orderOf cmp
-  number-degree zero n o m s = absurd (n refl)
-  number-degree (suc zero) n o m s = sym (rw (said s) (then-found o _ m))
-  number-degree (suc (suc k)) n o m s = sym (rw (said s) (then-found o _ m))
+  pub number-graded : (n : ℕ) → ¬ (n ≡ 0) → (o : Ordering) → ¬ (o ≡ Ordering·eq) → Says (grade (orderOf n w) a) (grade (orderOf n w) b) o → o ≡ cmp (orderOf n w) a b
+  unfolding orderOf cmp grade
+  number-graded zero n o m s = absurd (n refl)
+  number-graded (suc zero) n o m s = sym (rw (said s) (then-found o _ m))
+  number-graded (suc (suc zero)) n o m s = sym (rw (said s) (then-found o _ m))
+  number-graded (suc (suc (suc k))) n o m s = sym (rw (said s) (then-found o _ m))
 
-  pub number-grlex : (n : ℕ) → n ≡ 1 → degree a ≡ degree b → byFirst a b ≡ cmp (orderOf n) a b
-  unfolding orderOf cmp
-  number-grlex n e d = rw (e, said (same d))
+  pub number-last : (n : ℕ) → n ≡ 2 → grade (orderOf n w) a ≡ grade (orderOf n w) b → byLast a b ≡ cmp (orderOf n w) a b
+  unfolding orderOf cmp grade
+  number-last zero e d = absurd (omega arith)
+  number-last (suc zero) e d = absurd (omega arith)
+  number-last (suc (suc zero)) e d = rw (said (same d))
+  number-last (suc (suc (suc k))) e d = absurd (omega arith)
 
-  pub number-grevlex : (n : ℕ) → ¬ (n ≡ 0) → ¬ (n ≡ 1) → degree a ≡ degree b → byLast a b ≡ cmp (orderOf n) a b
-  unfolding orderOf cmp
-  number-grevlex zero n m d = absurd (n refl)
-  number-grevlex (suc zero) n m d = absurd (m refl)
-  number-grevlex (suc (suc k)) n m d = rw (said (same d))
+  pub number-first : (n : ℕ) → ¬ (n ≡ 0) → ¬ (n ≡ 2) → grade (orderOf n w) a ≡ grade (orderOf n w) b → byFirst a b ≡ cmp (orderOf n w) a b
+  unfolding orderOf cmp grade
+  number-first zero n m d = absurd (n refl)
+  number-first (suc zero) n m d = rw (said (same d))
+  number-first (suc (suc zero)) n m d = absurd (m refl)
+  number-first (suc (suc (suc k))) n m d = rw (said (same d))
 
 -- the product of the powers passed, modulo p, times the value of what is left
 module _ (p : ℕ) (P a : List ℕ) (i x : ℕ) (v : Mod p (x * monomialAt (drop i P) (drop i a)) (monomialAt P a)) where

@@ -4,17 +4,18 @@ use mathlib.Core.List.{List, [], _∷_, _++_}
 use Prim.Native.Nat.{ℕ, zero, suc, _+_, _-_, _<_, _≤_}
 use native.Mathlib.Nat.{add-zero}
 use native.Mathlib.Omega.{arith}
-use lib.ListN.{length, replicate, getD, List·getD-append}
+use lib.ListN.{length, replicate, drop, getD, List·getD-append}
 use lib.Seq.{set-append-left}
 use Rattle.residue.specs.Layout.{fill}
 use Rattle.residue.proofs.Layouts.{fill-tail}
 use Rattle.monomial.specs.Monomial.{degree, one, timesVariable, divides, monomialAt}
-use Rattle.monomial.specs.Order.{Order, lex, grlex, grevlex, byFirst, byLast, cmp}
-use Rattle.monomial.proofs.Algebra.Products.{Aligned, nil, cons, aligned, length-timesVariable}
+use Rattle.monomial.specs.Order.{Order, lex, grlex, grevlex, weighted, weigh, byFirst, byLast, cmp}
+use Rattle.monomial.proofs.Algebra.Products.{Aligned, nil, cons, aligned, aligned-length, length-timesVariable}
 use Rattle.monomial.proofs.Algebra.Division.{divides-refl}
 use Rattle.monomial.proofs.Algebra.Values.{value-one}
 use Rattle.monomial.proofs.Orders.Answers.{compare-shift}
 use Rattle.monomial.proofs.Orders.Lawful.{first-lawful, last-lawful}
+use Rattle.monomial.proofs.Orders.Weights.{weigh-append}
 
 -- exponents that agree behind change nothing
 first-append : {a b : List ℕ} (z : List ℕ) → Aligned a b → byFirst (a ++ z) (b ++ z) ≡ byFirst a b
@@ -34,6 +35,8 @@ unfolding cmp
 cmp-append lex z e = first-append z e
 cmp-append grlex {a} {b} z e = rw (degree-append a z, degree-append b z, compare-shift (degree z) (degree a) (degree b), first-append z e)
 cmp-append grevlex {a} {b} z e = rw (degree-append a z, degree-append b z, compare-shift (degree z) (degree a) (degree b), last-append z e)
+cmp-append (weighted w) {a} {b} z e =
+    rw (weigh-append w a z, weigh-append w b z, aligned-length e, compare-shift (weigh (drop (length b) w) z) (weigh w a) (weigh w b), first-append z e)
 
 divides-append : {a b : List ℕ} (z : List ℕ) → Aligned a b → divides (a ++ z) (b ++ z) ≡ divides a b
 divides-append z nil = divides-refl z

@@ -1,8 +1,8 @@
-// The monomial orders: 0 lex, 1 grlex, 2 grevlex.
+// The monomial orders: 0 lex, 1 grlex, 2 grevlex, 3 by weights.
 use crate::exponents;
 ghost use mathlib.Core.Path.{_≡_};
 ghost use lib.ListN.{length};
-ghost use Rattle.monomial.specs.Order.{orderOf, byFirst, byLast, cmp};
+ghost use Rattle.monomial.specs.Order.{orderOf, byFirst, byLast, cmp, grade};
 ghost use Rattle.monomial.specs.Comparison.{comparisonOf};
 
 // How one monomial stands to another.
@@ -46,24 +46,35 @@ fn by_last(a: &[u8], b: &[u8]) -> Comparison
     Comparison::Equal
 }
 
-// How a stands to b in the order of that number.
-pub fn compare(order: u8, a: &[u8], b: &[u8]) -> Comparison
-    requires { ⌜ (length (now a) ≡ 8) × (length (now b) ≡ 8) ⌝ }
-    ensures { λ r. ⌜ r ≡ comparisonOf (cmp (orderOf order) (now (a .entry)) (now (b .entry))) ⌝ }
+// What orders 1 to 3 compare before the variables: the total degree, or the sum of weight times exponent.
+fn grade(order: u8, weights: &[u8], a: &[u8]) -> u64
+    requires { ⌜ (length (now weights) ≡ 8) × (length (now a) ≡ 8) ⌝ }
+    ensures { λ r. ⌜ r ≡ grade (orderOf order (now (weights .entry))) (now (a .entry)) ⌝ }
+{
+    if order < 3 {
+        return exponents::degree(a);
+    }
+    exponents::weigh(weights, a)
+}
+
+// How a stands to b in the order of that number; order 3 by these weights.
+pub fn compare(order: u8, weights: &[u8], a: &[u8], b: &[u8]) -> Comparison
+    requires { ⌜ (length (now weights) ≡ 8) × ((length (now a) ≡ 8) × (length (now b) ≡ 8)) ⌝ }
+    ensures { λ r. ⌜ r ≡ comparisonOf (cmp (orderOf order (now (weights .entry))) (now (a .entry)) (now (b .entry))) ⌝ }
 {
     if order == 0 {
         return by_first(a, b);
     }
-    let x = exponents::degree(a);
-    let y = exponents::degree(b);
+    let x = grade(order, weights, a);
+    let y = grade(order, weights, b);
     if x < y {
         return Comparison::Less;
     }
     if y < x {
         return Comparison::Greater;
     }
-    if order == 1 {
-        return by_first(a, b);
+    if order == 2 {
+        return by_last(a, b);
     }
-    by_last(a, b)
+    by_first(a, b)
 }

@@ -7,7 +7,7 @@ use Prim.Native.Nat.{ℕ}
 use lib.ListN.{length, take, drop}
 use Rattle.notation.specs.Digits.{isDigit, decimalNumber}
 use Rattle.notation.specs.Fields.{Field, front}
-use Rattle.notation.specs.Forms.{orderWord, Header}
+use Rattle.notation.specs.Forms.{Ordered, Header}
 use Rattle.notation.specs.Said.{formNumber, leadingSaid, leadingNumber, LeadingEnds, LeadingRead}
 use Rattle.notation.specs.Said.{orderSaid, orderNumber, OrderRead, lastSaid, lastNumber, LastRead}
 use Rattle.notation.specs.Spans.{fieldNumber, endedBy, endNumber, EndWithin, endingIn, EndRead, spanned, spanNumber, SpanWithin, SpanAt, SpanRead}
@@ -30,21 +30,21 @@ leading-number G.Broken = refl
 pub leading-says : {t : List ℕ} {r : Leading} → leadingSaid r ≡ decimalNumber (take (front isDigit t) t) → LeadingEnds (front isDigit t) r → LeadingRead t r
 leading-says {t} {r} e f = record { said = e; number = leading-number r ∙ ap formNumber e; ends = f }
 
-order-number : (r : Word) → orderNumber r ≡ formNumber (orderSaid r)
+order-number : (weights : List ℕ) (r : Word) → orderNumber r ≡ formNumber (orderSaid weights r)
 unfolding orderNumber formNumber orderSaid
-order-number (W.Order k) = refl
-order-number W.Broken = refl
+order-number weights (W.Order k) = refl
+order-number weights W.Broken = refl
 
-pub order-says : {word : List ℕ} {r : Word} → orderSaid r ≡ orderWord word → OrderRead word r
-order-says {word} {r} e = record { said = e; number = order-number r ∙ ap formNumber e }
+pub order-says : {reads : Option Ordered} {weights : List ℕ} {r : Word} → orderSaid weights r ≡ reads → OrderRead reads weights r
+order-says {weights = weights} {r = r} e = record { said = e; number = order-number weights r ∙ ap formNumber e }
 
-last-number : (m : ℕ) (r : Last) → lastNumber r ≡ formNumber (lastSaid m r)
+last-number : (m : ℕ) (weights : List ℕ) (r : Last) → lastNumber r ≡ formNumber (lastSaid m weights r)
 unfolding lastNumber formNumber lastSaid
-last-number m (L.Settings modulus order) = refl
-last-number m L.Broken = refl
+last-number m weights (L.Settings modulus order) = refl
+last-number m weights L.Broken = refl
 
-pub last-says : {reads : ℕ → Option Header} {r : Last} → ((m : ℕ) → lastSaid m r ≡ reads m) → LastRead reads r
-last-says {reads} {r} e = record { said = e; number = λ m. last-number m r ∙ ap formNumber (e m) }
+pub last-says : {m : ℕ} {reads : Option Header} {weights : List ℕ} {r : Last} → lastSaid m weights r ≡ reads → LastRead m reads weights r
+last-says {m} {weights = weights} {r = r} e = record { said = e; number = last-number m weights r ∙ ap formNumber e }
 
 end-number : (text content : List ℕ) (r : End) → endNumber r ≡ fieldNumber (endedBy text content r)
 unfolding endNumber fieldNumber endedBy

@@ -67,6 +67,11 @@ pub data Part (A : Type 0) : Type 0 where
   part : (said : A) (rest : List ℕ) → Part A
   faulty : Part A
 
+-- by what was read, if it has the form
+unfoldable pub kept : {A : Type 0} → Option A → List ℕ → Part A
+kept (some a) rest = part a rest
+kept none rest = faulty
+
 -- one more at the front
 unfoldable pub withFirst : {A : Type 0} → A → Part (List A) → Part (List A)
 withFirst a (part l rest) = part (a ∷ l) rest

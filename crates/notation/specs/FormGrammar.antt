@@ -5,7 +5,8 @@ use mathlib.Core.Option.{some}
 use mathlib.Core.Logic.{_↔_}
 use Prim.Native.Nat.{ℕ, suc, _+_, _*_, _≤_}
 use lib.IntN.{ℤ, pos}
-use lib.ListN.{length}
+use lib.ListN.{length, replicate}
+use Rattle.residue.specs.Layout.{fill}
 use Rattle.notation.specs.Words.{bytesOf}
 use Rattle.notation.specs.Forms.{negative, levelOf, entryOf, Header, headerOf}
 
@@ -30,14 +31,21 @@ pub record IsEntry (m : ℕ) (fields : List (List ℕ)) (zs : List ℤ) : Type 0
   pub count : length fields ≡ suc m
   pub each : AreLevels fields zs
 
--- nothing, for grevlex (M-104), or a space and the order's word
-pub data IsOrder : List ℕ → ℕ → Type 0 where
-  unsaid : IsOrder [] 2
-  lex : IsOrder (bytesOf " lex") 0
-  grlex : IsOrder (bytesOf " grlex") 1
-  grevlex : IsOrder (bytesOf " grevlex") 2
+-- weights of one or two digits, a space before each
+pub data AreWeights : List ℕ → List ℕ → Type 0 where
+  no-weights : AreWeights [] []
+  weights : {d l ws : List ℕ} {w : ℕ} → IsNumber d w → length d ≤ 2 → AreWeights l ws → AreWeights (32 ∷ (d ++ l)) (w ∷ ws)
 
--- names, which may be anything, and a last field: `mod`, a space, one to three digits, and optionally a space and the order's word
+-- In a header of m names: nothing, for grevlex (M-104), or a space and the order's word, which for order 3 is `weight` with as many weights as there are names
+-- (M-109). The settings have eight weights, zeros but for order 3; a header of more names is refused for their number.
+pub data IsOrder : ℕ → List ℕ → ℕ → List ℕ → Type 0 where
+  unsaid : {m : ℕ} → IsOrder m [] 2 (replicate 8 0)
+  lex : {m : ℕ} → IsOrder m (bytesOf " lex") 0 (replicate 8 0)
+  grlex : {m : ℕ} → IsOrder m (bytesOf " grlex") 1 (replicate 8 0)
+  grevlex : {m : ℕ} → IsOrder m (bytesOf " grevlex") 2 (replicate 8 0)
+  weighted : {m : ℕ} {l ws : List ℕ} → AreWeights l ws → length ws ≡ m → IsOrder m (bytesOf " weight" ++ l) 3 (fill 8 ws)
+
+-- names, which may be anything, and a last field: `mod`, a space, one to three digits, and optionally the order
 pub record IsHeader (fields : List (List ℕ)) (h : Header) : Type 0 where
   pub names : List (List ℕ)
   pub digits : List ℕ
@@ -45,7 +53,7 @@ pub record IsHeader (fields : List (List ℕ)) (h : Header) : Type 0 where
   pub made : fields ≡ names ++ ((bytesOf "mod " ++ (digits ++ word)) ∷ [])
   pub variables : h .variables ≡ length names
   pub modulus : IsNumber digits (h .modulus)
-  pub order : IsOrder word (h .order)
+  pub order : IsOrder (length names) word (h .order) (h .weights)
 
 abbrev pub LevelGrammar : Type 0
 LevelGrammar = (l : List ℕ) (z : ℤ) → IsLevel l z ↔ (levelOf l ≡ some z)

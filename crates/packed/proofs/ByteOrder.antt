@@ -1,26 +1,25 @@
 -- The bytes of a sequence as monomials of m variables: they are in order, and so are the squares.
-use mathlib.Core.Path.{_≡_, refl, sym, ap, ap₂, _∙_, subst}
+use mathlib.Core.Path.{_≡_, sym, ap, ap₂, _∙_, subst}
 use mathlib.Core.List.{List, _∷_}
-use Prim.Native.Nat.{ℕ, zero, suc, _^_, _<_, _≤_, Ordering, Ordering·lt}
+use mathlib.Core.Logic.{_↔_}
+use Prim.Native.Nat.{ℕ, zero, suc, _^_, _<_, _≤_}
 use native.Mathlib.Nat.{lt-of-lt-of-le}
 use native.Mathlib.Omega.{arith}
 use lib.ListN.{length, getD}
-use lib.Dec.{T}
 use lib.Pow.{pow-mono}
 use Rattle.residue.specs.Layout.{fill}
 use Rattle.residue.proofs.Layouts.{fill-zeros}
-use Rattle.residue.proofs.level.Moduli.{below, below-at}
 use Rattle.monomial.specs.Monomial.{one, timesVariable}
-use Rattle.monomial.specs.Order.{Order, lex, grlex, grevlex, cmp}
+use Rattle.monomial.specs.Order.{Order, cmp}
 use Rattle.monomial.proofs.Algebra.Division.{divides-refl}
 use Rattle.monomial.proofs.Algebra.Products.{length-timesVariable}
 use Rattle.monomial.proofs.Padding.{cmp-fill, fill-timesVariable}
-use Rattle.specification.specs.Space.{Space, Divides}
+use Rattle.specification.specs.Space.{Space, Less, Divides}
 use Rattle.specification.specs.Instance.{Monomial, spaceOf}
 use Rattle.specification.specs.Squares.{square}
 use Rattle.specification.proofs.Instance.{monomial-path}
 use Rattle.residue.specs.Words.{bitsOf, wordOf, length-bits}
-use Rattle.packed.specs.Sequences.{isLess, Sequence}
+use Rattle.packed.specs.Sequences.{Sequence, squareOf, Squares}
 use Rattle.packed.proofs.ByteInstance.{long-one, free-word, word-free}
 use Rattle.packed.proofs.PackedUnder.{bits-fill}
 use Rattle.packed.proofs.Visiting.{Ordered}
@@ -28,16 +27,6 @@ use Rattle.packed.proofs.Visiting.{Ordered}
 -- the square of x_(k+1) in m variables
 abbrev pub squareIn : ℕ → ℕ → List ℕ
 squareIn m k = timesVariable k (timesVariable k (one m))
-
-less-of : (o : Ordering) → T (isLess o) → o ≡ Ordering·lt
-less-of Ordering·lt h = refl
-
--- one test for each order
-squares-8 : (order : Order) (j k : ℕ) → j < k → k < 8 → cmp order (squareIn 8 k) (squareIn 8 j) ≡ Ordering·lt
-unfolding cmp
-squares-8 lex j k h u = less-of _ (below-at (λ j. isLess (cmp lex (squareIn 8 k) (squareIn 8 j))) k (below-at (λ k. below (λ j. isLess (cmp lex (squareIn 8 k) (squareIn 8 j))) k) 8 tt k u) j h)
-squares-8 grlex j k h u = less-of _ (below-at (λ j. isLess (cmp grlex (squareIn 8 k) (squareIn 8 j))) k (below-at (λ k. below (λ j. isLess (cmp grlex (squareIn 8 k) (squareIn 8 j))) k) 8 tt k u) j h)
-squares-8 grevlex j k h u = less-of _ (below-at (λ j. isLess (cmp grevlex (squareIn 8 k) (squareIn 8 j))) k (below-at (λ k. below (λ j. isLess (cmp grevlex (squareIn 8 k) (squareIn 8 j))) k) 8 tt k u) j h)
 
 zeros-fill : (m k : ℕ) → m ≤ k → fill k (one m) ≡ one k
 unfolding fill
@@ -50,10 +39,13 @@ long-square m k = length-timesVariable k (timesVariable k (one m)) ∙ length-ti
 
 pub square-fill : (m k : ℕ) → m ≤ 8 → k < m → fill 8 (squareIn m k) ≡ squareIn 8 k
 square-fill m k h u =
-    fill-timesVariable (timesVariable k (one m)) (subst (λ (n : ℕ). n ≤ 8) (sym (length-timesVariable k (one m) ∙ long-one m)) h) k (subst (λ (n : ℕ). k < n) (sym (length-timesVariable k (one m) ∙ long-one m)) u)
-    ∙ ap (timesVariable k) (fill-timesVariable (one m) (subst (λ (n : ℕ). n ≤ 8) (sym (long-one m)) h) k (subst (λ (n : ℕ). k < n) (sym (long-one m)) u) ∙ ap (timesVariable k) (zeros-fill m 8 h))
+    fill-timesVariable (timesVariable k (one m)) (subst (λ (n : ℕ). n ≤ 8) (sym (length-timesVariable k (one m) ∙ long-one m)) h) k
+    (subst (λ (n : ℕ). k < n) (sym (length-timesVariable k (one m) ∙ long-one m)) u)
+    ∙ ap (timesVariable k) (fill-timesVariable (one m) (subst (λ (n : ℕ). n ≤ 8) (sym (long-one m)) h) k (subst (λ (n : ℕ). k < n) (sym (long-one m)) u)
+    ∙ ap (timesVariable k) (zeros-fill m 8 h))
 
-module _ (q m : ℕ) (order : Order) (most : m ≤ 8) (bytes multiples : List ℕ) (Q : Sequence order bytes multiples) where
+module _ (q m : ℕ) (order : Order) (most : m ≤ 8) (bytes multiples : List ℕ) (Q : Sequence order bytes multiples)
+    (squares before : List ℕ) (R : Squares order m bytes squares before) where
   abbrev D : Space
   D = spaceOf q m order
 
@@ -71,19 +63,30 @@ module _ (q m : ℕ) (order : Order) (most : m ≤ 8) (bytes multiples : List �
   byte-cmp v w h k = ap₂ (cmp order) (sym (bits-fill m 8 v most h)) (sym (bits-fill m 8 w most k))
       ∙ cmp-fill (bitsOf m v) (bitsOf m w) (length-bits m v ∙ sym (length-bits m w)) (long v) order
 
-  -- the square comes before a place
-  pub square-cmp : (k i : ℕ) → k < m → Valid i → cmp order (squareIn 8 k) (bitsOf 8 (getD bytes i 0)) ≡ D .cmp (square D k) (at i)
-  square-cmp k i h v = ap₂ (cmp order) (sym (square-fill m k most h)) (sym (bits-fill m 8 (getD bytes i 0) most v))
-      ∙ cmp-fill (squareIn m k) (bitsOf m (getD bytes i 0)) (long-square m k ∙ sym (length-bits m (getD bytes i 0))) (subst (λ (n : ℕ). n ≤ 8) (sym (long-square m k)) most) order
+  -- the variable of a square
+  abbrev pub sq : ℕ → ℕ
+  sq j = getD squares j 0
 
-  pub ordered : Ordered D Valid at
+  -- a place comes before a square
+  pub square-below : (j i : ℕ) → j < m → i < 256 → Valid i → (i < getD before j 0) ↔ Less D (at i) (square D (sq j))
+  square-below j i h u v =
+      let e : cmp order (bitsOf 8 (getD bytes i 0)) (squareOf (sq j)) ≡ D .cmp (at i) (square D (sq j)) =
+      ap₂ (cmp order) (sym (bits-fill m 8 (getD bytes i 0) most v)) (sym (square-fill m (sq j) most (R .variable j h)))
+      ∙ cmp-fill (bitsOf m (getD bytes i 0)) (squareIn m (sq j)) (length-bits m (getD bytes i 0) ∙ sym (long-square m (sq j))) (long (getD bytes i 0)) order in
+      ((λ l. sym e ∙ R .below j i h u .0 l), λ l. R .below j i h u .1 (e ∙ l))
+
+  pub ordered : Ordered D Valid at sq
   ordered = record {
     at-less = λ i j h k u v. sym (byte-cmp (getD bytes i 0) (getD bytes j 0) u v) ∙ Q .rising i j h k;
     at-place = λ a f. place a (free-word q m order a f .0) (free-word q m order a f .1);
     at-free = λ i. word-free q m order (getD bytes i 0);
-    not-square = λ i k h e. word-free q m order (getD bytes i 0) k h (subst (λ (x : Monomial m). Divides D (square D k) x) (sym e) (divides-refl (square D k .0)));
-    squares = λ j k h u. sym (cmp-fill (squareIn m k) (squareIn m j) (long-square m k ∙ sym (long-square m j)) (subst (λ (n : ℕ). n ≤ 8) (sym (long-square m k)) most) order)
-        ∙ ap₂ (cmp order) (square-fill m k most u) (square-fill m j most (omega arith)) ∙ squares-8 order j k h (omega arith);
+    not-square = λ i k h e. word-free q m order (getD bytes i 0) k h
+        (subst (λ (x : Monomial m). Divides D (square D k) x) (sym e) (divides-refl (square D k .0)));
+    square-in = R .variable;
+    square-each = R .each;
+    squares = λ j k h u. sym (cmp-fill (squareIn m (sq k)) (squareIn m (sq j)) (long-square m (sq k) ∙ sym (long-square m (sq j)))
+        (subst (λ (n : ℕ). n ≤ 8) (sym (long-square m (sq k))) most) order)
+        ∙ ap₂ (cmp order) (square-fill m (sq k) most (R .variable k u)) (square-fill m (sq j) most (R .variable j (omega arith))) ∙ R .falling j k h u;
   }
     where
       place : (a : Monomial m) → wordOf (a .0) < 2 ^ m → a .0 ≡ bitsOf m (wordOf (a .0)) → (i : ℕ) × (i < 256) × (getD bytes i 0 < 2 ^ m) × (at i ≡ a)

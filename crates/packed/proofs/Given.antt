@@ -28,7 +28,7 @@ use Rattle.residue.specs.Words.{bitOf, wordOf, columnOf}
 use Rattle.packed.specs.PackedWalk.{packedFound, PackedBasis}
 use Rattle.packed.specs.PlaceSets.{inSet, FirstOpen, Passed, OfAbove}
 use Rattle.packed.specs.ByteColumns.{VariableColumns}
-use Rattle.packed.specs.Sequences.{Sequence}
+use Rattle.packed.specs.Sequences.{Sequence, Squares}
 use Rattle.residue.proofs.BitLaws.{bit-zero}
 use Rattle.packed.proofs.ByteInstance.{boolean}
 use Rattle.packed.proofs.ByteSteps.{high-bit}
@@ -68,7 +68,8 @@ unfolding columnOf wordOf
 map-map φ g [] = refl
 map-map φ g (a ∷ l) = ap (λ (x : ℕ). x * 2 + φ (g a) % 2) (map-map φ g l)
 
-module _ (s : Settings) (n : ℕ) (points : List ℕ) (g : PointsGiven s n points) (two : s .modulus ≡ 2) (bytes multiples : List ℕ) (Q : Sequence (orderOf (s .order)) bytes multiples) where
+module _ (s : Settings) (n : ℕ) (points : List ℕ) (g : PointsGiven s n points) (two : s .modulus ≡ 2) (bytes multiples : List ℕ) (Q : Sequence (orderOf (s .order) (s .weights)) bytes multiples)
+    (squares before : List ℕ) (R : Squares (orderOf (s .order) (s .weights)) (s .variables) bytes squares before) where
   abbrev q : ℕ
   q = s .modulus - 1
 
@@ -91,7 +92,7 @@ module _ (s : Settings) (n : ℕ) (points : List ℕ) (g : PointsGiven s n point
   L = laws-under s ok
 
   pub B : Boolean D
-  B = boolean q m (orderOf (s .order)) (rw two)
+  B = boolean q m (orderOf (s .order) (s .weights)) (rw two)
 
   pub distinct : Distinct D S
   distinct = distinct-points s ok K (given-points g)
@@ -106,7 +107,7 @@ module _ (s : Settings) (n : ℕ) (points : List ℕ) (g : PointsGiven s n point
   most = ok .few
 
   abbrev pub Now : List ℕ → ℕ → ℕ → ℕ → ℕ → List ℕ → List ℕ → List ℕ → List ℕ → List ℕ → List ℕ → List ℕ → List ℕ → Type 0
-  Now = Walked q m (orderOf (s .order)) most bytes multiples Q L B S distinct few
+  Now = Walked q m (orderOf (s .order) (s .weights)) most bytes multiples Q squares before R L B S distinct few
 
   -- the columns of the variables
   pub variables-at : (variables : List ℕ) → VariableColumns n points variables → (k : ℕ) → k < m → getD variables k 0 ≡ columnOf (D .coord k) S
@@ -136,10 +137,10 @@ module _ (s : Settings) (n : ℕ) (points : List ℕ) (g : PointsGiven s n point
   ones-at ones e = e ∙ ap (λ (x : ℕ). 2 ^ x - 1) (sym many)
 
   -- the start
-  pub walked-start : (known standard leads coefficients : List ℕ) → Passed (OfAbove m multiples) (replicate 4 0) known → standard ≡ replicate 512 0 → leads ≡ replicate 3592 0
-      → coefficients ≡ replicate 28736 0 → Now known m 0 0 0 (replicate 256 0) (replicate 256 0) (replicate 64 0) (replicate 64 0) (replicate 64 0) standard leads coefficients
+  start-in : (known standard leads coefficients : List ℕ) → Passed (OfAbove m multiples) (replicate 4 0) known → standard ≡ replicate 512 0 → leads ≡ replicate 3592 0
+      → coefficients ≡ replicate 28736 0 → Now known m 0 0 0 (replicate 256 0) (replicate 8 0) (replicate 64 0) (replicate 64 0) (replicate 64 0) standard leads coefficients
   unfolding inPlaces
-  walked-start known standard leads coefficients T a b c = record {
+  start-in known standard leads coefficients T a b c = record {
     f = packedFound D [] [] [] [];
     o = none;
     state = record {
@@ -165,7 +166,7 @@ module _ (s : Settings) (n : ℕ) (points : List ℕ) (g : PointsGiven s n point
       values-long = refl;
       places-long = refl;
       values-at = λ w h mem. absurd mem;
-      places-at = λ k h. zero-at 256 (2 ^ k) ∙ sym (place-none D L _ [] (λ z. z));
+      places-at = λ k h. zero-at 8 k ∙ sym (place-none D L _ [] (λ z. z));
     };
   }
     where
@@ -182,6 +183,13 @@ module _ (s : Settings) (n : ℕ) (points : List ℕ) (g : PointsGiven s n point
           clash : {x : ℕ} → x ≡ 0 → x ≡ 1 → ⊥
           clash a b = omega arith
 
+  pub walked-start : (left : ℕ) → m ≡ left → (known standard leads coefficients : List ℕ) → Passed (OfAbove left multiples) (replicate 4 0) known → standard ≡ replicate 512 0
+      → leads ≡ replicate 3592 0 → coefficients ≡ replicate 28736 0
+      → Now known left 0 0 0 (replicate 256 0) (replicate 8 0) (replicate 64 0) (replicate 64 0) (replicate 64 0) standard leads coefficients
+  walked-start left e known standard leads coefficients T a b c =
+      subst (λ (k : ℕ). Now known k 0 0 0 (replicate 256 0) (replicate 8 0) (replicate 64 0) (replicate 64 0) (replicate 64 0) standard leads coefficients) e
+      (start-in known standard leads coefficients (subst (λ (k : ℕ). Passed (OfAbove k multiples) (replicate 4 0) known) (sym e) T) a b c)
+
   -- the end
   pub walked-end : (known : List ℕ) (found r pivots : ℕ) (values places rows columns polynomials standard leads coefficients : List ℕ)
       → Now known 0 found r pivots values places rows columns polynomials standard leads coefficients → FirstOpen known 256 → Tabled s K r standard leads coefficients
@@ -194,14 +202,29 @@ module _ (s : Settings) (n : ℕ) (points : List ℕ) (g : PointsGiven s n point
     where
       basis : PackedBasis D S (W .f)
       basis = ready-ended D L B S distinct few (W .f) (W .o) (W .state .ready)
-          (none-left D L _ _ (Walked.O q m (orderOf (s .order)) most bytes multiples Q L B S distinct few) known (W .f .leads) (W .o) 0 (W .state .places) (W .state .squares) F refl)
+          (none-left D L _ _ _ (Walked.O q m (orderOf (s .order) (s .weights)) most bytes multiples Q squares before R L B S distinct few) known (W .f .leads) (W .o) 0 (W .state .places) (W .state .squares) F refl)
+
+-- What the walk is lent.
+pub record Lent (s : Settings) (n : ℕ) (points bytes multiples squares before : List ℕ) : Type 0 where
+  pub given : PointsGiven s n points
+  pub two : s .modulus ≡ 2
+  pub sequence : Sequence (orderOf (s .order) (s .weights)) bytes multiples
+  pub squares-are : Squares (orderOf (s .order) (s .weights)) (s .variables) bytes squares before
 
 -- What holds at the head of the loop.
-pub record AtHead (s : Settings) (n : ℕ) (points bytes multiples : List ℕ) (whole : ℕ) (variables : List ℕ) (known : List ℕ) (left found r pivots : ℕ)
+pub record AtHead (s : Settings) (n : ℕ) (points bytes multiples squares before : List ℕ) (whole : ℕ) (variables : List ℕ) (known : List ℕ) (left found r pivots : ℕ)
     (values places rows columns polynomials standard leads coefficients : List ℕ) : Type 0 where
   pub given : PointsGiven s n points
   pub two : s .modulus ≡ 2
-  pub sequence : Sequence (orderOf (s .order)) bytes multiples
+  pub sequence : Sequence (orderOf (s .order) (s .weights)) bytes multiples
+  pub squares-are : Squares (orderOf (s .order) (s .weights)) (s .variables) bytes squares before
   pub variables-are : VariableColumns n points variables
   pub whole-is : whole ≡ 2 ^ n - 1
-  pub now : Now s n points given two bytes multiples sequence known left found r pivots values places rows columns polynomials standard leads coefficients
+  pub now : Now s n points given two bytes multiples sequence squares before squares-are known left found r pivots values places rows columns polynomials standard leads coefficients
+
+-- The loop itself reads no settings: this holds under any of as many variables for which the walk is lent what it is.
+abbrev pub AtHeads : ℕ → ℕ → List ℕ → List ℕ → List ℕ → List ℕ → List ℕ → ℕ → List ℕ → List ℕ → ℕ → ℕ → ℕ → ℕ → List ℕ → List ℕ → List ℕ → List ℕ → List ℕ → List ℕ → List ℕ
+    → List ℕ → Type 0
+AtHeads m n points bytes multiples squares before whole variables known left found r pivots values places rows columns polynomials standard leads coefficients =
+    (s : Settings) → s .variables ≡ m → Lent s n points bytes multiples squares before
+    → AtHead s n points bytes multiples squares before whole variables known left found r pivots values places rows columns polynomials standard leads coefficients

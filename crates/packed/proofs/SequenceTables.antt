@@ -1,10 +1,11 @@
--- The constant tables: one computed test each.
-use mathlib.Core.Path.{_≡_, refl}
+-- The constant tables: one computed test each. And the tables of each order by its number in the settings.
+use mathlib.Core.Path.{_≡_, refl, sym, ap, subst}
 use mathlib.Core.List.{List, [], _∷_}
-use Prim.Native.Nat.{ℕ}
-use Rattle.monomial.specs.Order.{lex, grlex, grevlex, cmp, orderOf}
-use Rattle.residue.specs.Words.{bitOf, bitsOf, wordOf}
-use Rattle.packed.specs.Sequences.{Sequence}
+use Prim.Native.Nat.{ℕ, _≤_}
+use Rattle.monomial.specs.Order.{Order, lex, grlex, grevlex, weighted, cmp, orderOf, Light, LightOrder}
+use Rattle.residue.specs.Words.{bitOf, bitsOf, wordOf, columnOf}
+use Rattle.packed.specs.Sequences.{Sequence, Squares}
+use Rattle.packed.proofs.SquareTables.{inTurn, squareTest, fallTest, squares-in-turn}
 use Rattle.packed.proofs.SequenceLaws.{placeOf, inOrder, stands, marked, sequenceTest, sequence}
 
 abbrev lexBytes : List ℕ
@@ -14,7 +15,7 @@ abbrev lexMultiples : List ℕ
 lexMultiples = 0 ∷ 0 ∷ 18446744073709551615 ∷ 18446744073709551615 ∷ 0 ∷ 18446744073709551615 ∷ 0 ∷ 18446744073709551615 ∷ 18446744069414584320 ∷ 18446744069414584320 ∷ 18446744069414584320 ∷ 18446744069414584320 ∷ 18446462603027742720 ∷ 18446462603027742720 ∷ 18446462603027742720 ∷ 18446462603027742720 ∷ 18374966859414961920 ∷ 18374966859414961920 ∷ 18374966859414961920 ∷ 18374966859414961920 ∷ 17361641481138401520 ∷ 17361641481138401520 ∷ 17361641481138401520 ∷ 17361641481138401520 ∷ 14757395258967641292 ∷ 14757395258967641292 ∷ 14757395258967641292 ∷ 14757395258967641292 ∷ 12297829382473034410 ∷ 12297829382473034410 ∷ 12297829382473034410 ∷ 12297829382473034410 ∷ []
 
 pub lex-sequence : Sequence lex lexBytes lexMultiples
-unfolding sequenceTest inOrder stands marked placeOf bitOf bitsOf wordOf cmp
+unfolding sequenceTest inOrder stands marked placeOf bitOf bitsOf wordOf columnOf cmp
 lex-sequence = sequence lex lexBytes lexMultiples refl refl tt
 
 abbrev grlexBytes : List ℕ
@@ -24,7 +25,7 @@ abbrev grlexMultiples : List ℕ
 grlexMultiples = 136365211904 ∷ 536870656 ∷ 18374686514031362047 ∷ 18410715259644936191 ∷ 18302628955410137216 ∷ 18446726482051989759 ∷ 72055429373362176 ∷ 18374685397205647232 ∷ 143974485500362816 ∷ 18428747250482807032 ∷ 16212890453380430848 ∷ 18302594783324799103 ∷ 9358618581598175264 ∷ 17311572826188398727 ∷ 2232727600098116592 ∷ 18157984797560010878 ∷ 8150514503810052112 ∷ 10248202892005750852 ∷ 15988829647668831118 ∷ 17866305218483963761 ∷ 5517839322413419528 ∷ 5307168592550241826 ∷ 13518530343243913837 ∷ 17279673913794442957 ∷ 3047436528856934916 ∷ 2690255840250205457 ∷ 8599323839489529179 ∷ 16117107353583267243 ∷ 10819219569735407106 ∷ 1354302410235071240 ∷ 17234676506902473911 ∷ 13805485032071388054 ∷ []
 
 pub grlex-sequence : Sequence grlex grlexBytes grlexMultiples
-unfolding sequenceTest inOrder stands marked placeOf bitOf bitsOf wordOf cmp
+unfolding sequenceTest inOrder stands marked placeOf bitOf bitsOf wordOf columnOf cmp
 grlex-sequence = sequence grlex grlexBytes grlexMultiples refl refl tt
 
 abbrev grevlexBytes : List ℕ
@@ -34,18 +35,52 @@ abbrev grevlexMultiples : List ℕ
 grevlexMultiples = 4848270247211335936 ∷ 17092441663443734948 ∷ 15741939180396008264 ∷ 18410429256159915325 ∷ 2496192752003334272 ∷ 15756488233398389074 ∷ 13073198921309596324 ∷ 18374114438744496827 ∷ 1266110783101083712 ∷ 13139575481039529161 ∷ 7843912202738951570 ∷ 18301484804316313207 ∷ 9831657618643619872 ∷ 8198541181474890296 ∷ 16409115440753089649 ∷ 18156225537607430638 ∷ 9515833610645669904 ∷ 1135171247155977735 ∷ 2272031359204654095 ∷ 17865707025127641054 ∷ 8935414477155795976 ∷ 17996822966959616 ∷ 18410750427775632383 ∷ 17284670371682910145 ∷ 18158522356216037892 ∷ 17591649174015 ∷ 36028762660274175 ∷ 16122609588924055488 ∷ 288230238712823298 ∷ 18446744073172680704 ∷ 18446744039349813248 ∷ 13799310733105692735 ∷ []
 
 pub grevlex-sequence : Sequence grevlex grevlexBytes grevlexMultiples
-unfolding sequenceTest inOrder stands marked placeOf bitOf bitsOf wordOf cmp
+unfolding sequenceTest inOrder stands marked placeOf bitOf bitsOf wordOf columnOf cmp
 grevlex-sequence = sequence grevlex grevlexBytes grevlexMultiples refl refl tt
 
+abbrev lexBefore : List ℕ
+lexBefore = 256 ∷ 128 ∷ 64 ∷ 32 ∷ 16 ∷ 8 ∷ 4 ∷ 2 ∷ []
+
+lex-squares : (m : ℕ) → m ≤ 8 → Squares lex m lexBytes inTurn lexBefore
+unfolding squareTest fallTest bitsOf cmp
+lex-squares m h = squares-in-turn lex lexBytes lexMultiples lex-sequence lexBefore refl tt tt m h
+
+abbrev grlexBefore : List ℕ
+grlexBefore = 37 ∷ 30 ∷ 24 ∷ 19 ∷ 15 ∷ 12 ∷ 10 ∷ 9 ∷ []
+
+grlex-squares : (m : ℕ) → m ≤ 8 → Squares grlex m grlexBytes inTurn grlexBefore
+unfolding squareTest fallTest bitsOf cmp
+grlex-squares m h = squares-in-turn grlex grlexBytes grlexMultiples grlex-sequence grlexBefore refl tt tt m h
+
+abbrev grevlexBefore : List ℕ
+grevlexBefore = 37 ∷ 36 ∷ 34 ∷ 31 ∷ 27 ∷ 22 ∷ 16 ∷ 9 ∷ []
+
+grevlex-squares : (m : ℕ) → m ≤ 8 → Squares grevlex m grevlexBytes inTurn grevlexBefore
+unfolding squareTest fallTest bitsOf cmp
+grevlex-squares m h = squares-in-turn grevlex grevlexBytes grevlexMultiples grevlex-sequence grevlexBefore refl tt tt m h
+
 -- by the order's number
-pub lex-under : (o : ℕ) → o ≡ 0 → Sequence (orderOf o) lexBytes lexMultiples
+pub lex-under : (o : ℕ) (w : List ℕ) (m : ℕ) → o ≡ 0 → m ≤ 8 → Sequence (orderOf o w) lexBytes lexMultiples × Squares (orderOf o w) m lexBytes inTurn lexBefore
 unfolding orderOf
-lex-under o e = rw e lex-sequence
+lex-under o w m e h = rw e (lex-sequence, lex-squares m h)
 
-pub grlex-under : (o : ℕ) → o ≡ 1 → Sequence (orderOf o) grlexBytes grlexMultiples
+pub grlex-under : (o : ℕ) (w : List ℕ) (m : ℕ) → o ≡ 1 → m ≤ 8 → Sequence (orderOf o w) grlexBytes grlexMultiples × Squares (orderOf o w) m grlexBytes inTurn grlexBefore
 unfolding orderOf
-grlex-under o e = rw e grlex-sequence
+grlex-under o w m e h = rw e (grlex-sequence, grlex-squares m h)
 
-pub grevlex-under : (o : ℕ) → o ≡ 2 → Sequence (orderOf o) grevlexBytes grevlexMultiples
+pub grevlex-under : (o : ℕ) (w : List ℕ) (m : ℕ) → o ≡ 2 → m ≤ 8 → Sequence (orderOf o w) grevlexBytes grevlexMultiples × Squares (orderOf o w) m grevlexBytes inTurn grevlexBefore
 unfolding orderOf
-grevlex-under o e = rw e grevlex-sequence
+grevlex-under o w m e h = rw e (grevlex-sequence, grevlex-squares m h)
+
+third : (o : ℕ) (w : List ℕ) → o ≡ 3 → orderOf o w ≡ weighted w
+unfolding orderOf
+third o w e = ap (λ (n : ℕ). orderOf n w) e
+
+pub weighted-under : {m : ℕ} {bytes multiples squares before : List ℕ} (o : ℕ) (w : List ℕ) → o ≡ 3
+    → Sequence (weighted w) bytes multiples × Squares (weighted w) m bytes squares before
+    → Sequence (orderOf o w) bytes multiples × Squares (orderOf o w) m bytes squares before
+weighted-under {m} {bytes} {multiples} {squares} {before} o w e t =
+    subst (λ (a : Order). Sequence a bytes multiples × Squares a m bytes squares before) (sym (third o w e)) t
+
+pub light-of : (o : ℕ) (w : List ℕ) → o ≡ 3 → LightOrder (orderOf o w) → Light w
+light-of o w e h = subst LightOrder (third o w e) h

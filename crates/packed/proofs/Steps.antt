@@ -28,13 +28,13 @@ use Rattle.packed.proofs.Standing.{Standing}
 use Rattle.packed.proofs.Ready.{Last, none, last, Above, NextAfter, Ready, visit-ready, ready-bordered, ready-new}
 use Rattle.packed.proofs.Visiting.{Ordered, Places, SquaresLeft, square-next, square-left, square-places, byte-next, byte-left, byte-places}
 
-module _ (D : Space) (L : Laws D) (B : Boolean D) (S : List (D .Pt)) (d : Distinct D S) (few : length S ≤ 64) (Valid : ℕ → Type 0) (at : ℕ → D .Mono) (O : Ordered D Valid at) where
+module _ (D : Space) (L : Laws D) (B : Boolean D) (S : List (D .Pt)) (d : Distinct D S) (few : length S ≤ 64) (Valid : ℕ → Type 0) (at : ℕ → D .Mono) (sq : ℕ → ℕ) (O : Ordered D Valid at sq) where
   open Space D using (m, Mono)
 
   pub record State (f : PackedFound D) (o : Last D) (known : List ℕ) (left : ℕ) : Type 0 where
     pub ready : Ready D L B S d few f o
-    pub places : Places D L Valid at O known (f .leads) o
-    pub squares : SquaresLeft D L Valid at O left o
+    pub places : Places D L Valid at sq O known (f .leads) o
+    pub squares : SquaresLeft D L Valid at sq O left o
 
   -- the tables have room
   pub leads-fit : (f : PackedFound D) (c : Mono) → Standing D S f c → m ≤ 8 → length (f .leads) ≤ 449
@@ -52,42 +52,42 @@ module _ (D : Space) (L : Laws D) (B : Boolean D) (S : List (D .Pt)) (d : Distin
 
   module _ (f : PackedFound D) (o : Last D) (known : List ℕ) (left : ℕ) (W : State f o known left) (i : ℕ) (F : FirstOpen known i) where
     -- a square
-    module _ (k : ℕ) (e : left ≡ suc k) (before : i < 256 → Less D (square D k) (at i)) where
-      in-m : k < m
-      in-m = let h = W .squares .few in omega arith
+    module _ (k : ℕ) (e : left ≡ suc k) (before : i < 256 → Less D (square D (sq k)) (at i)) where
+      in-m : sq k < m
+      in-m = O .square-in k (let h = W .squares .few in omega arith)
 
-      pub square-standing : Standing D S (squareWords D k f) (square D k)
+      pub square-standing : Standing D S (squareWords D (sq k) f) (square D (sq k))
       unfolding visited
-      square-standing = visit-ready D L B S d few f o (W .ready) (squared k) in-m (square-next D L Valid at O known (f .leads) o left (W .places) (W .squares) i F k e before)
+      square-standing = visit-ready D L B S d few f o (W .ready) (squared (sq k)) in-m (square-next D L Valid at sq O known (f .leads) o left (W .places) (W .squares) i F k e before)
 
-      leads-of : (a : Mono) → Among a (squareWords D k f .leads) → Among a (f .leads) ⊎ (a ≡ square D k)
+      leads-of : (a : Mono) → Among a (squareWords D (sq k) f .leads) → Among a (f .leads) ⊎ (a ≡ square D (sq k))
       unfolding squareWords
-      leads-of a mem = go (isIn-told D L (variable D k) (f .standard)) mem
+      leads-of a mem = go (isIn-told D L (variable D (sq k)) (f .standard)) mem
         where
-          go : {t : Bool} → Decides (Among (variable D k) (f .standard)) t
-              → Among a (cond t (packedFound D (f .standard) (f .leads ++ (square D k ∷ [])) (f .rows ++ (2 ^ indexIn D (variable D k) (f .standard) ∷ [])) (f .pivots)) f .leads)
-              → Among a (f .leads) ⊎ (a ≡ square D k)
-          go (so u) z = snoc-of (f .leads) (square D k) a z
+          go : {t : Bool} → Decides (Among (variable D (sq k)) (f .standard)) t
+              → Among a (cond t (packedFound D (f .standard) (f .leads ++ (square D (sq k) ∷ [])) (f .rows ++ (2 ^ indexIn D (variable D (sq k)) (f .standard) ∷ [])) (f .pivots)) f .leads)
+              → Among a (f .leads) ⊎ (a ≡ square D (sq k))
+          go (so u) z = snoc-of (f .leads) (square D (sq k)) a z
           go (not-so u) z = inl z
 
-      leads-in : (a : Mono) → Among a (f .leads) → Among a (squareWords D k f .leads)
+      leads-in : (a : Mono) → Among a (f .leads) → Among a (squareWords D (sq k) f .leads)
       unfolding squareWords
-      leads-in a mem = go (isIn-told D L (variable D k) (f .standard))
+      leads-in a mem = go (isIn-told D L (variable D (sq k)) (f .standard))
         where
-          go : {t : Bool} → Decides (Among (variable D k) (f .standard)) t
-              → Among a (cond t (packedFound D (f .standard) (f .leads ++ (square D k ∷ [])) (f .rows ++ (2 ^ indexIn D (variable D k) (f .standard) ∷ [])) (f .pivots)) f .leads)
-          go (so u) = snoc-in (f .leads) (square D k) a (inl mem)
+          go : {t : Bool} → Decides (Among (variable D (sq k)) (f .standard)) t
+              → Among a (cond t (packedFound D (f .standard) (f .leads ++ (square D (sq k) ∷ [])) (f .rows ++ (2 ^ indexIn D (variable D (sq k)) (f .standard) ∷ [])) (f .pivots)) f .leads)
+          go (so u) = snoc-in (f .leads) (square D (sq k)) a (inl mem)
           go (not-so u) = mem
 
-      pub square-step : State (squareWords D k f) (last (square D k)) known k
+      pub square-step : State (squareWords D (sq k) f) (last (square D (sq k))) known k
       square-step = record {
         ready = square-standing;
-        places = square-places D L Valid at O known (f .leads) o left (W .places) (W .squares) i F k e before (squareWords D k f .leads) leads-of leads-in;
-        squares = square-left D L Valid at O known (f .leads) o left (W .places) (W .squares) i F k e before;
+        places = square-places D L Valid at sq O known (f .leads) o left (W .places) (W .squares) i F k e before (squareWords D (sq k) f .leads) leads-of leads-in;
+        squares = square-left D L Valid at sq O known (f .leads) o left (W .places) (W .squares) i F k e before;
       }
 
     -- a monomial without squares
-    module _ (inside : i < 256) (after : (k : ℕ) → suc k ≡ left → ¬ Less D (square D k) (at i)) where
+    module _ (inside : i < 256) (after : (k : ℕ) → suc k ≡ left → ¬ Less D (square D (sq k)) (at i)) where
       pub own-open : Valid i × (Above D o (at i) × Undivided D (f .leads) (at i))
       own-open = W .places .opened i inside (F .here inside)
 
@@ -97,10 +97,10 @@ module _ (D : Space) (L : Laws D) (B : Boolean D) (S : List (D .Pt)) (d : Distin
 
       pub byte-standing : Standing D S (examinedWords D S (at i) f) (at i)
       byte-standing = subst (λ (g : PackedFound D). Standing D S g (at i)) examined-is
-          (visit-ready D L B S d few f o (W .ready) (free (at i)) (O .at-free i) (byte-next D L Valid at O known (f .leads) o left (W .places) (W .squares) i F inside after))
+          (visit-ready D L B S d few f o (W .ready) (free (at i)) (O .at-free i) (byte-next D L Valid at sq O known (f .leads) o left (W .places) (W .squares) i F inside after))
 
       due : NextAfter D (f .leads) o (at i)
-      due = byte-next D L Valid at O known (f .leads) o left (W .places) (W .squares) i F inside after
+      due = byte-next D L Valid at sq O known (f .leads) o left (W .places) (W .squares) i F inside after
 
       pub byte-bordered : Bordered D (f .standard) (at i)
       byte-bordered = ready-bordered D L B S d few f o (W .ready) (at i) due (own-open .1 .1)
@@ -125,11 +125,11 @@ module _ (D : Space) (L : Laws D) (B : Boolean D) (S : List (D .Pt)) (d : Distin
         pub standard-step : (known′ : List ℕ) → g .leads ≡ f .leads → Passed (λ j. j ≡ i) known known′ → State g (last (at i)) known′ left
         standard-step known′ same T = record {
           ready = found-standing;
-          places = byte-places D L Valid at O known (f .leads) o left (W .places) (W .squares) i F inside after (λ j. j ≡ i) known′ (g .leads) T refl
+          places = byte-places D L Valid at sq O known (f .leads) o left (W .places) (W .squares) i F inside after (λ j. j ≡ i) known′ (g .leads) T refl
               (λ a mem. subst (λ (l : List Mono). Among a l) (sym same) mem)
               (λ j h e v z u. less-ne D L z (ap at (sym e)))
               (λ j h v n u. subst (λ (l : List Mono). Undivided D l (at j)) (sym same) u);
-          squares = byte-left D L Valid at O known (f .leads) o left (W .places) (W .squares) i F inside after;
+          squares = byte-left D L Valid at sq O known (f .leads) o left (W .places) (W .squares) i F inside after;
         }
 
         -- a lead: the places of its multiples are known
@@ -137,12 +137,12 @@ module _ (D : Space) (L : Laws D) (B : Boolean D) (S : List (D .Pt)) (d : Distin
             → ((j : ℕ) → j < 256 → Divides D (at i) (at j) → Kind j) → State g (last (at i)) known′ left
         lead-step Kind known′ more T self divides divided = record {
           ready = found-standing;
-          places = byte-places D L Valid at O known (f .leads) o left (W .places) (W .squares) i F inside after Kind known′ (g .leads) T self
+          places = byte-places D L Valid at sq O known (f .leads) o left (W .places) (W .squares) i F inside after Kind known′ (g .leads) T self
               (λ a mem. subst (λ (l : List Mono). Among a l) (sym more) (snoc-in (f .leads) (at i) a (inl mem)))
               (λ j h e v z u. u (at i) (subst (λ (l : List Mono). Among (at i) l) (sym more) (snoc-in (f .leads) (at i) (at i) (inr refl))) (divides j h e))
               (λ j h v n u a mem w. elim (snoc-of (f .leads) (at i) a (subst (λ (l : List Mono). Among a l) more mem)) [
                 | inl y ↦ u a y w
                 | inr y ↦ n (divided j h (subst (λ (x : Mono). Divides D x (at j)) y w))
               ]);
-          squares = byte-left D L Valid at O known (f .leads) o left (W .places) (W .squares) i F inside after;
+          squares = byte-left D L Valid at sq O known (f .leads) o left (W .places) (W .squares) i F inside after;
         }

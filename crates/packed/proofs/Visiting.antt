@@ -16,15 +16,18 @@ use Rattle.packed.proofs.PlaceLaws.{below-or, in-small}
 use Rattle.packed.proofs.Walking.{Candidate}
 use Rattle.packed.proofs.Ready.{Last, last, Above, NextAfter, above-trans}
 
--- The places of monomials without squares in an order: 256 of them, some of which stand for monomials of the space.
-pub record Ordered (D : Space) (Valid : ℕ → Type 0) (at : ℕ → D .Mono) : Type 0 where
+-- The places of monomials without squares in an order: 256 of them, some of which stand for monomials of the space; and the variables from the one with the
+-- largest square down.
+pub record Ordered (D : Space) (Valid : ℕ → Type 0) (at : ℕ → D .Mono) (sq : ℕ → ℕ) : Type 0 where
   pub at-less : (i j : ℕ) → i < j → j < 256 → Valid i → Valid j → Less D (at i) (at j)
   pub at-place : (a : D .Mono) → Squarefree D a → (i : ℕ) × (i < 256) × Valid i × (at i ≡ a)
   pub at-free : (i : ℕ) → Squarefree D (at i)
   pub not-square : (i k : ℕ) → k < D .m → at i ≢ square D k
-  pub squares : (j k : ℕ) → j < k → k < D .m → Less D (square D k) (square D j)
+  pub square-in : (j : ℕ) → j < D .m → sq j < D .m
+  pub square-each : (k : ℕ) → k < D .m → (j : ℕ) × (j < D .m) × (sq j ≡ k)
+  pub squares : (j k : ℕ) → j < k → k < D .m → Less D (square D (sq k)) (square D (sq j))
 
-module _ (D : Space) (L : Laws D) (Valid : ℕ → Type 0) (at : ℕ → D .Mono) (O : Ordered D Valid at) where
+module _ (D : Space) (L : Laws D) (Valid : ℕ → Type 0) (at : ℕ → D .Mono) (sq : ℕ → ℕ) (O : Ordered D Valid at sq) where
   open Space D using (m, Mono)
 
   -- what is open, and what is not
@@ -33,16 +36,16 @@ module _ (D : Space) (L : Laws D) (Valid : ℕ → Type 0) (at : ℕ → D .Mono
     pub closed : (i : ℕ) → i < 256 → inSet i known ≡ 1 → Valid i → Above D o (at i) → ¬ Undivided D leads (at i)
     pub opened : (i : ℕ) → i < 256 → inSet i known ≡ 0 → (Valid i) × (Above D o (at i) × Undivided D leads (at i))
 
-  -- the squares of the first variables are left
+  -- the squares of the first of the variables are left
   pub record SquaresLeft (count : ℕ) (o : Last D) : Type 0 where
     pub few : count ≤ m
-    pub ahead : (k : ℕ) → k < count → Above D o (square D k)
-    pub behind : (k : ℕ) → count ≤ k → k < m → ¬ Above D o (square D k)
+    pub ahead : (k : ℕ) → k < count → Above D o (square D (sq k))
+    pub behind : (k : ℕ) → count ≤ k → k < m → ¬ Above D o (square D (sq k))
 
   -- a candidate that is above the last, and that no lead divides, has an open place or is a square that is left
   data Left (known : List ℕ) (count : ℕ) (a : Mono) : Type 0 where
     placed : (i : ℕ) → i < 256 → inSet i known ≡ 0 → at i ≡ a → Left known count a
-    squared : (k : ℕ) → k < count → a ≡ square D k → Left known count a
+    squared : (k : ℕ) → k < count → a ≡ square D (sq k) → Left known count a
 
   module _ (known : List ℕ) (leads : List (Mono)) (o : Last D) (count : ℕ) (P : Places known leads o) (R : SquaresLeft count o) where
     left : (a : Mono) → Candidate D a → Above D o a → Undivided D leads a → Left known count a
@@ -54,9 +57,9 @@ module _ (D : Space) (L : Laws D) (Valid : ℕ → Type 0) (at : ℕ → D .Mono
           where
             one-of : {x : ℕ} → x < 2 → x ≢ 0 → x ≡ 1
             one-of z n = omega (arith, n)
-    left a (inr t) h u = go (t .0) (t .1) (t .2) (below-or (t .0) count)
+    left a (inr t) h u = let p = O .square-each (t .0) (t .1) in go (p .0) (p .1) (t .2 ∙ ap (square D) (sym (p .2))) (below-or (p .0) count)
       where
-        go : (k : ℕ) → k < m → a ≡ square D k → (k < count) ⊎ (count ≤ k) → Left known count a
+        go : (k : ℕ) → k < m → a ≡ square D (sq k) → (k < count) ⊎ (count ≤ k) → Left known count a
         go k v e (inl z) = squared k z e
         go k v e (inr z) = absurd (R .behind k z v (subst (Above D o) e h))
 
@@ -90,71 +93,71 @@ module _ (D : Space) (L : Laws D) (Valid : ℕ → Type 0) (at : ℕ → D .Mono
           go (inr v) = let w : i < 256 = omega arith in
               lower (low w) (trans D L (O .at-less i j v h (P .opened i w (F .here w) .0) (P .opened j h z .0)) u)
 
-      ordered-to : (j k : ℕ) → j ≤ k → k < m → (square D j ≡ square D k) ⊎ Less D (square D k) (square D j)
+      ordered-to : (j k : ℕ) → j ≤ k → k < m → (square D (sq j) ≡ square D (sq k)) ⊎ Less D (square D (sq k)) (square D (sq j))
       ordered-to j k h u = go (ℕ-discrete j k)
         where
-          go : Dec (j ≡ k) → (square D j ≡ square D k) ⊎ Less D (square D k) (square D j)
-          go (yes e) = inl (ap (λ (x : ℕ). square D x) e)
+          go : Dec (j ≡ k) → (square D (sq j) ≡ square D (sq k)) ⊎ Less D (square D (sq k)) (square D (sq j))
+          go (yes e) = inl (ap (λ (x : ℕ). square D (sq x)) e)
           go (no n) = inr (O .squares j k (omega (arith, n)) u)
 
       -- The square of the last variable that is left, where it comes before the first open place.
-      module _ (k : ℕ) (last-is : count ≡ suc k) (before : i < 256 → Less D (square D k) (at i)) where
-        pub square-next : NextAfter D leads o (square D k)
+      module _ (k : ℕ) (last-is : count ≡ suc k) (before : i < 256 → Less D (square D (sq k)) (at i)) where
+        pub square-next : NextAfter D leads o (square D (sq k))
         square-next = record {
           after = R .ahead k (omega arith);
           least = λ a c h u z. go a z (left a c h u);
         }
           where
-            go : (a : Mono) → Less D a (square D k) → Left known count a → ⊥
-            go a z (placed j v w e) = not-less j (square D k) v w (λ h. inl (before h)) (subst (λ (x : Mono). Less D x (square D k)) (sym e) z)
+            go : (a : Mono) → Less D a (square D (sq k)) → Left known count a → ⊥
+            go a z (placed j v w e) = not-less j (square D (sq k)) v w (λ h. inl (before h)) (subst (λ (x : Mono). Less D x (square D (sq k))) (sym e) z)
             go a z (squared j v e) = elim (ordered-to j k (omega arith) (omega (arith, R .few))) [
               | inl s ↦ less-ne D L z (e ∙ s)
-              | inr s ↦ irrefl D L (trans D L z (subst (Less D (square D k)) (sym e) s))
+              | inr s ↦ irrefl D L (trans D L z (subst (Less D (square D (sq k))) (sym e) s))
             ]
 
-        pub square-left : SquaresLeft k (last (square D k))
+        pub square-left : SquaresLeft k (last (square D (sq k)))
         square-left = record {
           few = omega (arith, R .few);
           ahead = λ j h. O .squares j k h (omega (arith, R .few));
           behind = λ j h u z. go j h u z (ℕ-discrete j k);
         }
           where
-            go : (j : ℕ) → k ≤ j → j < m → Less D (square D k) (square D j) → Dec (j ≡ k) → ⊥
-            go j h u z (yes e) = less-ne D L z (ap (λ (x : ℕ). square D x) (sym e))
-            go j h u z (no n) = R .behind j (omega (arith, n)) u (above-trans D L o (square D k) (square D j) (R .ahead k (omega arith)) z)
+            go : (j : ℕ) → k ≤ j → j < m → Less D (square D (sq k)) (square D (sq j)) → Dec (j ≡ k) → ⊥
+            go j h u z (yes e) = less-ne D L z (ap (λ (x : ℕ). square D (sq x)) (sym e))
+            go j h u z (no n) = R .behind j (omega (arith, n)) u (above-trans D L o (square D (sq k)) (square D (sq j)) (R .ahead k (omega arith)) z)
 
         -- the places are as they were, whether the square is a lead or not
-        pub square-places : (leads′ : List (Mono)) → ((a : Mono) → Among a leads′ → Among a leads ⊎ (a ≡ square D k)) → ((a : Mono) → Among a leads → Among a leads′)
-            → Places known leads′ (last (square D k))
+        pub square-places : (leads′ : List (Mono)) → ((a : Mono) → Among a leads′ → Among a leads ⊎ (a ≡ square D (sq k))) → ((a : Mono) → Among a leads → Among a leads′)
+            → Places known leads′ (last (square D (sq k)))
         square-places leads′ of-new of-old = record {
           long = P .long;
-          closed = λ j h e w z u. P .closed j h e w (above-trans D L o (square D k) (at j) (R .ahead k (omega arith)) z) (λ a mem v. u a (of-old a mem) v);
-          opened = λ j h e. let t = P .opened j h e in (t .0, (above j h e, λ a mem v. elim (of-new a mem) [ inl y ↦ t .1 .1 a y v | inr y ↦ O .at-free j k (omega (arith, R .few)) (subst (λ (x : Mono). Divides D x (at j)) y v) ]));
+          closed = λ j h e w z u. P .closed j h e w (above-trans D L o (square D (sq k)) (at j) (R .ahead k (omega arith)) z) (λ a mem v. u a (of-old a mem) v);
+          opened = λ j h e. let t = P .opened j h e in (t .0, (above j h e, λ a mem v. elim (of-new a mem) [ inl y ↦ t .1 .1 a y v | inr y ↦ O .at-free j (sq k) (O .square-in k (omega (arith, R .few))) (subst (λ (x : Mono). Divides D x (at j)) y v) ]));
         }
           where
-            above : (j : ℕ) → j < 256 → inSet j known ≡ 0 → Less D (square D k) (at j)
+            above : (j : ℕ) → j < 256 → inSet j known ≡ 0 → Less D (square D (sq k)) (at j)
             above j h e = go (at-most j h e)
               where
-                go : (i ≡ j) ⊎ (i < j) → Less D (square D k) (at j)
-                go (inl s) = let w : i < 256 = omega arith in subst (λ (x : ℕ). Less D (square D k) (at x)) s (before w)
+                go : (i ≡ j) ⊎ (i < j) → Less D (square D (sq k)) (at j)
+                go (inl s) = let w : i < 256 = omega arith in subst (λ (x : ℕ). Less D (square D (sq k)) (at x)) s (before w)
                 go (inr s) = let w : i < 256 = omega arith in trans D L (before w) (O .at-less i j s h (P .opened i w (F .here w) .0) (P .opened j h e .0))
 
       -- The first open place, where no square that is left comes before it.
-      module _ (inside : i < 256) (after : (k : ℕ) → suc k ≡ count → ¬ Less D (square D k) (at i)) where
+      module _ (inside : i < 256) (after : (k : ℕ) → suc k ≡ count → ¬ Less D (square D (sq k)) (at i)) where
         own : (Valid i) × (Above D o (at i) × Undivided D leads (at i))
         own = P .opened i inside (F .here inside)
 
-        square-above : (k : ℕ) → k < count → Less D (at i) (square D k)
+        square-above : (k : ℕ) → k < count → Less D (at i) (square D (sq k))
         square-above k h = go count refl h
           where
-            other : {c : Ordering} (j : ℕ) → suc j ≡ count → Compares D (at i) (square D j) c → Less D (at i) (square D j)
+            other : {c : Ordering} (j : ℕ) → suc j ≡ count → Compares D (at i) (square D (sq j)) c → Less D (at i) (square D (sq j))
             other j e (lt z) = z
-            other j e (eq z) = absurd (O .not-square i j (omega (arith, R .few)) z)
+            other j e (eq z) = absurd (O .not-square i (sq j) (O .square-in j (omega (arith, R .few))) z)
             other j e (gt z) = absurd (after j e z)
 
-            go : (c : ℕ) → count ≡ c → k < c → Less D (at i) (square D k)
+            go : (c : ℕ) → count ≡ c → k < c → Less D (at i) (square D (sq k))
             go zero e u = absurd (omega arith)
-            go (suc j) e u = let z = other j (sym e) (compared D L (at i) (square D j)) in elim (ordered-to k j (omega arith) (omega (arith, R .few))) [
+            go (suc j) e u = let z = other j (sym e) (compared D L (at i) (square D (sq j))) in elim (ordered-to k j (omega arith) (omega (arith, R .few))) [
               | inl s ↦ subst (Less D (at i)) (sym s) z
               | inr s ↦ trans D L z s
             ]
@@ -170,7 +173,7 @@ module _ (D : Space) (L : Laws D) (Valid : ℕ → Type 0) (at : ℕ → D .Mono
         byte-left = record {
           few = R .few;
           ahead = square-above;
-          behind = λ k h u z. R .behind k h u (above-trans D L o (at i) (square D k) (own .1 .0) z);
+          behind = λ k h u z. R .behind k h u (above-trans D L o (at i) (square D (sq k)) (own .1 .0) z);
         }
 
         -- places that are known after it: its own, and where it is a lead those of its multiples

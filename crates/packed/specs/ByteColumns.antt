@@ -1,11 +1,13 @@
 -- The columns of the variables and of monomials without squares.
 use mathlib.Core.Path.{_≡_}
+use mathlib.Core.Bool.{cond}
 use mathlib.Core.List.{List}
 use mathlib.Core.Logic.{_≢_}
 use Prim.Native.Nat.{ℕ, _+_, _*_, _-_, _%_, _<_}
-use lib.ListN.{length, getD}
+use lib.ListN.{length, getD, set}
 use lib.Bits.{bitAnd}
-use lib.Count.{trailingZeros}
+use lib.Count.{ones, trailingZeros}
+use lib.Dec.{eqb}
 use Rattle.residue.specs.Layout.{groups}
 use Rattle.residue.specs.Words.{columnOf}
 
@@ -23,3 +25,7 @@ pub record VariableColumns (n : ℕ) (points columns : List ℕ) : Type 0 where
 pub record OwnColumn (byte ones : ℕ) (columns values : List ℕ) (own : ℕ) : Type 0 where
   pub of-one : byte ≡ 0 → own ≡ ones
   pub of-more : byte ≢ 0 → own ≡ bitAnd (getD columns (trailingZeros 8 byte) 0) (getD values (bitAnd byte (byte - 1)) 0)
+
+-- The variables' places among the standard monomials with that of a byte, where it is a variable: where its degree, the count of its ones, is 1.
+unfoldable pub noted : ℕ → ℕ → List ℕ → List ℕ
+noted byte place places = cond (eqb (ones byte) 1) (set places (trailingZeros 8 byte) place) places

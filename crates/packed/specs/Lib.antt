@@ -5,3 +5,4 @@ pub mod PivotTables
 pub mod PlaceSets
 pub mod ByteColumns
 pub mod Sequences
+pub mod Weighing

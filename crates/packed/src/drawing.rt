@@ -9,35 +9,41 @@ use crate::keeping::keep_standard;
 use crate::open::first_open;
 use crate::open::pass_above;
 use crate::pivots::examine;
+use crate::sequences::SQUARES;
 use crate::sequences::grevlex;
 use crate::sequences::grlex;
 use crate::sequences::lex;
 use crate::squares::square_comes;
+use crate::weighing::put_tables;
 use residue::bytes;
 use residue::sizes;
 use specification::settings::Settings;
 ghost use mathlib.Core.Path.{_≡_};
 ghost use lib.ListN.{length, replicate};
 ghost use Rattle.residue.specs.Sizes.{standardSize, leadsSize, coefficientsSize};
-ghost use Rattle.monomial.specs.Order.{orderOf};
+ghost use Rattle.monomial.specs.Order.{orderOf, weighted};
+ghost use Rattle.specification.specs.Settings.{Accepted};
 ghost use Rattle.specification.specs.Tables.{pointsIn};
 ghost use Rattle.construction.specs.Drawing.{PointsGiven, Tabled};
-ghost use Rattle.packed.specs.Sequences.{Sequence};
+ghost use Rattle.packed.specs.Sequences.{Sequence, Squares};
 
 // Fills the tables of the basis of n points modulo 2. The monomials without squares come in the order of the bytes that are lent, with the places of the
-// variables' multiples.
+// variables' multiples, and the squares from the last one that is lent to the first.
 fn walk(
     settings: Settings,
     n: usize,
     points: &[u8],
     bytes: &[u8],
     multiples: &[u64],
+    squares: &[u8],
+    before: &[u16],
     standard: &mut [u8],
     leads: &mut [u8],
     coefficients: &mut [u8],
 ) -> usize
     requires { ⌜ PointsGiven settings n (now points) × (settings .modulus ≡ 2) ⌝ }
-    requires { ⌜ Sequence (orderOf (settings .order)) (now bytes) (now multiples) ⌝ }
+    requires { ⌜ Sequence (orderOf (settings .order) (settings .weights)) (now bytes) (now multiples) ⌝ }
+    requires { ⌜ Squares (orderOf (settings .order) (settings .weights)) (settings .variables) (now bytes) (now squares) (now before) ⌝ }
     requires { ⌜ (now standard ≡ replicate standardSize 0) × ((now leads ≡ replicate leadsSize 0) × (now coefficients ≡ replicate coefficientsSize 0)) ⌝ }
     ensures { λ r. ⌜ Tabled settings (pointsIn settings n (now (points .entry))) r (now (standard .exit)) (now (leads .exit)) (now (coefficients .exit)) ⌝ }
 {
@@ -48,7 +54,7 @@ fn walk(
     let mut known = [0u64; 4];
     pass_above(left, multiples, &mut known);
     let mut values = [0u64; 256];
-    let mut places = [0u8; 256];
+    let mut places = [0u8; 8];
     let mut rows = [0u8; sizes::POINTS];
     let mut columns = [0u64; sizes::POINTS];
     let mut polynomials = [0u64; sizes::POINTS];
@@ -57,11 +63,12 @@ fn walk(
     let mut r = 0;
     loop {
         let at = first_open(&known);
-        if square_comes(settings.order as u8, left, at, bytes) {
+        if square_comes(left, at, before) {
             left -= 1;
-            let place = places[1usize << left];
+            let k = squares[left] as usize;
+            let place = places[k];
             if place != 0 {
-                keep_square(left, place, r, leads, coefficients);
+                keep_square(k, place, r, leads, coefficients);
                 r += 1;
             }
         } else {
@@ -126,6 +133,8 @@ fn draw_lex(
         points,
         &lex::BYTES,
         &lex::MULTIPLES,
+        &SQUARES,
+        &lex::BEFORE,
         standard,
         leads,
         coefficients,
@@ -151,6 +160,8 @@ fn draw_grlex(
         points,
         &grlex::BYTES,
         &grlex::MULTIPLES,
+        &SQUARES,
+        &grlex::BEFORE,
         standard,
         leads,
         coefficients,
@@ -176,6 +187,70 @@ fn draw_grevlex(
         points,
         &grevlex::BYTES,
         &grevlex::MULTIPLES,
+        &SQUARES,
+        &grevlex::BEFORE,
+        standard,
+        leads,
+        coefficients,
+    )
+}
+
+// The tables of the order by weights, under the settings.
+fn put_tables_under(
+    settings: Settings,
+    bytes: &mut [u8],
+    multiples: &mut [u64],
+    squares: &mut [u8],
+    before: &mut [u16],
+)
+    requires { ⌜ Accepted settings × (settings .order ≡ 3) ⌝ }
+    requires { ⌜ (length (now bytes) ≡ 256) × (length (now multiples) ≡ 32) ⌝ }
+    requires { ⌜ (length (now squares) ≡ 8) × (length (now before) ≡ 8) ⌝ }
+    ensures { λ _. ⌜ Sequence (weighted (settings .weights)) (now (bytes .exit)) (now (multiples .exit)) ⌝ }
+    ensures { λ _. ⌜ Squares (weighted (settings .weights)) (settings .variables) (now (bytes .exit)) (now (squares .exit)) (now (before .exit)) ⌝ }
+{
+    put_tables(
+        settings.variables as usize,
+        &settings.weights,
+        bytes,
+        multiples,
+        squares,
+        before,
+    );
+}
+
+// The walk under weights, whose tables are computed.
+fn draw_weighted(
+    settings: Settings,
+    n: usize,
+    points: &[u8],
+    standard: &mut [u8],
+    leads: &mut [u8],
+    coefficients: &mut [u8],
+) -> usize
+    requires { ⌜ PointsGiven settings n (now points) × ((settings .modulus ≡ 2) × (settings .order ≡ 3)) ⌝ }
+    requires { ⌜ (now standard ≡ replicate standardSize 0) × ((now leads ≡ replicate leadsSize 0) × (now coefficients ≡ replicate coefficientsSize 0)) ⌝ }
+    ensures { λ r. ⌜ Tabled settings (pointsIn settings n (now (points .entry))) r (now (standard .exit)) (now (leads .exit)) (now (coefficients .exit)) ⌝ }
+{
+    let mut bytes = [0u8; 256];
+    let mut multiples = [0u64; 32];
+    let mut squares = [0u8; 8];
+    let mut before = [0u16; 8];
+    put_tables_under(
+        settings,
+        &mut bytes,
+        &mut multiples,
+        &mut squares,
+        &mut before,
+    );
+    walk(
+        settings,
+        n,
+        points,
+        &bytes,
+        &multiples,
+        &squares,
+        &before,
         standard,
         leads,
         coefficients,
@@ -204,5 +279,8 @@ pub fn draw_anew(
     if settings.order == 1 {
         return draw_grlex(settings, n, points, standard, leads, coefficients);
     }
-    draw_grevlex(settings, n, points, standard, leads, coefficients)
+    if settings.order == 2 {
+        return draw_grevlex(settings, n, points, standard, leads, coefficients);
+    }
+    draw_weighted(settings, n, points, standard, leads, coefficients)
 }

@@ -12,6 +12,7 @@ ghost use Rattle.residue.specs.Sizes.{mostRows, standardSize, leadsSize, coeffi
 ghost use Rattle.residue.specs.Layout.{withPlace};
 ghost use Rattle.monomial.specs.Monomial.{one, timesVariable};
 ghost use Rattle.residue.specs.Words.{bitsOf};
+ghost use Rattle.packed.specs.ByteColumns.{noted};
 ghost use Rattle.packed.specs.PlaceSets.{Passed, OfMultiple};
 
 // A monomial without squares as a lead, with its row; its multiples are known.
@@ -47,7 +48,17 @@ pub fn keep_square(k: usize, place: u8, r: usize, leads: &mut [u8], coefficients
     keep_row(r, 1u64 << (place - 1), coefficients);
 }
 
-// A standard monomial, with its column and its place among them, counted from 1; its own place in the order is known.
+// The place of a variable among the standard monomials. A variable is a monomial of degree 1, and the degree of a byte is its count of ones.
+fn note_variable(byte: u8, place: u8, places: &mut [u8])
+    requires { ⌜ length (now places) ≡ 8 ⌝ }
+    ensures { λ _. ⌜ now (places .exit) ≡ noted byte place (now (places .entry)) ⌝ }
+{
+    if u8::count_ones(byte) == 1 {
+        places[u8::trailing_zeros(byte) as usize] = place;
+    }
+}
+
+// A standard monomial, with its column and, if it is a variable, its place among them, counted from 1; its own place in the order is known.
 pub fn keep_standard(
     found: usize,
     at: usize,
@@ -59,14 +70,14 @@ pub fn keep_standard(
     standard: &mut [u8],
 )
     requires { ⌜ (found < 64) × (at < 256) ⌝ }
-    requires { ⌜ (length (now values) ≡ 256) × ((length (now places) ≡ 256) × (length (now known) ≡ 4)) ⌝ }
+    requires { ⌜ (length (now values) ≡ 256) × ((length (now places) ≡ 8) × (length (now known) ≡ 4)) ⌝ }
     requires { ⌜ length (now standard) ≡ standardSize ⌝ }
     ensures { λ _. ⌜ now (standard .exit) ≡ withPlace 8 found (bitsOf 8 byte) (now (standard .entry)) ⌝ }
-    ensures { λ _. ⌜ (now (values .exit) ≡ set (now (values .entry)) byte own) × (now (places .exit) ≡ set (now (places .entry)) byte (suc found)) ⌝ }
+    ensures { λ _. ⌜ (now (values .exit) ≡ set (now (values .entry)) byte own) × (now (places .exit) ≡ noted byte (suc found) (now (places .entry))) ⌝ }
     ensures { λ _. ⌜ Passed (λ i. i ≡ at) (now (known .entry)) (now (known .exit)) ⌝ }
 {
     keep_eight(found, spread(byte), standard);
     values[byte as usize] = own;
-    places[byte as usize] = found as u8 + 1;
+    note_variable(byte, found as u8 + 1, places);
     pass(at, known);
 }

@@ -6,4 +6,5 @@ pub mod open;
 pub mod pivots;
 pub mod sequences;
 pub mod squares;
+pub mod weighing;
 pub mod writing;

@@ -1,4 +1,5 @@
-// Points: from levels, in tables, and gathered with their counts.
+// Points: from levels, in tables, and gathered with their counts; and the weights of the settings, which calls and the reader of text judge alike.
 pub mod gathering;
 pub mod levels;
 pub mod places;
+pub mod weights;

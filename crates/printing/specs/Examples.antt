@@ -37,6 +37,24 @@ needing = record {
   prints = "points 2 standard 2 rows 2" ∷ "standard 0 0" ∷ "standard 0 1" ∷ "row 1 0 : 0 0" ∷ "row 0 2 : 0 4" ∷ "interpolant 0 1" ∷ "wiring 2" ∷ [];
 }
 
+-- the points and values of the text of docs/SCOPE.md under weights 1 and 2: 1, then the first variable, then the second (M-109)
+abbrev pub weighing : Example
+weighing = record {
+  text = "g1,g2,mod 5 weight 1 2" ∷ "0,0,1" ∷ "1,2,0" ∷ "2,1,3" ∷ [];
+  prints = "points 3 standard 3 rows 3" ∷ "standard 0 0" ∷ "standard 1 0" ∷ "standard 0 1"
+      ∷ "row 2 0 : 0 1 4" ∷ "row 1 1 : 0 1 1" ∷ "row 0 2 : 0 4 1" ∷ "interpolant 1 0 2" ∷ "wiring" ∷ [];
+}
+
+-- a weight of 0, one weight for two variables, and a weight of 0 under a modulus that is none
+abbrev pub no-weight : Example
+no-weight = record { text = "g1,g2,mod 5 weight 1 00" ∷ []; prints = "refused 15 1" ∷ [] }
+
+abbrev pub one-weight : Example
+one-weight = record { text = "g1,g2,mod 5 weight 1" ∷ []; prints = "refused 2 1" ∷ [] }
+
+abbrev pub modulus-first : Example
+modulus-first = record { text = "a,mod 4 weight 0" ∷ []; prints = "refused 3 1" ∷ [] }
+
 -- a header alone
 abbrev pub empty : Example
 empty = record { text = "g1,g2,mod 5 lex" ∷ []; prints = "points 0 standard 0 rows 1" ∷ "row 0 0 :" ∷ "interpolant" ∷ "wiring" ∷ [] }
@@ -49,7 +67,7 @@ abbrev pub out-of-range : Example
 out-of-range = record { text = "g1,g2,mod 5 grlex" ∷ "0,0,1" ∷ "1,5,0" ∷ []; prints = "refused 9 3" ∷ [] }
 
 abbrev pub examples : List Example
-examples = stated ∷ needing ∷ empty ∷ wrong-word ∷ out-of-range ∷ []
+examples = stated ∷ needing ∷ weighing ∷ no-weight ∷ one-weight ∷ modulus-first ∷ empty ∷ wrong-word ∷ out-of-range ∷ []
 
 abbrev pub PrintedExamples : Type 0
 PrintedExamples = (e : Example) → Among e examples → Prints e

@@ -8,7 +8,7 @@ use lib.ListN.{length, take, replicate}
 use Rattle.specification.specs.declared.settings.Settings.{Settings}
 use Rattle.specification.specs.BasisOf.{interpolantOf}
 use Rattle.specification.specs.Tables.{spaceUnder, pointsUnder, standardUnder, leadsUnder, rowsUnder, pointsIn}
-use Rattle.specification.specs.Settings.{settingsOf}
+use Rattle.specification.specs.Settings.{noWeights}
 use Rattle.specification.specs.Needed.{wiringOf}
 use Rattle.residue.specs.Sizes.{mostPoints, statesSize, countsSize}
 use Rattle.residue.specs.Layout.{over}
@@ -25,14 +25,19 @@ linesOf s S values =
     (interpolantOf (spaceUnder s) (pointsUnder s S) values)
     (wiringOf (s .variables) S values)
 
+-- the settings that were read
+abbrev pub settingsRead : TextOutcome → Settings
+settingsRead o = let a = o .answer in record { modulus = a .modulus; variables = a .variables; order = a .order; weights = o .weights }
+
 -- What is printed of the reader's answer: the refusal's line, or the lines of the points and values that were read.
 unfoldable pub linesRead : TextOutcome → List ℕ
-linesRead o = let a = o .answer in let s = settingsOf (a .modulus) (a .variables) (a .order) in
+linesRead o = let a = o .answer in let s = settingsRead o in
     cond (eqb (a .refusal) 0) (linesOf s (pointsIn s (a .n) (o .states)) (take (a .n) (o .values))) (refusalLine (a .refusal) (a .at))
 
 -- What is printed of a text: nothing into a buffer of less than 131,072 bytes.
 unfoldable pub linesFor : ℕ → List ℕ → List ℕ
-linesFor size text = cond (ltb size 131072) [] (linesRead (readOutcome text (replicate statesSize 0) (replicate mostPoints 0) (replicate countsSize 0)))
+linesFor size text = cond (ltb size 131072) []
+    (linesRead (readOutcome text (replicate statesSize 0) (replicate mostPoints 0) (replicate countsSize 0) noWeights))
 
 -- The answer of printing, how many bytes were written, and the lent buffer at exit: they stand at its front.
 pub record Printed : Type 0 where

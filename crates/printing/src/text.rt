@@ -16,7 +16,6 @@ ghost use Rattle.residue.specs.Vector.{Below};
 ghost use Rattle.elimination.specs.Elimination.{Multiplied};
 ghost use Rattle.residue.specs.Layout.{fill};
 ghost use Rattle.specification.specs.Tables.{pointsIn};
-ghost use Rattle.specification.specs.Settings.{settingsOf};
 ghost use Rattle.construction.specs.Drawing.{PointsGiven};
 ghost use Rattle.interpolation.specs.Solving.{solution};
 ghost use Rattle.printing.specs.Appending.{Put};
@@ -37,31 +36,18 @@ fn solve_bytes(p: u8, n: usize, values: &[u8], rows: &[u8], pivots: &[u8], out: 
 }
 
 // The basis of the n points of a table, the interpolant of n values at them and their wiring list, printed.
-fn print_points(
-    p: u16,
-    m: usize,
-    order: u8,
-    n: usize,
-    points: &[u8],
-    values: &[u8],
-    out: &mut [u8],
-) -> usize
-    requires { ⌜ PointsGiven (settingsOf p m order) n (now points) ⌝ }
-    requires { ⌜ (length (now values) ≡ n) × (Below p (now values)) ⌝ }
+fn print_points(settings: Settings, n: usize, points: &[u8], values: &[u8], out: &mut [u8]) -> usize
+    requires { ⌜ PointsGiven settings n (now points) ⌝ }
+    requires { ⌜ (length (now values) ≡ n) × (Below (settings .modulus) (now values)) ⌝ }
     requires { ⌜ 102048 ≤ length (now out) ⌝ }
-    ensures { λ e. ⌜ Put 0 (linesOf (settingsOf p m order) (pointsIn (settingsOf p m order) n (now (points .entry))) (now (values .entry)))
-        (now (out .entry)) (now (out .exit)) e ⌝ ∗ ⌜ Within e (now (out .exit)) ⌝ }
+    ensures { λ e. ⌜ Put 0 (linesOf settings (pointsIn settings n (now (points .entry))) (now (values .entry))) (now (out .entry)) (now (out .exit)) e ⌝
+        ∗ ⌜ Within e (now (out .exit)) ⌝ }
 {
     let mut standard = [0u8; sizes::STANDARD];
     let mut leads = [0u8; sizes::LEADS];
     let mut coefficients = [0u8; sizes::COEFFICIENTS];
     let mut rows = [0u8; sizes::PIVOT_ROWS];
     let mut pivots = [0u8; sizes::POINTS];
-    let settings = Settings {
-        modulus: p as u64,
-        variables: m as u64,
-        order: order as u64,
-    };
     let drawn = draw(
         settings,
         n,
@@ -73,7 +59,15 @@ fn print_points(
         &mut pivots,
     );
     let mut interpolant = [0u8; sizes::POINTS];
-    solve_bytes(p as u8, n, values, &rows, &pivots, &mut interpolant);
+    solve_bytes(
+        settings.modulus as u8,
+        n,
+        values,
+        &rows,
+        &pivots,
+        &mut interpolant,
+    );
+    let m = settings.variables as usize;
     let mut names = [0u8; 8];
     let count = put_names(m, n, points, values, &mut names) as usize;
     print_basis(
@@ -99,19 +93,18 @@ pub fn print_text(text: &[u8], out: &mut [u8]) -> usize
     let mut states = [0u8; sizes::STATES];
     let mut values = [0u8; sizes::POINTS];
     let mut counts = [0u8; sizes::COUNTS];
-    let read = read_text(text, &mut states, &mut values, &mut counts);
+    let mut weights = [0u8; 8];
+    let read = read_text(text, &mut states, &mut values, &mut counts, &mut weights);
     let refusal = read.refusal;
     if refusal != 0 {
         return put_refusal(out, 0, refusal, read.at);
     }
     let n = read.n as usize;
-    print_points(
-        read.modulus,
-        read.variables as usize,
-        read.order,
-        n,
-        &states,
-        &values[..n],
-        out,
-    )
+    let settings = Settings {
+        modulus: read.modulus as u64,
+        variables: read.variables as u64,
+        order: read.order as u64,
+        weights,
+    };
+    print_points(settings, n, &states, &values[..n], out)
 }

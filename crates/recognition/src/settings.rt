@@ -1,4 +1,5 @@
-// The refusals that look at the settings and at lengths and counts alone, 3 to 8, and the answer of a refused call.
+// The refusals that look at the settings and at lengths and counts alone, 3 to 8 and 15, and the answer of a refused call.
+use points::weights::right_weights;
 use residue::level;
 use residue::sizes;
 use specification::answers::Answer;
@@ -47,10 +48,13 @@ fn settings_refusal(settings: Settings) -> u8
         if 8 < settings.variables {
             return 4;
         }
-        if 2 < settings.order {
+        if 3 < settings.order {
             return 5;
         }
-        return 0;
+        if right_weights(settings) {
+            return 0;
+        }
+        return 15;
     }
     3
 }

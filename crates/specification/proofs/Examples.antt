@@ -24,7 +24,7 @@ use Rattle.residue.proofs.Layouts.{fill-zeros, over-all, begins-over}
 use Rattle.monomial.specs.Order.{orderOf, cmp}
 use Rattle.specification.specs.declared.settings.Settings.{Settings}
 use Rattle.specification.specs.Refusal.{firstOf}
-use Rattle.specification.specs.Settings.{settingsOf, settingsCases}
+use Rattle.specification.specs.Settings.{settingsOf, weighsFirst, rightWeights, settingsCases}
 use Rattle.specification.specs.Levels.{isResidue, residueOr0, inRange, residues, isAmong}
 use Rattle.specification.specs.Extension.{slot, minus, without, divided, extended, gap, first, newton, grow}
 use Rattle.specification.specs.BasisOf.{basisOf, valueAt}
@@ -36,8 +36,9 @@ use Rattle.specification.specs.Needed.{alike, apart, contrary, pairIn, w
 use Rattle.specification.specs.Solving.{polynomialOf}
 use Rattle.specification.specs.Reference.{referenceAnswer, listAfter, referenceAfter, addition, Held, heldAfter, numbers, heldAtEnd, fed, referenceAtEnd, dueAt, due, RefusesAt, Refuses}
 use Rattle.specification.specs.Agreement.{freshly, Agrees}
-use Rattle.specification.specs.Examples.{Example, Holds, LaidOut, anyOrder, fresh, A, examples, CountedExamples}
+use Rattle.specification.specs.Examples.{Example, Holds, LaidOut, anyOrder, fresh, A, examples, CountedExamples, WeightedExamples}
 use Rattle.residue.proofs.Tests.{true-of}
+use Rattle.specification.proofs.agreement.Refusals.{no-weights}
 use Rattle.specification.proofs.agreement.Claim.{agreement}
 
 -- lists of lists are equal where the test says so
@@ -126,7 +127,7 @@ known-order o (inr (inr (inr q))) = absurd q
 
 fine : (p m order : ℕ) → isModulus p ≡ true → 1 ≤ m → m ≤ 8 → Among order anyOrder → firstOf 0 (settingsCases (settingsOf p m order)) ≡ 0
 unfolding settingsCases firstOf
-fine p m order h low high q = simp (h, le-leb 1 m low, le-leb m 8 high, le-ltb 2 order (omega (arith, known-order order q)))
+fine p m order h low high q = simp (h, le-leb 1 m low, le-leb m 8 high, le-ltb 3 order (omega (arith, known-order order q)), no-weights p m order (omega (arith, known-order order q)))
 
 -- levels one after the other are in range where both are
 range-append : (p : ℕ) (k l : List ℤ) → inRange p (k ++ l) ≡ (inRange p k && inRange p l)
@@ -188,3 +189,24 @@ every-example = each-of examples all
 pub counted-examples : CountedExamples
 unfolding entered lowered enteredAll gathered pointsOffered groups residues residueOr0 residueOf sameList
 counted-examples = record { offered = refl; withdrawn = refl; gone = refl; again = refl }
+
+-- and order 3
+pub weighted-examples : WeightedExamples
+unfolding tested sameLists primes isOneOf isModulus inverseBelow inverseOf orderOf cmp firstOf weighsFirst rightWeights settingsCases fill sameList slot minus without divided extended gap first newton grow basisOf valueAt monomialOf pointOf
+weighted-examples = record {
+  increasing = (
+    (refl, (refl, (refl, (refl, (refl, (refl, tt)))))),
+    (
+      (refl, (refl, (refl, (refl, (refl, tt))))),
+      ((refl, (refl, (refl, (refl, tt)))), ((refl, (refl, (refl, tt))), ((refl, (refl, tt)), ((refl, tt), (tt, tt))))),
+    ),
+  );
+  points-A = of-test _ A _ _ _ tt;
+  taken = refl;
+  weight-0 = refl;
+  weight-100 = refl;
+  weight-behind = refl;
+  weight-in-grlex = refl;
+  order-4 = refl;
+  variables-9 = refl;
+}

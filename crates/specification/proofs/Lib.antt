@@ -10,6 +10,7 @@ pub mod counted
 pub mod agreement
 pub mod cancellations
 pub mod Instance
+pub mod Ones
 pub mod Recognised
 pub mod CallByCall
 pub mod Withdrawing

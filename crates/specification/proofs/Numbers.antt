@@ -45,7 +45,7 @@ at-most number k none ((false, a) ∷ l) z t = at-most number k none l z (and-ri
 
 -- The cases that a call goes through: its number is that of the first that holds.
 abbrev Case-by-case : Call → Type 0
-Case-by-case c = (l : List Case) × (numberOf c ≡ firstOf 0 l) × T (every (λ c. not (eqb (c .1) 11)) l) × T (every (λ c. leb (c .1) 13) l)
+Case-by-case c = (l : List Case) × (numberOf c ≡ firstOf 0 l) × T (every (λ c. not (eqb (c .1) 11)) l) × T (every (λ c. leb (c .1) 15) l)
 
 -- Drawing up with words has one case before those of drawing up.
 packed-number : (s : Settings) (t : Tables) (levels : List ℤ)
@@ -72,9 +72,9 @@ cases-of (handed (wiring values buffer) s n r t) = (valuesCases 8 s n r t values
 pub never-eleven : (c : Call) → numberOf c ≢ 11
 never-eleven c e = let w = cases-of c in never (λ k. k) 11 0 (w .0) (λ z. omega arith) (w .2) (sym (w .1) ∙ e)
 
--- no call gives a number above 13: 14 is the text reader's
-pub few-numbers : (c : Call) → numberOf c ≤ 13
-few-numbers c = let w = cases-of c in rw (w .1) (at-most (λ k. k) 13 0 (w .0) (omega arith) (w .3))
+-- no call gives a number above 15
+pub few-numbers : (c : Call) → numberOf c ≤ 15
+few-numbers c = let w = cases-of c in rw (w .1) (at-most (λ k. k) 15 0 (w .0) (omega arith) (w .3))
 
 -- A refusal comes alone: the other parts of the answer are 0, and no lent byte has changed.
 pub refused-alone : (c : Call) → numberOf c ≢ 0 → Alone c

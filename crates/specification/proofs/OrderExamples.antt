@@ -33,6 +33,7 @@ use Rattle.specification.specs.Examples.{grevlexStandard, grevlexLeads, 
 use Rattle.specification.proofs.Instance.{monomial-path}
 use Rattle.specification.proofs.ideal.Basis.{basis-is, basis-only}
 use Rattle.specification.proofs.cancellations.Counted.{Ended, counted}
+use Rattle.specification.proofs.agreement.Refusals.{no-weights}
 use Rattle.specification.proofs.agreement.Drawings.{laws-under, distinct-under}
 use Rattle.specification.proofs.Examples.{each-of as each-example}
 
@@ -135,7 +136,7 @@ module _ (order : ℕ) (h : order ≤ 2) where
 
   taken : Accepted s₃
   unfolding primes isOneOf isModulus
-  taken = record { modulus = refl; some = omega arith; few = omega arith; order = h }
+  taken = record { modulus = refl; some = omega arith; few = omega arith; order = omega (arith, h); weights = no-weights 3 3 order h }
 
   under : (standard leads rows : List (List ℕ)) → map (λ a. a .0) (found s₃ B .standard) ≡ standard → map (λ a. a .0) (found s₃ B .leads) ≡ leads
       → T (areRows s₃ B (monomials s₃ B standard) (monomials s₃ B leads) rows)

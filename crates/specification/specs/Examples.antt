@@ -9,8 +9,11 @@ use Rattle.residue.specs.Sizes.{statesSize, standardSize, leadsSize, coefficien
 use Rattle.residue.specs.Lists.{Among}
 use Rattle.residue.specs.Level.{residueOf}
 use Rattle.residue.specs.declared.level.Level.the-variants.{Residue}
+use Rattle.monomial.specs.Order.{orderOf, cmp}
+use Rattle.monomial.specs.Increasing.{Increasing}
 use Rattle.specification.specs.declared.settings.Settings.{Settings}
-use Rattle.specification.specs.Settings.{settingsOf}
+use Rattle.specification.specs.Refusal.{firstOf}
+use Rattle.specification.specs.Settings.{settingsOf, settingsCases}
 use Rattle.specification.specs.Levels.{inRange}
 use Rattle.specification.specs.Counted.{Counted, pointsOf, entered, lowered, gathered}
 use Rattle.specification.specs.Polynomial.{Polynomial}
@@ -169,3 +172,23 @@ pub record CountedExamples : Type 0 where
   pub gone : lowered (4 ∷ []) ((4 ∷ [], 1) ∷ (0 ∷ [], 1) ∷ []) ≡ (0 ∷ [], 1) ∷ []
   -- and added again it comes last
   pub again : entered (4 ∷ []) ((0 ∷ [], 1) ∷ []) ≡ (0 ∷ [], 1) ∷ (4 ∷ [], 1) ∷ []
+
+-- And order 3 (request M-109).
+abbrev pub weighing : ℕ → ℕ → ℕ → List ℕ → Settings
+weighing p m order w = record { modulus = p; variables = m; order = order; weights = w }
+
+pub record WeightedExamples : Type 0 where
+  -- weights 1, 2: 1 < x < y < x² < xy < x³ < y², for y and x² have one sum
+  pub increasing : Increasing (cmp (orderOf 3 (1 ∷ 2 ∷ replicate 6 0)))
+      ((0 ∷ 0 ∷ []) ∷ (1 ∷ 0 ∷ []) ∷ (0 ∷ 1 ∷ []) ∷ (2 ∷ 0 ∷ []) ∷ (1 ∷ 1 ∷ []) ∷ (3 ∷ 0 ∷ []) ∷ (0 ∷ 2 ∷ []) ∷ [])
+  -- A, p=5: standard 1, x, y; rows x²+x+4y, xy+x+y, y²+4x+y
+  pub points-A : LaidOut (weighing 5 2 3 (1 ∷ 2 ∷ replicate 6 0)) A ((0 ∷ 0 ∷ []) ∷ (1 ∷ 0 ∷ []) ∷ (0 ∷ 1 ∷ []) ∷ []) ((2 ∷ 0 ∷ []) ∷ (1 ∷ 1 ∷ []) ∷ (0 ∷ 2 ∷ []) ∷ [])
+      ((0 ∷ 1 ∷ 4 ∷ []) ∷ (0 ∷ 1 ∷ 1 ∷ []) ∷ (0 ∷ 4 ∷ 1 ∷ []) ∷ [])
+  -- 15: a weight of x1 to xm is 0 or above 99, one behind is not 0, or there is one in orders 0 to 2; after 3, 4 and 5
+  pub taken : firstOf 0 (settingsCases (weighing 5 2 3 (99 ∷ 1 ∷ replicate 6 0))) ≡ 0
+  pub weight-0 : firstOf 0 (settingsCases (weighing 5 2 3 (1 ∷ replicate 7 0))) ≡ 15
+  pub weight-100 : firstOf 0 (settingsCases (weighing 5 2 3 (100 ∷ 1 ∷ replicate 6 0))) ≡ 15
+  pub weight-behind : firstOf 0 (settingsCases (weighing 5 2 3 (1 ∷ 1 ∷ 1 ∷ replicate 5 0))) ≡ 15
+  pub weight-in-grlex : firstOf 0 (settingsCases (weighing 5 2 1 (1 ∷ 1 ∷ replicate 6 0))) ≡ 15
+  pub order-4 : firstOf 0 (settingsCases (weighing 5 2 4 (100 ∷ replicate 7 0))) ≡ 5
+  pub variables-9 : firstOf 0 (settingsCases (weighing 5 9 3 (replicate 8 1))) ≡ 4

@@ -1,7 +1,7 @@
--- The space of docs/SCOPE.md: monomials in m variables as lists of exponents, points as lists of residues, one of the three orders.
+-- The space of docs/SCOPE.md: monomials in m variables as lists of exponents, points as lists of residues, one of the four orders.
 use mathlib.Core.Path.{_≡_, _∙_}
 use mathlib.Core.List.{List, [], _∷_, map}
-use Prim.Native.Nat.{ℕ, suc, _%_, suc-le-suc, zero-le}
+use Prim.Native.Nat.{ℕ, suc, _%_, suc-le-suc, zero-le, Ordering}
 use native.Mathlib.Nat.{mod-lt}
 use lib.ListN.{length, getD, length-replicate, length-set, length-map}
 use lib.Dec.{T, ltb, lt→ltb}
@@ -40,9 +40,9 @@ below q (x ∷ l) = (lt→ltb (x % suc q) (suc q) (mod-lt x (suc-le-suc zero-le)
 unfoldable pub pointOf : (q m : ℕ) → List ℕ → Point (suc q) m
 pointOf q m l = (reduced q (fill m l), (length-map (fill m l) (λ x. x % suc q) ∙ length-fill m l, below q (fill m l)))
 
--- the modulus is suc q
-abbrev pub spaceOf : ℕ → ℕ → Order → Space
-spaceOf q m order = record {
+-- under any comparison of monomials; the modulus is suc q
+abbrev pub spaceBy : (q m : ℕ) → (Monomial m → Monomial m → Ordering) → Space
+spaceBy q m c = record {
   q = q;
   m = m;
   Mono = Monomial m;
@@ -51,8 +51,12 @@ spaceOf q m order = record {
   x = λ k a. (timesVariable k (a .0), length-set (a .0) k _ ∙ a .1);
   val = λ a P. monomialAt (P .0) (a .0);
   coord = λ k P. getD (P .0) k 0;
-  cmp = λ a b. cmp order (a .0) (b .0);
+  cmp = c;
   divides = λ a b. divides (a .0) (b .0);
   samePoint = λ P Q. sameList (P .0) (Q .0);
   inv = λ a. inverseOf (suc q) (a % suc q);
 }
+
+-- under an order
+abbrev pub spaceOf : ℕ → ℕ → Order → Space
+spaceOf q m order = spaceBy q m (λ a b. cmp order (a .0) (b .0))

@@ -17,7 +17,7 @@ use Rattle.specification.specs.Instance.{Monomial, Point, spaceOf, point
 
 -- The space under settings, and points under settings as lists of residues.
 abbrev pub spaceUnder : Settings → Space
-spaceUnder s = spaceOf (s .modulus - 1) (s .variables) (orderOf (s .order))
+spaceUnder s = spaceOf (s .modulus - 1) (s .variables) (orderOf (s .order) (s .weights))
 
 abbrev pub pointsUnder : (s : Settings) → List (List ℕ) → List (Point (suc (s .modulus - 1)) (s .variables))
 pointsUnder s S = map (pointOf (s .modulus - 1) (s .variables)) S

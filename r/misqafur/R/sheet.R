@@ -1,6 +1,6 @@
 # Sheets of gene states. A sheet is a value: what changes one answers another, and a call that is refused changes nothing.
 
-orders <- c("lex", "grlex", "grevlex")
+orders <- c("lex", "grlex", "grevlex", "weight")
 
 # Raises a refusal as a condition of class misqafur_refusal, with its number and record; else what was answered.
 taken <- function(answer, record = NULL, more = NULL) {
@@ -14,18 +14,33 @@ taken <- function(answer, record = NULL, more = NULL) {
 
 # Whole numbers as integers; any that is none, or too large, becomes NA, which the library refuses.
 whole <- function(numbers) {
-  if (!is.numeric(numbers) && !is.logical(numbers)) stop("levels and values are whole numbers")
+  if (!is.numeric(numbers) && !is.logical(numbers)) stop("levels, values and weights are whole numbers")
   plain <- as.vector(numbers)
   plain[is.na(plain) | plain != trunc(plain) | abs(plain) > 1000] <- NA
   as.integer(plain)
 }
 
-# A sheet without states. `genes` is their number, and then they are called g1, g2 and so on, or their names.
-sheet <- function(modulus, genes, order = "grevlex") {
+# A sheet without states. `genes` is their number, and then they are called g1, g2 and so on, or their names. `weights` are one
+# for each gene, 1 to 99, by the genes' names where they have any, and make the order that by weight.
+sheet <- function(modulus, genes, order = if (is.null(weights)) "grevlex" else "weight", weights = NULL) {
   names <- if (is.character(genes)) genes else if (genes %in% 1:8) paste0("g", seq_len(genes)) else character(0)
-  number <- if (is.character(order)) match(order, orders, nomatch = 4) - 1 else order
-  raw <- taken(.Call(C_init, modulus, length(names), number))
-  structure(list(raw = raw, genes = names, modulus = modulus, order = orders[number + 1]), class = "misqafur_sheet")
+  number <- if (is.character(order)) match(order, orders, nomatch = length(orders) + 1) - 1 else order
+  if (length(weights) > 0 && !identical(orders[number + 1], "weight"))
+    wrong("weights belong to the order \"weight\", and the order given is ", encodeString(order, quote = if (is.character(order)) "\"" else ""),
+          ": leave one of the two out")
+  numbers <- weights_of(weights, names)
+  answer <- .Call(C_init, modulus, length(names), number, numbers)
+  raw <- taken(answer, more = if (answer[[1]] == 15) weights_wanted(names, numbers))
+  named <- if (length(numbers) > 0) structure(numbers, names = names) else numbers
+  structure(list(raw = raw, genes = names, modulus = modulus, order = orders[number + 1], weights = named), class = "misqafur_sheet")
+}
+
+# What is wrong with weights, in words.
+weights_wanted <- function(genes, weights) {
+  if (length(weights) != length(genes))
+    return(sprintf("One weight is wanted for each gene, %d, and %d were given", length(genes), length(weights)))
+  outside <- is.na(weights) | weights < 1 | weights > 99
+  paste0("Weights are whole numbers from 1 to 99, and not so for ", paste(genes[outside], collapse = ", "))
 }
 
 # A state as levels: a vector, or one row of a data frame, by the genes' names where it has any. One that is there already is a
@@ -119,7 +134,7 @@ basis <- function(sheet) {
   }, "")
 }
 
-# The sheet and the values of a text: gene names and `mod P` in its header, states and values below. Records that repeat a
+# The sheet and the values of a text: gene names, `mod P` and an order in its header, states and values below. Records that repeat a
 # state are its replicates; there is one value for each state.
 read_sheet <- function(file) {
   bytes <- readBin(file, "raw", 1e6)
@@ -128,7 +143,9 @@ read_sheet <- function(file) {
   text <- enc2utf8(iconv(rawToChar(bytes[bytes != 0]), "UTF-8", "UTF-8", sub = "byte"))
   names <- scan(text = sub("^\ufeff", "", text), what = "", sep = ",", quote = "\"", n = parts[[2]], quiet = TRUE, encoding = "UTF-8")
   pots <- parts[[4]][rep(seq_len(nrow(parts[[4]])), as.vector(parts[[6]])), , drop = FALSE]
-  list(sheet = draw_up(sheet(parts[[1]], names, orders[parts[[3]] + 1]), pots), values = as.vector(parts[[5]]))
+  order <- orders[parts[[3]] + 1]
+  empty <- sheet(parts[[1]], names, order, if (order == "weight") as.vector(parts[[7]]))
+  list(sheet = draw_up(empty, pots), values = as.vector(parts[[5]]))
 }
 
 # The version of the library inside, which is the package's.
@@ -138,7 +155,8 @@ library_version <- function() {
 }
 
 print.misqafur_sheet <- function(x, ...) {
-  cat(sprintf("sheet of %d states of %s modulo %d, %s\n", nrow(states(x)), paste(x$genes, collapse = ", "), as.integer(x$modulus), x$order))
+  order <- if (x$order == "weight") paste0("by weight (", paste(x$genes, x$weights, collapse = ", "), ")") else x$order
+  cat(sprintf("sheet of %d states of %s modulo %d, %s\n", nrow(states(x)), paste(x$genes, collapse = ", "), as.integer(x$modulus), order))
   cat(paste0("  ", basis(x), "\n"), sep = "")
   invisible(x)
 }

@@ -32,6 +32,19 @@ static uint8_t *levels_of(SEXP numbers)
     return levels;
 }
 
+/* Integers of R as weights, none or one for each gene: what is no weight, NA too, and any other number of them, become weights
+ * that every call refuses. */
+static uint64_t weights_of(SEXP numbers, SEXP genes)
+{
+    const R_xlen_t count = XLENGTH(numbers);
+    uint8_t weights[MISQAFUR_WEIGHTS_SIZE];
+    if (count > MISQAFUR_WEIGHTS_SIZE || (count > 0 && count != asInteger(genes)))
+        return UINT64_MAX;
+    for (R_xlen_t k = 0; k < count; k++)
+        weights[k] = misqafur_weight(INTEGER(numbers)[k]);
+    return misqafur_pack_weights(weights, (size_t)count);
+}
+
 /* The refusal, and an answer beside it that is protected by its caller. */
 static SEXP answered(uint32_t refusal, SEXP answer)
 {
@@ -61,10 +74,11 @@ static SEXP answered_bytes(uint32_t refusal, const uint8_t *bytes, size_t count)
     return both;
 }
 
-static SEXP init(SEXP modulus, SEXP genes, SEXP order)
+static SEXP init(SEXP modulus, SEXP genes, SEXP order, SEXP weights)
 {
     struct misqafur_sheet sheet; /* after a refusal it holds nothing */
-    const uint32_t refusal = misqafur_sheet_init(&sheet, setting(modulus), setting(genes), setting(order));
+    const uint32_t refusal =
+        misqafur_sheet_init(&sheet, setting(modulus), setting(genes), setting(order), weights_of(weights, genes));
     return refusal == 0 ? answered_sheet(refusal, &sheet) : answered(refusal, R_NilValue);
 }
 
@@ -163,14 +177,16 @@ static SEXP tables(SEXP raw)
     return both;
 }
 
-/* A text as a raw vector: the record of a refusal; or modulus, genes, order, states (row after row), values and counts. */
+/* A text as a raw vector: the record of a refusal; or modulus, genes, order, states (row after row), values, counts and
+ * weights. */
 static SEXP read_text(SEXP text)
 {
     uint8_t points[MISQAFUR_STATES_SIZE], values[MISQAFUR_RESIDUES_SIZE], counts[MISQAFUR_COUNTS_SIZE];
+    uint8_t weights[MISQAFUR_WEIGHTS_SIZE];
     const uint64_t answer = misqafur_read_text(RAW(text), (size_t)XLENGTH(text), points, sizeof points, values, sizeof values,
-                                               counts, sizeof counts);
+                                               counts, sizeof counts, weights, sizeof weights);
     const uint32_t refusal = misqafur_read_refusal(answer), n = misqafur_read_points(answer);
-    SEXP parts = PROTECT(allocVector(VECSXP, 6)), both;
+    SEXP parts = PROTECT(allocVector(VECSXP, 7)), both;
     if (refusal != 0) {
         SET_VECTOR_ELT(parts, 0, ScalarReal((double)misqafur_read_record(answer)));
     } else {
@@ -180,6 +196,7 @@ static SEXP read_text(SEXP text)
         SET_VECTOR_ELT(parts, 3, matrix_of(points, n, 8, misqafur_read_variables(answer)));
         SET_VECTOR_ELT(parts, 4, matrix_of(values, n, 1, 1));
         SET_VECTOR_ELT(parts, 5, matrix_of(counts, n, 1, 1));
+        SET_VECTOR_ELT(parts, 6, matrix_of(weights, misqafur_read_variables(answer), 1, 1));
     }
     both = answered(refusal, parts);
     UNPROTECT(1);
@@ -198,7 +215,7 @@ static SEXP version(void)
 
 #define CALL(name, function, count) {name, (DL_FUNC)function, count}
 static const R_CallMethodDef calls[] = {
-    CALL("init", init, 3),           CALL("add", add, 2),
+    CALL("init", init, 4),           CALL("add", add, 2),
     CALL("withdraw", withdraw, 2),   CALL("draw_up", draw_up, 2),
     CALL("draw_up_packed", draw_up_packed, 2),
     CALL("check", check, 1),         CALL("interpolate", interpolate, 2),

@@ -15,7 +15,7 @@ use Rattle.residue.specs.Modulus.{isModulus}
 use Rattle.residue.specs.Layout.{fill, inPlaces}
 use Rattle.residue.proofs.Places.{place-at}
 use Rattle.monomial.specs.Monomial.{degree}
-use Rattle.monomial.specs.Order.{Order}
+use Rattle.monomial.specs.Order.{Order, LightOrder}
 use Rattle.monomial.specs.Rank.{rankOf, variableRank}
 use Rattle.monomial.specs.Increasing.{Increasing}
 use Rattle.monomial.specs.declared.candidate.LeastRank.{LeastRank}
@@ -85,7 +85,7 @@ module _ (q m : ℕ) (order : Order) where
   Outcome S standard leads Candidate.Nothing at = (standard ≡ standardOf D S) × (leads ≡ leadsOf D S)
   Outcome S standard leads (Candidate.Of k t r) at = Found S standard leads k t r at
 
-  module _ (p : isModulus (suc q) ≡ true) (l : m ≤ 8) (S : List (Point (suc q) m)) (d : Distinct D S) (n : length S ≤ 64)
+  module _ (p : isModulus (suc q) ≡ true) (l : m ≤ 8) (light : LightOrder order) (S : List (Point (suc q) m)) (d : Distinct D S) (n : length S ≤ 64)
       (standard leads : List (Monomial m)) (ranks steps : List ℕ) (R : Ranked standard ranks steps) (inc : Increasing (D .cmp) standard)
       (inside : (a : Monomial m) → Among a standard → Among a (standardOf D S)) (room : length standard ≤ length S) where
     L : Laws D
@@ -108,7 +108,7 @@ module _ (q m : ℕ) (order : Order) where
         place-at 8 512 (map (λ a. a .0) standard) t (D .one .0) (rw length-map (omega (arith, room))) (rw length-map h)
         ∙ ap (fill 8) (List·getD-map (λ (a : Monomial m). a .0) standard t (D .one))
 
-    small : (v t : ℕ) → v < m → t < found → degree (prod v t .0) < 128
+    small : (v t : ℕ) → v < m → t < found → degree (prod v t .0) < 65
     small v t hv h =
         omega (arith, degree-timesVariable v (std t .0) (rw (std t .1) hv), standard-total q m order p S d (std t) (inside (std t) (getD-among standard t (D .one) h)))
 
@@ -132,7 +132,7 @@ module _ (q m : ℕ) (order : Order) where
                 arith,
                 P .within v hv,
                 least-nothing found ranks steps at m e v hv
-                    (λ h. omega (arith, rank-product v (getD at v 0) hv h, rank-small (prod v (getD at v 0) .0) (rw (prod v (getD at v 0) .1) l) order (small v (getD at v 0) hv h))),
+                    (λ h. omega (arith, rank-product v (getD at v 0) hv h, rank-small (prod v (getD at v 0) .0) (rw (prod v (getD at v 0) .1) l) order light (small v (getD at v 0) hv h))),
               )
 
           over : (k : ℕ) (s : Monomial m) → k < m → Among s standard → Less D c (D .x k s) → ¬ Undivided D leads (D .x k s)
@@ -267,11 +267,11 @@ module _ (q m : ℕ) (order : Order) where
         (omega (arith, passed-fewer found ranks steps m at r e (productsPassed found ranks steps r at m) refl (omega arith))))
 
   -- What `candidate::next` answers, of the points S, with the standard monomials and leads found and all up to c decided.
-  pub next-candidate : isModulus (suc q) ≡ true → m ≤ 8 → (S : List (Point (suc q) m)) → Distinct D S → length S ≤ 64 → (standard leads : List (Monomial m)) (c : Monomial m) →
+  pub next-candidate : isModulus (suc q) ≡ true → m ≤ 8 → LightOrder order → (S : List (Point (suc q) m)) → Distinct D S → length S ≤ 64 → (standard leads : List (Monomial m)) (c : Monomial m) →
       Drawn D S standard leads c → (ranks steps : List ℕ) → Ranked standard ranks steps → (at : List ℕ) → length at ≡ 8 → Positions D standard c (λ v. getD at v 0) →
       (a : Candidate) (at′ : List ℕ) → searchEnds a at′ ≡ nextOf m (length standard) (tableOf standard) ranks steps at → Outcome S standard leads a at′
   unfolding nextOf
-  next-candidate p l S d n standard leads c W ranks steps R at long P a at′ e =
+  next-candidate p l light S d n standard leads c W ranks steps R at long P a at′ e =
       subst (λ (z : Searched). Outcome S standard leads (z .answer) (z .positions)) (sym e)
-      (turns p l S d n standard leads ranks steps R (W .standard-to .increasing) (W .standard-to .of-all) (standard-room D (laws q m order p) S d standard leads c W)
+      (turns p l light S d n standard leads ranks steps R (W .standard-to .increasing) (W .standard-to .of-all) (standard-room D (laws q m order p) S d standard leads c W)
       (m * length standard) at long c W P (remaining-most (length standard) at m))

@@ -222,7 +222,7 @@ module _ {q m n : ℕ} {order : Order} {S : List (Point (suc q) m)} {p : ℕ} (G
         ranks-long = length-set ranks found rank ∙ H .ranks-long;
         ranks-below =
             below-set rankBound found rank ranks
-            (rw (B .rank-is) (rank-small (b .0) (rw (b .1) (G .few)) order (omega (arith, standard-total q m order (G .prime) S (G .distinct) b new, G .count, G .most))))
+            (rw (B .rank-is) (rank-small (b .0) (rw (b .1) (G .few)) order (G .light) (omega (arith, standard-total q m order (G .prime) S (G .distinct) b new, G .count, G .most))))
             (H .ranks-below);
         ranked = ranked-more q m order std ranks steps (H .ranked) b rank (B .rank-is) (omega (arith, H .ranks-long, standard-more, G .most));
       }

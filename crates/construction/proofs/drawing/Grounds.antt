@@ -35,6 +35,7 @@ use Rattle.specification.proofs.ideal.Lists.{getD-among}
 use Rattle.specification.proofs.ideal.Basis.{interpolant-fits, interpolant-values}
 use Rattle.specification.proofs.ideal.Counts.{standard-length}
 use Rattle.specification.proofs.agreement.Drawings.{distinct-under}
+use Rattle.specification.proofs.agreement.Refusals.{light-under}
 use Rattle.construction.specs.Drawing.{PointsGiven, DrawnUp}
 use Rattle.construction.proofs.drawing.Given.{given-count}
 use Rattle.construction.proofs.drawing.ReducedRows.{solves}
@@ -100,7 +101,7 @@ module _ {s : Settings} {n : ℕ} {points : List ℕ} (given : PointsGiven s n p
   prime = subst (λ (z : ℕ). isModulus z ≡ true) raised (given .settings .modulus)
 
   L : Laws D
-  L = laws q m (orderOf order) prime
+  L = laws q m (orderOf order (s .weights)) prime
 
   as-many : length K ≡ n
   as-many = given-count given
@@ -109,13 +110,14 @@ module _ {s : Settings} {n : ℕ} {points : List ℕ} (given : PointsGiven s n p
   unfolding pointsIn
   point P mem = list-of q m (pointsUnder s (groups 8 n points)) P mem
 
-  pub ground : Ground q m n (orderOf order) S p
+  pub ground : Ground q m n (orderOf order (s .weights)) S p
   ground = record {
     modulus = raised;
     prime = prime;
     few = given .settings .few;
     count = length-map K (pointOf q m) ∙ as-many;
     most = given .most;
+    light = light-under s (given .settings .weights);
     distinct = distinct-under s (given .settings) K
         (λ P mem. let t = point P mem in record { long = ap length (t .1) ∙ t .0 .1 .0; same = rw (t .1) (residues-reduced q (t .0 .0) (t .0 .1 .1)) }) (given .once);
   }
@@ -133,7 +135,7 @@ module _ {s : Settings} {n : ℕ} {points : List ℕ} (given : PointsGiven s n p
   unfolding pointsIn
   same-points = points-again q m (map (pointOf q m) (groups 8 n points))
 
-  pub coordinate : (k : ℕ) → k < m → (i : ℕ) → i < n → Mod (suc q) (getD points (8 * i + k) 0) (D .coord k (pointAt q m n (orderOf order) S i))
+  pub coordinate : (k : ℕ) → k < m → (i : ℕ) → i < n → Mod (suc q) (getD points (8 * i + k) 0) (D .coord k (pointAt q m n (orderOf order (s .weights)) S i))
   unfolding pointOf
   coordinate k h i l =
       let g : List ℕ = take 8 (drop (8 * i) points) in
@@ -146,7 +148,7 @@ module _ {s : Settings} {n : ℕ} {points : List ℕ} (given : PointsGiven s n p
 
   -- all is found
   module _ {css : List (List ℕ)} {standard leads coefficients rows pivots values ranks steps : List ℕ}
-      (H : TablesHold q m n (orderOf order) S (standardUnder s K) (leadsUnder s K) css standard leads coefficients rows pivots values ranks steps) where
+      (H : TablesHold q m n (orderOf order (s .weights)) S (standardUnder s K) (leadsUnder s K) css standard leads coefficients rows pivots values ranks steps) where
     full : length (standardUnder s K) ≡ n
     full = standard-length D L S (ground .distinct) ∙ ground .count
 

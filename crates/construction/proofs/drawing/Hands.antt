@@ -16,9 +16,10 @@ use Rattle.residue.proofs.Places.{place-at, no-places}
 use Rattle.residue.proofs.Replaced.{part-long}
 use Rattle.elimination.proofs.reducing.NextPivot.{no-rows}
 use Rattle.monomial.specs.Monomial.{timesVariable}
-use Rattle.monomial.specs.Order.{Order, lex, grlex, grevlex}
+use Rattle.monomial.specs.Order.{Order, lex, grlex, grevlex, weighted}
 use Rattle.monomial.specs.Rank.{key, rankOf, stepsOf}
 use Rattle.monomial.specs.Columns.{columnOf}
+use Rattle.monomial.proofs.Orders.Weights.{weigh-one}
 use Rattle.monomial.proofs.rank.Steps.{steps-at}
 use Rattle.monomial.proofs.columns.Entries.{column-long, column-at}
 use Rattle.monomial.proofs.Padding.{fill-timesVariable}
@@ -49,6 +50,7 @@ unfolding rankOf key
 rank-one lex = refl
 rank-one grlex = refl
 rank-one grevlex = refl
+rank-one (weighted w) = rw (weigh-one w 8)
 
 module _ {q m n : ℕ} {order : Order} {S : List (Point (suc q) m)} {p : ℕ} (G : Ground q m n order S p) where
   abbrev D : Space

@@ -50,7 +50,7 @@ module _ {s : Settings} {n : ℕ} {points : List ℕ} (given : PointsGiven s n p
   S = pointsDrawn s n points
 
   abbrev o : Order
-  o = orderOf (s .order)
+  o = orderOf (s .order) (s .weights)
 
   G : Ground (p - 1) m n o S p
   G = ground given
@@ -209,7 +209,7 @@ module _ {s : Settings} {n : ℕ} {points : List ℕ} (given : PointsGiven s n p
 
       outcome : (a : Candidate) (at′ : List ℕ) → searchEnds a at′ ≡ nextOf m found standard ranks steps at → Outcome (p - 1) m o S (h .std) (h .lds) a at′
       outcome a at′ e =
-          next-candidate (p - 1) m o (G .prime) (G .few) S (G .distinct) (omega (arith, G .count, G .most)) (h .std) (h .lds) (h .decided .last) (h .decided .drawn) ranks steps (h .held .ranked) at
+          next-candidate (p - 1) m o (G .prime) (G .few) (G .light) S (G .distinct) (omega (arith, G .count, G .most)) (h .std) (h .lds) (h .decided .last) (h .decided .drawn) ranks steps (h .held .ranked) at
           (h .decided .long) (h .decided .positions) a at′ (e ∙ ap₂ (λ (k : ℕ) (t : List ℕ). nextOf m k t ranks steps at) (h .found-is) (h .held .standard-table))
 
       -- nothing is left

@@ -49,8 +49,8 @@ module _ (s : Settings) (n : ℕ) (points rows₀ pivots₀ : List ℕ) where
     pub hand : Monomial (s .variables)
     pub found-is : found ≡ length std
     pub r-is : r ≡ length lds
-    pub held : TablesHold (s .modulus - 1) (s .variables) n (orderOf (s .order)) (pointsDrawn s n points) std lds css standard leads coefficients rows pivots values ranks steps
-    pub in-hand : InHand (s .modulus - 1) (s .variables) n (orderOf (s .order)) (pointsDrawn s n points) std lds hand at exponents rank own
+    pub held : TablesHold (s .modulus - 1) (s .variables) n (orderOf (s .order) (s .weights)) (pointsDrawn s n points) std lds css standard leads coefficients rows pivots values ranks steps
+    pub in-hand : InHand (s .modulus - 1) (s .variables) n (orderOf (s .order) (s .weights)) (pointsDrawn s n points) std lds hand at exponents rank own
     pub ready : Ready (spaceUnder s) (pointsDrawn s n points) n std lds total rows pivots hand
     pub few : found + r ≤ 513
     pub rows-kept : pivotBytes rows pivots ≡ rowsKept std
@@ -62,8 +62,8 @@ module _ (s : Settings) (n : ℕ) (points rows₀ pivots₀ : List ℕ) where
     pub css : List (List ℕ)
     pub found-is : found ≡ length std
     pub r-is : r ≡ length lds
-    pub held : TablesHold (s .modulus - 1) (s .variables) n (orderOf (s .order)) (pointsDrawn s n points) std lds css standard leads coefficients rows pivots values ranks steps
-    pub decided : Decided (s .modulus - 1) (s .variables) n (orderOf (s .order)) (pointsDrawn s n points) std lds at
+    pub held : TablesHold (s .modulus - 1) (s .variables) n (orderOf (s .order) (s .weights)) (pointsDrawn s n points) std lds css standard leads coefficients rows pivots values ranks steps
+    pub decided : Decided (s .modulus - 1) (s .variables) n (orderOf (s .order) (s .weights)) (pointsDrawn s n points) std lds at
     pub last : Monomial (s .variables)
     pub passed : Passed (spaceUnder s) (pointsDrawn s n points) n std lds total rows pivots last
     pub rows-kept : pivotBytes rows pivots ≡ rowsKept std

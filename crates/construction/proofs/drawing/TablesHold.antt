@@ -11,7 +11,7 @@ use Rattle.residue.specs.Modulus.{isModulus}
 use Rattle.residue.specs.Vector.{Below}
 use Rattle.residue.specs.Layout.{fill, inPlaces}
 use Rattle.elimination.proofs.reducing.PivotRows.{PivotRows}
-use Rattle.monomial.specs.Order.{Order}
+use Rattle.monomial.specs.Order.{Order, LightOrder}
 use Rattle.monomial.specs.Rank.{rankOf, rankBound}
 use Rattle.specification.specs.Space.{Space}
 use Rattle.specification.specs.Polynomial.{Distinct}
@@ -38,6 +38,7 @@ module _ (q m n : ℕ) (order : Order) (S : List (Point (suc q) m)) where
     pub few : m ≤ 8
     pub count : length S ≡ n
     pub most : n ≤ 64
+    pub light : LightOrder order
     pub distinct : Distinct D S
 
   pub record TablesHold (std lds : List (Monomial m)) (css : List (List ℕ)) (standard leads coefficients rows pivots values ranks steps : List ℕ) : Type 0 where

@@ -3,7 +3,7 @@ use mathlib.Core.Path.{_≡_, refl, sym, ap, subst}
 use mathlib.Core.Bool.{Bool, true, false, not, cond}
 use mathlib.Core.List.{List, [], _∷_, map}
 use mathlib.Core.Logic.{inl, inr}
-use mathlib.Core.Option.{Option, some, none, Option·getD}
+use mathlib.Core.Option.{Option, some, none, Option·map, Option·getD}
 use Prim.Native.Nat.{ℕ, suc, _≤_}
 use native.Mathlib.Omega.{arith}
 use lib.IntN.{ℤ}
@@ -15,44 +15,51 @@ use Rattle.residue.proofs.Tests.{of-true}
 use Rattle.specification.specs.Levels.{inRange}
 use Rattle.notation.specs.Fields.{front}
 use Rattle.notation.specs.Digits.{isDigit, decimalNumber}
-use Rattle.notation.specs.Forms.{lex-word, grlex-word, grevlex-word, mod-word, defaultOrder, orderWord, Header, header, modulusAndOrder, lastField, headerFrom, headerOf}
+use Rattle.notation.specs.Forms.{mod-word, lex-word, grlex-word, grevlex-word, weight-word, weightsOf, Ordered, unweighted, weighted, defaultOrder, orderWord}
+use Rattle.notation.specs.Forms.{Header, header, modulusAndOrder, lastField, headerFrom, headerOf}
 use Rattle.csv.specs.reading.Text.{firstFault, isNone, headerIn, entryIn, entriesIn, formFault, isOutside}
 use Rattle.csv.proofs.reading.FirstPlaces.{fault-step}
 use Rattle.csv.proofs.reading.EntryLengths.{AllLong, entries-long}
 
--- The order's number is at most 2.
-abbrev Small : Option ℕ → Type 0
+-- The order's number is at most 3.
+abbrev Small : Option Ordered → Type 0
 Small none = Unit {0}
-Small (some k) = k ≤ 2
+Small (some o) = o .0 ≤ 3
 
-abbrev SmallOrder : Option Header → Type 0
+abbrev pub SmallOrder : Option Header → Type 0
 SmallOrder none = Unit {0}
-SmallOrder (some h) = h .order ≤ 2
+SmallOrder (some h) = h .order ≤ 3
 
-either : (b : Bool) (x y : Option ℕ) → Small x → Small y → Small (cond b x y)
+either : (b : Bool) (x y : Option Ordered) → Small x → Small y → Small (cond b x y)
 either true x y h k = h
 either false x y h k = k
 
-word-small : (l : List ℕ) → Small (orderWord l)
-unfolding orderWord
-word-small l =
-    either (sameList l []) (some defaultOrder) _ (omega arith)
-    (either (sameList l lex-word) (some 0) _ (omega arith)
-    (either (sameList l grlex-word) (some 1) _ (omega arith) (either (sameList l grevlex-word) (some 2) none (omega arith) tt)))
+weighted-small : (o : Option (List ℕ)) → Small (Option·map weighted o)
+weighted-small none = tt
+weighted-small (some ws) = omega arith
 
-header-small : (m : ℕ) (p o : Option ℕ) → Small o → SmallOrder (header m p o)
+word-small : (m : ℕ) (l : List ℕ) → Small (orderWord m l)
+unfolding orderWord
+word-small m l =
+    either (sameList l []) (some (unweighted defaultOrder)) _ (omega arith)
+    (either (sameList l lex-word) (some (unweighted 0)) _ (omega arith)
+    (either (sameList l grlex-word) (some (unweighted 1)) _ (omega arith)
+    (either (sameList l grevlex-word) (some (unweighted 2)) _ (omega arith)
+    (either (sameList (take 7 l) weight-word) _ none (weighted-small (weightsOf m (drop 7 l))) tt))))
+
+header-small : (m : ℕ) (p : Option ℕ) (o : Option Ordered) → Small o → SmallOrder (header m p o)
 unfolding header
 header-small m none o h = tt
 header-small m (some p) none h = tt
-header-small m (some p) (some k) h = h
+header-small m (some p) (some (k, ws)) h = h
 
 last-small : (m : ℕ) (l : List ℕ) → SmallOrder (lastField m l)
 unfolding lastField modulusAndOrder
-last-small m l = go (sameList (take 4 l) mod-word)
+last-small m l = go (sameList (take 4 l) mod-word) (drop 4 l)
   where
-    go : (b : Bool) → SmallOrder (cond b (header m (decimalNumber (take (front isDigit (drop 4 l)) (drop 4 l))) (orderWord (drop (front isDigit (drop 4 l)) (drop 4 l)))) none)
-    go true = header-small m (decimalNumber (take (front isDigit (drop 4 l)) (drop 4 l))) (orderWord (drop (front isDigit (drop 4 l)) (drop 4 l))) (word-small _)
-    go false = tt
+    go : (b : Bool) (r : List ℕ) → SmallOrder (cond b (header m (decimalNumber (take (front isDigit r) r)) (orderWord m (drop (front isDigit r) r))) none)
+    go true r = header-small m (decimalNumber (take (front isDigit r) r)) (orderWord m (drop (front isDigit r) r)) (word-small m _)
+    go false r = tt
 
 from-small : (m : ℕ) (fields : List (List ℕ)) → SmallOrder (headerFrom m fields)
 unfolding headerFrom
@@ -66,7 +73,7 @@ in-small [] = tt
 in-small (none ∷ t) = tt
 in-small (some fields ∷ t) = from-small 0 fields
 
-pub or-small : (o : Option Header) (d : Header) → SmallOrder o → d .order ≤ 2 → Option·getD o d .order ≤ 2
+pub or-small : (o : Option Header) (d : Header) → SmallOrder o → d .order ≤ 3 → Option·getD o d .order ≤ 3
 or-small none d h k = k
 or-small (some x) d h k = h
 

@@ -13,12 +13,13 @@ use Rattle.specification.specs.Refusal.{firstOf}
 use Rattle.csv.specs.declared.reading.Refusal.{Refusal}
 use Rattle.csv.specs.reading.Text.{refusalAt, notRefused, TextCase}
 use Rattle.csv.specs.reading.Faults.{FirstAt}
-use Rattle.csv.specs.reading.Causes.{Cause, length-of-text, form, modulus, variables, buffers, range, points, replicates, values, causeNumber, FirstCause}
+use Rattle.csv.specs.reading.Causes.{Cause, length-of-text, form, modulus, variables, weights, buffers, range, points, replicates, values}
+use Rattle.csv.specs.reading.Causes.{causeNumber, FirstCause}
 
 -- a cause by its number
 causeOf : ℕ → Cause
-causeOf k = cond (eqb k 1) length-of-text (cond (eqb k 2) form (cond (eqb k 3) modulus (cond (eqb k 4) variables (cond (eqb k 6) buffers
-    (cond (eqb k 9) range (cond (eqb k 8) points (cond (eqb k 13) replicates values)))))))
+causeOf k = cond (eqb k 1) length-of-text (cond (eqb k 2) form (cond (eqb k 3) modulus (cond (eqb k 4) variables (cond (eqb k 15) weights
+    (cond (eqb k 6) buffers (cond (eqb k 9) range (cond (eqb k 8) points (cond (eqb k 13) replicates values))))))))
 
 cause-back : (c : Cause) → causeOf (causeNumber c) ≡ c
 unfolding causeOf causeNumber
@@ -26,6 +27,7 @@ cause-back length-of-text = refl
 cause-back form = refl
 cause-back modulus = refl
 cause-back variables = refl
+cause-back weights = refl
 cause-back buffers = refl
 cause-back range = refl
 cause-back points = refl
@@ -41,6 +43,7 @@ number-some length-of-text e = omega arith
 number-some form e = omega arith
 number-some modulus e = omega arith
 number-some variables e = omega arith
+number-some weights e = omega arith
 number-some buffers e = omega arith
 number-some range e = omega arith
 number-some points e = omega arith

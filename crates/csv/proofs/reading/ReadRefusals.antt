@@ -4,41 +4,46 @@ use mathlib.Core.Bool.{Bool, true, false, not, cond, _&&_, _||_}
 use mathlib.Core.List.{List, [], _∷_, _++_}
 use mathlib.Core.Logic.{_≢_, _⊎_, inl, inr, _↔_}
 use mathlib.Core.Option.{Option}
-use Prim.Native.Nat.{ℕ, zero, suc, _<_}
+use Prim.Native.Nat.{ℕ, zero, suc, _<_, _≤_}
 use native.Mathlib.Omega.{arith}
 use lib.IntN.{ℤ}
 use lib.ListN.{length}
-use lib.Dec.{T, eqb, leb, ltb}
+use lib.Dec.{T, eqb, leb, ltb, leb→le}
 use borrow.Author.Tests.{ltb-true, lt-ltb, leb-true, leb-false, eqb-true, eqb-false, eq-eqb, ne-eqb, not-true, not-false}
 use Rattle.residue.specs.Lists.{Among}
 use Rattle.residue.specs.Modulus.{primes, isOneOf, isModulus}
 use Rattle.residue.proofs.level.Moduli as Moduli
-use Rattle.residue.proofs.Tests.{Decides, so, not-so, by-test, true-of, of-true}
+use Rattle.residue.proofs.Tests.{Decides, so, not-so, by-test, of-true, and-right}
 use Rattle.residue.proofs.Searches.{of-one}
 use Rattle.specification.specs.Refusal.{firstOf}
+use Rattle.specification.specs.Settings.{rightWeights}
 use Rattle.notation.specs.Fields.{recordsOf}
 use Rattle.notation.specs.Forms.{Header}
 use Rattle.csv.specs.declared.reading.Refusal.{Refusal}
 use Rattle.csv.specs.reading.Text.{headerIn, formFault, Contents, Valued, valuedPoints, isOutside, firstOutside, firstAfter}
 use Rattle.csv.specs.reading.Text.{tooMany, tooOften, otherValue, notRefused}
-use Rattle.csv.specs.reading.Text.{headerCases, pointsCases, entriesCases, readCases, TextOutcome, textAccepted, textRefused, textDecided, readOutcome}
+use Rattle.csv.specs.reading.Text.{settingsBy, shortBuffers, headerCases, pointsCases, entriesCases, readCases}
+use Rattle.csv.specs.reading.Text.{TextOutcome, textAccepted, textRefused, textDecided, readOutcome}
 use Rattle.csv.specs.reading.Faults.{FirstAt, Says, FaultAt, empty, no-header, no-entry, TextFault}
-use Rattle.csv.specs.reading.Causes.{OutOfRange, TooMany, TooOften, OtherValue, causeNumber, causes, AtEntry, HoldsAt, ReadRefusals}
-use Rattle.csv.specs.reading.Causes.{Cause, length-of-text, form, modulus, variables, buffers, range, points, replicates, values}
+use Rattle.csv.specs.reading.Causes.{OutOfRange, TooMany, TooOften, OtherValue, WeightZero, causeNumber, causes, AtEntry, HoldsAt, ReadRefusals}
+use Rattle.csv.specs.reading.Causes.{Cause, length-of-text, form, modulus, variables, weights, buffers, range, points, replicates, values}
 use Rattle.csv.proofs.reading.FirstFault.{first-at, first-alone}
 use Rattle.csv.proofs.reading.FormFaults.{form-faults, fault-read, text-faults}
 use Rattle.csv.proofs.reading.SaidText.{saidBy, says-read, says-found}
+use Rattle.csv.proofs.reading.HeaderWeights.{weights-told}
 use Rattle.csv.proofs.reading.PointFaults.{range-told, many-told, often-told, other-told}
 use Rattle.csv.proofs.reading.FirstCause.{number-some, Told, Tells, none, more, tells, entry-tells, first-cause, no-cause, some-cause}
 
 lt-told : (a b : ℕ) → Decides (a < b) (ltb a b)
 lt-told a b = by-test (ltb a b) (ltb-true a b) (lt-ltb a b)
 
-any-told : {X Y Z : Type 0} {a b c : Bool} → Decides X a → Decides Y b → Decides Z c → Decides (X ⊎ Y ⊎ Z) (a || b || c)
-any-told (so x) d e = so (inl x)
-any-told (not-so n) (so y) e = so (inr (inl y))
-any-told (not-so n) (not-so k) (so z) = so (inr (inr z))
-any-told (not-so n) (not-so k) (not-so l) = not-so (λ w. elim w [ inl x ↦ n x | inr u ↦ elim u [ inl y ↦ k y | inr z ↦ l z ] ])
+any-told : {W X Y Z : Type 0} {a b c d : Bool} → Decides W a → Decides X b → Decides Y c → Decides Z d → Decides (W ⊎ X ⊎ Y ⊎ Z) (a || b || c || d)
+any-told (so w) e f g = so (inl w)
+any-told (not-so n) (so x) f g = so (inr (inl x))
+any-told (not-so n) (not-so k) (so y) g = so (inr (inr (inl y)))
+any-told (not-so n) (not-so k) (not-so l) (so z) = so (inr (inr (inr z)))
+any-told (not-so n) (not-so k) (not-so l) (not-so m) =
+    not-so (λ u. elim u [ inl w ↦ n w | inr v ↦ elim v [ inl x ↦ k x | inr t ↦ elim t [ inl y ↦ l y | inr z ↦ m z ] ] ])
 
 some-told : (k : ℕ) → Decides (k ≢ 0) (not (eqb k 0))
 some-told k = by-test (not (eqb k 0)) (λ e. eqb-false k 0 (not-true _ e)) (λ n. ap not (ne-eqb k 0 n))
@@ -66,7 +71,7 @@ fault-some empty e = omega arith
 fault-some (no-header n) e = omega arith
 fault-some (no-entry g f) e = omega arith
 
-module _ (text : List ℕ) (s v c : ℕ) where
+module _ (text : List ℕ) (s v c w : ℕ) where
   abbrev t : List (Option (List (List ℕ)))
   t = recordsOf text
 
@@ -77,7 +82,7 @@ module _ (text : List ℕ) (s v c : ℕ) where
   e = saidBy t
 
   abbrev X : Cause → ℕ → Type 0
-  X = HoldsAt text s v c
+  X = HoldsAt text s v c w
 
   abbrev said : Header → List (List ℤ) → Contents
   said h E = record { header = h; entries = E }
@@ -115,9 +120,14 @@ module _ (text : List ℕ) (s v c : ℕ) where
     header-variables = tells X (variables-told (e .header .variables)) (λ n. (e .header, e .entries, says, n, refl))
         (λ k x. let (h, E, g, n, q) = x in (only (λ y. (y .header .variables < 1) ⊎ (8 < y .header .variables)) h E g n, q))
 
-    buffers-told : Told X buffers (ltb s 512 || ltb v 64 || ltb c 64) 0
+    header-weights : e .header .variables ≤ 8 → Told X weights (not (rightWeights (settingsBy (e .header)))) 1
     unfolding HoldsAt
-    buffers-told = tells X (any-told (lt-told s 512) (lt-told v 64) (lt-told c 64)) (λ w. (w, refl)) (λ k x. x)
+    header-weights few = tells X (weights-told (e .header) (says .header) few) (λ n. (e .header, e .entries, says, n, refl))
+        (λ k x. let (h, E, g, n, q) = x in (only (λ y. WeightZero (y .header)) h E g n, q))
+
+    buffers-told : Told X buffers (shortBuffers s v c w) 0
+    unfolding HoldsAt shortBuffers
+    buffers-told = tells X (any-told (lt-told s 512) (lt-told v 64) (lt-told c 64) (lt-told w 8)) (λ u. (u, refl)) (λ k x. x)
 
     range-first : Told X range (not (eqb (firstOutside e) 0)) (suc (firstOutside e))
     unfolding HoldsAt firstOutside
@@ -148,7 +158,10 @@ module _ (text : List ℕ) (s v c : ℕ) where
     unfolding HoldsAt
     values-told = entry-told OtherValue otherValue other-told (λ at. ((λ x. x), λ x. x))
 
-  all-tell : Tells X causes (readCases text fault e s v c)
+  few-variables : (m : ℕ) → not (leb 1 m && leb m 8) ≡ false → m ≤ 8
+  few-variables m i = leb→le m 8 (and-right (leb 1 m) (leb m 8) (of-true (not-false (leb 1 m && leb m 8) i)))
+
+  all-tell : Tells X causes (readCases text fault e (shortBuffers s v c w))
   unfolding readCases headerCases entriesCases pointsCases causeNumber
   all-tell =
       more long-told
@@ -156,54 +169,56 @@ module _ (text : List ℕ) (s v c : ℕ) where
       (λ i. let z = eqb-true fault 0 (not-false _ i) in
       more (header-modulus z)
       (λ _. more (header-variables z)
+      (λ j. more (header-weights z (few-variables (e .header .variables) j))
       (λ _. more (buffers-told z)
       (λ _. more (range-first z)
       (λ _. more (points-told z)
       (λ _. more (replicates-told z)
-      (λ _. more (values-told z) (λ _. none)))))))))
+      (λ _. more (values-told z) (λ _. none))))))))))
 
 -- what is decided, with its number and record
-module _ (r : Refusal) (e : Contents) (s v c : List ℕ) where
+module _ (r : Refusal) (e : Contents) (s v c w : List ℕ) where
   abbrev pub outcome : TextOutcome
-  outcome = textDecided r (textAccepted e s v c) s v c
+  outcome = textDecided r (textAccepted e s v c w) s v c w
 
   pub same-number : outcome .answer .refusal ≡ r .refusal
   unfolding textDecided textAccepted textRefused
   same-number = go (eqb (r .refusal) 0) refl
     where
-      go : (b : Bool) → eqb (r .refusal) 0 ≡ b → cond b (textAccepted e s v c) (textRefused r s v c) .answer .refusal ≡ r .refusal
+      go : (b : Bool) → eqb (r .refusal) 0 ≡ b → cond b (textAccepted e s v c w) (textRefused r s v c w) .answer .refusal ≡ r .refusal
       go true i = sym (eqb-true (r .refusal) 0 i)
       go false i = refl
 
   same-record : r .refusal ≢ 0 → outcome .answer .at ≡ r .at
   unfolding textDecided textRefused
-  same-record n = ap (λ (b : Bool). cond b (textAccepted e s v c) (textRefused r s v c) .answer .at) (ne-eqb (r .refusal) 0 n)
+  same-record n = ap (λ (b : Bool). cond b (textAccepted e s v c w) (textRefused r s v c w) .answer .at) (ne-eqb (r .refusal) 0 n)
 
 each-cause : (c : Cause) → Among c causes
 each-cause length-of-text = inl refl
 each-cause form = inr (inl refl)
 each-cause modulus = inr (inr (inl refl))
 each-cause variables = inr (inr (inr (inl refl)))
-each-cause buffers = inr (inr (inr (inr (inl refl))))
-each-cause range = inr (inr (inr (inr (inr (inl refl)))))
-each-cause points = inr (inr (inr (inr (inr (inr (inl refl))))))
-each-cause replicates = inr (inr (inr (inr (inr (inr (inr (inl refl)))))))
-each-cause values = inr (inr (inr (inr (inr (inr (inr (inr (inl refl))))))))
+each-cause weights = inr (inr (inr (inr (inl refl))))
+each-cause buffers = inr (inr (inr (inr (inr (inl refl)))))
+each-cause range = inr (inr (inr (inr (inr (inr (inl refl))))))
+each-cause points = inr (inr (inr (inr (inr (inr (inr (inl refl)))))))
+each-cause replicates = inr (inr (inr (inr (inr (inr (inr (inr (inl refl))))))))
+each-cause values = inr (inr (inr (inr (inr (inr (inr (inr (inr (inl refl)))))))))
 
 pub read-refusals : ReadRefusals
 unfolding readOutcome
-read-refusals text s v k =
+read-refusals text s v k w =
     let t = recordsOf text in
     let e = saidBy t in
-    let r = firstOf notRefused (readCases text (formFault (headerIn t) t) e (length s) (length v) (length k)) in
-    let tell = all-tell text (length s) (length v) (length k) in
-    let X = HoldsAt text (length s) (length v) (length k) in
-    let n = same-number r e s v k in
+    let r = firstOf notRefused (readCases text (formFault (headerIn t) t) e (shortBuffers (length s) (length v) (length k) (length w))) in
+    let tell = all-tell text (length s) (length v) (length k) (length w) in
+    let X = HoldsAt text (length s) (length v) (length k) (length w) in
+    let n = same-number r e s v k w in
     let number : (c : Cause) → r .refusal ≡ causeNumber c → r .refusal ≢ 0 = λ c q z. number-some c (sym z ∙ q) in (
       λ c at. (
-        λ f. let (p, q) = first-cause X tell c at .0 f in (n ∙ p, same-record r e s v k (number c p) ∙ q),
-        λ w. let p = sym n ∙ w .0 in first-cause X tell c at .1 (p, sym (same-record r e s v k (number c p)) ∙ w .1),
+        λ f. let (p, q) = first-cause X tell c at .0 f in (n ∙ p, same-record r e s v k w (number c p) ∙ q),
+        λ h. let p = sym n ∙ h .0 in first-cause X tell c at .1 (p, sym (same-record r e s v k w (number c p)) ∙ h .1),
       ),
-      ((λ f. n ∙ no-cause X tell .0 (λ c at w. f c at)), λ z c at. no-cause X tell .1 (sym n ∙ z) c at (each-cause c)),
+      ((λ f. n ∙ no-cause X tell .0 (λ c at h. f c at)), λ z c at. no-cause X tell .1 (sym n ∙ z) c at (each-cause c)),
       λ m. let (c, q) = some-cause X tell (λ z. m (n ∙ z)) in (c, n ∙ q),
     )

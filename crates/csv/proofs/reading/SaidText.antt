@@ -11,7 +11,7 @@ use Rattle.notation.specs.Forms.{Header, headerOf, entryOf}
 use Rattle.notation.proofs.Grammar.TextFound.{text-grammar}
 use Rattle.notation.proofs.Grammar.LevelForm.{entry-grammar}
 use Rattle.notation.proofs.Grammar.HeaderForm.{header-grammar}
-use Rattle.csv.specs.reading.Text.{further, firstFault, isNone, headerIn, entryIn, entriesIn, formFault, Contents, contentsOf}
+use Rattle.csv.specs.reading.Text.{further, firstFault, isNone, headerIn, entryIn, entriesIn, noHeader, formFault, Contents, contentsOf}
 use Rattle.csv.specs.reading.Faults.{AreEntries, no-entries, entries, Says}
 use Rattle.csv.proofs.reading.FirstPlaces.{fault-step}
 
@@ -20,7 +20,7 @@ Records = List (Option (List (List ℕ)))
 
 -- what is said in a text, if its form is right
 abbrev pub saidBy : Records → Contents
-saidBy t = contentsOf (Option·getD (headerIn t) (record { variables = 0; modulus = 0; order = 0 })) t
+saidBy t = contentsOf (Option·getD (headerIn t) noHeader) t
 
 abbrev told : List (Option (List ℤ)) → List (List ℤ)
 told l = map (λ e. Option·getD e []) l
@@ -62,7 +62,7 @@ module _ (h : Header) (first : List (List ℕ)) (t : Records) (is : headerOf fir
 
   said-under : saidBy (some first ∷ t) ≡ record { header = h; entries = told (map (entryIn (h .variables)) t) }
   unfolding contentsOf headerIn entriesIn
-  said-under = ap (λ (o : Option Header). contentsOf (Option·getD o (record { variables = 0; modulus = 0; order = 0 })) (some first ∷ t)) is
+  said-under = ap (λ (o : Option Header). contentsOf (Option·getD o noHeader) (some first ∷ t)) is
 
 module _ (text : List ℕ) where
   abbrev T : Records

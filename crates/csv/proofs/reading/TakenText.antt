@@ -12,7 +12,7 @@ use lib.Dec.{eqb}
 use borrow.Author.Tests.{eqb-true, eq-eqb, not-false}
 use Rattle.residue.specs.Lists.{Among, sameList}
 use Rattle.residue.specs.Layout.{fill, inPlaces, over, rowAt, length-fill}
-use Rattle.residue.proofs.Layouts.{fill-at, length-places}
+use Rattle.residue.proofs.Layouts.{fill-at, length-places, take-over}
 use Rattle.residue.proofs.Places.{table-groups, groups-at}
 use Rattle.residue.proofs.Tests.{Decides, true-of, told-false}
 use Rattle.residue.proofs.bytes.Equality.{same-self}
@@ -25,10 +25,11 @@ use Rattle.notation.specs.Fields.{recordsOf}
 use Rattle.specification.specs.Refusal.{firstOf}
 use Rattle.csv.specs.reading.Text.{headerIn, formFault, Contents, Valued, valuedPoints, firstAfter}
 use Rattle.csv.specs.reading.Text.{tooMany, tooOften, firstValue, firstValues, otherValue}
-use Rattle.csv.specs.reading.Text.{notRefused, readCases, textAccepted, textRefused, textDecided, readOutcome}
+use Rattle.csv.specs.reading.Text.{notRefused, shortBuffers, readCases, textAccepted, textRefused, textDecided, readOutcome}
 use Rattle.csv.specs.reading.Faults.{Says}
 use Rattle.csv.specs.reading.Causes.{TooMany, TooOften, OtherValue, Cause, form, points, replicates, values, AtEntry, HoldsAt}
 use Rattle.csv.specs.reading.Taken.{Taken, ReadTaken}
+use Rattle.csv.proofs.reading.HeaderWeights.{header-eight}
 use Rattle.csv.proofs.reading.PointFaults.{many-told, count-there, often-told, other-told}
 use Rattle.csv.proofs.reading.TextCases.{unless}
 use Rattle.csv.proofs.reading.FirstFault.{first-at, none-at}
@@ -60,6 +61,15 @@ module _ (k : ℕ) (l t : List ℕ) where
       let d = drop-append-le (8 * i) (fill k l) (drop (length (fill k l)) t) (omega (arith, e, h)) in
       ap (take 8) d ∙ take-append-le 8 (drop (8 * i) (fill k l)) (drop (length (fill k l)) t) (omega (arith, length-drop (8 * i) (fill k l), e, h))
 
+-- eight bytes at the front
+module _ (a t : List ℕ) (e : length a ≡ 8) where
+  eight-front : take 8 (over a t) ≡ a
+  eight-front = ap (λ (k : ℕ). take k (over a t)) (sym e) ∙ take-over a t
+
+  eight-beyond : drop 8 (over a t) ≡ drop 8 t
+  unfolding over
+  eight-beyond = ap (λ (k : ℕ). drop k (a ++ drop (length a) t)) (sym e) ∙ drop-append-seam a (drop (length a) t) ∙ ap (λ (k : ℕ). drop k t) e
+
 -- each entry has its point's value
 split-of : {A : Type 0} (l : List A) (a : A) → Among a l → (b : List A) × (c : List A) × (l ≡ b ++ (a ∷ c))
 split-of (x ∷ l) a (inl e) = ([], l, ap (λ (y : _). y ∷ l) (sym e))
@@ -89,7 +99,7 @@ no-place : (n : ℕ) → ((k : ℕ) → n ≡ suc k → ⊥) → n ≡ 0
 no-place zero f = refl
 no-place (suc k) f = absurd (f k refl)
 
-module _ (text s v k : List ℕ) (taken : readOutcome text s v k .answer .refusal ≡ 0) where
+module _ (text s v k w : List ℕ) (taken : readOutcome text s v k w .answer .refusal ≡ 0) where
   abbrev t : List (Option (List (List ℕ)))
   t = recordsOf text
 
@@ -105,8 +115,8 @@ module _ (text s v k : List ℕ) (taken : readOutcome text s v k .answer .refusa
   abbrev S : List (List ℕ)
   S = pointsOf L
 
-  free : (c : Cause) (at : ℕ) → ¬ HoldsAt text (length s) (length v) (length k) c at
-  free = read-refusals text s v k .1 .1 taken
+  free : (c : Cause) (at : ℕ) → ¬ HoldsAt text (length s) (length v) (length k) (length w) c at
+  free = read-refusals text s v k w .1 .1 taken
 
   fine : formFault (headerIn t) t ≡ 0
   unfolding HoldsAt
@@ -115,15 +125,15 @@ module _ (text s v k : List ℕ) (taken : readOutcome text s v k .answer .refusa
   says : Says text (e .header) (e .entries)
   says = says-found text fine
 
-  accepted : readOutcome text s v k ≡ textAccepted e s v k
+  accepted : readOutcome text s v k w ≡ textAccepted e s v k w
   unfolding readOutcome textDecided
   accepted =
-      let r = firstOf notRefused (readCases text (formFault (headerIn t) t) e (length s) (length v) (length k)) in
-      ap (λ (b : Bool). cond b (textAccepted e s v k) (textRefused r s v k)) (eq-eqb (r .refusal) 0 (sym (same-number r e s v k) ∙ taken))
+      let r = firstOf notRefused (readCases text (formFault (headerIn t) t) e (shortBuffers (length s) (length v) (length k) (length w))) in
+      ap (λ (b : Bool). cond b (textAccepted e s v k w) (textRefused r s v k w)) (eq-eqb (r .refusal) 0 (sym (same-number r e s v k w) ∙ taken))
 
   -- no entry has a fault
   none-of : (c : Cause) (Fault : List Valued → Valued → Type 0) (f : List Valued → Valued → Bool) → ((b : List Valued) (q : Valued) → Decides (Fault b q) (f b q))
-      → ((at : ℕ) → AtEntry text Fault at → HoldsAt text (length s) (length v) (length k) c at)
+      → ((at : ℕ) → AtEntry text Fault at → HoldsAt text (length s) (length v) (length k) (length w) c at)
       → (b : List Valued) (q : Valued) (d : List Valued) → E ≡ b ++ (q ∷ d) → ¬ Fault b q
   unfolding valuedPoints
   none-of c Fault f told is = none-at Fault f told E
@@ -179,9 +189,9 @@ module _ (text s v k : List ℕ) (taken : readOutcome text s v k .answer .refusa
         ∙ sym (count-there L (once-gathered (pointsOf E)) (getD L i ([], 0)) entry)
         ∙ ap (λ (P : List ℕ). countOf P L) (sym point-at) ∙ count-gathered (getD S i []) (pointsOf E)
 
-    value-at : (w : ℕ) → Among (getD S i [], w) E → getD (firstValues S E) i 0 ≡ w
+    value-at : (x : ℕ) → Among (getD S i [], x) E → getD (firstValues S E) i 0 ≡ x
     unfolding firstValues
-    value-at w q = map-at (λ P. firstValue P 0 E) S [] 0 i h ∙ own-value E none-other (getD S i []) w q
+    value-at x q = map-at (λ P. firstValue P 0 E) S [] 0 i h ∙ own-value E none-other (getD S i []) x q
 
     row-at : rowAt 8 i (statesTable S) ≡ fill 8 (getD S i [])
     unfolding statesTable
@@ -189,7 +199,7 @@ module _ (text s v k : List ℕ) (taken : readOutcome text s v k .answer .refusa
         sym (groups-at 8 (length S) i (fill 512 (inPlaces 8 S)) [] h) ∙ ap (λ (l : List (List ℕ)). getD l i []) (table-groups 8 512 S (omega (arith, few)))
         ∙ map-at (fill 8) S [] [] i h
 
-  leaves : Taken text s v k (textAccepted e s v k)
+  leaves : Taken text s v k w (textAccepted e s v k w)
   unfolding textAccepted statesTable firstValues valuedPoints
   leaves = record {
     header = e .header;
@@ -201,7 +211,7 @@ module _ (text s v k : List ℕ) (taken : readOutcome text s v k .answer .refusa
     answer = let h = e .header in
         ap (λ (n : ℕ). record { refusal = 0; at = 0; modulus = h .modulus; variables = h .variables; order = h .order; n = n }) (sym points-many);
     state = λ i h. laid-row 512 (inPlaces 8 S) s i (omega (arith, within i h)) ∙ row-at i h;
-    value = λ i h w q. laid-at 64 (firstValues S E) v i (within i h) ∙ value-at i h w q;
+    value = λ i h x q. laid-at 64 (firstValues S E) v i (within i h) ∙ value-at i h x q;
     count = λ i h. laid-at 64 (countsOf L) k i (within i h) ∙ count-at i h;
     counts-few = counts-few;
     unused-states = λ i h j. laid-unused 512 (inPlaces 8 S) s i (omega (arith, length-places 8 S, h)) j;
@@ -209,8 +219,14 @@ module _ (text s v k : List ℕ) (taken : readOutcome text s v k .answer .refusa
       laid-unused 64 (firstValues S E) v i (omega (arith, length-map S (λ P. firstValue P 0 E), h)) j,
       laid-unused 64 (countsOf L) k i (omega (arith, length-map L (λ x. x .1), points-many, h)) j,
     );
-    beyond = (laid-beyond 512 (inPlaces 8 S) s, laid-beyond 64 (firstValues S E) v, laid-beyond 64 (countsOf L) k);
+    weights-of = eight-front (e .header .weights) w (header-eight (e .header) (says .header));
+    beyond = (
+      laid-beyond 512 (inPlaces 8 S) s,
+      laid-beyond 64 (firstValues S E) v,
+      laid-beyond 64 (countsOf L) k,
+      eight-beyond (e .header .weights) w (header-eight (e .header) (says .header)),
+    );
   }
 
 pub read-taken : ReadTaken
-read-taken text s v k z = subst (Taken text s v k) (sym (accepted text s v k z)) (leaves text s v k z)
+read-taken text s v k w z = subst (Taken text s v k w) (sym (accepted text s v k w z)) (leaves text s v k w z)

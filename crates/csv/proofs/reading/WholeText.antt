@@ -1,5 +1,5 @@
 -- The whole text: what its header and its entries say of the outcome.
-use mathlib.Core.Path.{_≡_, refl, sym, ap, ap₂, _∙_}
+use mathlib.Core.Path.{_≡_, refl, sym, ap, ap₂, _∙_, subst}
 use mathlib.Core.Bool.{Bool, true, false, cond}
 use mathlib.Core.Logic.{_≢_}
 use mathlib.Core.List.{List, [], _∷_, _++_, map}
@@ -11,18 +11,22 @@ use lib.ListN.{length, drop, length-map}
 use lib.Dec.{eqb}
 use borrow.Author.Tests.{lt-ltb, le-ltb, eq-eqb, ne-eqb}
 use Rattle.residue.specs.Lists.{sameList}
-use Rattle.notation.specs.Fields.{Part, part, faulty, front, ending, unquoted, fieldOf, behindField, recordFrom, recordOf, behindRecord, recordsFrom, recordsOf}
+use Rattle.notation.specs.Fields.{Part, part, faulty, kept, front, ending, unquoted, fieldOf, behindField}
+use Rattle.notation.specs.Fields.{recordFrom, recordOf, behindRecord, recordsFrom, recordsOf}
 use Rattle.notation.specs.Forms.{Header, lastField, headerFrom, headerOf}
 use Rattle.specification.specs.Refusal.{firstOf}
 use Rattle.specification.proofs.Numbers.{never}
-use Rattle.csv.specs.reading.Text.{Contents, TextOutcome, pointsCases, further, firstFault, isNone, headerIn, entryIn, entriesIn, formFault, contentsOf, headerCases, entriesCases, readCases, notRefused, textAccepted, textRefused, textDecided, readOutcome, refusalAt}
-use Rattle.csv.specs.reading.Records.{kept, reads, headerPart, entriesAt, countedEntries}
+use Rattle.csv.specs.reading.Text.{further, firstFault, isNone, headerIn, noHeader, entryIn, entriesIn, formFault, Contents, contentsOf, TextOutcome}
+use Rattle.csv.specs.reading.Text.{settingsBy, shortBuffers, headerCases, pointsCases, entriesCases, readCases, notRefused, refusalAt}
+use Rattle.csv.specs.reading.Text.{textAccepted, textRefused, textDecided, readOutcome}
+use Rattle.csv.specs.reading.Records.{reads, headerPart, entriesAt, countedEntries}
 use Rattle.csv.specs.reading.Points.{levelsAt, saying, entriesOutcome}
 use Rattle.csv.specs.declared.reading.Refusal.{Refusal}
 use Rattle.csv.specs.declared.reading.records.Entries.the-variants as N
 use Rattle.notation.proofs.fields.EnoughTurns.{records-unroll}
 use Rattle.csv.proofs.reading.entries.EntriesRead.{all-entries}
 use Rattle.csv.proofs.reading.FirstPlaces.{fault-le}
+use Rattle.csv.proofs.reading.AcceptedPoints.{SmallOrder, in-small}
 use Rattle.csv.proofs.reading.TextCases.{text-refused}
 
 -- the header is the first record
@@ -65,6 +69,10 @@ module _ (h : Header) (rest : List ℕ) where
       let f = first-some (recordOf (b ∷ l)) e in
       let u = records-unroll (b ∷ l) (omega arith) in
       (ap headerIn u ∙ f .0, ap (drop 1) u ∙ f .1)
+
+-- its order is one of the four
+pub header-order : (h : Header) (rest t : List ℕ) → headerPart t ≡ part h rest → h .order ≤ 3
+header-order h rest t e = subst SmallOrder (some-header h rest t e .0) (in-small (recordsOf t))
 
 further-some : (k : ℕ) → (k ≡ 0 → ⊥) → further k ≡ suc k
 unfolding further
@@ -111,75 +119,82 @@ unfolding entriesAt recordsOf
 entries-few m l = let e = length-map (recordsOf l) (entryIn m) in omega (arith, records-few (length l) l)
 
 -- the first two cases
-module _ (t : List ℕ) (f : ℕ) (e : Contents) (a b c : ℕ) where
-  refuse-1 : 16384 < length t → refusalAt 1 0 ≡ (firstOf notRefused (readCases t f e a b c))
+module _ (t : List ℕ) (f : ℕ) (e : Contents) (short : Bool) where
+  refuse-1 : 16384 < length t → refusalAt 1 0 ≡ (firstOf notRefused (readCases t f e short))
   unfolding firstOf readCases
   refuse-1 h = simp (lt-ltb 16384 (length t) h)
 
   module _ (h : length t ≤ 16384) where
-    refuse-2 : (f ≡ 0 → ⊥) → refusalAt 2 f ≡ (firstOf notRefused (readCases t f e a b c))
+    refuse-2 : (f ≡ 0 → ⊥) → refusalAt 2 f ≡ (firstOf notRefused (readCases t f e short))
     unfolding firstOf readCases
     refuse-2 n = simp (le-ltb 16384 (length t) h, ne-eqb f 0 n)
 
-    form-pass : f ≡ 0 → firstOf notRefused (readCases t f e a b c) ≡ firstOf notRefused (headerCases (e .header .modulus) (e .header .variables) a b c ++ entriesCases e)
+    form-pass : f ≡ 0 → firstOf notRefused (readCases t f e short) ≡ firstOf notRefused (headerCases (settingsBy (e .header)) short ++ entriesCases e)
     unfolding firstOf readCases
     form-pass z = simp (le-ltb 16384 (length t) h, eq-eqb f 0 z)
 
 -- The outcome, case by case.
-module _ (t s v n : List ℕ) where
-  pub too-long : 16384 < length t → textRefused (refusalAt 1 0) s v n ≡ readOutcome t s v n
+module _ (t s v n w : List ℕ) where
+  abbrev short : Bool
+  short = shortBuffers (length s) (length v) (length n) (length w)
+
+  pub too-long : 16384 < length t → textRefused (refusalAt 1 0) s v n w ≡ readOutcome t s v n w
   unfolding readOutcome
-  too-long h = text-refused _ _ s v n _ (refuse-1 t _ _ (length s) (length v) (length n) h) (λ z. omega arith)
+  too-long h = text-refused _ _ s v n w _ (refuse-1 t _ _ short h) (λ z. omega arith)
 
   module _ (h : length t ≤ 16384) where
-    pub header-broken : headerPart t ≡ faulty → textRefused (refusalAt 2 1) s v n ≡ readOutcome t s v n
+    pub header-broken : headerPart t ≡ faulty → textRefused (refusalAt 2 1) s v n w ≡ readOutcome t s v n w
     unfolding readOutcome formFault
     header-broken e =
         let r = recordsOf t in
-        let k = Option·getD (headerIn r) (record { variables = 0; modulus = 0; order = 0 }) in
-        text-refused _ _ s v n (refusalAt 2 1)
-        (refuse-2 t 1 (contentsOf k r) (length s) (length v) (length n) h (λ z. omega arith)
-        ∙ ap (λ (o : Option Header). firstOf notRefused (readCases t (formFault o r) (contentsOf k r) (length s) (length v) (length n))) (sym (no-header t e)))
+        let k = Option·getD (headerIn r) noHeader in
+        text-refused _ _ s v n w (refusalAt 2 1)
+        (refuse-2 t 1 (contentsOf k r) short h (λ z. omega arith)
+        ∙ ap (λ (o : Option Header). firstOf notRefused (readCases t (formFault o r) (contentsOf k r) short)) (sym (no-header t e)))
         (λ z. omega arith)
 
     module _ (k : Header) (rest : List ℕ) (e : headerPart t ≡ part k rest) where
       says : Contents
-      says = saying (k .modulus) (k .variables) (k .order) rest
+      says = saying (settingsBy k) rest
 
       behind : entriesIn (k .variables) (recordsOf t) ≡ entriesAt (k .variables) rest
       unfolding entriesIn entriesAt
       behind = ap (map (entryIn (k .variables))) (some-header k rest t e .1)
 
-      outcome : readOutcome t s v n ≡ textDecided (firstOf notRefused (readCases t (further (firstFault isNone (entriesAt (k .variables) rest))) says (length s) (length v) (length n))) (textAccepted says s v n) s v n
+      abbrev place : ℕ
+      place = further (firstFault isNone (entriesAt (k .variables) rest))
+
+      outcome : readOutcome t s v n w ≡ textDecided (firstOf notRefused (readCases t place says short)) (textAccepted says s v n w) s v n w
       unfolding readOutcome formFault contentsOf says saying levelsAt
       outcome =
           ap (λ (o : Option Header). of-header o) (some-header k rest t e .0) ∙ ap of-entries behind
         where
           of-header : Option Header → TextOutcome
-          of-header o = let f = contentsOf (Option·getD o (record { variables = 0; modulus = 0; order = 0 })) (recordsOf t) in
-              textDecided (firstOf notRefused (readCases t (formFault o (recordsOf t)) f (length s) (length v) (length n))) (textAccepted f s v n) s v n
+          of-header o = let f = contentsOf (Option·getD o noHeader) (recordsOf t) in
+              textDecided (firstOf notRefused (readCases t (formFault o (recordsOf t)) f short)) (textAccepted f s v n w) s v n w
 
           of-entries : List (Option (List ℤ)) → TextOutcome
           of-entries es = let f : Contents = record { header = k; entries = map (λ x. Option·getD x []) es } in
-              textDecided (firstOf notRefused (readCases t (further (firstFault isNone es)) f (length s) (length v) (length n))) (textAccepted f s v n) s v n
+              textDecided (firstOf notRefused (readCases t (further (firstFault isNone es)) f short)) (textAccepted f s v n w) s v n w
 
-      pub entry-broken : (r a : ℕ) → N.Refused r a ≡ countedEntries 0 (entriesAt (k .variables) rest) → textRefused (refusalAt r a) s v n ≡ readOutcome t s v n
+      pub entry-broken : (r a : ℕ) → N.Refused r a ≡ countedEntries 0 (entriesAt (k .variables) rest)
+          → textRefused (refusalAt r a) s v n w ≡ readOutcome t s v n w
       entry-broken r a c =
           let f = counted-refused 0 r a (entriesAt (k .variables) rest) c in
           let g = further-some (firstFault isNone (entriesAt (k .variables) rest)) (f .found) in
           let q = f .at in
-          let i : further (firstFault isNone (entriesAt (k .variables) rest)) ≡ a = omega arith in
-          ap₂ (λ (x y : ℕ). textRefused (refusalAt x y) s v n) (f .refusal) (sym i)
-          ∙ text-refused _ _ s v n _ (refuse-2 t (further (firstFault isNone (entriesAt (k .variables) rest))) says (length s) (length v) (length n) h (λ z. omega arith)) (λ z. omega arith)
+          let i : place ≡ a = omega arith in
+          ap₂ (λ (x y : ℕ). textRefused (refusalAt x y) s v n w) (f .refusal) (sym i)
+          ∙ text-refused _ _ s v n w _ (refuse-2 t place says short h (λ z. omega arith)) (λ z. omega arith)
           ∙ sym outcome
 
       pub form-right : (entries : ℕ) → N.Count entries ≡ countedEntries 0 (entriesAt (k .variables) rest)
-          → entriesOutcome (k .modulus) (k .variables) (k .order) rest s v n ≡ readOutcome t s v n
+          → entriesOutcome (settingsBy k) rest s v n w ≡ readOutcome t s v n w
       unfolding says saying further
       form-right entries c =
           let z = counted-none 0 entries (entriesAt (k .variables) rest) c in
-          ap (λ (x : Refusal). textDecided x (textAccepted says s v n) s v n)
-          (sym (form-pass t (further (firstFault isNone (entriesAt (k .variables) rest))) says (length s) (length v) (length n) h (ap further z)))
+          ap (λ (x : Refusal). textDecided x (textAccepted says s v n w) s v n w)
+          (sym (form-pass t place says short h (ap further z)))
           ∙ sym outcome
 
 -- the record of a refused entry, within its type
@@ -193,14 +208,15 @@ pub count-small : (m n : ℕ) (l : List ℕ) → length l ≤ 16384 → countedE
 count-small m n l h c = omega (arith, all-entries 0 n (entriesAt m l) c .1, entries-few m l)
 
 -- No text is refused with 11, whatever it is and whatever is lent (request M-106).
-decided-eleven : (r : Refusal) (done : TextOutcome) (s v n : List ℕ) → done .answer .refusal ≡ 0 → textDecided r done s v n .answer .refusal ≡ 11 → r .refusal ≡ 11
+decided-eleven : (r : Refusal) (done : TextOutcome) (s v n w : List ℕ)
+    → done .answer .refusal ≡ 0 → textDecided r done s v n w .answer .refusal ≡ 11 → r .refusal ≡ 11
 unfolding textDecided textRefused
-decided-eleven r done s v n z = go (eqb (r .refusal) 0)
+decided-eleven r done s v n w z = go (eqb (r .refusal) 0)
   where
-    go : (b : Bool) → cond b done (textRefused r s v n) .answer .refusal ≡ 11 → r .refusal ≡ 11
+    go : (b : Bool) → cond b done (textRefused r s v n w) .answer .refusal ≡ 11 → r .refusal ≡ 11
     go true e = absurd (omega (arith, z, e))
     go false e = e
 
-pub text-never-eleven : (t s v n : List ℕ) → readOutcome t s v n .answer .refusal ≢ 11
+pub text-never-eleven : (t s v n w : List ℕ) → readOutcome t s v n w .answer .refusal ≢ 11
 unfolding readOutcome readCases headerCases entriesCases pointsCases textAccepted
-text-never-eleven t s v n e = never (λ r. r .refusal) 11 notRefused _ (λ z. omega (arith, z)) tt (decided-eleven _ _ s v n refl e)
+text-never-eleven t s v n w e = never (λ r. r .refusal) 11 notRefused _ (λ z. omega (arith, z)) tt (decided-eleven _ _ s v n w refl e)

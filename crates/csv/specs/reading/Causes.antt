@@ -4,7 +4,7 @@ use mathlib.Core.List.{List, [], _∷_, _++_, map}
 use mathlib.Core.Logic.{_⊎_, _≢_, _↔_}
 use Prim.Native.Nat.{ℕ, suc, _<_}
 use lib.IntN.{ℤ}
-use lib.ListN.{length}
+use lib.ListN.{length, getD}
 use lib.Dec.{T}
 use Rattle.residue.specs.Sizes.{mostPoints, statesSize, countsSize}
 use Rattle.residue.specs.Lists.{Among}
@@ -49,6 +49,7 @@ pub data Cause : Type 0 where
   form : Cause
   modulus : Cause
   variables : Cause
+  weights : Cause
   buffers : Cause
   range : Cause
   points : Cause
@@ -60,15 +61,16 @@ causeNumber length-of-text = 1
 causeNumber form = 2
 causeNumber modulus = 3
 causeNumber variables = 4
+causeNumber weights = 15
 causeNumber buffers = 6
 causeNumber range = 9
 causeNumber points = 8
 causeNumber replicates = 13
 causeNumber values = 14
 
--- 8 for points directly before 13 (M-106)
+-- 8 for points directly before 13 (M-106), 15 where 5 would stand (M-109)
 abbrev pub causes : List Cause
-causes = length-of-text ∷ form ∷ modulus ∷ variables ∷ buffers ∷ range ∷ points ∷ replicates ∷ values ∷ []
+causes = length-of-text ∷ form ∷ modulus ∷ variables ∷ weights ∷ buffers ∷ range ∷ points ∷ replicates ∷ values ∷ []
 
 -- the entries of what is said, as points with their values
 abbrev pub valuedBy : Header → List (List ℤ) → List Valued
@@ -78,17 +80,22 @@ valuedBy h E = map (valuedPoint (h .modulus) (h .variables)) E
 abbrev pub AtEntry : List ℕ → (List Valued → Valued → Type 0) → ℕ → Type 0
 AtEntry text Fault at = (h : Header) × (E : List (List ℤ)) × (k : ℕ) × Says text h E × FirstAt Fault (valuedBy h E) k × (at ≡ suc (suc k))
 
--- A cause holds of a text and of the lengths of the buffers for states, values and counts, at a record; record 0 is none.
-unfoldable pub HoldsAt : List ℕ → (states values counts : ℕ) → Cause → ℕ → Type 0
-HoldsAt text s v c length-of-text at = (16384 < length text) × (at ≡ 0)
-HoldsAt text s v c form at = TextFault text at
-HoldsAt text s v c modulus at = (h : Header) × (E : List (List ℤ)) × Says text h E × (¬ Among (h .modulus) primes) × (at ≡ 1)
-HoldsAt text s v c variables at = (h : Header) × (E : List (List ℤ)) × Says text h E × ((h .variables < 1) ⊎ (8 < h .variables)) × (at ≡ 1)
-HoldsAt text s v c buffers at = ((s < statesSize) ⊎ (v < mostPoints) ⊎ (c < countsSize)) × (at ≡ 0)
-HoldsAt text s v c range at = (h : Header) × (E : List (List ℤ)) × (k : ℕ) × Says text h E × FirstAt (OutOfRange (h .modulus)) E k × (at ≡ suc (suc k))
-HoldsAt text s v c points at = AtEntry text TooMany at
-HoldsAt text s v c replicates at = AtEntry text TooOften at
-HoldsAt text s v c values at = AtEntry text OtherValue at
+-- a weight is 0: two digits write no other wrong one
+abbrev pub WeightZero : Header → Type 0
+WeightZero h = (h .order ≡ 3) × ((k : ℕ) × (k < h .variables) × (getD (h .weights) k 0 ≡ 0))
+
+-- A cause holds of a text and of the lengths of the buffers for states, values, counts and weights, at a record; record 0 is none.
+unfoldable pub HoldsAt : List ℕ → (states values counts weights : ℕ) → Cause → ℕ → Type 0
+HoldsAt text s v c w length-of-text at = (16384 < length text) × (at ≡ 0)
+HoldsAt text s v c w form at = TextFault text at
+HoldsAt text s v c w modulus at = (h : Header) × (E : List (List ℤ)) × Says text h E × (¬ Among (h .modulus) primes) × (at ≡ 1)
+HoldsAt text s v c w variables at = (h : Header) × (E : List (List ℤ)) × Says text h E × ((h .variables < 1) ⊎ (8 < h .variables)) × (at ≡ 1)
+HoldsAt text s v c w weights at = (h : Header) × (E : List (List ℤ)) × Says text h E × WeightZero h × (at ≡ 1)
+HoldsAt text s v c w buffers at = ((s < statesSize) ⊎ (v < mostPoints) ⊎ (c < countsSize) ⊎ (w < 8)) × (at ≡ 0)
+HoldsAt text s v c w range at = (h : Header) × (E : List (List ℤ)) × (k : ℕ) × Says text h E × FirstAt (OutOfRange (h .modulus)) E k × (at ≡ suc (suc k))
+HoldsAt text s v c w points at = AtEntry text TooMany at
+HoldsAt text s v c w replicates at = AtEntry text TooOften at
+HoldsAt text s v c w values at = AtEntry text OtherValue at
 
 -- The first cause of a list that holds: it does so at this record, and none before it does at any.
 pub record FirstCause (X : Cause → ℕ → Type 0) (l : List Cause) (c : Cause) (at : ℕ) : Type 0 where
@@ -100,9 +107,9 @@ pub record FirstCause (X : Cause → ℕ → Type 0) (l : List Cause) (c : Cause
 
 -- A text is refused with a number and a record where its cause is the first that holds there; it is not refused where none does; and there is no other number.
 abbrev pub ReadRefusals : Type 0
-ReadRefusals = (text states values counts : List ℕ) →
-    let X = HoldsAt text (length states) (length values) (length counts) in
-    let answer = readOutcome text states values counts .answer in
+ReadRefusals = (text states values counts weights : List ℕ) →
+    let X = HoldsAt text (length states) (length values) (length counts) (length weights) in
+    let answer = readOutcome text states values counts weights .answer in
     ((c : Cause) (at : ℕ) → FirstCause X causes c at ↔ ((answer .refusal ≡ causeNumber c) × (answer .at ≡ at)))
     × (((c : Cause) (at : ℕ) → ¬ X c at) ↔ (answer .refusal ≡ 0))
     × (answer .refusal ≢ 0 → (c : Cause) × (answer .refusal ≡ causeNumber c))

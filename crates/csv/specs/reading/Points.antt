@@ -11,13 +11,14 @@ use Rattle.residue.specs.Sizes.{countsSize}
 use Rattle.residue.specs.Level.{residueOf}
 use Rattle.residue.specs.Lists.{keyOf}
 use Rattle.residue.specs.Layout.{fill}
+use Rattle.specification.specs.declared.settings.Settings.{Settings}
 use Rattle.specification.specs.Levels.{isResidue, residueOr0, inRange}
 use Rattle.specification.specs.Counted.{pointsOf, countsOf, gathered}
 use Rattle.specification.specs.Tables.{statesTable}
 use Rattle.notation.specs.Fields.{Field, field, broken, Part, part, faulty}
 use Rattle.specification.specs.Refusal.{firstOf}
 use Rattle.csv.specs.reading.Text.{Contents, Valued, TextOutcome, entryValue, valuedPoint, firstValues, textAccepted, textDecided}
-use Rattle.csv.specs.reading.Text.{notRefused, headerCases, entriesCases}
+use Rattle.csv.specs.reading.Text.{notRefused, shortBuffers, headerCases, entriesCases}
 use Rattle.csv.specs.reading.Records.{entriesAt}
 use Rattle.csv.specs.declared.reading.Refusal.{Refusal}
 use Rattle.csv.specs.declared.reading.entries.Placed.{Placed}
@@ -62,18 +63,19 @@ unfoldable pub levelsAt : ℕ → List ℕ → List (List ℤ)
 levelsAt m l = map (λ e. Option·getD e []) (entriesAt m l)
 
 -- what is said by these settings and these levels of the entries
-abbrev pub contents : ℕ → ℕ → ℕ → List (List ℤ) → Contents
-contents p m order S = record { header = record { variables = m; modulus = p; order = order }; entries = S }
+abbrev pub contents : Settings → List (List ℤ) → Contents
+contents s S = record { header = record { variables = s .variables; modulus = s .modulus; order = s .order; weights = s .weights }; entries = S }
 
 -- what a text says with these settings in its header and these entries behind it
-unfoldable pub saying : ℕ → ℕ → ℕ → List ℕ → Contents
-saying p m order l = contents p m order (levelsAt m l)
+unfoldable pub saying : Settings → List ℕ → Contents
+saying s l = contents s (levelsAt (s .variables) l)
 
 -- what is left of a text of right form, by its settings and its entries
-abbrev pub entriesOutcome : (p m order : ℕ) → List ℕ → List ℕ → List ℕ → List ℕ → TextOutcome
-entriesOutcome p m order l states values counts = let said = saying p m order l in
-    textDecided (firstOf notRefused (headerCases p m (length states) (length values) (length counts) ++ entriesCases said))
-    (textAccepted said states values counts) states values counts
+abbrev pub entriesOutcome : Settings → List ℕ → List ℕ → List ℕ → List ℕ → List ℕ → TextOutcome
+entriesOutcome s l states values counts weights =
+    let said = saying s l in
+    let short = shortBuffers (length states) (length values) (length counts) (length weights) in
+    textDecided (firstOf notRefused (headerCases s short ++ entriesCases said)) (textAccepted said states values counts weights) states values counts weights
 
 -- the first place found, or this one if it has a fault
 unfoldable pub earlierPlace : ℕ → Bool → ℕ → ℕ
@@ -89,8 +91,8 @@ pub record EntriesTabled (l : List Valued) (points counts values : List ℕ) : T
 unfoldable pub answered : Refusal → ℕ → Gathered
 answered r n = record { refusal = r .refusal; at = r .at; n = cond (eqb (r .refusal) 0) n 0 }
 
--- `gather_entries`: the answer to entries with these levels, in which the order has no part, and their tables where they are not refused
+-- `gather_entries`: the answer to entries with these levels, in which the order and its weights have no part, and their tables where they are not refused
 pub record GatheredAs (p m : ℕ) (S : List (List ℤ)) (r : Gathered) (points counts values : List ℕ) : Type 0 where
-  pub answer : (order : ℕ)
-      → r ≡ answered (firstOf notRefused (entriesCases (contents p m order S))) (length (gathered (pointsOf (map (valuedPoint p m) S))))
+  pub answer : (order : ℕ) (weights : List ℕ) → let s : Settings = record { modulus = p; variables = m; order = order; weights = weights } in
+      r ≡ answered (firstOf notRefused (entriesCases (contents s S))) (length (gathered (pointsOf (map (valuedPoint p m) S))))
   pub tabled : r .refusal ≡ 0 → EntriesTabled (map (valuedPoint p m) S) points counts values

@@ -7,7 +7,7 @@ use Prim.Native.Nat.{ℕ, suc, _+_, _≤_}
 use lib.IntN.{ℤ}
 use lib.ListN.{length, drop}
 use Rattle.notation.specs.Digits.{decimalNumber}
-use Rattle.notation.specs.Fields.{Field, field, broken, unquoted, quoted, fieldOf, Part, part, faulty, recordOf, recordsOf}
+use Rattle.notation.specs.Fields.{Field, field, broken, unquoted, quoted, fieldOf, Part, part, faulty, kept, recordOf, recordsOf}
 use Rattle.notation.specs.Forms.{levelOf, entryOf, Header, headerOf}
 use Rattle.csv.specs.reading.Text.{refusalAt, notRefused, brokenAt, entryIn}
 use Rattle.notation.specs.Said.{withSign}
@@ -47,10 +47,6 @@ unfoldable pub sizeField : Bool → Bool → List ℕ → Field ℤ
 sizeField quotes negative l = reading (sizeOf negative) (fieldFrom quotes l)
 
 -- a record by what its fields say, if they have the form
-unfoldable pub kept : {A : Type 0} → Option A → List ℕ → Part A
-kept (some a) rest = part a rest
-kept none rest = faulty
-
 unfoldable pub reads : {A B : Type 0} → (A → Option B) → Part A → Part B
 reads f (part fields rest) = kept (f fields) rest
 reads f faulty = faulty
@@ -90,9 +86,11 @@ pub record LevelRead (text : List ℕ) (at : ℕ) (r : LevelAt) : Type 0 where
   pub number : («record» : ℕ) → levelRefusal «record» r ≡ fieldRefusal «record» (levelField (drop at text))
   pub within : LevelWithin (length text) r
 
-unfoldable pub headerSaid : List ℕ → HeaderAt → Part Header
-headerSaid text (H.Header modulus variables order next) = part (record { variables = variables; modulus = modulus; order = order }) (drop next text)
-headerSaid text H.Broken = faulty
+-- the header, with its weights in the lent buffer
+unfoldable pub headerSaid : List ℕ → List ℕ → HeaderAt → Part Header
+headerSaid text weights (H.Header modulus variables order next) =
+    part (record { variables = variables; modulus = modulus; order = order; weights = weights }) (drop next text)
+headerSaid text weights H.Broken = faulty
 
 abbrev pub HeaderWithin : ℕ → HeaderAt → Type 0
 HeaderWithin n (H.Header modulus variables order next) = next ≤ n
@@ -108,8 +106,8 @@ headerRefusal (H.Header modulus variables order next) = notRefused
 headerRefusal H.Broken = brokenAt 1
 
 -- `read_header`
-pub record HeaderRead (text : List ℕ) (r : HeaderAt) : Type 0 where
-  pub said : headerSaid text r ≡ headerPart text
+pub record HeaderRead (text weights : List ℕ) (r : HeaderAt) : Type 0 where
+  pub said : headerSaid text weights r ≡ headerPart text
   pub number : headerRefusal r ≡ partRefusal 1 (headerPart text)
   pub within : HeaderWithin (length text) r
 

@@ -4,7 +4,7 @@ use mathlib.Core.List.{List, [], _∷_, _++_}
 use mathlib.Core.Logic.{_↔_}
 use Prim.Native.Nat.{ℕ, _*_, _<_, _≤_}
 use lib.IntN.{ℤ}
-use lib.ListN.{length, getD, drop}
+use lib.ListN.{length, getD, take, drop}
 use lib.Dec.{T}
 use Rattle.residue.specs.Sizes.{mostPoints, statesSize, countsSize}
 use Rattle.residue.specs.Lists.{Among}
@@ -24,8 +24,8 @@ pub record Firsts (points S : List (List ℕ)) : Type 0 where
       → (c : List (List ℕ)) × (d : List (List ℕ)) × (S ≡ c ++ (P ∷ d)) × ((Q : List ℕ) → Among Q c ↔ Among Q a)
 
 -- The settings and n are answered. State i has bytes 8i to 8i+7 of the states, its value is byte i of the values and its count byte i of the counts; the other
--- bytes of the sizes are 0, and those beyond are as they were.
-pub record Taken (text states values counts : List ℕ) (o : TextOutcome) : Type 0 where
+-- bytes of the sizes are 0, and those beyond are as they were. The header's weights are the first eight bytes of the weights.
+pub record Taken (text states values counts weights : List ℕ) (o : TextOutcome) : Type 0 where
   pub header : Header
   pub entries : List (List ℤ)
   pub says : Says text header entries
@@ -40,8 +40,10 @@ pub record Taken (text states values counts : List ℕ) (o : TextOutcome) : Type
   pub counts-few : (P : List ℕ) → timesIn P (pointsOf (valuedBy header entries)) ≤ 255
   pub unused-states : (i : ℕ) → 8 * length points ≤ i → i < statesSize → getD (o .states) i 0 ≡ 0
   pub unused : (i : ℕ) → length points ≤ i → i < mostPoints → (getD (o .values) i 0 ≡ 0) × (getD (o .counts) i 0 ≡ 0)
+  pub weights-of : take 8 (o .weights) ≡ header .weights
   pub beyond : (drop statesSize (o .states) ≡ drop statesSize states) × (drop mostPoints (o .values) ≡ drop mostPoints values)
-      × (drop countsSize (o .counts) ≡ drop countsSize counts)
+      × (drop countsSize (o .counts) ≡ drop countsSize counts) × (drop 8 (o .weights) ≡ drop 8 weights)
 
 abbrev pub ReadTaken : Type 0
-ReadTaken = (text states values counts : List ℕ) → let o = readOutcome text states values counts in o .answer .refusal ≡ 0 → Taken text states values counts o
+ReadTaken = (text states values counts weights : List ℕ) → let o = readOutcome text states values counts weights in
+    o .answer .refusal ≡ 0 → Taken text states values counts weights o

@@ -11,6 +11,8 @@ use Rattle.residue.specs.Modulus.{isModulus}
 use Rattle.residue.specs.Layout.{fill, over}
 use Rattle.residue.specs.Lists.{sameList}
 use Rattle.residue.specs.Lists as Lists
+use Rattle.specification.specs.declared.settings.Settings.{Settings}
+use Rattle.specification.specs.Settings.{noWeights, rightWeights}
 use Rattle.specification.specs.Levels.{inRange, residues}
 use Rattle.specification.specs.Counted.{pointsOf, countsOf, gathered}
 use Rattle.specification.specs.Tables.{statesTable}
@@ -38,6 +40,10 @@ unfoldable pub headerIn : List (Option (List (List ℕ))) → Option Header
 headerIn [] = none
 headerIn (none ∷ l) = none
 headerIn (some fields ∷ l) = headerOf fields
+
+-- in the place of a header that is not there; what it says is looked at for no text that is taken
+abbrev pub noHeader : Header
+noHeader = record { variables = 0; modulus = 0; order = 0; weights = noWeights }
 
 unfoldable pub entryIn : ℕ → Option (List (List ℕ)) → Option (List ℤ)
 entryIn m none = none
@@ -120,12 +126,21 @@ brokenAt at = refusalAt 2 at
 abbrev pub TextCase : Type 0
 TextCase = Bool × Refusal
 
--- what the settings and the lent lengths decide: 3 and 4 come with record 1, and 6 with record 0
-unfoldable pub headerCases : ℕ → ℕ → ℕ → ℕ → ℕ → List TextCase
-headerCases p m states values counts =
-    (not (isModulus p), refusalAt 3 1)
-    ∷ (not (leb 1 m && leb m 8), refusalAt 4 1)
-    ∷ (ltb states statesSize || ltb values 64 || ltb counts countsSize, refusalAt 6 0) ∷ []
+-- the settings that a header says
+abbrev pub settingsBy : Header → Settings
+settingsBy h = record { modulus = h .modulus; variables = h .variables; order = h .order; weights = h .weights }
+
+-- one of the buffers lent for states, values, counts and weights, which have these lengths, is too short
+unfoldable pub shortBuffers : ℕ → ℕ → ℕ → ℕ → Bool
+shortBuffers states values counts weights = ltb states statesSize || ltb values 64 || ltb counts countsSize || ltb weights 8
+
+-- what the settings decide, and whether a lent buffer is too short: 3, 4 and 15 come with record 1, 6 with record 0; no text says an order that 5 refuses
+unfoldable pub headerCases : Settings → Bool → List TextCase
+headerCases s short =
+    (not (isModulus (s .modulus)), refusalAt 3 1)
+    ∷ (not (leb 1 (s .variables) && leb (s .variables) 8), refusalAt 4 1)
+    ∷ (not (rightWeights s), refusalAt 15 1)
+    ∷ (short, refusalAt 6 0) ∷ []
 
 -- an entry at a place, from 1, is refused, the header being record 1; 0 is no place
 abbrev pub entryCase : ℕ → ℕ → TextCase
@@ -140,11 +155,11 @@ unfoldable pub entriesCases : Contents → List TextCase
 entriesCases e = entryCase 9 (firstOutside e) ∷ pointsCases (valuedPoints e)
 
 -- all of them, in the order of checking
-unfoldable pub readCases : List ℕ → ℕ → Contents → ℕ → ℕ → ℕ → List TextCase
-readCases text fault e states values counts =
+unfoldable pub readCases : List ℕ → ℕ → Contents → Bool → List TextCase
+readCases text fault e short =
     (ltb 16384 (length text), refusalAt 1 0)
     ∷ (not (eqb fault 0), brokenAt fault)
-    ∷ (headerCases (e .header .modulus) (e .header .variables) states values counts ++ entriesCases e)
+    ∷ (headerCases (settingsBy (e .header)) short ++ entriesCases e)
 
 -- the answer, and the lent buffers at exit
 pub record TextOutcome : Type 0 where
@@ -152,33 +167,37 @@ pub record TextOutcome : Type 0 where
   pub states : List ℕ
   pub values : List ℕ
   pub counts : List ℕ
+  pub weights : List ℕ
 
-abbrev pub textEnded : Read → List ℕ → List ℕ → List ℕ → TextOutcome
-textEnded r states values counts = record { answer = r; states = states; values = values; counts = counts }
+abbrev pub textEnded : Read → List ℕ → List ℕ → List ℕ → List ℕ → TextOutcome
+textEnded r states values counts weights = record { answer = r; states = states; values = values; counts = counts; weights = weights }
 
 -- the values of points, each that of its first entry
 unfoldable pub firstValues : List (List ℕ) → List Valued → List ℕ
 firstValues S l = map (λ P. firstValue P 0 l) S
 
 -- The points of an accepted text are distinct, in order of first occurrence, each with the number of its entries and the value of the first.
-unfoldable pub textAccepted : Contents → List ℕ → List ℕ → List ℕ → TextOutcome
-textAccepted e states values counts = let L = gathered (pointsOf (valuedPoints e)) in
+unfoldable pub textAccepted : Contents → List ℕ → List ℕ → List ℕ → List ℕ → TextOutcome
+textAccepted e states values counts weights = let L = gathered (pointsOf (valuedPoints e)) in
     textEnded
     (record { refusal = 0; at = 0; modulus = e .header .modulus; variables = e .header .variables; order = e .header .order; n = length L })
     (over (statesTable (pointsOf L)) states)
     (over (fill 64 (firstValues (pointsOf L) (valuedPoints e))) values)
     (over (fill countsSize (countsOf L)) counts)
+    (over (e .header .weights) weights)
 
 -- A refusal comes with its record and changes nothing.
-unfoldable pub textRefused : Refusal → List ℕ → List ℕ → List ℕ → TextOutcome
-textRefused r states values counts = textEnded (record { refusal = r .refusal; at = r .at; modulus = 0; variables = 0; order = 0; n = 0 }) states values counts
+unfoldable pub textRefused : Refusal → List ℕ → List ℕ → List ℕ → List ℕ → TextOutcome
+textRefused r states values counts weights =
+    textEnded (record { refusal = r .refusal; at = r .at; modulus = 0; variables = 0; order = 0; n = 0 }) states values counts weights
 
-unfoldable pub textDecided : Refusal → TextOutcome → List ℕ → List ℕ → List ℕ → TextOutcome
-textDecided r done states values counts = cond (eqb (r .refusal) 0) done (textRefused r states values counts)
+unfoldable pub textDecided : Refusal → TextOutcome → List ℕ → List ℕ → List ℕ → List ℕ → TextOutcome
+textDecided r done states values counts weights = cond (eqb (r .refusal) 0) done (textRefused r states values counts weights)
 
-unfoldable pub readOutcome : List ℕ → List ℕ → List ℕ → List ℕ → TextOutcome
-readOutcome text states values counts =
+unfoldable pub readOutcome : List ℕ → List ℕ → List ℕ → List ℕ → List ℕ → TextOutcome
+readOutcome text states values counts weights =
     let t = recordsOf text in
-    let e = contentsOf (Option·getD (headerIn t) (record { variables = 0; modulus = 0; order = 0 })) t in
-    textDecided (firstOf notRefused (readCases text (formFault (headerIn t) t) e (length states) (length values) (length counts)))
-    (textAccepted e states values counts) states values counts
+    let e = contentsOf (Option·getD (headerIn t) noHeader) t in
+    let short = shortBuffers (length states) (length values) (length counts) (length weights) in
+    textDecided (firstOf notRefused (readCases text (formFault (headerIn t) t) e short)) (textAccepted e states values counts weights)
+    states values counts weights

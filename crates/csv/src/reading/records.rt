@@ -1,7 +1,7 @@
 // The records of a text: the header, and behind it the entries, each of m levels and one value.
 ghost use mathlib.Core.Path.{_≡_};
 ghost use Prim.Native.Nat.{_≤_};
-ghost use lib.ListN.{length, drop};
+ghost use lib.ListN.{length, drop, replicate};
 ghost use Rattle.notation.specs.Forms.{levelOf};
 ghost use Rattle.csv.specs.reading.Records.{reading, fieldFrom, sizeField, levelAtSaid, LevelWithin, LevelRead};
 ghost use Rattle.csv.specs.reading.Records.{HeaderRead, EntryRead, entriesAt, countedEntries};
@@ -80,9 +80,10 @@ pub enum HeaderAt {
     Broken,
 }
 
-// The header of a text.
-pub fn read_header(text: &[u8]) -> HeaderAt
-    ensures { λ r. ⌜ HeaderRead (now (text .entry)) r ⌝ }
+// The header of a text; its weights into eight zeros.
+pub fn read_header(text: &[u8], weights: &mut [u8]) -> HeaderAt
+    requires { ⌜ now weights ≡ replicate 8 0 ⌝ }
+    ensures { λ r. ⌜ HeaderRead (now (text .entry)) (now (weights .exit)) r ⌝ }
 {
     let mut at = 0;
     let mut variables = 0;
@@ -97,7 +98,11 @@ pub fn read_header(text: &[u8]) -> HeaderAt
             return HeaderAt::Broken;
         };
         if !more {
-            let Last::Settings { modulus, order } = forms::read_last(&text[from..to]) else {
+            let Last::Settings { modulus, order } = forms::read_last(
+                &text[from..to],
+                variables,
+                weights,
+            ) else {
                 return HeaderAt::Broken;
             };
             return HeaderAt::Header {

@@ -6,11 +6,12 @@ use native.Mathlib.Nat.{add-zero, zero-add, add-assoc}
 use native.Mathlib.Omega.{arith}
 use lib.ListN.{length}
 use Rattle.monomial.specs.Monomial.{degree, product}
-use Rattle.monomial.specs.Order.{Order, lex, grlex, grevlex, andThen, byFirst, byLast, cmp}
+use Rattle.monomial.specs.Order.{Order, lex, grlex, grevlex, weighted, andThen, byFirst, byLast, cmp}
 use Rattle.monomial.specs.Rank.{sumsDown, key}
 use Rattle.monomial.proofs.Algebra.Products.{Aligned, nil, cons, aligned, degree-product, product-aligned, grow-aligned}
 use Rattle.monomial.proofs.Orders.Answers.{Says, less, same, more, says, same-answer, compare-shift, compare-self, compare-eq, then-assoc, then-end, then-cong, gt≢lt, gt≢eq}
 use Rattle.monomial.proofs.Orders.Lawful.{first-lawful, last-lawful}
+use Rattle.monomial.proofs.Orders.Weights.{weigh-product}
 
 -- keys of one length
 snoc-aligned : {a b : List ℕ} (x y : ℕ) → Aligned a b → Aligned (a ++ (x ∷ [])) (b ++ (y ∷ []))
@@ -31,6 +32,7 @@ unfolding key
 key-aligned lex e = e
 key-aligned grlex e = cons (front-aligned e)
 key-aligned grevlex e = sums-aligned 0 0 e
+key-aligned (weighted w) e = cons e
 
 -- where the degrees agree, the last exponent decides nothing
 front-cmp : {a b : List ℕ} → Aligned a b → degree a ≡ degree b → byFirst (dropLast a) (dropLast b) ≡ byFirst a b
@@ -68,6 +70,7 @@ unfolding cmp key
 key-cmp lex e = refl
 key-cmp grlex e = then-cong _ _ _ (λ q. sym (front-cmp e (compare-eq _ _ q)))
 key-cmp grevlex {a} {b} e = sym (rw (then-end, zero-add (degree a), zero-add (degree b)) at (sums-cmp 0 0 e))
+key-cmp (weighted w) e = refl
 
 -- a product's key
 front-product : {a b : List ℕ} → Aligned a b → dropLast (product a b) ≡ product (dropLast a) (dropLast b)
@@ -90,6 +93,7 @@ unfolding key
 key-product lex e = refl
 key-product grlex {a} {b} e = rw (degree-product a b, front-product e)
 key-product grevlex e = sums-product 0 0 e
+key-product (weighted w) {a} {b} e = rw (weigh-product w a b)
 
 -- a common factor changes no answer
 first-shift : {a b : List ℕ} (u : List ℕ) → Aligned a b → byFirst (product u a) (product u b) ≡ byFirst a b

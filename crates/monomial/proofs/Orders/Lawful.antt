@@ -5,7 +5,7 @@ use mathlib.Core.List.{List, [], _∷_}
 use Prim.Native.Nat.{ℕ, compare, Ordering, Ordering·lt, Ordering·eq, Ordering·gt}
 use native.Mathlib.Omega.{arith}
 use Rattle.monomial.specs.Monomial.{degree}
-use Rattle.monomial.specs.Order.{Order, lex, grlex, grevlex, andThen, byFirst, byLast, cmp}
+use Rattle.monomial.specs.Order.{Order, lex, grlex, grevlex, weighted, weigh, andThen, byFirst, byLast, cmp}
 use Rattle.monomial.proofs.Orders.Answers.{less, said, compare-self, compare-eq, compare-lt, compare-swap, turned, lt≢eq, gt≢eq, gt≢lt, then-eq, then-lt, then-turned}
 
 pub record Lawful {A : Type 0} (c : A → A → Ordering) : Type 0 where
@@ -137,3 +137,4 @@ unfolding cmp
 lawful lex = first-lawful
 lawful grlex = graded degree byFirst first-lawful
 lawful grevlex = graded degree byLast last-lawful
+lawful (weighted w) = graded (weigh w) byFirst first-lawful

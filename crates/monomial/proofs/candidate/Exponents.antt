@@ -11,7 +11,7 @@ use lib.Seq.{getD-set-same, getD-set-other, set-set, set-getD}
 use Rattle.residue.specs.Layout.{fill, length-fill}
 use Rattle.residue.proofs.Layouts.{fill-at}
 use Rattle.monomial.specs.Monomial.{degree, one, timesVariable}
-use Rattle.monomial.specs.Order.{Order, cmp}
+use Rattle.monomial.specs.Order.{Order, cmp, LightOrder}
 use Rattle.monomial.specs.Rank.{rankOf, variableRank, rankBound}
 use Rattle.monomial.proofs.Algebra.Products.{length-timesVariable, length-variable, degree-timesVariable}
 use Rattle.monomial.proofs.Orders.Answers.{Says, less, same, more, says, said, lt≢eq, gt≢lt}
@@ -21,10 +21,10 @@ use Rattle.monomial.proofs.rank.Ranks.{rank-fill-cmp, rank-fits, rank-t
 use Rattle.monomial.proofs.candidate.Counts.{Occurs}
 
 -- the rank of a variable is small
-pub variable-small : (order : Order) (k : ℕ) → k < 8 → variableRank order k < rankBound
+pub variable-small : (order : Order) → LightOrder order → (k : ℕ) → k < 8 → variableRank order k < rankBound
 unfolding variableRank
-variable-small order k h =
-    rank-fits order (timesVariable k (one 8)) (length-variable k 8)
+variable-small order t k h =
+    rank-fits order t (timesVariable k (one 8)) (length-variable k 8)
     (omega (arith, degree-timesVariable k (one 8) (omega arith), degree-one 8))
 
 -- a monomial in which a variable occurs is a product by it
@@ -35,13 +35,13 @@ divided b i h n =
 
 module _ (a : List ℕ) (l : length a ≤ 8) where
   module _ (order : Order) where
-    pub rank-small : degree a < 128 → rankOf order (fill 8 a) < rankBound
-    rank-small h = rank-fits order (fill 8 a) (length-fill 8 a) (rw (degree-fill a l) h)
+    pub rank-small : LightOrder order → degree a < 65 → rankOf order (fill 8 a) < rankBound
+    rank-small t h = rank-fits order t (fill 8 a) (length-fill 8 a) (rw (degree-fill a l) h)
 
     pub rank-times : (k : ℕ) → k < length a → rankOf order (fill 8 (timesVariable k a)) ≡ rankOf order (fill 8 a) + variableRank order k
     rank-times k h = rw (fill-timesVariable a l k h) (rank-timesVariable order k (fill 8 a) (length-fill 8 a) ∙ add-comm _ _)
 
-    module _ (b : List ℕ) (e : length a ≡ length b) (h : degree a < 128) (k : degree b < 128) where
+    module _ (b : List ℕ) (e : length a ≡ length b) (h : degree a < 65) (k : degree b < 65) where
       compares : compare (rankOf order (fill 8 a)) (rankOf order (fill 8 b)) ≡ cmp order a b
       compares = rank-fill-cmp order a b e l h k
 

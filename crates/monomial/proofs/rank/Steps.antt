@@ -8,7 +8,7 @@ use lib.Dec.{eqb, eqb→eq}
 use Rattle.residue.specs.Vector.{Below}
 use Rattle.residue.proofs.vector.Vectors.{map-at}
 use Rattle.residue.proofs.level.Moduli.{below-at}
-use Rattle.monomial.specs.Order.{Order}
+use Rattle.monomial.specs.Order.{Order, LightOrder}
 use Rattle.monomial.specs.Rank.{variableRank, stepsOf, rankBound}
 use Rattle.monomial.proofs.candidate.Exponents.{variable-small}
 
@@ -24,5 +24,5 @@ pub steps-at : (order : Order) (k : ℕ) → k < 8 → getD (stepsOf order) k 0 
 unfolding stepsOf
 steps-at order k h = map-at (variableRank order) indices 0 0 k h ∙ ap (variableRank order) (eqb→eq _ _ (below-at (λ i. eqb (getD indices i 0) i) 8 tt k h))
 
-pub steps-below : (order : Order) → Below rankBound (stepsOf order)
-steps-below order i h = let l = steps-long order in rw (steps-at order i (omega arith)) (variable-small order i (omega arith))
+pub steps-below : (order : Order) → LightOrder order → Below rankBound (stepsOf order)
+steps-below order t i h = let l = steps-long order in rw (steps-at order i (omega arith)) (variable-small order t i (omega arith))

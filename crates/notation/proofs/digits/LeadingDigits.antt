@@ -21,7 +21,7 @@ use Rattle.notation.proofs.Numbers.{leading-says}
 abbrev pub digits : List ℕ → List ℕ
 digits l = take (front isDigit l) l
 
-digits-count : (t : List ℕ) → length (digits t) ≡ front isDigit t
+pub digits-count : (t : List ℕ) → length (digits t) ≡ front isDigit t
 digits-count t = length-take-le (front isDigit t) t (front-le isDigit t)
 
 -- one of them, and none

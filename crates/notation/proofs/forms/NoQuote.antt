@@ -2,18 +2,19 @@
 use mathlib.Core.Path.{_≡_, refl, sym, ap, _∙_, subst}
 use mathlib.Core.Bool.{Bool, true, false, cond, _&&_, _||_}
 use mathlib.Core.List.{List, [], _∷_}
-use mathlib.Core.Option.{Option, some, none}
+use mathlib.Core.Option.{Option, some, none, Option·map}
 use Prim.Native.Nat.{ℕ, zero, suc, _+_, _*_, _-_}
 use native.Mathlib.Omega.{arith}
 use native.Mathlib.Decide.{ℕ-discrete}
 use lib.ListN.{length, take, drop}
 use lib.Dec.{T, eqb, leb}
-use borrow.Author.Tests.{ne-eqb}
+use borrow.Author.Tests.{eq-eqb, ne-eqb}
 use Rattle.residue.specs.Lists.{sameList}
 use Rattle.residue.proofs.bytes.Equality.{same-is}
-use Rattle.notation.specs.Fields.{quote, front}
+use Rattle.notation.specs.Fields.{quote, front, kept}
 use Rattle.notation.specs.Digits.{isDigit, digitsFrom, decimalNumber}
-use Rattle.notation.specs.Forms.{mod-word, lex-word, grlex-word, grevlex-word, orderWord, header, modulusAndOrder, lastField}
+use Rattle.notation.specs.Forms.{mod-word, lex-word, grlex-word, grevlex-word, weight-word, weightOf, weightFirst, behindWeight, weightsOf}
+use Rattle.notation.specs.Forms.{Ordered, weighted, orderWord, header, modulusAndOrder, lastField}
 use Rattle.notation.specs.Spans.{undoubled}
 
 hasQuote : List ℕ → Bool
@@ -86,14 +87,53 @@ number-none : (l : List ℕ) → hasQuote l ≡ true → decimalNumber l ≡ non
 unfolding decimalNumber
 number-none l h = either (leb 1 (length l) && leb (length l) 3) (digits-none 0 l h)
 
--- the order word, and the settings
-word-none : (l : List ℕ) → hasQuote l ≡ true → orderWord l ≡ none
-unfolding orderWord hasQuote
-word-none l h = simp (differs l [] h refl, differs l lex-word h refl, differs l grlex-word h refl, differs l grevlex-word h refl)
+-- weights
+weight-none : (l : List ℕ) → hasQuote l ≡ true → weightOf l ≡ none
+unfolding weightOf
+weight-none l h = either (leb (length l) 2) (number-none l h)
 
-no-modulus : (m : ℕ) (k : Option ℕ) → header m none k ≡ none
+-- a weight at the front, and what stands behind it: the quote is in one of them
+behind-none : (k : ℕ) (l : List ℕ) → ((r : List ℕ) → hasQuote r ≡ true → weightsOf k r ≡ none) → hasQuote l ≡ true
+    → behindWeight (weightsOf k) (weightFirst l) ≡ none
+unfolding weightFirst behindWeight hasQuote kept
+behind-none k [] f h = refl
+behind-none k (b ∷ l) f h = pick (ℕ-discrete b 32)
+  where
+    d : ℕ
+    d = front isDigit l
+
+    rest : (o : Option ℕ) → (hasQuote (take d l) ≡ true → o ≡ none) → (x : Bool) → hasQuote (take d l) ≡ x → x || hasQuote (drop d l) ≡ true
+        → behindWeight (weightsOf k) (kept o (drop d l)) ≡ none
+    rest none g x e q = refl
+    rest (some w) g true e q = let z : _≡_ {A = ℕ} 0 1 = let y = g e in cc in absurd (omega arith)
+    rest (some w) g false e q = ap (Option·map (λ ws. w ∷ ws)) (f (drop d l) q)
+
+    pick : Dec (b ≡ 32) → behindWeight (weightsOf k) (weightFirst (b ∷ l)) ≡ none
+    pick (yes e) = rw (eq-eqb b 32 e)
+        (rest (weightOf (take d l)) (λ q. weight-none (take d l) q) (hasQuote (take d l)) refl
+        (sym (quote-apart d l) ∙ rw (ne-eqb b quote (λ q. omega arith)) at h))
+    pick (no n) = rw (ne-eqb b 32 n)
+
+weights-none : (k : ℕ) (l : List ℕ) → hasQuote l ≡ true → weightsOf k l ≡ none
+unfolding weightsOf hasQuote
+weights-none zero [] h = let z : _≡_ {A = ℕ} 0 1 = cc in absurd (omega arith)
+weights-none zero (b ∷ l) h = refl
+weights-none (suc k) l h = behind-none k l (λ r q. weights-none k r q) h
+
+-- the order word, and the settings
+word-none : (m : ℕ) (l : List ℕ) → hasQuote l ≡ true → orderWord m l ≡ none
+unfolding orderWord hasQuote
+word-none m l h = simp (differs l [] h refl, differs l lex-word h refl, differs l grlex-word h refl, differs l grevlex-word h refl)
+    (pick (hasQuote (take 7 l)) refl (sym (quote-apart 7 l) ∙ h))
+  where
+    pick : (x : Bool) → hasQuote (take 7 l) ≡ x → x || hasQuote (drop 7 l) ≡ true
+        → cond (sameList (take 7 l) weight-word) (Option·map weighted (weightsOf m (drop 7 l))) none ≡ none
+    pick true e f = rw (differs (take 7 l) weight-word e refl)
+    pick false e f = either (sameList (take 7 l) weight-word) (ap (Option·map weighted) (weights-none m (drop 7 l) f))
+
+no-modulus : (m : ℕ) (o : Option Ordered) → header m none o ≡ none
 unfolding header
-no-modulus m k = refl
+no-modulus m o = refl
 
 no-order : (m : ℕ) (p : Option ℕ) → header m p none ≡ none
 unfolding header
@@ -107,9 +147,9 @@ settings-none m l h = pick (hasQuote (take k l)) refl (sym (quote-apart k l) ∙
     k : ℕ
     k = front isDigit l
 
-    pick : (x : Bool) → hasQuote (take k l) ≡ x → x || hasQuote (drop k l) ≡ true → header m (decimalNumber (take k l)) (orderWord (drop k l)) ≡ none
-    pick true e f = ap (λ (p : Option ℕ). header m p (orderWord (drop k l))) (number-none (take k l) e) ∙ no-modulus m (orderWord (drop k l))
-    pick false e f = ap (header m (decimalNumber (take k l))) (word-none (drop k l) f) ∙ no-order m (decimalNumber (take k l))
+    pick : (x : Bool) → hasQuote (take k l) ≡ x → x || hasQuote (drop k l) ≡ true → header m (decimalNumber (take k l)) (orderWord m (drop k l)) ≡ none
+    pick true e f = ap (λ (p : Option ℕ). header m p (orderWord m (drop k l))) (number-none (take k l) e) ∙ no-modulus m (orderWord m (drop k l))
+    pick false e f = ap (header m (decimalNumber (take k l))) (word-none m (drop k l) f) ∙ no-order m (decimalNumber (take k l))
 
 last-none : (m : ℕ) (l : List ℕ) → hasQuote l ≡ true → lastField m l ≡ none
 unfolding lastField hasQuote

@@ -293,3 +293,6 @@ pub const MULTIPLES: [u64; 32] = [
     18446744039349813248,
     13799310733105692735,
 ];
+
+// How many of them are below the square of each variable.
+pub const BEFORE: [u16; 8] = [37, 36, 34, 31, 27, 22, 16, 9];

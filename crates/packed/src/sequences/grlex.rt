@@ -293,3 +293,6 @@ pub const MULTIPLES: [u64; 32] = [
     17234676506902473911,
     13805485032071388054,
 ];
+
+// How many of them are below the square of each variable.
+pub const BEFORE: [u16; 8] = [37, 30, 24, 19, 15, 12, 10, 9];

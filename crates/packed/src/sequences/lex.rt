@@ -293,3 +293,6 @@ pub const MULTIPLES: [u64; 32] = [
     12297829382473034410,
     12297829382473034410,
 ];
+
+// How many of them are below the square of each variable.
+pub const BEFORE: [u16; 8] = [256, 128, 64, 32, 16, 8, 4, 2];

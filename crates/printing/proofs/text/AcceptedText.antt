@@ -10,7 +10,6 @@ use lib.ListN.{length, getD, take, length-map, length-replicate, replicate}
 use lib.Dec.{T, eqb}
 use borrow.Author.Tests.{eq-eqb, ne-eqb, eqb-true, eqb-false, lt-ltb, le-ltb}
 use Rattle.residue.specs.Lists.{Among}
-use Rattle.residue.specs.Modulus.{isModulus}
 use Rattle.residue.specs.Vector.{Below}
 use Rattle.residue.specs.Layout.{fill, over, length-fill}
 use Rattle.residue.proofs.level.Moduli.{modulus-range}
@@ -24,21 +23,23 @@ use Rattle.specification.specs.Refusal.{firstOf}
 use Rattle.specification.proofs.ideal.Lists.{among-map}
 use Rattle.specification.specs.Points.{Points, IsPoint}
 use Rattle.specification.proofs.agreement.Points.{residues-same, length-residues}
-use Rattle.specification.specs.Settings.{Accepted}
+use Rattle.specification.specs.Settings.{noWeights, Accepted}
 use Rattle.specification.proofs.counted.Gathered.{among-gathered, once-gathered}
 use Rattle.construction.specs.Drawing.{PointsGiven}
-use Rattle.specification.specs.Settings.{settingsOf}
 use Rattle.construction.proofs.drawing.Given as G
 use Rattle.csv.specs.declared.reading.Refusal.{Refusal}
-use Rattle.notation.specs.Forms.{Header}
 use Rattle.notation.specs.Fields.{recordsOf}
-use Rattle.csv.specs.reading.Text.{Contents, Valued, TextOutcome, headerIn, formFault, contentsOf, entryPoint, entryValue, valuedPoint, valuedPoints, firstOutside, firstValue, firstValues, readCases, notRefused, textAccepted, textDecided, textRefused, readOutcome}
+use Rattle.csv.specs.reading.Text.{Contents, Valued, TextOutcome, headerIn, noHeader, formFault, contentsOf, entryPoint, entryValue, valuedPoint, valuedPoints}
+use Rattle.csv.specs.reading.Text.{firstOutside, firstValue, firstValues, settingsBy, shortBuffers, readCases, notRefused}
+use Rattle.csv.specs.reading.Text.{textAccepted, textDecided, textRefused, readOutcome}
 use Rattle.printing.specs.Appending.{putAt, Put}
 use Rattle.printing.specs.Lines.{refusalLine}
-use Rattle.printing.specs.Text.{linesOf, linesRead, linesFor, printed, printOutcome}
+use Rattle.printing.specs.Text.{linesOf, settingsRead, linesRead, linesFor, printed, printOutcome}
 use Rattle.csv.proofs.reading.EntryLengths.{AllLong, point-long}
 use Rattle.csv.proofs.reading.FirstValues.{few-points, value-below}
 use Rattle.csv.proofs.reading.AcceptedPoints.{no-fault, all-long, all-inside}
+use Rattle.csv.proofs.reading.HeaderWeights.{header-eight}
+use Rattle.csv.proofs.reading.SaidText.{says-found}
 use Rattle.csv.proofs.reading.PassedText.{saidIn, text-passed, range-take}
 
 -- the distinct points of what is said, with their counts
@@ -46,28 +47,24 @@ abbrev pub pointsSaid : Contents → Counted
 pointsSaid e = gathered (pointsOf (valuedPoints e))
 
 pub record Says (e : Contents) : Type 0 where
-  pub modulus : isModulus (e .header .modulus) ≡ true
-  pub some : 1 ≤ e .header .variables
-  pub few : e .header .variables ≤ 8
-  pub order : e .header .order ≤ 2
+  pub settings : Accepted (settingsBy (e .header))
+  pub eight : length (e .header .weights) ≡ 8
   pub most : length (pointsSaid e) ≤ 64
   pub long : AllLong (suc (e .header .variables)) (e .entries)
   pub inside : (zs : List ℤ) → Among zs (e .entries) → T (inRange (e .header .modulus) zs)
 
-pub says : (text : List ℕ) (s v k : ℕ) → firstOf notRefused (readCases text (formFault (headerIn (recordsOf text)) (recordsOf text)) (saidIn text) s v k) .refusal ≡ 0 → Says (saidIn text)
+pub says : (text : List ℕ) (short : Bool)
+    → firstOf notRefused (readCases text (formFault (headerIn (recordsOf text)) (recordsOf text)) (saidIn text) short) .refusal ≡ 0 → Says (saidIn text)
 unfolding contentsOf firstOutside gathered enteredAll
-says text s v k h =
+says text short h =
     let t = recordsOf text in
-    let d : Header = record { variables = 0; modulus = 0; order = 0 } in
     let e : Contents = saidIn text in
-    let w = text-passed text s v k h in
+    let w = text-passed text short h in
     record {
-      modulus = w .settings .modulus;
-      some = w .settings .some;
-      few = w .settings .few;
-      order = w .settings .order;
+      settings = w .settings;
+      eight = header-eight (e .header) (says-found text (w .form) .header);
       most = few-points [] (valuedPoints e) none-few (w .many);
-      long = all-long (e .header .variables) t (no-fault (headerIn t) d t (w .form));
+      long = all-long (e .header .variables) t (no-fault (headerIn t) noHeader t (w .form));
       inside = all-inside (e .header .modulus) (e .entries) (w .inside);
     }
   where
@@ -82,13 +79,10 @@ module _ (e : Contents) (h : Says e) where
   m = e .header .variables
 
   abbrev pub under : Settings
-  under = settingsOf p m (e .header .order)
-
-  ok : Accepted under
-  ok = record { modulus = h .modulus; some = h .some; few = h .few; order = h .order }
+  under = settingsBy (e .header)
 
   positive : 0 < p
-  positive = omega (arith, modulus-range p (h .modulus))
+  positive = omega (arith, modulus-range p (h .settings .modulus))
 
   -- an entry of the text: its point and its value
   module _ (q : Valued) (w : Among q (valuedPoints e)) where
@@ -139,7 +133,7 @@ module _ (e : Contents) (h : Says e) where
 
   pub given : PointsGiven under (length (pointsSaid e)) (statesTable (pointsOf (pointsSaid e)))
   unfolding S statesTable
-  given = subst (λ (n : ℕ). PointsGiven under n (statesTable S)) points-long (G.given under ok S is-points)
+  given = subst (λ (n : ℕ). PointsGiven under n (statesTable S)) points-long (G.given under (h .settings) S is-points)
 
   -- and their values
   pub values-long : length (firstValues (pointsOf (pointsSaid e)) (valuedPoints e)) ≡ length (pointsSaid e)
@@ -155,16 +149,18 @@ module _ (e : Contents) (h : Says e) where
 -- What the reader left is fit to be printed.
 abbrev pub Fit : TextOutcome → Type 0
 Fit o =
-    PointsGiven (settingsOf (o .answer .modulus) (o .answer .variables) (o .answer .order)) (o .answer .n) (o .states)
+    PointsGiven (settingsRead o) (o .answer .n) (o .states)
     × (length (take (o .answer .n) (o .values)) ≡ o .answer .n) × Below (o .answer .modulus) (take (o .answer .n) (o .values)) × (o .answer .n ≤ length (o .values))
 
 -- the lent buffers of the printer
 abbrev reading : List ℕ → TextOutcome
-reading text = readOutcome text (replicate 512 0) (replicate 64 0) (replicate 64 0)
+reading text = readOutcome text (replicate 512 0) (replicate 64 0) (replicate 64 0) noWeights
 
-fit-accepted : (e : Contents) → Says e → Fit (textAccepted e (replicate 512 0) (replicate 64 0) (replicate 64 0))
+fit-accepted : (e : Contents) → Says e → Fit (textAccepted e (replicate 512 0) (replicate 64 0) (replicate 64 0) noWeights)
 unfolding textAccepted statesTable
 fit-accepted e h =
+    let weighing : List ℕ → Settings = λ ws.
+    record { modulus = e .header .modulus; variables = e .header .variables; order = e .header .order; weights = ws } in
     let n = length (pointsSaid e) in
     let S = pointsOf (pointsSaid e) in
     let vs = firstValues S (valuedPoints e) in
@@ -173,11 +169,14 @@ fit-accepted e h =
     let l = values-long e h in
     let w : take n (over (fill 64 vs) (replicate 64 0)) ≡ vs = ap (take n) v ∙ take-fill n 64 vs l (h .most) in
     let k : length (over (fill 64 vs) (replicate 64 0)) ≡ 64 = ap length v ∙ length-fill 64 vs in
-    (subst (PointsGiven (under e h) n) (sym s) (given e h), ap length w ∙ l, subst (Below (e .header .modulus)) (sym w) (values-below e h), omega (arith, h .most))
+    let z : over (e .header .weights) noWeights ≡ e .header .weights = over-all (e .header .weights) noWeights (h .eight) in
+    let g = subst (PointsGiven (under e h) n) (sym s) (given e h) in
+    let f = subst (λ (ws : List ℕ). PointsGiven (weighing ws) n (over (statesTable S) (replicate 512 0))) (sym z) g in
+    (f, ap length w ∙ l, subst (Below (e .header .modulus)) (sym w) (values-below e h), omega (arith, h .most))
 
 abbrev deciding : List ℕ → Refusal
 deciding text = firstOf notRefused (readCases text (formFault (headerIn (recordsOf text)) (recordsOf text)) (saidIn text)
-    (length (replicate {A = ℕ} 512 0)) (length (replicate {A = ℕ} 64 0)) (length (replicate {A = ℕ} 64 0)))
+    (shortBuffers (length (replicate {A = ℕ} 512 0)) (length (replicate {A = ℕ} 64 0)) (length (replicate {A = ℕ} 64 0)) (length noWeights)))
 
 pub fit : (text : List ℕ) (o : TextOutcome) → o ≡ reading text → o .answer .refusal ≡ 0 → Fit o
 unfolding readOutcome textDecided textRefused
@@ -185,10 +184,10 @@ fit text o e z = go (eqb (deciding text .refusal) 0) refl
   where
     go : (b : Bool) → eqb (deciding text .refusal) 0 ≡ b → Fit o
     go true k =
-        let y : reading text ≡ textAccepted (saidIn text) (replicate 512 0) (replicate 64 0) (replicate 64 0) = simp k in
-        subst Fit (sym (e ∙ y)) (fit-accepted (saidIn text) (says text _ _ _ (eqb-true (deciding text .refusal) 0 k)))
+        let y : reading text ≡ textAccepted (saidIn text) (replicate 512 0) (replicate 64 0) (replicate 64 0) noWeights = simp k in
+        subst Fit (sym (e ∙ y)) (fit-accepted (saidIn text) (says text _ (eqb-true (deciding text .refusal) 0 k)))
     go false k =
-        let y : reading text ≡ textRefused (deciding text) (replicate 512 0) (replicate 64 0) (replicate 64 0) = simp k in
+        let y : reading text ≡ textRefused (deciding text) (replicate 512 0) (replicate 64 0) (replicate 64 0) noWeights = simp k in
         absurd (eqb-false (deciding text .refusal) 0 k (sym (ap (λ (x : TextOutcome). x .answer .refusal) (e ∙ y)) ∙ z))
 
 -- what was read, printed
@@ -198,9 +197,7 @@ module _ {o w : TextOutcome} (e : o ≡ w) where
   printed-refusal n = rw (← e) (simp (ne-eqb (o .answer .refusal) 0 n))
 
   pub printed-basis : o .answer .refusal ≡ 0
-      → linesOf (settingsOf (o .answer .modulus) (o .answer .variables) (o .answer .order))
-      (pointsIn (settingsOf (o .answer .modulus) (o .answer .variables) (o .answer .order)) (o .answer .n) (o .states))
-      (take (o .answer .n) (o .values)) ≡ linesRead w
+      → linesOf (settingsRead o) (pointsIn (settingsRead o) (o .answer .n) (o .states)) (take (o .answer .n) (o .values)) ≡ linesRead w
   unfolding linesRead
   printed-basis z = rw (← e) (simp (eq-eqb (o .answer .refusal) 0 z))
 

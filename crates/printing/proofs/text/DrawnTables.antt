@@ -118,7 +118,12 @@ module _ (s : Settings) (ok : Accepted s) (S : List (List ℕ)) (h : Points s S)
       let t = among-map (λ (b : Monomial (s .variables)). b .0) (standardUnder s S) a w in (
         omega (arith, long (standardUnder s S) a w, ok .few),
         λ i k. subst (λ (z : List ℕ). getD z i 0 < 100) (sym (t .2))
-            (omega (arith, standard-exponent (s .modulus - 1) (s .variables) (orderOf (s .order)) prime (pointsUnder s S) d (t .0) (t .1) i, length-map S (pointOf (s .modulus - 1) (s .variables)), h .few)),
+            (omega (
+              arith,
+              standard-exponent (s .modulus - 1) (s .variables) (orderOf (s .order) (s .weights)) prime (pointsUnder s S) d (t .0) (t .1) i,
+              length-map S (pointOf (s .modulus - 1) (s .variables)),
+              h .few,
+            )),
       )
 
   leads-short : EachShort 8 leads
@@ -126,7 +131,12 @@ module _ (s : Settings) (ok : Accepted s) (S : List (List ℕ)) (h : Points s S)
       let t = among-map (λ (b : Monomial (s .variables)). b .0) (leadsUnder s S) a w in (
         omega (arith, long (leadsUnder s S) a w, ok .few),
         λ i k. subst (λ (z : List ℕ). getD z i 0 < 100) (sym (t .2))
-            (omega (arith, lead-exponent (s .modulus - 1) (s .variables) (orderOf (s .order)) prime (pointsUnder s S) d (t .0) (t .1) i, length-map S (pointOf (s .modulus - 1) (s .variables)), h .few)),
+            (omega (
+              arith,
+              lead-exponent (s .modulus - 1) (s .variables) (orderOf (s .order) (s .weights)) prime (pointsUnder s S) d (t .0) (t .1) i,
+              length-map S (pointOf (s .modulus - 1) (s .variables)),
+              h .few,
+            )),
       )
 
   rows-short : EachShort 64 (rowsUnder s S)

@@ -15,6 +15,7 @@ use Rattle.residue.proofs.bytes.Equality.{same-is}
 use Rattle.residue.proofs.Searches.{each-of}
 use Rattle.monomial.specs.Order.{orderOf, cmp}
 use Rattle.specification.specs.Refusal.{firstOf}
+use Rattle.specification.specs.Settings.{noWeights, weighsFirst, rightWeights}
 use Rattle.specification.specs.Levels.{isResidue, residueOr0, inRange, residues}
 use Rattle.specification.specs.Extension.{slot, minus, without, divided, extended, gap, first, newton, grow}
 use Rattle.specification.specs.BasisOf.{basisOf, valueAt}
@@ -24,11 +25,13 @@ use Rattle.specification.specs.Tables.{statesTable, pointsIn}
 use Rattle.specification.specs.Needed.{alike, apart, contrary, pairIn, wiringOf}
 use Rattle.notation.specs.Digits.{isDigit, digitsFrom, decimalNumber}
 use Rattle.notation.specs.Fields.{afterCr, ending, front, isPlain, unquoted, with, quoted, fieldOf}
-use Rattle.notation.specs.Fields.{withFirst, behindField, recordFrom, recordOf, behindRecord, recordsFrom, recordsOf}
-use Rattle.notation.specs.Forms.{negative, levelOf, together, levelsOf, entryOf, orderWord, header, modulusAndOrder, lastField, headerFrom, headerOf}
+use Rattle.notation.specs.Fields.{kept, withFirst, behindField, recordFrom, recordOf, behindRecord, recordsFrom, recordsOf}
+use Rattle.notation.specs.Forms.{negative, levelOf, together, levelsOf, entryOf, weightOf, weightFirst, behindWeight, weightsOf, orderWord}
+use Rattle.notation.specs.Forms.{header, modulusAndOrder, lastField, headerFrom, headerOf}
 use Rattle.csv.specs.reading.Text.{further, firstFault, isNone, headerIn, entryIn, entriesIn, formFault, contentsOf}
 use Rattle.csv.specs.reading.Text.{entryPoint, entryValue, isOutside, valuedPoint, valuedPoints}
-use Rattle.csv.specs.reading.Text.{firstOutside, firstAfter, tooMany, tooOften, firstValue, otherValue, headerCases, pointsCases, entriesCases, readCases}
+use Rattle.csv.specs.reading.Text.{firstOutside, firstAfter, tooMany, tooOften, firstValue, otherValue}
+use Rattle.csv.specs.reading.Text.{shortBuffers, headerCases, pointsCases, entriesCases, readCases}
 use Rattle.csv.specs.reading.Text.{firstValues, textAccepted, textRefused, textDecided, readOutcome}
 use Rattle.printing.specs.Decimal.{digitsOf, decimal}
 use Rattle.printing.specs.Lines.{spaced, spacedNumbers, line, labelled, firstLine, standardLines, rowLine, rowLines, basisLines, refusalLine}
@@ -37,7 +40,7 @@ use Rattle.printing.specs.Examples.{inLines, Example, Prints, examples, 
 
 -- the lines of an example, and whether they are those that it prints
 read : Example → List ℕ
-read e = linesRead (readOutcome (inLines (e .text)) (replicate 512 0) (replicate 64 0) (replicate 64 0))
+read e = linesRead (readOutcome (inLines (e .text)) (replicate 512 0) (replicate 64 0) (replicate 64 0) noWeights)
 
 tested : Example → Bool
 tested e = sameList (read e) (inLines (e .prints))
@@ -53,14 +56,14 @@ of-test e t buffer h =
 all : T (every tested examples)
 unfolding read tested linesRead linesOf spaced spacedNumbers line labelled firstLine standardLines rowLine rowLines basisLines refusalLine digitsOf decimal
     firstValues textAccepted textRefused textDecided readOutcome
-    firstOutside firstAfter tooMany tooOften firstValue otherValue headerCases pointsCases entriesCases readCases
+    firstOutside firstAfter tooMany tooOften firstValue otherValue shortBuffers headerCases pointsCases entriesCases readCases
     further firstFault isNone headerIn entryIn entriesIn formFault contentsOf entryPoint entryValue isOutside valuedPoint valuedPoints
-    negative levelOf together levelsOf entryOf orderWord header modulusAndOrder lastField headerFrom headerOf
-    afterCr ending front isPlain unquoted with quoted fieldOf withFirst behindField recordFrom recordOf
+    negative levelOf together levelsOf entryOf weightOf weightFirst behindWeight weightsOf orderWord header modulusAndOrder lastField headerFrom headerOf
+    afterCr ending front isPlain unquoted with quoted fieldOf kept withFirst behindField recordFrom recordOf
     behindRecord recordsFrom recordsOf isDigit digitsFrom decimalNumber
     alike apart contrary pairIn wiringOf statesTable pointsIn entered enteredAll gathered
     monomialOf pointOf basisOf valueAt slot minus without divided extended gap first newton grow
-    isResidue residueOr0 inRange residues firstOf orderOf cmp groups fill inPlaces over residueOf
+    isResidue residueOr0 inRange residues firstOf weighsFirst rightWeights orderOf cmp groups fill inPlaces over residueOf
     inverseBelow inverseOf primes isOneOf isModulus sameList flatten zipWith zip
 all = tt
 

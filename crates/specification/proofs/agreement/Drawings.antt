@@ -39,7 +39,7 @@ use Rattle.specification.proofs.agreement.Values.{point-of, value-there
 module _ (s : Settings) (ok : Accepted s) where
   -- the space under these settings obeys the laws
   pub laws-under : Laws (spaceUnder s)
-  laws-under = laws (s .modulus - 1) (s .variables) (orderOf (s .order)) (subst (λ (p : ℕ). isModulus p ≡ true) above (ok .modulus))
+  laws-under = laws (s .modulus - 1) (s .variables) (orderOf (s .order) (s .weights)) (subst (λ (p : ℕ). isModulus p ≡ true) above (ok .modulus))
     where
       above : s .modulus ≡ suc (s .modulus - 1)
       above = omega (arith, modulus-range (s .modulus) (ok .modulus))

@@ -1,12 +1,12 @@
 -- Which refusals are left for tables that hold the basis of their points, under settings that no call refuses.
 use mathlib.Core.Path.{_≡_, sym, _∙_, ap}
 use mathlib.Core.Bool.{Bool, true, false, _&&_, _||_}
-use mathlib.Core.List.{List, _++_}
-use Prim.Native.Nat.{ℕ, _≤_}
+use mathlib.Core.List.{List, [], _∷_, _++_}
+use Prim.Native.Nat.{ℕ, zero, suc, _≤_}
 use native.Mathlib.Omega.{arith}
 use lib.ListN.{length, take, drop, take-append-drop}
-use lib.Dec.{T, eqb, leb, ltb, leb→le, eqb-refl}
-use borrow.Author.Tests.{le-leb, le-ltb, ltb-false, not-false}
+use lib.Dec.{T, eqb, leb, ltb, leb→le, eqb→eq, eqb-refl}
+use borrow.Author.Tests.{ne-eqb, le-leb, le-ltb, ltb-false, not-false}
 use Rattle.residue.specs.Sizes.{statesSize, standardSize, leadsSize, coefficientsSize, countsSize}
 use Rattle.residue.specs.Lists.{every}
 use Rattle.residue.specs.Modulus.{isModulus}
@@ -14,9 +14,10 @@ use Rattle.residue.specs.Layout.{fill, over, begins, length-fill}
 use Rattle.residue.proofs.bytes.Equality.{same-is}
 use Rattle.residue.proofs.Tests.{true-of, of-true, neither, and-left, and-right}
 use Rattle.residue.proofs.Layouts.{length-over, begins-over}
+use Rattle.monomial.specs.Order.{orderOf, Light, LightOrder}
 use Rattle.specification.specs.declared.settings.Settings.{Settings}
 use Rattle.specification.specs.Refusal.{Case, firstOf}
-use Rattle.specification.specs.Settings.{Accepted, settingsCases}
+use Rattle.specification.specs.Settings.{Accepted, settingsOf, weighsFirst, rightWeights, settingsCases}
 use Rattle.specification.specs.Levels.{noRepeat}
 use Rattle.specification.specs.Counted.{Counted, pointsOf, countsOf, isCount}
 use Rattle.specification.specs.Tables.{Tables, rowCount, statesTable, standardTable, leadsTable, coefficientsTable, tablesOf, written, shortLengths, tooShort, pointsIn, heldIn, recognised}
@@ -33,12 +34,40 @@ accepted s e =
       modulus = not-false (isModulus (s .modulus)) (n .0);
       some = leb→le 1 (s .variables) (and-left (leb 1 (s .variables)) (leb (s .variables) 8) v);
       few = leb→le (s .variables) 8 (and-right (leb 1 (s .variables)) (leb (s .variables) 8) v);
-      order = ltb-false 2 (s .order) (n .1 .1 .0);
+      order = ltb-false 3 (s .order) (n .1 .1 .0);
+      weights = not-false (rightWeights s) (n .1 .1 .1 .0);
     }
 
 pub not-refused : (s : Settings) → Accepted s → firstOf 0 (settingsCases s) ≡ 0
 unfolding settingsCases firstOf
-not-refused s ok = simp (ok .modulus, le-leb 1 (s .variables) (ok .some), le-leb (s .variables) 8 (ok .few), le-ltb 2 (s .order) (ok .order))
+not-refused s ok = simp (ok .modulus, le-leb 1 (s .variables) (ok .some), le-leb (s .variables) 8 (ok .few), le-ltb 3 (s .order) (ok .order), ok .weights)
+
+-- orders 0 to 2 have no weights
+pub no-weights : (p m order : ℕ) → order ≤ 2 → rightWeights (settingsOf p m order) ≡ true
+unfolding rightWeights weighsFirst
+no-weights p m order h = rw (ne-eqb order 3 (λ e. omega arith))
+
+-- weights that are not refused are light, so that ranks fit
+first-light : (m : ℕ) (w : List ℕ) → weighsFirst m w ≡ true → Light w
+unfolding weighsFirst
+first-light m [] h = tt
+first-light zero (w ∷ ws) h =
+    let t = of-true h in
+    (omega (arith, eqb→eq w 0 (and-left (eqb w 0) (weighsFirst zero ws) t)), first-light zero ws (true-of _ (and-right (eqb w 0) (weighsFirst zero ws) t)))
+first-light (suc m) (w ∷ ws) h =
+    let t = and-right (leb 1 w) (leb w 99 && weighsFirst m ws) (of-true h) in
+    (leb→le w 99 (and-left (leb w 99) (weighsFirst m ws) t), first-light m ws (true-of _ (and-right (leb w 99) (weighsFirst m ws) t)))
+
+light-order : (n : ℕ) (w : List ℕ) → Light w → LightOrder (orderOf n w)
+unfolding orderOf
+light-order zero w h = tt
+light-order (suc zero) w h = tt
+light-order (suc (suc zero)) w h = tt
+light-order (suc (suc (suc n))) w h = h
+
+pub light-under : (s : Settings) → rightWeights s ≡ true → LightOrder (orderOf (s .order) (s .weights))
+unfolding rightWeights
+light-under s h = light-order (s .order) (s .weights) (first-light _ (s .weights) h)
 
 -- the cases behind those of the settings decide
 pub settings-pass : (s : Settings) → firstOf 0 (settingsCases s) ≡ 0 → (l : List Case) → firstOf 0 (settingsCases s ++ l) ≡ firstOf 0 l

@@ -1,7 +1,7 @@
 -- The wiring call: what it leaves where its number is 0, that its variables then occur in the interpolant, and that no order matters to it.
 use mathlib.Core.Path.{_≡_, refl, sym, _∙_, ap, ap₂, subst}
 use mathlib.Core.Logic.{inl, inr, _↔_, _≢_}
-use mathlib.Core.Bool.{not, _||_}
+use mathlib.Core.Bool.{true, not, _||_}
 use mathlib.Core.List.{List, [], _∷_, _++_, map, zip}
 use Prim.Native.Nat.{ℕ, suc, _-_, _%_, _≤_}
 use native.Mathlib.Nat.{suc-inj}
@@ -34,7 +34,7 @@ use Rattle.specification.proofs.CallByCall.{same-points, known-points, 
 use Rattle.specification.proofs.Wiring.{names-length, list-accepted}
 use Rattle.specification.specs.Points.{Points}
 use Rattle.specification.proofs.agreement.Points.{read-count, residues-same, length-residues}
-use Rattle.specification.specs.Settings.{Accepted, settingsCases}
+use Rattle.specification.specs.Settings.{Accepted, rightWeights, settingsCases}
 use Rattle.specification.proofs.agreement.Refusals.{accepted}
 use Rattle.specification.proofs.agreement.Values.{value-of, level-there, same-range}
 use Rattle.specification.proofs.agreement.Handed.{same-listing}
@@ -125,13 +125,14 @@ module _ (s : Settings) (n r : ℕ) (t : Tables) (values : List ℤ) (buffer : L
     pub wiring-occurs : (k : ℕ) → Among (suc k) (wiringOf (s .variables) S vs) → (cs : List ℕ) → Fits (spaceUnder s) pts (standardUnder s S) φ cs
         → T (occurs k cs (map (λ a. a .0) (standardUnder s S)))
     wiring-occurs k mem cs fits = let w = needed .members (suc k) .0 mem in
-        needed-occurs (s .modulus - 1) (s .variables) (orderOf (s .order)) k pts φ
+        needed-occurs (s .modulus - 1) (s .variables) (orderOf (s .order) (s .weights)) k pts φ
         (subst (Needed (suc (s .modulus - 1)) (s .variables) pts φ) (sym (suc-inj (w .1))) (w .3)) cs (standardUnder s S) (fits .values)
 
--- Request M-107: 'The order no longer matters'. Two calls under settings that differ in the order alone, over the same points in any order, with values that
--- are equal at each: where neither is refused with 10, which looks at the tables of its own order, they have one outcome, be it a refusal. They claim one n,
+-- Request M-107: 'The order no longer matters'. Two calls under settings that differ in the order and its weights alone, over the same points in any order,
+-- with values that are equal at each: where neither is refused with 10, which looks at the tables of its own order, they have one outcome, be it a refusal. They claim one n,
 -- and their tables are long enough both or neither.
-module _ (s s′ : Settings) (p : s .modulus ≡ s′ .modulus) (m : s .variables ≡ s′ .variables) (low : s .order ≤ 2) (low′ : s′ .order ≤ 2) where
+module _ (s s′ : Settings) (p : s .modulus ≡ s′ .modulus) (m : s .variables ≡ s′ .variables) (low : s .order ≤ 3) (low′ : s′ .order ≤ 3)
+    (right : rightWeights s ≡ true) (right′ : rightWeights s′ ≡ true) where
   module _ (n : ℕ) (t t′ : Tables) (large : tooShort t ≡ tooShort t′) (v w : List ℤ) (buffer : List ℕ) where
     abbrev here : List (List ℕ)
     here = pointsIn s n (t .states)
@@ -159,8 +160,8 @@ module _ (s s′ : Settings) (p : s .modulus ≡ s′ .modulus) (m : s .variable
           go : Dec (length w ≡ n) → firstOf 0 (cases-before s t v) ≡ firstOf 0 (cases-before s′ t′ w)
           go (yes e) =
               let range = same-range s here there v w (many-here e) (many-there e) (λ P. members P .0) (λ P. members P .1) same in
-              rw (range, p, m, le-ltb 2 (s .order) low, le-ltb 2 (s′ .order) low′, large, same .count)
-          go (no e) = rw (same .count, ne-eqb (length w) n e, p, m, le-ltb 2 (s .order) low, le-ltb 2 (s′ .order) low′, large)
+              rw (range, right, right′, p, m, le-ltb 3 (s .order) low, le-ltb 3 (s′ .order) low′, large, same .count)
+          go (no e) = rw (same .count, ne-eqb (length w) n e, right, right′, p, m, le-ltb 3 (s .order) low, le-ltb 3 (s′ .order) low′, large)
 
       pub wiring-any-order : (r r′ : ℕ) → wiringOutcome s n r t v buffer .answer .refusal ≢ 10 → wiringOutcome s′ n r′ t′ w buffer .answer .refusal ≢ 10
           → wiringOutcome s n r t v buffer ≡ wiringOutcome s′ n r′ t′ w buffer

@@ -14,14 +14,11 @@ mod Turn
 cast-p : tie.Need-cast-p Inv-loop μ-loop
 cast-p c = let g = opened c .pre .0 in omega (arith, modulus-range _ (g .settings .modulus))
 
-cast-put-steps : tie.Need-cast-put-steps Inv-loop μ-loop
-cast-put-steps c = omega (arith, opened (c .before) .pre .0 .settings .order)
+slice-aggregate-put-steps-under : tie.Need-slice-aggregate-put-steps-under Inv-loop μ-loop
+slice-aggregate-put-steps-under c = refl
 
-slice-aggregate-put-steps : tie.Need-slice-aggregate-put-steps Inv-loop μ-loop
-slice-aggregate-put-steps c = refl
-
-put-steps-requires : tie.Need-put-steps-requires Inv-loop μ-loop
-put-steps-requires c κs = (opened (c .before .before) .pre .0 .settings .order, refl)
+put-steps-under-requires : tie.Need-put-steps-under-requires Inv-loop μ-loop
+put-steps-under-requires c κs = (opened (c .before) .pre .0 .settings .order, refl)
 
 slice-aggregate-put-columns : tie.Need-slice-aggregate-put-columns Inv-loop μ-loop
 slice-aggregate-put-columns c = refl
@@ -33,7 +30,7 @@ loop-holds : tie.Need-loop-holds Inv-loop μ-loop
 loop-holds c =
     let w = c .before .before .before .before in
     let s = opened (stepped w) in
-    head-start (s .pre .0) (s .pre .1 .0 .0) (s .pre .1 .0 .1 .0) (s .pre .1 .0 .1 .1) (s .pre .1 .1 .0) (s .pre .1 .1 .1) (w .put-steps .ensures)
+    head-start (s .pre .0) (s .pre .1 .0 .0) (s .pre .1 .0 .1 .0) (s .pre .1 .0 .1 .1) (s .pre .1 .1 .0) (s .pre .1 .1 .1) (w .put-steps-under .ensures)
 
 slice-aggregate-reduce : tie.Need-slice-aggregate-reduce Inv-loop μ-loop
 slice-aggregate-reduce c = sym (c .before .loop .inv .in-hand .own-long)
@@ -244,9 +241,8 @@ draw-spec =
     Inv-loop
     μ-loop
     cast-p
-    cast-put-steps
-    slice-aggregate-put-steps
-    put-steps-requires
+    slice-aggregate-put-steps-under
+    put-steps-under-requires
     slice-aggregate-put-columns
     put-columns-requires
     loop-holds

@@ -51,7 +51,7 @@ module _ (p m : ℕ) (S : List (List ℤ)) where
       → (points counts values : List ℕ) → GatheredAs p m S a points counts values
   unfolding entriesCases firstOutside answered
   outside-refused {k} h e a d points counts values = record {
-    answer = λ order.
+    answer = λ order weights.
         d ∙ ap (λ (x : Refusal). answered x number) (ap (λ (j : ℕ). refusalAt 9 (suc j)) e ∙ place-refuses 9 (firstFault (isOutside p) S) _ (λ z. omega (arith, z, e, h)));
     tabled = λ y. absurd (omega (arith, y, ap (λ (x : Gathered). x .refusal) d));
   }
@@ -178,7 +178,7 @@ module _ (p m : ℕ) (S : List (List ℤ)) where
     too-many : (full ≡ 0 → ⊥) → GatheredAs p m S a points counts values
     unfolding entriesCases pointsCases firstOutside valuedPoints answered
     too-many z = record {
-      answer = λ order.
+      answer = λ order weights.
           is-8 ∙ answer-no-points (refusalAt 8 (suc full)) n (λ y. omega (arith, y)) number
           ∙ ap (λ (x : Refusal). answered x number)
           (ap (λ (j : ℕ). refusalAt 8 (suc j)) (u .many z) ∙ place-refuses 8 (firstAfter tooMany [] valued) _ (λ y. z (u .many z ∙ y))
@@ -203,7 +203,7 @@ module _ (p m : ℕ) (S : List (List ℤ)) where
       not-many : GatheredAs p m S a points counts values
       unfolding entriesCases pointsCases firstOutside valuedPoints
       not-many = record {
-        answer = λ order.
+        answer = λ order weights.
             later
             ∙ ap₂ answered
             (ap₂ (λ (j k : ℕ). firstOf notRefused (entryCase 13 j ∷ entryCase 14 k ∷ [])) (held .most) (held .others)

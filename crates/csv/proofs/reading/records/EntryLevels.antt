@@ -9,9 +9,9 @@ use lib.IntN.{ℤ}
 use lib.ListN.{length}
 use lib.Dec.{eqb, eqb·suc-suc}
 use borrow.Author.Tests.{ne-eqb}
-use Rattle.notation.specs.Fields.{Field, field, broken, fieldOf, Part, part, faulty, withFirst, behindField, recordOf}
+use Rattle.notation.specs.Fields.{Field, field, broken, fieldOf, Part, part, faulty, kept, withFirst, behindField, recordOf}
 use Rattle.notation.specs.Forms.{levelOf, together, levelsOf, entryOf}
-use Rattle.csv.specs.reading.Records.{held, reading, levelField, kept, reads, entryPart}
+use Rattle.csv.specs.reading.Records.{held, reading, levelField, reads, entryPart}
 use Rattle.notation.proofs.fields.EnoughTurns.{record-unroll}
 
 -- a field that is a level, or is none

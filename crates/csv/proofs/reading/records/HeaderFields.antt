@@ -6,12 +6,10 @@ use mathlib.Core.Option.{Option}
 use Prim.Native.Nat.{ℕ, suc, _+_, _<_}
 use native.Mathlib.Numerals.{add-one}
 use lib.ListN.{length}
-use Rattle.notation.specs.Fields.{Field, field, broken, fieldOf, Part, part, faulty, withFirst, behindField, recordOf}
+use Rattle.notation.specs.Fields.{Field, field, broken, fieldOf, Part, part, faulty, kept, withFirst, behindField, recordOf}
 use Rattle.notation.specs.Forms.{Header, lastField, headerFrom}
 use Rattle.notation.specs.Spans.{undoubled}
-use Rattle.notation.specs.Said.{lastSaid}
-use Rattle.csv.specs.reading.Records.{kept, reads}
-use Rattle.notation.specs.declared.forms.Last.{Last}
+use Rattle.csv.specs.reading.Records.{reads}
 use Rattle.notation.proofs.forms.NoQuote.{last-raw}
 use Rattle.notation.proofs.fields.EnoughTurns.{Left, going, field-left, record-unroll}
 
@@ -49,8 +47,8 @@ module _ (m : ℕ) (l : List ℕ) where
     pub field-shorter : field content true rest ≡ fieldOf l → length rest < length l
     field-shorter e = left-more (length l) content rest (subst (Left (length l)) (sym e) (field-left l))
 
-  pub head-last : (raw rest : List ℕ) (s : Last) → field (undoubled raw) false rest ≡ fieldOf l → lastSaid m s ≡ lastField m raw → kept (lastSaid m s) rest ≡ headed m l
+  pub head-last : (raw rest : List ℕ) {o : Option Header} → field (undoubled raw) false rest ≡ fieldOf l → o ≡ lastField m raw → kept o rest ≡ headed m l
   unfolding headed reads behindField headerFrom
-  head-last raw rest s e h =
+  head-last raw rest e h =
       ap (λ (o : Option Header). kept o rest) (h ∙ sym (last-raw m raw))
       ∙ ap (λ (f : Field (List ℕ)). reads (headerFrom m) (behindField recordOf f)) e ∙ ap (reads (headerFrom m)) (sym (record-unroll l))

@@ -18,10 +18,11 @@ level-number k text L.Broken = refl
 pub level-read : (text : List ℕ) (at : ℕ) (r : LevelAt) → levelAtSaid text r ≡ levelField (drop at text) → LevelWithin (length text) r → LevelRead text at r
 level-read text at r e w = record { said = e; number = λ k. level-number k text r ∙ ap (fieldRefusal k) e; within = w }
 
-header-number : (text : List ℕ) (r : HeaderAt) → headerRefusal r ≡ partRefusal 1 (headerSaid text r)
+header-number : (text weights : List ℕ) (r : HeaderAt) → headerRefusal r ≡ partRefusal 1 (headerSaid text weights r)
 unfolding headerRefusal partRefusal headerSaid
-header-number text (H.Header modulus variables order next) = refl
-header-number text H.Broken = refl
+header-number text weights (H.Header modulus variables order next) = refl
+header-number text weights H.Broken = refl
 
-pub header-read : (text : List ℕ) (r : HeaderAt) → headerSaid text r ≡ headerPart text → HeaderWithin (length text) r → HeaderRead text r
-header-read text r e w = record { said = e; number = header-number text r ∙ ap (partRefusal 1) e; within = w }
+pub header-read : (text weights : List ℕ) (r : HeaderAt) → headerSaid text weights r ≡ headerPart text → HeaderWithin (length text) r
+    → HeaderRead text weights r
+header-read text weights r e w = record { said = e; number = header-number text weights r ∙ ap (partRefusal 1) e; within = w }

@@ -13,10 +13,10 @@ use Rattle.residue.proofs.inverse.Inverses.{inverse-below}
 use Rattle.residue.proofs.level.Moduli.{modulus-range}
 use Rattle.residue.proofs.Layouts.{over-all}
 use Rattle.residue.proofs.Replaced.{zeros-long}
-use Rattle.monomial.specs.Order.{orderOf, cmp}
+use Rattle.monomial.specs.Order.{cmp}
 use Rattle.monomial.specs.Insert.{placeOf, withRowAt}
 use Rattle.monomial.proofs.insert.Searches.{place-within}
-use Rattle.growth.specs.Growing.{rowValueAt, standardGrown}
+use Rattle.growth.specs.Growing.{orderUnder, rowValueAt, standardGrown}
 use Rattle.growth.proofs.Writes.{value-below}
 use Rattle.growth.proofs.Growth.{grown-by}
 use Rattle.growth.proofs.growing.grow.Statement.{statement}
@@ -27,7 +27,7 @@ abbrev opened : tie.After-struct-known → tie.Start
 opened d = d .before .before .before .before .before .before .before .before .before .before .before .before
 
 abbrev leading : tie.After-lead → tie.Start
-leading d = opened (d .before .before)
+leading d = opened (d .before)
 
 -- its row is copied
 abbrev start : tie.After-copy → tie.Start
@@ -44,23 +44,23 @@ valued d = shown (d .before .before)
 abbrev inverting : tie.After-copy2 → tie.After-inverse
 inverting d = d .before .before
 
-abbrev copying : tie.After-put-in-arg → tie.After-copy2
+abbrev copying : tie.After-put-under-arg → tie.After-copy2
 copying d = d .before .before .before
 
-abbrev copied : tie.After-put-in → tie.After-copy2
+abbrev copied : tie.After-put-under → tie.After-copy2
 copied d = copying (d .before)
 
-abbrev inverted : tie.After-put-in → tie.After-inverse
+abbrev inverted : tie.After-put-under → tie.After-inverse
 inverted d = inverting (copied d)
 
-abbrev lost : tie.After-put-in → tie.After-copy
+abbrev lost : tie.After-put-under → tie.After-copy
 lost d = valued (inverted d)
 
 -- the other leads are kept
-abbrev inserted : tie.After-gone4 → tie.After-put-in
+abbrev inserted : tie.After-gone4 → tie.After-put-under
 inserted d = d .before .before .before
 
-abbrev placed : tie.After-keep-others → tie.After-put-in
+abbrev placed : tie.After-keep-others → tie.After-put-under
 placed d = inserted (d .before .before .before)
 
 -- the products are added
@@ -113,7 +113,7 @@ module _ (w : tie.After-copy) where
   gone-below = subst (Below (s .args .settings .modulus)) (sym gone-is) (below-take (s .args .settings .modulus) 64 (drop (64 * s .args .j) (s .args .coefficients .now)) (below-drop (s .args .settings .modulus) (64 * s .args .j) (s .args .coefficients .now) (s .pre .1 .1 .1 .0 .1)))
 
 -- the inverse of its value, and its place among the standard monomials
-module _ (d : tie.After-put-in) where
+module _ (d : tie.After-put-under) where
   abbrev o : tie.Start
   o = start (lost d)
 
@@ -129,11 +129,11 @@ module _ (d : tie.After-put-in) where
   old : copied d .copy2 .last .1 .0 ≡ o .args .standard .now
   old = copied d .copy2 .ensures ∙ over-all (o .args .standard .now) (o .args .new-standard .now) (o .pre .1 .1 .0 .0 ∙ sym (zeros-long _ 512 (o .pre .1 .1 .1 .1 .1 .1 .0)))
 
-  place-is : d .put-in .result ≡ placeOf (cmp (orderOf (o .args .settings .order))) (lead o) (groups 8 (o .args .n) (o .args .standard .now))
-  place-is = d .put-in .ensures .0 ∙ ap (λ (t : List ℕ). placeOf (cmp (orderOf (o .args .settings .order))) (lead o) (groups 8 (o .args .n) t)) old
+  place-is : d .put-under .result ≡ placeOf (cmp (orderUnder (o .args .settings))) (lead o) (groups 8 (o .args .n) (o .args .standard .now))
+  place-is = d .put-under .ensures .0 ∙ ap (λ (t : List ℕ). placeOf (cmp (orderUnder (o .args .settings))) (lead o) (groups 8 (o .args .n) t)) old
 
-  within : d .put-in .result ≤ o .args .n
-  within = omega (arith, place-is, place-within (cmp (orderOf (o .args .settings .order))) (lead o) (o .args .standard .now) (o .args .n))
+  within : d .put-under .result ≤ o .args .n
+  within = omega (arith, place-is, place-within (cmp (orderUnder (o .args .settings))) (lead o) (o .args .standard .now) (o .args .n))
 
 -- the tables of the other leads and their rows keep their sizes
 module _ (k : tie.After-keep-others) where
@@ -145,9 +145,6 @@ module _ (k : tie.After-keep-others) where
 
 cast-p : tie.Need-cast-p
 cast-p c = omega (arith, high (opened c))
-
-cast-order : tie.Need-cast-order
-cast-order c = omega (arith, opened (c .before) .pre .0 .0 .order)
 
 mul-lead : tie.Need-mul-lead
 mul-lead c = omega arith
@@ -165,7 +162,7 @@ part-lead-start : tie.Need-part-lead-start
 part-lead-start c = omega arith
 
 part-lead-end : tie.Need-part-lead-end
-part-lead-end c = let s = opened (c .before) in omega (arith, s .pre .1 .0, s .pre .1 .1 .0)
+part-lead-end c = let s = opened c in omega (arith, s .pre .1 .0, s .pre .1 .1 .0)
 
 mul-copy : tie.Need-mul-copy
 mul-copy c = omega arith
@@ -206,11 +203,11 @@ inverse-requires c κs = tt
 copy-requires-2 : tie.Need-copy-requires-2
 copy-requires-2 c κs = let s = start (valued (c .before)) in omega (arith, s .pre .1 .1 .0 .0, zeros-long _ 512 (s .pre .1 .1 .1 .1 .1 .1 .0))
 
-put-in-requires : tie.Need-put-in-requires
-put-in-requires c κs =
+put-under-requires : tie.Need-put-under-requires
+put-under-requires c κs =
     let k = copying c in
     let s = start (valued (inverting k)) in
-    ((omega (arith, s .pre .0 .1, k .copy2 .kept .1 .0, zeros-long _ 512 (s .pre .1 .1 .1 .1 .1 .1 .0)), omega (arith, s .pre .0 .1)), lead-long s)
+    (s .pre .0 .0 .order, (omega (arith, s .pre .0 .1, k .copy2 .kept .1 .0, zeros-long _ 512 (s .pre .1 .1 .1 .1 .1 .1 .0)), omega (arith, s .pre .0 .1), lead-long s))
 
 slice-aggregate-keep-others : tie.Need-slice-aggregate-keep-others
 slice-aggregate-keep-others c = sym (gone-long (lost (inserted c)))
@@ -253,7 +250,7 @@ add-products-requires c κs =
     )
 
 same-length : tie.Need-same-length
-same-length c = let d = placed (grown-on (done c)) in d .put-in .kept .1 .1 .0 ∙ copied d .copy2 .kept .1 .0
+same-length c = let d = placed (grown-on (done c)) in d .put-under .kept .1 .1 .0 ∙ copied d .copy2 .kept .1 .0
 
 same-length-2 : tie.Need-same-length-2
 same-length-2 c = done c .add-products .kept .1 .1 .1 .1 .1 .1 .1 .1 .1 .1 .1 .1 .0 ∙ grown-on (done c) .keep-others .kept .1 .1 .1 .1 .1 .1 .1 .1 .1 .1 .0
@@ -267,8 +264,8 @@ returns c =
     let k = grown-on (done c) in
     let d = placed k in
     let s = o d in (
-      d .put-in .ensures .1 ∙ ap₂ (λ (i : ℕ) (t : List ℕ). withRowAt 8 (s .args .n) i (lead s) t) (place-is d) (old d) ∙ ap (standardGrown (s .args .settings .order) (s .args .n) (s .args .standard .now)) (lead-is s),
-      grown-by (s .args .settings .modulus) (s .args .settings .variables) (s .args .settings .order) (s .args .n) (s .args .r) (s .args .points .now) (s .args .standard .now) (s .args .leads .now) (s .args .coefficients .now) (s .args .rows .now) (s .args .pivots .now) (s .args .point .now) (s .args .values .now) (s .args .j)
+      d .put-under .ensures .1 ∙ ap₂ (λ (i : ℕ) (t : List ℕ). withRowAt 8 (s .args .n) i (lead s) t) (place-is d) (old d) ∙ ap (standardGrown (orderUnder (s .args .settings)) (s .args .n) (s .args .standard .now)) (lead-is s),
+      grown-by (s .args .settings .modulus) (s .args .settings .variables) (orderUnder (s .args .settings)) (s .args .n) (s .args .r) (s .args .points .now) (s .args .standard .now) (s .args .leads .now) (s .args .coefficients .now) (s .args .rows .now) (s .args .pivots .now) (s .args .point .now) (s .args .values .now) (s .args .j)
           _ _ _ _ _ _ (lead-is s) (gone-is (lost d)) (place-is d) (inverse-is d) (k .keep-others .ensures .0) (k .keep-others .ensures .1) (done c .add-products .ensures),
     )
 
@@ -277,7 +274,6 @@ grow-spec =
     tie.close
     (tie.spec
     cast-p
-    cast-order
     mul-lead
     mul-lead-2
     add-lead
@@ -296,7 +292,7 @@ grow-spec =
     row-value-requires
     inverse-requires
     copy-requires-2
-    put-in-requires
+    put-under-requires
     slice-aggregate-keep-others
     keep-others-requires
     slice-aggregate-add-products

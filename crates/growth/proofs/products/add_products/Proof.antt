@@ -5,29 +5,28 @@ use Prim.Native.Nat.{ℕ, _+_, _-_, _≤_}
 use native.Mathlib.Omega.{arith}
 use lib.ListN.{length, getD, set, replicate, length-set, length-replicate}
 use Rattle.residue.specs.Layout.{over}
-use Rattle.residue.proofs.level.Moduli.{modulus-range}
 use Rattle.residue.proofs.Layouts.{over-all}
 use Rattle.monomial.specs.Monomial.{timesVariable}
-use Rattle.growth.specs.Growing.{grown, productsPut}
+use Rattle.growth.specs.Growing.{orderUnder, grown, productsPut}
 use Rattle.growth.proofs.Growth.{GrownSized, products-none, products-next, products-sized}
 use Rattle.growth.proofs.products.add_products.Statement.{statement}
 use Rattle.growth.proofs.products.add_products.Tie as tie
 
 abbrev Inv-loop : tie.InvT-loop
-Inv-loop n points rows pivots place inverse gone point values k lead leads₀ coefficients₀ p order m others count₀ v₀ leads coefficients count v = (v ≤ m) × (grown count leads coefficients ≡ productsPut p order n points rows pivots place inverse gone point values k others lead v (grown k leads₀ coefficients₀))
+Inv-loop settings n points rows pivots place inverse gone point values k lead leads₀ coefficients₀ m others count₀ v₀ leads coefficients count v = (v ≤ m) × (grown count leads coefficients ≡ productsPut (settings .modulus) (orderUnder settings) n points rows pivots place inverse gone point values k others lead v (grown k leads₀ coefficients₀))
 
 abbrev μ-loop : tie.MeasureT-loop
-μ-loop n points rows pivots place inverse gone point values k lead leads₀ coefficients₀ p order m others count₀ v₀ leads coefficients count v = m - v
+μ-loop settings n points rows pivots place inverse gone point values k lead leads₀ coefficients₀ m others count₀ v₀ leads coefficients count v = m - v
 
--- the places, one from the next: the settings are read, the leads are copied
-abbrev opened : tie.After-struct-known Inv-loop μ-loop → tie.Start Inv-loop μ-loop
-opened c = c .before .before .before .before .before .before .before .before .before .before
+-- the places, one from the next: the tables are lent, the leads are copied
+abbrev opened : tie.After-slice-known2 Inv-loop μ-loop → tie.Start Inv-loop μ-loop
+opened c = c .before .before .before .before .before .before .before .before .before
 
 abbrev kept : tie.At-loop Inv-loop μ-loop → tie.After-copy Inv-loop μ-loop
 kept l = l .before .before
 
 abbrev start : tie.At-loop Inv-loop μ-loop → tie.Start Inv-loop μ-loop
-start l = opened (kept l .before .before .before .before)
+start l = opened (kept l .before .before .before)
 
 -- in a turn the lead is copied, times a variable, and added
 abbrev turn : tie.After-copy2 Inv-loop μ-loop → tie.In-loop Inv-loop μ-loop
@@ -57,20 +56,7 @@ copied s a e = e ∙ over-all (s .args .lead .now) (replicate 8 0) (s .pre .1 .1
 sized : (l : tie.At-loop Inv-loop μ-loop) → GrownSized (start l .args .k) (l .loop .v) (grown (l .loop .count) (l .loop .leads) (l .loop .coefficients))
 sized l =
     let s = start l in
-    rw (l .loop .inv .1) (products-sized (s .args .settings .modulus) (s .args .settings .order) (s .args .n) (s .args .points .now) (s .args .rows .now) (s .args .pivots .now) (s .args .place) (s .args .inverse) (s .args .gone .now) (s .args .point .now) (s .args .values .now) (s .args .k) (others l) (s .args .lead .now) (s .args .leads .now) (s .args .coefficients .now) (s .pre .1 .1 .0 .3) (s .pre .1 .1 .1 .0 .1) (s .pre .1 .1 .1 .0 .2) (l .loop .v) (omega arith))
-
-module _ (s : tie.Start Inv-loop μ-loop) where
-  low : 2 ≤ s .args .settings .modulus
-  low = modulus-range (s .args .settings .modulus) (s .pre .0 .0 .modulus) .0
-
-  high : s .args .settings .modulus ≤ 61
-  high = modulus-range (s .args .settings .modulus) (s .pre .0 .0 .modulus) .1
-
-cast-p : tie.Need-cast-p Inv-loop μ-loop
-cast-p c = omega (arith, high (opened c))
-
-cast-order : tie.Need-cast-order Inv-loop μ-loop
-cast-order c = omega (arith, opened (c .before) .pre .0 .0 .order)
+    rw (l .loop .inv .1) (products-sized (s .args .settings .modulus) (orderUnder (s .args .settings)) (s .args .n) (s .args .points .now) (s .args .rows .now) (s .args .pivots .now) (s .args .place) (s .args .inverse) (s .args .gone .now) (s .args .point .now) (s .args .values .now) (s .args .k) (others l) (s .args .lead .now) (s .args .leads .now) (s .args .coefficients .now) (s .pre .1 .1 .0 .3) (s .pre .1 .1 .1 .0 .1) (s .pre .1 .1 .1 .0 .2) (l .loop .v) (omega arith))
 
 slice-aggregate-copy : tie.Need-slice-aggregate-copy Inv-loop μ-loop
 slice-aggregate-copy c = omega arith
@@ -115,7 +101,7 @@ add-product-requires c κs =
     let s = start l in
     let z = sized l in
     let e = copied s _ (k .copy2 .ensures) in (
-      (low s, high s, s .pre .0 .1 .0, s .pre .0 .1 .1, s .pre .0 .1 .2),
+      s .pre .0,
       (
         s .pre .1 .0,
         (
@@ -142,7 +128,7 @@ loop-again c =
     let v : ℕ = l .loop .v in
     let e : set (k .copy2 .last .1 .0) v (getD (k .copy2 .last .1 .0) v 0 + 1) ≡ timesVariable v (s .args .lead .now) = ap (timesVariable v) (copied s _ (k .copy2 .ensures)) in (
       omega (arith, turn k .loop-test .taken),
-      products-next (s .args .settings .modulus) (s .args .settings .order) (s .args .n) (s .args .points .now) (s .args .rows .now) (s .args .pivots .now) (s .args .place) (s .args .inverse) (s .args .gone .now) (s .args .point .now) (s .args .values .now) (s .args .k) (others l) (s .args .lead .now) (grown (s .args .k) (s .args .leads .now) (s .args .coefficients .now)) v e (l .loop .inv .1) (put c .add-product .ensures),
+      products-next (s .args .settings .modulus) (orderUnder (s .args .settings)) (s .args .n) (s .args .points .now) (s .args .rows .now) (s .args .pivots .now) (s .args .place) (s .args .inverse) (s .args .gone .now) (s .args .point .now) (s .args .values .now) (s .args .k) (others l) (s .args .lead .now) (grown (s .args .k) (s .args .leads .now) (s .args .coefficients .now)) v e (l .loop .inv .1) (put c .add-product .ensures),
     )
 
 same-length : tie.Need-same-length Inv-loop μ-loop
@@ -156,7 +142,7 @@ returns c =
     let l = c .before in
     let s = start l in
     let e : l .loop .v ≡ s .args .settings .variables = omega arith in
-    l .loop .inv .1 ∙ ap₂ (λ (o : List ℕ) (v : ℕ). productsPut (s .args .settings .modulus) (s .args .settings .order) (s .args .n) (s .args .points .now) (s .args .rows .now) (s .args .pivots .now) (s .args .place) (s .args .inverse) (s .args .gone .now) (s .args .point .now) (s .args .values .now) (s .args .k) o (s .args .lead .now) v (grown (s .args .k) (s .args .leads .now) (s .args .coefficients .now))) (others-are l) e
+    l .loop .inv .1 ∙ ap₂ (λ (o : List ℕ) (v : ℕ). productsPut (s .args .settings .modulus) (orderUnder (s .args .settings)) (s .args .n) (s .args .points .now) (s .args .rows .now) (s .args .pivots .now) (s .args .place) (s .args .inverse) (s .args .gone .now) (s .args .point .now) (s .args .values .now) (s .args .k) o (s .args .lead .now) v (grown (s .args .k) (s .args .leads .now) (s .args .coefficients .now))) (others-are l) e
 
 pub add-products-spec : {M : Type 1} → statement M
 add-products-spec =
@@ -164,8 +150,6 @@ add-products-spec =
     (tie.spec
     Inv-loop
     μ-loop
-    cast-p
-    cast-order
     slice-aggregate-copy
     copy-requires
     loop-holds

@@ -4,6 +4,9 @@ use Rattle.misqafur.proofs.Packed.{packs}
 use Rattle.misqafur.proofs.tables.misqafur_add_point.Statement.{statement}
 use Rattle.misqafur.proofs.tables.misqafur_add_point.Tie as tie
 
+settings-given-requires : tie.Need-settings-given-requires
+settings-given-requires c κs = search needs
+
 add-point-requires : tie.Need-add-point-requires
 add-point-requires c κs = search needs
 
@@ -26,12 +29,15 @@ same-length-5 : tie.Need-same-length-5
 same-length-5 c = search needs
 
 returns : tie.Need-returns
-returns c = packs (c .before .before .before .before .before .before .before .before .before .before .before .add-point .ensures) (c .pack-answer .ensures)
+returns c =
+    let a = c .before .before .before .before .before .before .before .before .before .before .before in
+    rw (← (a .before .before .before .before .before .before .settings-given .ensures)) (packs (a .add-point .ensures) (c .pack-answer .ensures))
 
 pub misqafur-add-point-spec : {M : Type 1} → statement M
 misqafur-add-point-spec =
     tie.close
     (tie.spec
+    settings-given-requires
     add-point-requires
     pack-answer-requires
     same-length

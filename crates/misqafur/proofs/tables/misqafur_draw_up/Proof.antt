@@ -4,6 +4,9 @@ use Rattle.misqafur.proofs.Packed.{packs-drawn}
 use Rattle.misqafur.proofs.tables.misqafur_draw_up.Statement.{statement}
 use Rattle.misqafur.proofs.tables.misqafur_draw_up.Tie as tie
 
+settings-given-requires : tie.Need-settings-given-requires
+settings-given-requires c κs = search needs
+
 draw-up-requires : tie.Need-draw-up-requires
 draw-up-requires c κs = search needs
 
@@ -26,12 +29,15 @@ same-length-5 : tie.Need-same-length-5
 same-length-5 c = search needs
 
 returns : tie.Need-returns
-returns c = packs-drawn (c .before .before .before .before .before .before .before .before .before .before .before .draw-up .ensures) (c .pack-drawn .ensures)
+returns c =
+    let a = c .before .before .before .before .before .before .before .before .before .before .before in
+    rw (← (a .before .before .before .before .before .before .settings-given .ensures)) (packs-drawn (a .draw-up .ensures) (c .pack-drawn .ensures))
 
 pub misqafur-draw-up-spec : {M : Type 1} → statement M
 misqafur-draw-up-spec =
     tie.close
     (tie.spec
+    settings-given-requires
     draw-up-requires
     pack-drawn-requires
     same-length

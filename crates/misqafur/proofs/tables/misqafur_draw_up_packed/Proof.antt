@@ -4,6 +4,9 @@ use Rattle.misqafur.proofs.Packed.{packs}
 use Rattle.misqafur.proofs.tables.misqafur_draw_up_packed.Statement.{statement}
 use Rattle.misqafur.proofs.tables.misqafur_draw_up_packed.Tie as tie
 
+settings-given-requires : tie.Need-settings-given-requires
+settings-given-requires c κs = search needs
+
 draw-up-packed-requires : tie.Need-draw-up-packed-requires
 draw-up-packed-requires c κs = search needs
 
@@ -26,12 +29,15 @@ same-length-5 : tie.Need-same-length-5
 same-length-5 c = search needs
 
 returns : tie.Need-returns
-returns c = packs (c .before .before .before .before .before .before .before .before .before .before .before .draw-up-packed .ensures) (c .pack-answer .ensures)
+returns c =
+    let a = c .before .before .before .before .before .before .before .before .before .before .before in
+    rw (← (a .before .before .before .before .before .before .settings-given .ensures)) (packs (a .draw-up-packed .ensures) (c .pack-answer .ensures))
 
 pub misqafur-draw-up-packed-spec : {M : Type 1} → statement M
 misqafur-draw-up-packed-spec =
     tie.close
     (tie.spec
+    settings-given-requires
     draw-up-packed-requires
     pack-answer-requires
     same-length

@@ -4,6 +4,9 @@ use Rattle.misqafur.proofs.Packed.{packs}
 use Rattle.misqafur.proofs.tables.misqafur_withdraw_point.Statement.{statement}
 use Rattle.misqafur.proofs.tables.misqafur_withdraw_point.Tie as tie
 
+settings-given-requires : tie.Need-settings-given-requires
+settings-given-requires c κs = search needs
+
 withdraw-point-requires : tie.Need-withdraw-point-requires
 withdraw-point-requires c κs = search needs
 
@@ -26,12 +29,15 @@ same-length-5 : tie.Need-same-length-5
 same-length-5 c = search needs
 
 returns : tie.Need-returns
-returns c = packs (c .before .before .before .before .before .before .before .before .before .before .before .withdraw-point .ensures) (c .pack-answer .ensures)
+returns c =
+    let a = c .before .before .before .before .before .before .before .before .before .before .before in
+    rw (← (a .before .before .before .before .before .before .settings-given .ensures)) (packs (a .withdraw-point .ensures) (c .pack-answer .ensures))
 
 pub misqafur-withdraw-point-spec : {M : Type 1} → statement M
 misqafur-withdraw-point-spec =
     tie.close
     (tie.spec
+    settings-given-requires
     withdraw-point-requires
     pack-answer-requires
     same-length

@@ -19,9 +19,12 @@ same-length-2 c = search needs
 same-length-3 : tie.Need-same-length-3
 same-length-3 c = search needs
 
+same-length-4 : tie.Need-same-length-4
+same-length-4 c = search needs
+
 returns : tie.Need-returns
-returns c = packs-read (c .before .before .before .before .before .before .before .read-text .ensures) (c .pack-read .ensures)
+returns c = packs-read (c .before .before .before .before .before .before .before .before .before .read-text .ensures) (c .pack-read .ensures)
 
 pub misqafur-read-text-spec : {M : Type 1} → statement M
 misqafur-read-text-spec =
-    tie.close (tie.spec read-text-requires pack-read-requires same-length same-length-2 same-length-3 returns)
+    tie.close (tie.spec read-text-requires pack-read-requires same-length same-length-2 same-length-3 same-length-4 returns)

@@ -12,13 +12,13 @@ use Rattle.monomial.proofs.rank.put_steps.Statement.{statement}
 use Rattle.monomial.proofs.rank.put_steps.Tie as tie
 
 abbrev Inv-loop : tie.InvT-loop
-Inv-loop order steps₀ k₀ steps k = (k ≤ 8) × (steps ≡ filled (variableRank (orderOf order)) k steps₀)
+Inv-loop order weights steps₀ k₀ steps k = (k ≤ 8) × (steps ≡ filled (variableRank (orderOf order weights)) k steps₀)
 
 abbrev μ-loop : tie.MeasureT-loop
-μ-loop order steps₀ k₀ steps k = 8 - k
+μ-loop order weights steps₀ k₀ steps k = 8 - k
 
 long : (l : tie.At-loop Inv-loop μ-loop) → length (l .loop .steps) ≡ 8
-long l = let s = l .before .before in kept-length (variableRank (orderOf (s .args .order))) (l .loop .k) (s .args .steps .now) (l .loop .steps) (l .loop .inv .1) ∙ s .pre .1
+long l = let s = l .before .before .before in kept-length (variableRank (orderOf (s .args .order) (s .args .weights .now))) (l .loop .k) (s .args .steps .now) (l .loop .steps) (l .loop .inv .1) ∙ s .pre .1 .1
 
 loop-holds : tie.Need-loop-holds Inv-loop μ-loop
 loop-holds c = (omega arith, filled-none _ _)
@@ -41,19 +41,19 @@ loop-less c = omega arith
 loop-again : tie.Need-loop-again Inv-loop μ-loop
 loop-again c =
     let l = c .before .before in
-    let s = l .before .before in
-    (omega arith, filled-more (variableRank (orderOf (s .args .order))) (l .loop .k) (s .args .steps .now) (l .loop .steps) (l .loop .inv .1) _ (omega arith) (c .variable-rank .ensures))
+    let s = l .before .before .before in
+    (omega arith, filled-more (variableRank (orderOf (s .args .order) (s .args .weights .now))) (l .loop .k) (s .args .steps .now) (l .loop .steps) (l .loop .inv .1) _ (omega arith) (c .variable-rank .ensures))
 
 same-length : tie.Need-same-length Inv-loop μ-loop
-same-length c = long (c .before) ∙ sym (c .before .before .before .pre .1)
+same-length c = long (c .before) ∙ sym (c .before .before .before .before .pre .1 .1)
 
 returns : tie.Need-returns Inv-loop μ-loop
 returns c =
     let l = c .before in
-    let s = l .before .before in
-    let o = orderOf (s .args .order) in
+    let s = l .before .before .before in
+    let o = orderOf (s .args .order) (s .args .weights .now) in
     l .loop .inv .1
-    ∙ filled-all (variableRank o) (l .loop .k) (stepsOf o) (s .args .steps .now) 0 (omega arith) (steps-long o ∙ sym (s .pre .1)) (λ i h. steps-at o i (omega arith))
+    ∙ filled-all (variableRank o) (l .loop .k) (stepsOf o) (s .args .steps .now) 0 (omega arith) (steps-long o ∙ sym (s .pre .1 .1)) (λ i h. steps-at o i (omega arith))
 
 pub put-steps-spec : {M : Type 1} → statement M
 put-steps-spec =

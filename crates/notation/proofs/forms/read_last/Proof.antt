@@ -11,10 +11,10 @@ use Rattle.notation.proofs.forms.read_last.Tie as tie
 
 returns : tie.Need-returns
 unfolding lastSaid
-returns c = last-says (λ m. sym (last-short m _ (c .if1 .taken)))
+returns c = last-says (sym (last-short _ _ (c .if1 .taken)))
 
 slice-aggregate-same : tie.Need-slice-aggregate-same
-slice-aggregate-same c = sym (length-take-le 4 (c .before .before .before .args .content .now) (c .before .if1 .left))
+slice-aggregate-same c = sym (length-take-le 4 (c .before .before .before .before .args .content .now) (c .before .if1 .left))
 
 slice-aggregate-same-2 : tie.Need-slice-aggregate-same-2
 slice-aggregate-same-2 c = search needs
@@ -24,7 +24,7 @@ same-requires c κs = search needs
 
 returns-2 : tie.Need-returns-2
 unfolding lastSaid
-returns-2 c = last-says (λ m. sym (last-other m _ (sym (c .before .same .ensures) ∙ not-true _ (c .if2 .taken))))
+returns-2 c = last-says (sym (last-other _ _ (sym (c .before .same .ensures) ∙ not-true _ (c .if2 .taken))))
 
 sub-read-settings : tie.Need-sub-read-settings
 sub-read-settings c = search needs
@@ -38,10 +38,14 @@ part-read-settings-end c = search needs
 read-settings-requires : tie.Need-read-settings-requires
 read-settings-requires c κs = search needs
 
+same-length : tie.Need-same-length
+same-length c = search needs
+
 returns-3 : tie.Need-returns-3
 returns-3 c =
-    let e = sym (c .before .before .before .same .ensures) ∙ not-false _ (c .before .before .if2 .left) in
-    last-says (λ m. c .read-settings .ensures .said m ∙ last-mod m _ e)
+    let r = c .before .before in
+    let e₂ = r .before .before .before in
+    last-says (r .read-settings .ensures .said ∙ last-mod _ _ (sym (e₂ .before .same .ensures) ∙ not-false _ (e₂ .if2 .left)))
 
 pub read-last-spec : {M : Type 1} → statement M
 read-last-spec =
@@ -56,4 +60,5 @@ read-last-spec =
     part-read-settings-start
     part-read-settings-end
     read-settings-requires
+    same-length
     returns-3)

@@ -18,7 +18,7 @@ use Rattle.notation.proofs.forms.read_settings.Tie as tie
 -- The places: the digits were looked for and found, and the word behind them was read. Each names the one before it.
 module _ (k : tie.After-known-told) where
   abbrev content : List ℕ
-  content = k .before .before .before .before .before .args .content .now
+  content = k .before .before .before .before .before .before .args .content .now
 
   abbrev count : ℕ
   count = k .before .size .given .0 .1 .0
@@ -30,7 +30,7 @@ module _ (k : tie.After-known-told) where
   within = omega (arith, found .ends, front-le isDigit content)
 
 abbrev known : tie.After-read-order → tie.After-known-told
-known c = c .before .before
+known c = c .before .before .before
 
 read-leading-requires : tie.Need-read-leading-requires
 read-leading-requires c κs = search needs
@@ -43,7 +43,7 @@ enum-told c = search needs
 
 returns : tie.Need-returns
 unfolding lastSaid
-returns c = last-says (λ m. no-digits m _ (subst (LeadingRead _) (c .enum-told .given .1) (c .before .before .read-leading .ensures)))
+returns c = last-says (no-digits _ _ (subst (LeadingRead _) (c .enum-told .given .1) (c .before .before .read-leading .ensures)))
 
 sub-read-order : tie.Need-sub-read-order
 sub-read-order c = within c
@@ -63,17 +63,29 @@ enum-known-order c = search needs
 enum-told-2 : tie.Need-enum-told-2
 enum-told-2 c = search needs
 
+same-length : tie.Need-same-length
+same-length c = search needs
+
+-- the order was read, or it is none
+abbrev order-read : tie.After-slice-known2 → tie.After-read-order
+order-read c = c .before .before
+
 returns-2 : tie.Need-returns-2
 unfolding lastSaid orderSaid header
 returns-2 c =
-    let w = c .before .before in
-    last-says (λ m. digits-and m _ _ _ _ (found (known w)) (ap orderSaid (sym (c .enum-told2 .given .1)) ∙ w .read-order .ensures .said))
+    let w = order-read (c .before .before) in
+    let e = ap (orderSaid (w .read-order .last .1 .1 .0)) (sym (c .enum-told2 .given .1)) ∙ w .read-order .ensures .said in
+    last-says (digits-and _ _ _ _ _ (found (known w)) e)
+
+same-length-2 : tie.Need-same-length-2
+same-length-2 c = search needs
 
 returns-3 : tie.Need-returns-3
 unfolding lastSaid orderSaid header
 returns-3 c =
-    let w = c .before .before .before in
-    last-says (λ m. digits-and m _ _ _ _ (found (known w)) (ap orderSaid (sym (c .before .order .given .1)) ∙ w .read-order .ensures .said))
+    let w = order-read (c .before .before .before) in
+    let e = ap (orderSaid (w .read-order .last .1 .1 .0)) (sym (c .before .order .given .1)) ∙ w .read-order .ensures .said in
+    last-says (digits-and _ _ _ _ _ (found (known w)) e)
 
 pub read-settings-spec : {M : Type 1} → statement M
 read-settings-spec =
@@ -89,5 +101,7 @@ read-settings-spec =
     read-order-requires
     enum-known-order
     enum-told-2
+    same-length
     returns-2
+    same-length-2
     returns-3)

@@ -5,9 +5,17 @@ use mathlib.Core.Logic.{_≢_}
 use Prim.Native.Nat.{ℕ, _≤_}
 use native.Mathlib.Omega.{arith}
 use lib.ListN.{replicate}
+use Rattle.residue.specs.Sizes.{standardSize, leadsSize, coefficientsSize}
 use borrow.Author.Needs.{needs}
 use Rattle.packed.proofs.drawing.draw_anew.Statement.{statement}
 use Rattle.packed.proofs.drawing.draw_anew.Tie as tie
+use Rattle.packed.proofs.drawing.draw_anew.Reads as reads
+use Rattle.packed.proofs.drawing.draw_anew.Lts as lts
+use Rattle.packed.proofs.drawing.draw_grevlex.Reads as draw-grevlex-reads
+use Rattle.packed.proofs.drawing.draw_grlex.Reads as draw-grlex-reads
+use Rattle.packed.proofs.drawing.draw_lex.Reads as draw-lex-reads
+use Rattle.packed.proofs.drawing.draw_weighted.Reads as draw-weighted-reads
+use Rattle.residue.proofs.bytes.clear.Reads as clear-reads
 
 -- the tables are cleared
 abbrev start : tie.After-clear3 → tie.Start
@@ -16,8 +24,16 @@ start k = k .before .before .before .before .before .before .before .before .bef
 cleared : {t : List ℕ} {k n : ℕ} → k ≡ n → t ≡ replicate k 0 → t ≡ replicate n 0
 cleared l e = e ∙ ap (λ (k : ℕ). replicate k 0) l
 
-last-order : (o : ℕ) → o ≤ 2 → o ≢ 0 → o ≢ 1 → o ≡ 2
-last-order o h y z = omega (arith, h, y, z)
+all-cleared : (k : tie.After-clear3)
+    → (k .before .before .before .before .before .before .before .before .clear .last .0 ≡ replicate standardSize 0)
+    × ((k .before .before .before .before .clear2 .last .0 ≡ replicate leadsSize 0) × (k .clear3 .last .0 ≡ replicate coefficientsSize 0))
+all-cleared k = (
+  cleared (start k .pre .1 .0) (k .before .before .before .before .before .before .before .before .clear .ensures),
+  (cleared (start k .pre .1 .1 .0) (k .before .before .before .before .clear2 .ensures), cleared (start k .pre .1 .1 .1) (k .clear3 .ensures)),
+)
+
+last-order : (o : ℕ) → o ≤ 3 → o ≢ 0 → o ≢ 1 → o ≢ 2 → o ≡ 3
+last-order o h x y z = omega (arith, h, x, y, z)
 
 clear-requires : tie.Need-clear-requires
 clear-requires c κs = search needs
@@ -31,16 +47,7 @@ clear-requires-3 c κs = search needs
 draw-lex-requires : tie.Need-draw-lex-requires
 draw-lex-requires c κs =
     let k = c .before .before .before .before .before .before .before in
-    let s = start k in (
-      (s .pre .0 .0, (s .pre .0 .1, c .before .before .before .if1 .taken)),
-      (
-        cleared (s .pre .1 .0) (k .before .before .before .before .before .before .before .before .clear .ensures),
-        (
-          cleared (s .pre .1 .1 .0) (k .before .before .before .before .clear2 .ensures),
-          cleared (s .pre .1 .1 .1) (k .clear3 .ensures),
-        ),
-      ),
-    )
+    ((start k .pre .0 .0, (start k .pre .0 .1, c .before .before .before .if1 .taken)), all-cleared k)
 
 same-length : tie.Need-same-length
 same-length c = search needs
@@ -57,16 +64,7 @@ returns c = search needs
 draw-grlex-requires : tie.Need-draw-grlex-requires
 draw-grlex-requires c κs =
     let k = c .before .before .before .before .before .before .before .before .before in
-    let s = start k in (
-      (s .pre .0 .0, (s .pre .0 .1, c .before .before .before .if2 .taken)),
-      (
-        cleared (s .pre .1 .0) (k .before .before .before .before .before .before .before .before .clear .ensures),
-        (
-          cleared (s .pre .1 .1 .0) (k .before .before .before .before .clear2 .ensures),
-          cleared (s .pre .1 .1 .1) (k .clear3 .ensures),
-        ),
-      ),
-    )
+    ((start k .pre .0 .0, (start k .pre .0 .1, c .before .before .before .if2 .taken)), all-cleared k)
 
 same-length-4 : tie.Need-same-length-4
 same-length-4 c = search needs
@@ -82,17 +80,8 @@ returns-2 c = search needs
 
 draw-grevlex-requires : tie.Need-draw-grevlex-requires
 draw-grevlex-requires c κs =
-    let k = c .before .before .before .before .before .before .before .before .before in
-    let s = start k in (
-      (s .pre .0 .0, (s .pre .0 .1, last-order (s .args .settings .order) (s .pre .0 .0 .settings .order) (c .before .before .before .before .before .if1 .left) (c .before .before .before .if2 .left))),
-      (
-        cleared (s .pre .1 .0) (k .before .before .before .before .before .before .before .before .clear .ensures),
-        (
-          cleared (s .pre .1 .1 .0) (k .before .before .before .before .clear2 .ensures),
-          cleared (s .pre .1 .1 .1) (k .clear3 .ensures),
-        ),
-      ),
-    )
+    let k = c .before .before .before .before .before .before .before .before .before .before .before in
+    ((start k .pre .0 .0, (start k .pre .0 .1, c .before .before .before .if3 .taken)), all-cleared k)
 
 same-length-7 : tie.Need-same-length-7
 same-length-7 c = search needs
@@ -105,6 +94,33 @@ same-length-9 c = search needs
 
 returns-3 : tie.Need-returns-3
 returns-3 c = search needs
+
+draw-weighted-requires : tie.Need-draw-weighted-requires
+draw-weighted-requires c κs =
+    let k = c .before .before .before .before .before .before .before .before .before .before .before in (
+      (
+        start k .pre .0 .0,
+        (
+          start k .pre .0 .1,
+          last-order (start k .args .settings .order) (start k .pre .0 .0 .settings .order)
+              (c .before .before .before .before .before .before .before .if1 .left) (c .before .before .before .before .before .if2 .left)
+              (c .before .before .before .if3 .left),
+        ),
+      ),
+      all-cleared k,
+    )
+
+same-length-10 : tie.Need-same-length-10
+same-length-10 c = search needs
+
+same-length-11 : tie.Need-same-length-11
+same-length-11 c = search needs
+
+same-length-12 : tie.Need-same-length-12
+same-length-12 c = search needs
+
+returns-4 : tie.Need-returns-4
+returns-4 c = search needs
 
 pub draw-anew-spec : {M : Type 1} → statement M
 draw-anew-spec =
@@ -127,4 +143,9 @@ draw-anew-spec =
     same-length-7
     same-length-8
     same-length-9
-    returns-3)
+    returns-3
+    draw-weighted-requires
+    same-length-10
+    same-length-11
+    same-length-12
+    returns-4)

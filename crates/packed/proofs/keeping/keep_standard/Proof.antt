@@ -2,14 +2,15 @@
 use mathlib.Core.Path.{refl, ap, _∙_}
 use mathlib.Core.List.{List}
 use native.Mathlib.Numerals.{add-one}
-use lib.ListN.{set}
 use Prim.Native.Nat.{ℕ}
 use Rattle.residue.specs.Layout.{withPlace}
+use Rattle.packed.specs.ByteColumns.{noted}
 use borrow.Author.Needs.{needs}
 use Rattle.packed.proofs.keeping.keep_standard.Statement.{statement}
 use Rattle.packed.proofs.keeping.keep_standard.Tie as tie
 use Rattle.packed.proofs.keeping.keep_standard.Reads as reads
 use Rattle.packed.proofs.keeping.keep_standard.Lts as lts
+use Rattle.packed.proofs.keeping.note_variable.Reads as note-variable-reads
 use Rattle.packed.proofs.open.pass.Reads as pass-reads
 use Rattle.packed.proofs.writing.keep_eight.Reads as keep-eight-reads
 use Rattle.packed.proofs.writing.spread.Reads as spread-reads
@@ -26,14 +27,14 @@ mul-values c = search needs
 slice-write-values : tie.Need-slice-write-values
 slice-write-values c = search needs
 
-cast-places : tie.Need-cast-places
-cast-places c = search needs
+cast-note-variable : tie.Need-cast-note-variable
+cast-note-variable c = search needs
 
-add-places : tie.Need-add-places
-add-places c = search needs
+add-note-variable : tie.Need-add-note-variable
+add-note-variable c = search needs
 
-slice-write-places : tie.Need-slice-write-places
-slice-write-places c = search needs
+note-variable-requires : tie.Need-note-variable-requires
+note-variable-requires c κs = search needs
 
 pass-requires : tie.Need-pass-requires
 pass-requires c κs = search needs
@@ -52,10 +53,17 @@ same-length-4 c = search needs
 
 returns : tie.Need-returns
 returns c =
-    let a = c .before .before .before .before .before .before .before .before .before .before .before .before .before in
-    let e = c .before .before .before .before .before .before in (
+    let a = c .before .before .before .before .before .before .before .before .before .before .before .before .before .before .before .before .before in
+    let e = c .before .before .before .before .before .before .before .before .before .before in (
       e .keep-eight .ensures ∙ ap (λ (l : List ℕ). withPlace 8 (a .args .found) l (a .args .standard .now)) (e .before .before .spread .ensures),
-      ((refl, ap (λ (x : ℕ). set (a .args .places .now) (a .args .byte) x) (add-one (a .args .found))), c .before .before .pass .ensures),
+      (
+        (
+          refl,
+          c .before .before .before .before .before .before .note-variable .ensures
+              ∙ ap (λ (x : ℕ). noted (a .args .byte) x (a .args .places .now)) (add-one (a .args .found)),
+        ),
+        c .before .before .pass .ensures,
+      ),
     )
 
 pub keep-standard-spec : {M : Type 1} → statement M
@@ -66,9 +74,9 @@ keep-standard-spec =
     keep-eight-requires
     mul-values
     slice-write-values
-    cast-places
-    add-places
-    slice-write-places
+    cast-note-variable
+    add-note-variable
+    note-variable-requires
     pass-requires
     same-length
     same-length-2

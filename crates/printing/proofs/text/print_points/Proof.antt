@@ -12,7 +12,6 @@ use Rattle.specification.specs.declared.settings.Settings.{Settings}
 use Rattle.specification.specs.Tables.{pointsIn}
 use Rattle.specification.specs.Needed.{wiringOf}
 use Rattle.specification.proofs.Wiring.{names-length}
-use Rattle.specification.specs.Settings.{settingsOf}
 use Rattle.construction.proofs.drawing.Given.{drawn-long}
 use Rattle.printing.specs.Appending.{Room, Put}
 use Rattle.printing.specs.Lines.{basisLines, inTable}
@@ -33,7 +32,7 @@ abbrev I : Type 0
 I = tie.After-solve-bytes
 
 abbrev drawn : I → D
-drawn v = v .before .before .before .before .before .before .before .before .before
+drawn v = v .before .before .before .before .before .before .before .before .before .before
 
 abbrev N : Type 0
 N = tie.After-put-names
@@ -43,7 +42,7 @@ solved n = n .before .before .before
 
 module _ (d : D) where
   abbrev under : Settings
-  under = settingsOf (start d .args .p) (start d .args .m) (start d .args .order)
+  under = start d .args .settings
 
   abbrev points : List (List ℕ)
   points = pointsIn under (start d .args .n) (start d .args .points .now)
@@ -84,7 +83,7 @@ module _ (n : N) where
   names = n .put-names .last .1 .1 .1 .1 .0
 
   abbrev list : List ℕ
-  list = wiringOf (s .args .m) (groups 8 (s .args .n) (s .args .points .now)) (take (s .args .n) (s .args .values .now))
+  list = wiringOf (s .args .settings .variables) (groups 8 (s .args .n) (s .args .points .now)) (take (s .args .n) (s .args .values .now))
 
   names-long : length names ≡ 8
   names-long = ap (λ (z : List ℕ). length z) (n .put-names .ensures .1) ∙ length-fill 8 list
@@ -92,12 +91,13 @@ module _ (n : N) where
   names-few : n .put-names .result ≤ 8
   names-few =
       let e = n .put-names .ensures .0 in
-      let l = names-length (groups 8 (s .args .n) (s .args .points .now)) (take (s .args .n) (s .args .values .now)) (s .args .m) in
+      let l = names-length (groups 8 (s .args .n) (s .args .points .now)) (take (s .args .n) (s .args .values .now)) (s .args .settings .variables) in
       let few = s .pre .0 .settings .few in
       omega arith
 
   abbrev lines : List ℕ
-  lines = basisLines (inTable 8 (s .args .n) (s .args .m) (standard d)) (inTable 8 (d .draw .result .r) (s .args .m) (leads d))
+  lines = let m = s .args .settings .variables in
+      basisLines (inTable 8 (s .args .n) m (standard d)) (inTable 8 (d .draw .result .r) m (leads d))
       (inTable 64 (d .draw .result .r) (s .args .n) (coefficients d)) (take (s .args .n) (interpolant (solved n))) (take (n .put-names .result) names)
 
   room : Room 0 lines (s .args .out .now)
@@ -132,7 +132,7 @@ draw-requires : tie.Need-draw-requires
 draw-requires c κs = (c .before .before .before .before .before .before .before .before .pre .0, ((refl, (refl, refl)), (refl, refl)))
 
 cast-solve-bytes : tie.Need-cast-solve-bytes
-cast-solve-bytes c = omega (arith, modulus-range _ (c .before .before .before .before .before .before .before .before .before .before .before .before .before .before .pre .0 .settings .modulus))
+cast-solve-bytes c = omega (arith, modulus-range _ (start (c .before .before .before .before .before .before) .pre .0 .settings .modulus))
 
 slice-aggregate-solve-bytes : tie.Need-slice-aggregate-solve-bytes
 slice-aggregate-solve-bytes c = search needs
@@ -145,7 +145,7 @@ slice-aggregate-solve-bytes-3 c = search needs
 
 solve-bytes-requires : tie.Need-solve-bytes-requires
 solve-bytes-requires c κs =
-    let d = c .before .before .before .before .before .before .before .before in
+    let d = c .before .before .before .before .before .before .before .before .before in
     let s = start d in
     let u = d .draw .ensures .0 .pivot-rows in
     (modulus-range _ (s .pre .0 .settings .modulus), (s .pre .1 .0, ((s .pre .0 .most, u .long-rows, u .long-pivots), ((multiplied (under d) (s .args .n) (s .args .points .now) (s .args .values .now) (s .pre .0) (s .pre .1 .0 .0) (s .pre .1 .0 .1) (d .draw .result .r) (standard d) (leads d) (coefficients d) (rows d) (pivots d) (d .draw .ensures .0), inside (under d) (s .args .n) (s .args .points .now) (s .args .values .now) (s .pre .0) (s .pre .1 .0 .0) (s .pre .1 .0 .1) (d .draw .result .r) (standard d) (leads d) (coefficients d) (rows d) (pivots d) (d .draw .ensures .0)), refl))))

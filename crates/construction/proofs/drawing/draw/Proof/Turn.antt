@@ -14,6 +14,7 @@ use Rattle.monomial.specs.Columns.{columnOf}
 use Rattle.monomial.specs.Rank.{rankBound}
 use Rattle.monomial.proofs.rank.Steps.{steps-long, steps-below}
 use Rattle.monomial.proofs.columns.Entries.{column-below, column-in}
+use Rattle.specification.proofs.agreement.Refusals.{light-under}
 use Rattle.construction.specs.Drawing.{productValues, PointsGiven}
 use Rattle.construction.proofs.drawing.Grounds.{points-long, points-below}
 use Rattle.construction.proofs.drawing.Loop.{head-sized, exponents-long, worked-long, worked-below, room-lead, keeps-lead, room-standard, keeps-standard, kept-sized}
@@ -42,8 +43,8 @@ within-64 h k = omega arith
 abbrev pub opened : tie.After-struct-known Inv-loop μ-loop → tie.Start Inv-loop μ-loop
 opened c = c .before .before .before .before .before .before .before
 
-abbrev pub stepped : tie.After-put-steps Inv-loop μ-loop → tie.After-struct-known Inv-loop μ-loop
-stepped c = c .before .before .before
+abbrev pub stepped : tie.After-put-steps-under Inv-loop μ-loop → tie.After-struct-known Inv-loop μ-loop
+stepped c = c .before .before
 
 -- at the loop's head
 module _ (l : tie.At-loop Inv-loop μ-loop) where
@@ -116,11 +117,11 @@ module _ (j : tie.Joined1 Inv-loop μ-loop) where
   abbrev gathered : tie.After-put-columns Inv-loop μ-loop
   gathered = above .before .before
 
-  abbrev ranked : tie.After-put-steps Inv-loop μ-loop
+  abbrev ranked : tie.After-put-steps-under Inv-loop μ-loop
   ranked = gathered .before .before .before
 
   abbrev pub steps : List ℕ
-  steps = ranked .put-steps .last .1 .0
+  steps = ranked .put-steps-under .last .1 .0
 
   abbrev pub columns : List ℕ
   columns = gathered .put-columns .last .1 .1 .0
@@ -145,10 +146,10 @@ module _ (j : tie.Joined1 Inv-loop μ-loop) where
   sizes = kept-sized (given above) kept
 
   pub steps-8 : length steps ≡ 8
-  steps-8 = ap length (ranked .put-steps .ensures) ∙ steps-long (orderOf (start above .args .settings .order))
+  steps-8 = ap length (ranked .put-steps-under .ensures) ∙ steps-long (orderOf (start above .args .settings .order) (start above .args .settings .weights))
 
   pub steps-small : Below rankBound steps
-  steps-small = subst (Below rankBound) (sym (ranked .put-steps .ensures)) (steps-below (orderOf (start above .args .settings .order)))
+  steps-small = subst (Below rankBound) (sym (ranked .put-steps-under .ensures)) (steps-below (orderOf (start above .args .settings .order) (start above .args .settings .weights)) (light-under (start above .args .settings) (given above .settings .weights)))
 
   pub columns-512 : length columns ≡ 512
   columns-512 = ap length (gathered .put-columns .ensures) ∙ length-fill 512 _

@@ -1,0 +1,2 @@
+-- The weights of the settings.
+pub mod Weights
