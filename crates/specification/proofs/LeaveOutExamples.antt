@@ -8,6 +8,7 @@ use Rattle.residue.specs.Lists.{sameList}
 use Rattle.residue.specs.Layout.{fill}
 use Rattle.residue.specs.Inverse.{inverseBelow, inverseOf}
 use Rattle.monomial.specs.Order.{orderOf, cmp}
+use Rattle.monomial.specs.Insert.{removedAt}
 use Rattle.specification.specs.declared.settings.Settings.{Settings}
 use Rattle.specification.specs.Refusal.{firstOf}
 use Rattle.specification.specs.Settings.{settingsOf, weighsFirst, rightWeights, settingsCases}
@@ -17,7 +18,7 @@ use Rattle.specification.specs.BasisOf.{basisOf}
 use Rattle.specification.specs.Instance.{monomialOf, pointOf}
 use Rattle.specification.specs.Tables.{Tables, fiveTables, standardUnder, leadsUnder, rowsUnder, tooShort, shortLengths}
 use Rattle.specification.specs.Needed.{occurs}
-use Rattle.specification.specs.LeaveOut.{leftOut, repeated, withoutVariable, isFree, freeRow, inRow, freeRows, canLeaveOut, leaveOutCases, leaveOutRefusal}
+use Rattle.specification.specs.LeaveOut.{repeated, withoutVariable, isFree, freeRow, inRow, freeRows, canLeaveOut, leaveOutCases, leaveOutRefusal}
 
 abbrev lexFive : ℕ → Settings
 lexFive m = settingsOf 5 m 0
@@ -26,11 +27,11 @@ abbrev L : Counted
 L = ((0 ∷ 1 ∷ []), 2) ∷ ((1 ∷ 1 ∷ []), 3) ∷ ((2 ∷ 3 ∷ []), 1) ∷ []
 
 one-fewer : withoutVariable 0 L ≡ ((1 ∷ []), 5) ∷ ((3 ∷ []), 1) ∷ []
-unfolding withoutVariable gathered enteredAll entered repeated leftOut sameList
+unfolding withoutVariable gathered enteredAll entered repeated removedAt sameList
 one-fewer = refl
 
 second-out : withoutVariable 1 L ≡ ((0 ∷ []), 2) ∷ ((1 ∷ []), 3) ∷ ((2 ∷ []), 1) ∷ []
-unfolding withoutVariable gathered enteredAll entered repeated leftOut sameList
+unfolding withoutVariable gathered enteredAll entered repeated removedAt sameList
 second-out = refl
 
 leads-old : map (λ a. a .0) (leadsUnder (lexFive 2) (pointsOf L)) ≡ (0 ∷ 2 ∷ []) ∷ (1 ∷ 1 ∷ []) ∷ (2 ∷ 0 ∷ []) ∷ []

@@ -2,10 +2,11 @@
 use mathlib.Core.Path.{_≡_}
 use mathlib.Core.Bool.{Bool, not, cond, _&&_, _||_}
 use mathlib.Core.List.{List, [], _∷_, _++_, map}
-use Prim.Native.Nat.{ℕ, zero, suc, _-_}
+use Prim.Native.Nat.{ℕ, _-_}
 use lib.ListN.{getD, drop, replicate}
 use lib.Dec.{eqb, leb, ltb}
 use Rattle.residue.specs.Lists.{some}
+use Rattle.monomial.specs.Insert.{removedAt}
 use Rattle.specification.specs.declared.settings.Settings.{Settings}
 use Rattle.specification.specs.Refusal.{Case, firstOf}
 use Rattle.specification.specs.Settings.{settingsCases}
@@ -15,12 +16,6 @@ use Rattle.specification.specs.Adding.{Outcome, holding, byRefusal}
 use Rattle.specification.specs.Needed.{occurs}
 use Rattle.specification.specs.TablesRead.{exponentsIn, rowsIn}
 
--- the list without its place k
-unfoldable pub leftOut : ℕ → List ℕ → List ℕ
-leftOut k [] = []
-leftOut zero (a ∷ l) = l
-leftOut (suc k) (a ∷ l) = a ∷ leftOut k l
-
 -- each point as many times as it is counted
 unfoldable pub repeated : Counted → List (List ℕ)
 repeated [] = []
@@ -28,7 +23,7 @@ repeated (q ∷ L) = replicate (q .1) (q .0) ++ repeated L
 
 -- The points without place k: 'States that become equal are one, at the place of the first, and their counts are added.'
 unfoldable pub withoutVariable : ℕ → Counted → Counted
-withoutVariable k L = gathered (map (leftOut k) (repeated L))
+withoutVariable k L = gathered (map (removedAt k) (repeated L))
 
 -- 'the settings with one gene and its weight fewer', of variable v, from 1; the weights are eight, so one that is 0 comes behind them
 abbrev pub fewer : ℕ → Settings → Settings
@@ -36,7 +31,7 @@ fewer v s = record {
   modulus = s .modulus;
   variables = s .variables - 1;
   order = s .order;
-  weights = leftOut (v - 1) (s .weights) ++ (0 ∷ []);
+  weights = removedAt (v - 1) (s .weights) ++ (0 ∷ []);
 }
 
 -- 'It refuses with 16 a gene number not from 1 to m, or any number where m is 1, before 6.'

@@ -10,9 +10,10 @@ use borrow.Author.Tests.{leb-true}
 use Rattle.residue.specs.Lists.{every, sameList}
 use Rattle.residue.proofs.Tests.{true-of, and-left, and-right}
 use Rattle.residue.proofs.bytes.Equality.{same-self}
+use Rattle.monomial.specs.Insert.{removedAt}
 use Rattle.specification.specs.Counted.{Counted, countsOf, entered, enteredAll, gathered}
 use Rattle.specification.proofs.counted.Entered.{Positive}
-use Rattle.specification.specs.LeaveOut.{leftOut, repeated, withoutVariable}
+use Rattle.specification.specs.LeaveOut.{repeated, withoutVariable}
 use Rattle.specification.proofs.leaving.Without.{all-append}
 
 -- c added to the count of P
@@ -47,21 +48,21 @@ all-raised P (suc c) L = all-raised P c (entered P L) ∙ entered-raised P (suc 
 -- the loop over the entries: from what is gathered so far, with the rest of them
 unfoldable pub gatherWithout : ℕ → Counted → Counted → Counted
 gatherWithout k [] G = G
-gatherWithout k (q ∷ L) G = gatherWithout k L (raised (leftOut k (q .0)) (q .1) G)
+gatherWithout k (q ∷ L) G = gatherWithout k L (raised (removedAt k (q .0)) (q .1) G)
 
 map-replicate : (f : List ℕ → List ℕ) (P : List ℕ) (c : ℕ) → map f (replicate c P) ≡ replicate c (f P)
 map-replicate f P zero = refl
 map-replicate f P (suc c) = ap (λ (l : List (List ℕ)). f P ∷ l) (map-replicate f P c)
 
-gather-all : (k : ℕ) (L : Counted) → Positive L → (G : Counted) → enteredAll (map (leftOut k) (repeated L)) G ≡ gatherWithout k L G
+gather-all : (k : ℕ) (L : Counted) → Positive L → (G : Counted) → enteredAll (map (removedAt k) (repeated L)) G ≡ gatherWithout k L G
 unfolding repeated gatherWithout enteredAll
 gather-all k [] h G = refl
 gather-all k ((P, zero) ∷ L) h G = absurd (let z = leb-true 1 0 (true-of _ (and-left (leb 1 0) (every (leb 1) (countsOf L)) h)) in omega arith)
 gather-all k ((P, suc c) ∷ L) h G =
-    ap (λ (S : List (List ℕ)). enteredAll S G) (map-append (leftOut k) (replicate (suc c) P) (repeated L))
-    ∙ all-append (map (leftOut k) (replicate (suc c) P)) (map (leftOut k) (repeated L)) G
-    ∙ gather-all k L (and-right (leb 1 (suc c)) (every (leb 1) (countsOf L)) h) (enteredAll (map (leftOut k) (replicate (suc c) P)) G)
-    ∙ ap (gatherWithout k L) (ap (λ (S : List (List ℕ)). enteredAll S G) (map-replicate (leftOut k) P (suc c)) ∙ all-raised (leftOut k P) c G)
+    ap (λ (S : List (List ℕ)). enteredAll S G) (map-append (removedAt k) (replicate (suc c) P) (repeated L))
+    ∙ all-append (map (removedAt k) (replicate (suc c) P)) (map (removedAt k) (repeated L)) G
+    ∙ gather-all k L (and-right (leb 1 (suc c)) (every (leb 1) (countsOf L)) h) (enteredAll (map (removedAt k) (replicate (suc c) P)) G)
+    ∙ ap (gatherWithout k L) (ap (λ (S : List (List ℕ)). enteredAll S G) (map-replicate (removedAt k) P (suc c)) ∙ all-raised (removedAt k P) c G)
 
 pub without-loop : (k : ℕ) (L : Counted) → Positive L → withoutVariable k L ≡ gatherWithout k L []
 unfolding withoutVariable gathered

@@ -9,6 +9,7 @@ use lib.Dec.{T, eqb, leb, leb→le}
 use borrow.Author.Tests.{eq-eqb, ltb-false, not-false}
 use Rattle.residue.specs.Lists.{some}
 use Rattle.residue.proofs.Tests.{true-of, of-true, and-left, and-right, neither}
+use Rattle.monomial.specs.Insert.{removedAt}
 use Rattle.specification.specs.declared.settings.Settings.{Settings}
 use Rattle.specification.specs.Counted.{Counted}
 use Rattle.specification.specs.Tables.{Tables, tooShort, heldIn, recognised}
@@ -20,7 +21,7 @@ use Rattle.specification.proofs.counted.Gathered.{Entries}
 use Rattle.specification.specs.Settings.{weighsFirst, rightWeights, Accepted}
 use Rattle.specification.proofs.agreement.Refusals.{accepted}
 use Rattle.specification.proofs.agreement.Run.{number-of}
-use Rattle.specification.specs.LeaveOut.{leftOut, withoutVariable, fewer, canLeaveOut, leaveOutCases, leaveOutRefusal, leaveOutOutcome}
+use Rattle.specification.specs.LeaveOut.{withoutVariable, fewer, canLeaveOut, leaveOutCases, leaveOutRefusal, leaveOutOutcome}
 use Rattle.specification.proofs.Sheets.{holds-basis, recognised-of}
 use Rattle.specification.proofs.leaving.Weights.{zeros-fewer, weights-fewer}
 use Rattle.specification.proofs.leaving.Without.{entries-without}
@@ -37,7 +38,7 @@ fewer-accepted s v ok low h = record {
 }
   where
     weights : (b : Bool) → weighsFirst (cond b (s .variables) 0) (s .weights) ≡ true
-        → weighsFirst (cond b (s .variables - 1) 0) (leftOut (v - 1) (s .weights) ++ (0 ∷ [])) ≡ true
+        → weighsFirst (cond b (s .variables - 1) 0) (removedAt (v - 1) (s .weights) ++ (0 ∷ [])) ≡ true
     weights true e = true-of _ (weights-fewer (s .variables - 1) (v - 1) (s .weights) (omega arith) (of-true (ap (λ (m : ℕ). weighsFirst m (s .weights)) (omega arith) ∙ e)))
     weights false e = true-of _ (zeros-fewer (v - 1) (s .weights) (of-true e))
 

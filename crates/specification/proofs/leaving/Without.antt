@@ -4,55 +4,55 @@ use mathlib.Core.Bool.{Bool, true, false, cond}
 use mathlib.Core.Logic.{inr, _↔_}
 use mathlib.Core.List.{List, [], _∷_, _++_, map, map-append}
 use Prim.Native.Nat.{ℕ, zero, suc, _+_, _-_, _*_, _%_, _≤_, _<_}
-use native.Mathlib.Nat.{suc-inj}
 use native.Mathlib.Omega.{arith}
 use lib.ListN.{length, replicate, length-map, length-append}
 use lib.Dec.{T, leb, ltb}
 use borrow.Author.Tests.{leb-true, le-ltb}
 use Rattle.residue.specs.Lists.{Among, every, some, sumOver, sameList}
 use Rattle.residue.proofs.Tests.{true-of, and-left, and-right}
+use Rattle.monomial.specs.Insert.{removedAt}
+use Rattle.monomial.proofs.insert.Tables.{map-removed, removed-long}
 use Rattle.specification.specs.declared.settings.Settings.{Settings}
 use Rattle.specification.specs.Levels.{noRepeat}
-use Rattle.specification.specs.Instance.{reduced}
 use Rattle.specification.specs.Counted.{Counted, pointsOf, countsOf, entered, enteredAll, gathered, overfull, countOf}
 use Rattle.specification.proofs.ideal.Lists.{among-map, map-among, snoc-in}
 use Rattle.specification.specs.Points.{IsPoint}
 use Rattle.specification.proofs.counted.Entered.{Positive}
 use Rattle.specification.proofs.counted.Gathered.{Entries, Entering, there, new, entering, positive-of, among-gathered, count-gathered, entries-gathered}
-use Rattle.specification.specs.LeaveOut.{leftOut, repeated, withoutVariable, fewer}
+use Rattle.specification.specs.LeaveOut.{repeated, withoutVariable, fewer}
 use Rattle.specification.proofs.leaving.Repeated.{among-repeated, sum-repeated, sum-multiset, times-repeated, times-map}
 
 -- Who they are.
-pub without-members : (k : ℕ) (L : Counted) → Positive L → (Q : List ℕ) → Among Q (pointsOf (withoutVariable k L)) ↔ ((P : List ℕ) × Among P (pointsOf L) × (Q ≡ leftOut k P))
+pub without-members : (k : ℕ) (L : Counted) → Positive L → (Q : List ℕ) → Among Q (pointsOf (withoutVariable k L)) ↔ ((P : List ℕ) × Among P (pointsOf L) × (Q ≡ removedAt k P))
 unfolding withoutVariable
 without-members k L h Q = (
-  (λ mem. let w = among-map (leftOut k) (repeated L) Q (among-gathered (map (leftOut k) (repeated L)) Q .0 mem) in (w .0, among-repeated L h (w .0) .0 (w .1), w .2)),
-  λ w. among-gathered (map (leftOut k) (repeated L)) Q .1
-      (subst (λ (R : List ℕ). Among R (map (leftOut k) (repeated L))) (sym (w .2)) (map-among (leftOut k) (repeated L) (w .0) (among-repeated L h (w .0) .1 (w .1)))),
+  (λ mem. let w = among-map (removedAt k) (repeated L) Q (among-gathered (map (removedAt k) (repeated L)) Q .0 mem) in (w .0, among-repeated L h (w .0) .0 (w .1), w .2)),
+  λ w. among-gathered (map (removedAt k) (repeated L)) Q .1
+      (subst (λ (R : List ℕ). Among R (map (removedAt k) (repeated L))) (sym (w .2)) (map-among (removedAt k) (repeated L) (w .0) (among-repeated L h (w .0) .1 (w .1)))),
 )
 
 -- 'their counts are added'
-pub without-counts : (k : ℕ) (L : Counted) (Q : List ℕ) → countOf Q (withoutVariable k L) ≡ sumOver (λ q. cond (sameList Q (leftOut k (q .0))) (q .1) 0) L
+pub without-counts : (k : ℕ) (L : Counted) (Q : List ℕ) → countOf Q (withoutVariable k L) ≡ sumOver (λ q. cond (sameList Q (removedAt k (q .0))) (q .1) 0) L
 unfolding withoutVariable
 without-counts k L Q =
-    count-gathered Q (map (leftOut k) (repeated L)) ∙ times-map (leftOut k) Q (repeated L) ∙ sum-repeated (λ P. cond (sameList Q (leftOut k P)) 1 0) L ∙ go L
+    count-gathered Q (map (removedAt k) (repeated L)) ∙ times-map (removedAt k) Q (repeated L) ∙ sum-repeated (λ P. cond (sameList Q (removedAt k P)) 1 0) L ∙ go L
   where
     one : (b : Bool) (c : ℕ) → c * cond b 1 0 ≡ cond b c 0
     one true c = omega arith
     one false c = omega arith
 
-    go : (K : Counted) → sumOver (λ q. q .1 * cond (sameList Q (leftOut k (q .0))) 1 0) K ≡ sumOver (λ q. cond (sameList Q (leftOut k (q .0))) (q .1) 0) K
+    go : (K : Counted) → sumOver (λ q. q .1 * cond (sameList Q (removedAt k (q .0))) 1 0) K ≡ sumOver (λ q. cond (sameList Q (removedAt k (q .0))) (q .1) 0) K
     go [] = refl
-    go (q ∷ K) = omega (arith, one (sameList Q (leftOut k (q .0))) (q .1), go K)
+    go (q ∷ K) = omega (arith, one (sameList Q (removedAt k (q .0))) (q .1), go K)
 
 -- equal multisets: the counts are the same
 pub without-agree : (k : ℕ) (L K : Counted) → T (noRepeat (pointsOf L)) → T (noRepeat (pointsOf K)) → ((P : List ℕ) → countOf P L ≡ countOf P K)
     → (Q : List ℕ) → countOf Q (withoutVariable k L) ≡ countOf Q (withoutVariable k K)
 unfolding withoutVariable
 without-agree k L K t u same Q =
-    count-gathered Q (map (leftOut k) (repeated L)) ∙ times-map (leftOut k) Q (repeated L)
-    ∙ sum-multiset (λ P. cond (sameList Q (leftOut k P)) 1 0) (repeated L) (repeated K) (λ P. times-repeated L t P ∙ same P ∙ sym (times-repeated K u P))
-    ∙ sym (count-gathered Q (map (leftOut k) (repeated K)) ∙ times-map (leftOut k) Q (repeated K))
+    count-gathered Q (map (removedAt k) (repeated L)) ∙ times-map (removedAt k) Q (repeated L)
+    ∙ sum-multiset (λ P. cond (sameList Q (removedAt k P)) 1 0) (repeated L) (repeated K) (λ P. times-repeated L t P ∙ same P ∙ sym (times-repeated K u P))
+    ∙ sym (count-gathered Q (map (removedAt k) (repeated K)) ∙ times-map (removedAt k) Q (repeated K))
 
 -- In which order: 'at the place of the first'. Entering depends on the points alone, and a point that is there leaves them as they are.
 entered-points : (P : List ℕ) (L K : Counted) → pointsOf L ≡ pointsOf K → pointsOf (entered P L) ≡ pointsOf (entered P K)
@@ -99,9 +99,9 @@ all-points f ((P, suc c) ∷ L) h G H e =
     ∙ all-points f L (and-right (leb 1 (suc c)) (every (leb 1) (countsOf L)) h) (enteredAll (map f (replicate c P)) (entered (f P) G)) (entered (f P) H)
     (all-stays f P c (entered (f P) G) (entered-has (f P) G) ∙ entered-points (f P) G H e)
 
-pub without-points : (k : ℕ) (L : Counted) → Positive L → pointsOf (withoutVariable k L) ≡ pointsOf (gathered (map (leftOut k) (pointsOf L)))
+pub without-points : (k : ℕ) (L : Counted) → Positive L → pointsOf (withoutVariable k L) ≡ pointsOf (gathered (map (removedAt k) (pointsOf L)))
 unfolding withoutVariable gathered
-without-points k L h = all-points (leftOut k) L h [] [] refl
+without-points k L h = all-points (removedAt k) L h [] [] refl
 
 -- they are not more than before
 all-length : (S : List (List ℕ)) (L : Counted) → length (pointsOf (enteredAll S L)) ≤ length S + length (pointsOf L)
@@ -115,26 +115,13 @@ all-length (P ∷ S) L = omega (arith, all-length S (entered P L), one (entering
 
 pub without-few : (k : ℕ) (L : Counted) → Positive L → length (withoutVariable k L) ≤ length L
 unfolding gathered
-without-few k L h = omega (arith, length-map (withoutVariable k L) (λ q. q .0), ap length (without-points k L h), all-length (map (leftOut k) (pointsOf L)) [], length-map (pointsOf L) (leftOut k), length-map L (λ q. q .0))
+without-few k L h = omega (arith, length-map (withoutVariable k L) (λ q. q .0), ap length (without-points k L h), all-length (map (removedAt k) (pointsOf L)) [], length-map (pointsOf L) (removedAt k), length-map L (λ q. q .0))
 
 -- One place out of a point.
-left-length : (k m : ℕ) (l : List ℕ) → length l ≡ suc m → k < suc m → length (leftOut k l) ≡ m
-unfolding leftOut
-left-length k m [] e h = absurd (omega arith)
-left-length zero m (a ∷ l) e h = suc-inj e
-left-length (suc k) zero (a ∷ l) e h = absurd (omega arith)
-left-length (suc k) (suc m) (a ∷ l) e h = ap suc (left-length k m l (suc-inj e) (omega arith))
-
-left-reduced : (q k : ℕ) (l : List ℕ) → reduced q (leftOut k l) ≡ leftOut k (reduced q l)
-unfolding leftOut
-left-reduced q k [] = refl
-left-reduced q zero (a ∷ l) = refl
-left-reduced q (suc k) (a ∷ l) = ap (λ (z : List ℕ). a % suc q ∷ z) (left-reduced q k l)
-
-pub left-point : (s : Settings) (v k : ℕ) (P : List ℕ) → k < s .variables → IsPoint s P → IsPoint (fewer v s) (leftOut k P)
+pub left-point : (s : Settings) (v k : ℕ) (P : List ℕ) → k < s .variables → IsPoint s P → IsPoint (fewer v s) (removedAt k P)
 left-point s v k P h w = record {
-  long = left-length k (s .variables - 1) P (w .long ∙ omega arith) (omega arith);
-  same = left-reduced (s .modulus - 1) k P ∙ ap (leftOut k) (w .same);
+  long = omega (arith, removed-long k P (omega (arith, w .long)), w .long);
+  same = map-removed (λ x. x % suc (s .modulus - 1)) k P ∙ ap (removedAt k) (w .same);
 }
 
 -- Entries stay entries under the settings with one variable fewer, where no count is above 255.
@@ -142,6 +129,6 @@ pub entries-without : (s : Settings) (v k : ℕ) (L : Counted) → k < s .variab
 unfolding withoutVariable overfull
 entries-without s v k L low h small =
     let pos = positive-of (countsOf L) (h .counts) in
-    entries-gathered (fewer v s) (map (leftOut k) (repeated L))
-    (λ Q mem. let w = among-map (leftOut k) (repeated L) Q mem in subst (IsPoint (fewer v s)) (sym (w .2)) (left-point s v k (w .0) low (h .points .points (w .0) (among-repeated L pos (w .0) .0 (w .1)))))
+    entries-gathered (fewer v s) (map (removedAt k) (repeated L))
+    (λ Q mem. let w = among-map (removedAt k) (repeated L) Q mem in subst (IsPoint (fewer v s)) (sym (w .2)) (left-point s v k (w .0) low (h .points .points (w .0) (among-repeated L pos (w .0) .0 (w .1)))))
     (le-ltb 64 (length (withoutVariable k L)) (omega (arith, without-few k L pos, length-map L (λ q. q .0), h .points .few)), (small, tt))

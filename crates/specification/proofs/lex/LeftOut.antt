@@ -10,6 +10,7 @@ use Rattle.residue.specs.Lists.{Among}
 use Rattle.residue.specs.Modulus.{isModulus}
 use Rattle.residue.proofs.level.Moduli.{modulus-range}
 use Rattle.monomial.specs.Order.{orderOf}
+use Rattle.monomial.specs.Insert.{removedAt}
 use Rattle.specification.specs.declared.settings.Settings.{Settings}
 use Rattle.specification.specs.Instance.{Point, pointOf}
 use Rattle.specification.specs.Counted.{countsOf, pointsOf}
@@ -23,7 +24,7 @@ use Rattle.specification.proofs.agreement.Points.{point-same}
 use Rattle.specification.specs.Settings.{Accepted}
 use Rattle.specification.proofs.agreement.Drawings.{distinct-points}
 use Rattle.specification.specs.TablesRead.{exponentsIn, rowsIn}
-use Rattle.specification.specs.LeaveOut.{leftOut, withoutVariable, fewer, leaveOutOutcome, freeOf, freeLeads, freeRows, Eliminates}
+use Rattle.specification.specs.LeaveOut.{withoutVariable, fewer, leaveOutOutcome, freeOf, freeLeads, freeRows, Eliminates}
 use Rattle.specification.proofs.Sheets.{Sheet, of-holds}
 use Rattle.specification.proofs.SheetBack.{exponents-in}
 use Rattle.specification.proofs.SheetRead.{standard-in, leads-in, rows-in}
@@ -41,14 +42,14 @@ pub record EliminatesUnder (s s′ : Settings) (S S′ : List (List ℕ)) : Type
 
 -- S′ are the points of S without their first coordinates
 abbrev pub Shadows : List (List ℕ) → List (List ℕ) → Type 0
-Shadows S S′ = (Q : List ℕ) → Among Q S′ ↔ ((P : List ℕ) × Among P S × (Q ≡ leftOut 0 P))
+Shadows S S′ = (Q : List ℕ) → Among Q S′ ↔ ((P : List ℕ) × Among P S × (Q ≡ removedAt 0 P))
 
 -- order 0
 abbrev lexUnder : ℕ → ℕ → List ℕ → Settings
 lexUnder p m w = record { modulus = p; variables = m; order = 0; weights = w }
 
-first-out : (P : List ℕ) → leftOut 0 P ≡ drop 1 P
-unfolding leftOut
+first-out : (P : List ℕ) → removedAt 0 P ≡ drop 1 P
+unfolding removedAt
 first-out [] = refl
 first-out (x ∷ P) = refl
 
@@ -60,14 +61,14 @@ module _ (p m : ℕ) (v w : List ℕ) (ok : Accepted (lexUnder p (suc m) v)) (ok
   pt′ = pointOf (p - 1) m
 
   -- a point without its first coordinate
-  meet : (P : List ℕ) → Among P S → shadow (p - 1) m (pt P) ≡ pt′ (leftOut 0 P)
+  meet : (P : List ℕ) → Among P S → shadow (p - 1) m (pt P) ≡ pt′ (removedAt 0 P)
   meet P mem = point-path (ap (drop 1) (point-same (lexUnder p (suc m) v) (ok .few) P (h .points P mem)) ∙ sym (first-out P)
-      ∙ sym (point-same (lexUnder p m w) (ok′ .few) (leftOut 0 P) (h′ .points (leftOut 0 P) (members (leftOut 0 P) .1 (P, mem, refl)))))
+      ∙ sym (point-same (lexUnder p m w) (ok′ .few) (removedAt 0 P) (h′ .points (removedAt 0 P) (members (removedAt 0 P) .1 (P, mem, refl)))))
 
   down : (X : Point (suc (p - 1)) (suc m)) → Among X (map pt S) → Among (shadow (p - 1) m X) (map pt′ S′)
   down X mem = let w = among-map pt S X mem in
       subst (λ (Y : Point (suc (p - 1)) m). Among Y (map pt′ S′)) (sym (ap (shadow (p - 1) m) (w .2) ∙ meet (w .0) (w .1)))
-      (map-among pt′ S′ (leftOut 0 (w .0)) (members (leftOut 0 (w .0)) .1 (w .0, w .1, refl)))
+      (map-among pt′ S′ (removedAt 0 (w .0)) (members (removedAt 0 (w .0)) .1 (w .0, w .1, refl)))
 
   up : (Y : Point (suc (p - 1)) m) → Among Y (map pt′ S′) → (X : Point (suc (p - 1)) (suc m)) × Among X (map pt S) × (Y ≡ shadow (p - 1) m X)
   up Y mem = let w = among-map pt′ S′ Y mem in
@@ -95,7 +96,7 @@ lex-under s ok zero two S S′ h h′ members = subst (λ (t : Settings). Elimin
     m = s .variables - 1
 
     w : List ℕ
-    w = leftOut 0 (s .weights) ++ (0 ∷ [])
+    w = removedAt 0 (s .weights) ++ (0 ∷ [])
 
     by : List ℕ → ℕ → ℕ → Settings
     by w v o = record { modulus = s .modulus; variables = v; order = o; weights = w }
