@@ -8,3 +8,4 @@ pub mod Desks
 pub mod Added
 pub mod AsDrawn
 pub mod Weights
+pub mod Twice

@@ -38,19 +38,19 @@ fewer v s = record {
 unfoldable pub canLeaveOut : Settings → ℕ → Bool
 canLeaveOut s v = leb 1 v && leb v (s .variables) && not (eqb (s .variables) 1)
 
--- Leaving variable v out of the basis of n, r and the tables t; the result goes to the lent tables u.
-unfoldable pub leaveOutCases : Settings → ℕ → ℕ → Tables → ℕ → Tables → List Case
-leaveOutCases s n r t v u = settingsCases s
+-- Leaving variable v out of the basis of n, r and the tables t; `short` is whether one of the tables for the result is too short.
+unfoldable pub leaveOutCases : Settings → ℕ → ℕ → Tables → ℕ → Bool → List Case
+leaveOutCases s n r t v short = settingsCases s
     ++ ((not (canLeaveOut s v), 16)
-    ∷ (tooShort t || tooShort u, 6)
+    ∷ (short || tooShort t, 6)
     ∷ (ltb 64 n, 8)
     ∷ (not (recognised s n r t), 10)
     ∷ (some (ltb 255) (countsOf (withoutVariable (v - 1) (heldIn s n t))), 13) ∷ [])
 
 unfoldable pub leaveOutRefusal : Settings → ℕ → ℕ → Tables → ℕ → Tables → ℕ
-leaveOutRefusal s n r t v u = firstOf 0 (leaveOutCases s n r t v u)
+leaveOutRefusal s n r t v u = firstOf 0 (leaveOutCases s n r t v (tooShort u))
 
--- the answer, and the tables u at exit; t is not altered
+-- the answer, and the lent tables u at exit, to which the result goes; t is not altered
 unfoldable pub leaveOutOutcome : Settings → ℕ → ℕ → Tables → ℕ → Tables → Outcome
 leaveOutOutcome s n r t v u = byRefusal (leaveOutRefusal s n r t v u) u (holding (fewer v s) (withoutVariable (v - 1) (heldIn s n t)) u)
 

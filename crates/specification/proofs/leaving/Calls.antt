@@ -5,13 +5,13 @@ use mathlib.Core.List.{[], _∷_, _++_}
 use Prim.Native.Nat.{ℕ, _-_, _≤_, _<_}
 use native.Mathlib.Decide.{decLe}
 use native.Mathlib.Omega.{arith}
-use lib.Dec.{T, eqb, leb, leb→le}
+use lib.Dec.{T, eqb, leb, ltb, leb→le}
 use borrow.Author.Tests.{eq-eqb, ltb-false, not-false}
 use Rattle.residue.specs.Lists.{some}
 use Rattle.residue.proofs.Tests.{true-of, of-true, and-left, and-right, neither}
 use Rattle.monomial.specs.Insert.{removedAt}
 use Rattle.specification.specs.declared.settings.Settings.{Settings}
-use Rattle.specification.specs.Counted.{Counted}
+use Rattle.specification.specs.Counted.{Counted, countsOf}
 use Rattle.specification.specs.Tables.{Tables, tooShort, heldIn, recognised}
 use Rattle.specification.specs.Adding.{holding, byRefusal}
 use Rattle.specification.specs.CallByCall.{HoldsBasis}
@@ -43,14 +43,15 @@ fewer-accepted s v ok low h = record {
     weights false e = true-of _ (zeros-fewer (v - 1) (s .weights) (of-true e))
 
 -- what refusal 16 leaves
-can-leave : (s : Settings) (v : ℕ) → 1 ≤ s .variables → canLeaveOut s v ≡ true → (v - 1 < s .variables) × (2 ≤ s .variables)
+pub can-leave : (s : Settings) (v : ℕ) → 1 ≤ s .variables → canLeaveOut s v ≡ true → (1 ≤ v) × (v ≤ s .variables) × (2 ≤ s .variables)
 unfolding canLeaveOut
 can-leave s v h e =
     let t = of-true e in
-    let a = and-left (leb 1 v && leb v (s .variables)) (not (eqb (s .variables) 1)) t in
-    let b = leb→le 1 v (and-left (leb 1 v) (leb v (s .variables)) a) in
-    let c = leb→le v (s .variables) (and-right (leb 1 v) (leb v (s .variables)) a) in
-    (omega arith, several (s .variables) h (and-right (leb 1 v && leb v (s .variables)) (not (eqb (s .variables) 1)) t))
+    let a = and-left (leb 1 v && leb v (s .variables)) (not (eqb (s .variables) 1)) t in (
+      leb→le 1 v (and-left (leb 1 v) (leb v (s .variables)) a),
+      leb→le v (s .variables) (and-right (leb 1 v) (leb v (s .variables)) a),
+      several (s .variables) h (and-right (leb 1 v && leb v (s .variables)) (not (eqb (s .variables) 1)) t),
+    )
   where
     several : (m : ℕ) → 1 ≤ m → T (not (eqb m 1)) → 2 ≤ m
     several m low t = go (decLe 2 m)
@@ -65,13 +66,16 @@ module _ (s : Settings) (n r : ℕ) (t : Tables) (v : ℕ) (u : Tables) where
 
   pub record Left : Type 0 where
     pub ok : Accepted s
-    pub low : v - 1 < s .variables
+    pub least : 1 ≤ v
+    pub most : v ≤ s .variables
     pub two : 2 ≤ s .variables
+    pub fine : Accepted (fewer v s)
     pub large : tooShort t ≡ false
     pub lent : tooShort u ≡ false
     pub few : n ≤ 64
     pub known : recognised s n r t ≡ true
     pub before : Entries s (heldIn s n t)
+    pub small : some (ltb 255) (countsOf L) ≡ false
     pub entries : Entries (fewer v s) L
 
   pub left-number : leaveOutOutcome s n r t v u .answer .refusal ≡ leaveOutRefusal s n r t v u
@@ -84,19 +88,24 @@ module _ (s : Settings) (n r : ℕ) (t : Tables) (v : ℕ) (u : Tables) where
       let z = none-of s _ tt e in
       let ok = accepted s (z .0) in
       let can = can-leave s v (ok .some) (not-false (canLeaveOut s v) (z .1 .0)) in
-      let long = neither (tooShort t) (tooShort u) (z .1 .1 .0) in
+      let long = neither (tooShort u) (tooShort t) (z .1 .1 .0) in
       let few = ltb-false 64 n (z .1 .1 .1 .0) in
       let known = not-false (recognised s n r t) (z .1 .1 .1 .1 .0) in
-      let before = known-entries s ok n r t few known in record {
+      let before = known-entries s ok n r t few known in
+      let low : v - 1 < s .variables = omega (arith, can .0, can .1) in
+      let small = z .1 .1 .1 .1 .1 .0 in record {
         ok = ok;
-        low = can .0;
-        two = can .1;
-        large = long .0;
-        lent = long .1;
+        least = can .0;
+        most = can .1;
+        two = can .2;
+        fine = fewer-accepted s v ok low (can .2);
+        large = long .1;
+        lent = long .0;
         few = few;
         known = known;
         before = before;
-        entries = entries-without s v (v - 1) (heldIn s n t) (can .0) before (z .1 .1 .1 .1 .1 .0);
+        small = small;
+        entries = entries-without s v (v - 1) (heldIn s n t) low before small;
       }
 
   pub left-outcome : leaveOutRefusal s n r t v u ≡ 0 → leaveOutOutcome s n r t v u ≡ holding (fewer v s) L u
@@ -107,7 +116,7 @@ module _ (s : Settings) (n r : ℕ) (t : Tables) (v : ℕ) (u : Tables) where
   pub leave-out-leaves : let o = leaveOutOutcome s n r t v u in o .answer .refusal ≡ 0 → HoldsBasis (fewer v s) L u (o .answer .n) (o .answer .r) (o .tables)
   unfolding holding
   leave-out-leaves e = let z = sym left-number ∙ e in let w = left-passed z in
-      rw (left-outcome z) (holds-basis (fewer v s) (fewer-accepted s v (w .ok) (w .low) (w .two)) L (w .entries) u refl refl refl)
+      rw (left-outcome z) (holds-basis (fewer v s) (w .fine) L (w .entries) u refl refl refl)
 
   pub leave-out-recognised : let o = leaveOutOutcome s n r t v u in o .answer .refusal ≡ 0 → recognised (fewer v s) (o .answer .n) (o .answer .r) (o .tables) ≡ true
-  leave-out-recognised e = let w = left-passed (sym left-number ∙ e) in recognised-of (fewer v s) (fewer-accepted s v (w .ok) (w .low) (w .two)) (leave-out-leaves e)
+  leave-out-recognised e = let w = left-passed (sym left-number ∙ e) in recognised-of (fewer v s) (w .fine) (leave-out-leaves e)

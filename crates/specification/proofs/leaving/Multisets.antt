@@ -1,6 +1,6 @@
 -- M-110 and the two desks, equal multisets: the results are equal in their numbers and in each state's count.
 use mathlib.Core.Path.{_≡_, refl, sym, _∙_, ap, ap₂}
-use mathlib.Core.Bool.{Bool, true, false, not, cond, true≢false}
+use mathlib.Core.Bool.{Bool, true, false, not, cond, true≢false, or-false}
 use mathlib.Core.List.{List, [], _∷_}
 use Prim.Native.Nat.{ℕ, _-_, _≤_}
 use native.Mathlib.Decide.{decLe}
@@ -26,7 +26,7 @@ use Rattle.specification.proofs.agreement.Refusals.{accepted, settings-
 use Rattle.specification.specs.LeaveOut.{withoutVariable, fewer, canLeaveOut, leaveOutCases, leaveOutRefusal, leaveOutOutcome}
 use Rattle.specification.specs.LeaveOutAgreement.{SameLengths, SameCounted}
 use Rattle.specification.proofs.leaving.Without.{without-agree}
-use Rattle.specification.proofs.leaving.Calls.{fewer-accepted, left-number, left-passed, left-outcome}
+use Rattle.specification.proofs.leaving.Calls.{left-number, left-passed, left-outcome}
 
 -- Equal multisets. No count is above 255 exactly where each point's is not.
 count-low : (G : Counted) (P : List ℕ) → some (ltb 255) (countsOf G) ≡ false → countOf P G ≤ 255
@@ -93,7 +93,7 @@ sound s n r t e = let z = none-of s _ tt e in
 pub sound-number : (s : Settings) (n r : ℕ) (t : Tables) (v : ℕ) (u : Tables) → Sound s n r t
     → leaveOutRefusal s n r t v u ≡ firstOf 0 ((not (canLeaveOut s v), 16) ∷ (tooShort u, 6) ∷ (some (ltb 255) (countsOf (withoutVariable (v - 1) (heldIn s n t))), 13) ∷ [])
 unfolding leaveOutRefusal leaveOutCases firstOf
-sound-number s n r t v u h = settings-pass s (h .fine) _ ∙ rw (h .large, h .known, le-ltb 64 n (h .few)) refl
+sound-number s n r t v u h = settings-pass s (h .fine) _ ∙ rw (h .large, or-false (tooShort u), h .known, le-ltb 64 n (h .few)) refl
 
 module _ (s : Settings) (n r : ℕ) (t : Tables) (n′ r′ : ℕ) (t′ : Tables) (h : Sound s n r t) (h′ : Sound s n′ r′ t′)
     (same : (P : List ℕ) → countOf P (heldIn s n t) ≡ countOf P (heldIn s n′ t′)) (v : ℕ) where
@@ -115,7 +115,7 @@ module _ (s : Settings) (n r : ℕ) (t : Tables) (n′ r′ : ℕ) (t′ : Table
       → let o = leaveOutOutcome s m q x v u in countOf P (heldIn (fewer v s) (o .answer .n) (o .tables)) ≡ countOf P (withoutVariable (v - 1) (heldIn s m x))
   unfolding holding
   held-counts m q x u z P = let w = left-passed s m q x v u z in
-      rw (left-outcome s m q x v u z) (ap (countOf P) (written-held (fewer v s) (fewer-accepted s v (w .ok) (w .low) (w .two)) (withoutVariable (v - 1) (heldIn s m x)) (w .entries) u))
+      rw (left-outcome s m q x v u z) (ap (countOf P) (written-held (fewer v s) (w .fine) (withoutVariable (v - 1) (heldIn s m x)) (w .entries) u))
 
   -- 'the number and each state's count for equal multisets'
   pub leaving-multisets : (u u′ : Tables) → SameLengths u u′ → SameCounted (fewer v s) (leaveOutOutcome s n r t v u) (leaveOutOutcome s n′ r′ t′ v u′)

@@ -21,7 +21,7 @@ use Rattle.specification.specs.LeaveOut.{withoutVariable, fewer, leaveOu
 use Rattle.specification.specs.LeaveOutAgreement.{SameSheet}
 use Rattle.specification.proofs.Sheets.{standard-size, leads-size, coefficients-size}
 use Rattle.specification.proofs.leaving.Without.{without-members}
-use Rattle.specification.proofs.leaving.Calls.{fewer-accepted, Left, left-number, left-passed, left-outcome}
+use Rattle.specification.proofs.leaving.Calls.{Left, left-number, left-passed, left-outcome}
 
 -- Equal sets. The numbers say that both inputs are sheets, so nothing else is asked for.
 module _ (s : Settings) (n r : ℕ) (t : Tables) (n′ r′ : ℕ) (t′ : Tables) (v : ℕ) (u u′ : Tables) where
@@ -39,7 +39,7 @@ module _ (s : Settings) (n r : ℕ) (t : Tables) (n′ r′ : ℕ) (t′ : Table
 
   module _ (w : Left s n r t v u) (w′ : Left s n′ r′ t′ v u′) (same : (P : List ℕ) → Among P (pointsOf (heldIn s n t)) ↔ Among P (pointsOf (heldIn s n′ t′))) where
     good : Accepted (fewer v s)
-    good = fewer-accepted s v (w .ok) (w .low) (w .two)
+    good = w .fine
 
     to : (Q : List ℕ) → Among Q (pointsOf K) → Among Q (pointsOf L)
     to Q mem = let x = without-members (v - 1) (heldIn s n t) (positive-of (countsOf (heldIn s n t)) (w .before .counts)) Q .0 mem in

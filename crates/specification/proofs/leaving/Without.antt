@@ -71,7 +71,7 @@ entered-stays P L mem = go (entering P L)
     go (there m f) = f
     go (new n f) = absurd (n mem)
 
-entered-has : (P : List ℕ) (L : Counted) → Among P (pointsOf (entered P L))
+pub entered-has : (P : List ℕ) (L : Counted) → Among P (pointsOf (entered P L))
 entered-has P L = go (entering P L)
   where
     go : Entering P L → Among P (pointsOf (entered P L))

@@ -131,7 +131,7 @@ pub lex-eliminates : (s : Settings) (n r : ℕ) (t u : Tables) → s .order ≡ 
     → Eliminates (s .variables) n r t (o .answer .n) (o .answer .r) (o .tables)
 lex-eliminates s n r t u zero e =
     let w = left-passed s n r t 1 u (sym (left-number s n r t 1 u) ∙ e) in
-    let ok′ = fewer-accepted s 1 (w .ok) (w .low) (w .two) in
+    let ok′ = w .fine in
     let h = of-holds s (w .ok) (known-basis s (w .ok) n r t (w .few) (w .known)) in
     let h′ = of-holds (fewer 1 s) ok′ (leave-out-leaves s n r t 1 u e) in
     eliminated s (fewer 1 s) (w .ok) ok′ refl (pointsOf (heldIn s n t)) (pointsOf (withoutVariable 0 (heldIn s n t))) n r _ _ t _ h h′
