@@ -8,6 +8,7 @@
     sheet.add((4, 0)); sheet.withdraw((-1, 0))             # one state more, and gone again
     sheet.add((1, 2)); print(sheet.counts)                 # [1, 2, 1]: a replicate, seen in two pots
     print(sheet.remainder("g1^2*g2"))                      # 2*g1
+    print(sheet.without("g1").states)                      # [(0,), (2,), (1,)]: a sheet of its own, of the genes that are left
 
     sheet, values = misqafur.read(open("states.csv", "rb").read())
 
@@ -20,6 +21,7 @@ looks.
 """
 import argparse
 import collections.abc
+import copy
 import ctypes
 import functools
 import keyword
@@ -64,6 +66,8 @@ REFUSALS = {
          "States and values are compared modulo p: modulo 5, -1 and 4 are the same."),
     15: ("a weight is wrong: by weight each gene has one from 1 to 99, in any other order none has",
          "Give each gene a weight from 1 to 99; a gene with a large weight is used last."),
+    16: ("the gene to be left out is none of the sheet's, or the only one that it has",
+         "Name one of the sheet's genes; the last one stays."),
 }
 
 # What a wiring list says of the target.
@@ -98,6 +102,7 @@ _CALLS = {
     "interpolate": (ctypes.c_uint32, _SHEET + _BUFFER * 2),
     "remainder": (ctypes.c_uint32, _SHEET + _BUFFER * 3),
     "wiring": (ctypes.c_uint32, _SHEET + _BUFFER * 2),
+    "leave_out": (ctypes.c_uint32, _SHEET + [ctypes.c_uint64] + _BUFFER * len(TABLES)),
     "read_text": (ctypes.c_uint64, _BUFFER * 5),
     f"abi_{ABI}": (ctypes.c_uint32, []),
 }
@@ -439,6 +444,31 @@ class Sheet:
         answer = _call("draw_up_packed" if packed else "draw_up", *self._settings, *self._tables.values(), levels)
         self._keep(answer).cancellations = None if packed else answer >> 24
         return self
+
+    def _gene_number(self, gene):
+        """A gene's number from 1, by its name, or as it is; a name that is no gene's, or of two, is an error that lists the genes."""
+        if not isinstance(gene, str):
+            return _number(gene)
+        if self.names.count(gene) != 1:
+            wrong = "stands more than once among the genes" if gene in self.names else "is no gene of this sheet"
+            raise ValueError(f"{gene!r} {wrong}: they are {_quoted(self.names)}")
+        return self.names.index(gene) + 1
+
+    def without(self, gene):
+        """The sheet without a gene, named or by its number from 1, as where its probe is unreliable: a new sheet of the genes, and
+        weights, that are left, of the states without its level. This one stays as it is.
+
+        States that become equal are one, at the place of the first, and their counts are added: there may be fewer states than
+        before, and as many values are wanted. That they differ in this gene alone and have different values is what a wiring list
+        that names it says: then no function of the other genes has these values."""
+        number, left = self._gene_number(gene), copy.copy(self)
+        left.names, left.weights = ((*each[:number - 1], *each[number:]) for each in (self.names, self.weights))
+        try:
+            return left._keep(_call("leave_out", *self._handed(), number, *left._tables.values()))
+        except Refusal as refusal:
+            more = {13: f"Without {gene!r} states become equal, and their counts add up to more",
+                    16: f"It has {_quoted(self.names)}, and {gene!r} was to be left out"}
+            raise Refusal(refusal.number, more=more.get(refusal.number)) from None
 
     def check(self):
         """Whether the tables are the sheet of their states: raises if not, or if no sheet has these settings."""
