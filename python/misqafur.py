@@ -738,10 +738,31 @@ def refusal_report(text, refusal):
     return "\n".join(lines + [_wrapped(hint, "  - ") for hint in hints])
 
 
-def report(sheet, values, habits=()):
-    """A sheet and the values of a target gene for a person to read."""
-    names = shown_names(sheet.names)
+def left_out(sheet, values, gene):
+    """A sheet without a gene; the value of each state that is left, or None where states that became one have different values; and
+    what was done to the states, in words."""
+    number, left, found = sheet._gene_number(gene), sheet.without(gene), {}
+    for state, value in zip(sheet.states, values):
+        found.setdefault((*state[:number - 1], *state[number:]), set()).add(value)
+    name, before, after = sheet.names[number - 1], len(sheet), len(left)
+    said = f"{name} is left out. "
+    said += (f"No two states became equal: there are {after} as before." if after == before else
+             f"States that became equal are one, and their counts are added: of {before} there are {after}.")
+    if number in sheet.wiring(values):
+        return left, None, f"{said} Some of these had different values, so no rule of the other genes has the target's values: they need {name}."
+    return left, [found[state].pop() for state in left.states], said
+
+
+def _target(sheet, values, names):
+    """The part of a report that is about the target gene."""
     wiring = ", ".join(names[k - 1] for k in sheet.wiring(values)) or "none"
+    return ["", "The target gene as a polynomial (at each state it has the value that the text gives):",
+            _wrapped(str(sheet.interpolate(values)), "    "), "", f"Wiring: {wiring}", _wrapped(f"({WIRING_MEANS})")]
+
+
+def report(sheet, values, habits=()):
+    """A sheet and the values of a target gene, if there are any, for a person to read."""
+    names = shown_names(sheet.names)
     standard = ", ".join(str(Polynomial(sheet.modulus, sheet.names, [(1, e)])) for e in sheet.standard) or "none"
     size = f"{_counted(len(sheet), 'state')} of {_counted(len(names), 'gene')} ({', '.join(names)})"
     lines = [_wrapped(f"{size}, levels modulo {sheet.modulus}, order {sheet._order_said(names)}")]
@@ -749,9 +770,7 @@ def report(sheet, values, habits=()):
     replicates = [f"{state} {count} times" for state, count in zip(sheet.states, sheet.counts) if count > 1]
     lines += [_wrapped(f"replicates: {', '.join(replicates)}")] if replicates else []
     lines += [_wrapped(habit, "  ! ") for habit in habits]
-    lines += ["", "The target gene as a polynomial (at each state it has the value that the text gives):"]
-    lines += [_wrapped(str(sheet.interpolate(values)), "    ")]
-    lines += ["", f"Wiring: {wiring}", _wrapped(f"({WIRING_MEANS})")]
+    lines += [] if values is None else _target(sheet, values, names)
     lines += ["", f"What holds at every state: {_counted(len(sheet.basis), 'polynomial')} that are 0 there; any other that is 0 there is a",
               "combination of them (the reduced Groebner basis)."]
     width = len(str(len(sheet.basis)))
@@ -865,6 +884,16 @@ def _gene_numbers(sheet, words):
     return numbers
 
 
+def _gene_to_leave(sheet, word):
+    """One gene by its name or number."""
+    if word.isdigit() and word not in sheet.names:
+        return int(word)
+    try:
+        return sheet._gene_number(word)
+    except ValueError as error:
+        raise SystemExit(f"misqafur: {error}") from None
+
+
 def _report_texts(words):
     """The command `report`. Answers how many texts were refused."""
     texts, refused = list(_texts(words.files, words.many)), 0
@@ -875,8 +904,11 @@ def _report_texts(words):
         if shows:
             print(f"\r{count} of {len(texts)} texts, {refused} refused", end="\n" if count == len(texts) else "", file=sys.stderr, flush=True)
         try:
-            sheet, values = read(text)
-            said = report(sheet, values, _habits(text))
+            (sheet, values), remarks = read(text), [*_habits(text)]
+            if words.without:
+                sheet, values, done = left_out(sheet, values, _gene_to_leave(sheet, words.without))
+                remarks.append(done)
+            said = report(sheet, values, remarks)
             if words.svg:
                 chosen = _gene_numbers(sheet, words.genes) if words.genes else (1, 2)
                 pathlib.Path(words.svg).write_text(staircase(sheet, chosen), encoding="utf-8")
@@ -894,6 +926,7 @@ def main(arguments=None):
     told.add_argument("files", nargs="+", metavar="FILE.csv", help="a text: gene names and `mod P`, then states and values (- for standard input)")
     told.add_argument("--svg", metavar="OUT.svg", help="draw the staircase of standard and leading monomials of two genes")
     told.add_argument("--genes", metavar="A,B", help="the two genes to draw, by name or number (the first two if not given)")
+    told.add_argument("--without", metavar="GENE", help="leave a gene out whose probe is unreliable, by name or number")
     told.add_argument("--many", action="store_true", help="a file holds many texts, divided by blank lines")
     told.add_argument("--progress", action="store_true", help="say how far many texts have come, also where standard error is no terminal")
     script = commands.add_parser("export", help="print the basis of a text as a script for an algebra package")

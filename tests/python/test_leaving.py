@@ -1,9 +1,10 @@
-"""A gene left out: by its name or its number, against drawing up the shortened states; what is refused, and in which words; and
-that the sheet from which it is left out stays."""
+"""A gene left out: by its name or its number, against drawing up the shortened states; what is refused, and in which words; that
+the sheet from which it is left out stays; and reports without a gene."""
 import copy
 import itertools
 import pickle
 import random
+import subprocess
 import sys
 import unittest
 
@@ -121,6 +122,56 @@ class Leaving(unittest.TestCase):
         often = misqafur.Sheet(5, 2).draw_up([(0, 1)] * 200 + [(1, 1)] * 55)
         self.assertEqual(often.without("g1").counts, [255])
         self.refused(often.add((2, 1)), "g1", 13, "Without 'g1' states become equal, and their counts add up to more")
+
+
+class Reports(unittest.TestCase):
+    def said(self, gene, text):
+        run = subprocess.run([sys.executable, "-m", "misqafur", "report", "--without", gene, "-"], input=text, capture_output=True, text=True, check=False)
+        return run.returncode, " ".join((run.stdout + run.stderr).split())
+
+    def test_no_states_become_equal(self):
+        status, said = self.said("g1", "g1,g2,mod 5 grlex\n0,0,1\n1,2,0\n2,1,3\n")
+        self.assertEqual(status, 0)
+        for part in ("3 states of 1 gene (g2), levels modulo 5, order grlex", "g1 is left out. No two states became equal: there are 3 as before.",
+                     "(at each state it has the value that the text gives): 1 + 2*g2 Wiring: g2"):
+            self.assertIn(part, said)
+
+    def test_states_become_equal(self):
+        text = "Rb,E2F,mod 3 weight 2 1\n0,0,1\n1,0,1\n1,2,0\n1,2,0\n"
+        for gene in ("Rb", "1"):
+            status, said = self.said(gene, text)
+            self.assertEqual(status, 0)
+            for part in ("2 states of 1 gene (E2F), levels modulo 3, order by weight (E2F 1) replicates: (0,) 2 times, (2,) 2 times",
+                         "! Rb is left out. States that became equal are one, and their counts are added: of 3 there are 2.", "1 + E2F Wiring: E2F"):
+                self.assertIn(part, said)
+
+    def test_no_rule_is_left(self):
+        """The target needs the gene: then the sheet is told, and no rule."""
+        status, said = self.said("Rb", "Rb,E2F,mod 3\n0,0,1\n1,0,2\n1,2,0\n")
+        self.assertEqual(status, 0)
+        self.assertIn("so no rule of the other genes has the target's values: they need Rb. What holds at every state", said)
+        self.assertNotIn("Wiring", said)
+        self.assertIn("1. E2F^2 + E2F", said)
+
+    def test_random(self):
+        """A report's values are the text's at every state, or the wiring list names the gene."""
+        chance = random.Random(11)
+        for _ in range(60):
+            sheet = misqafur.Sheet(3, 3).draw_up([[chance.randrange(2) for _ in range(3)] for _ in range(5)])
+            values, gene = [chance.randrange(2) for _ in range(len(sheet))], chance.randrange(1, 4)
+            left, kept_values, _ = misqafur.left_out(sheet, values, gene)
+            self.assertEqual(kept_values is None, gene in sheet.wiring(values))
+            if kept_values is not None:
+                rule = left.interpolate(kept_values)
+                self.assertEqual([rule(shortened(state, gene - 1)) for state in sheet.states], values)
+
+    def test_refused(self):
+        self.assertEqual(self.said("rb", "Rb,E2F,mod 3\n0,0,1\n"), (1, "misqafur: 'rb' is no gene of this sheet: they are 'Rb', 'E2F'"))
+        for gene, text in (("Rb", "Rb,mod 3\n0,0\n"), ("3", "Rb,E2F,mod 3\n0,0,1\n"), ("0", "Rb,E2F,mod 3\n0,0,1\n")):
+            status, said = self.said(gene, text)
+            self.assertEqual(status, 1)
+            self.assertIn("Refused with 16: the gene to be left out is none of the sheet's, or the only one that it has.", said)
+            self.assertIn("- Name one of the sheet's genes; the last one stays.", said)
 
 
 if __name__ == "__main__":
