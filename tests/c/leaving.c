@@ -1,6 +1,6 @@
-/* Part "leaving": a variable left out against drawing up the shortened points, each as often as it is counted; two variables in
- * either order; in lex the rows without x1; sums of counts up to 255 and beyond; every number as a variable's; and what the
- * header does with weights by itself. */
+/* Part "leaving": the examples of docs/SCOPE.md; a variable left out against drawing up the shortened points, each as often as
+ * it is counted; two variables in either order; in lex the rows without x1; sums of counts up to 255 and beyond; every number
+ * as a variable's; and what the header does with weights by itself. */
 #include "made.h"
 #include "parts.h"
 
@@ -144,6 +144,30 @@ static void in_lex(struct leaving *l, uint64_t index)
     say(l, "the rows without x1 in lex", index, drawn && first_gone(&sheet, &left));
 }
 
+/* An example: points of two variables, one left out; the points that are left with their counts, and the one row, whose lead is
+ * the power that is the number of the points. */
+static void example(struct leaving *l, uint64_t p, uint64_t order, const uint8_t points[6], uint64_t variable,
+                    const uint8_t states[3], const uint8_t counts[3], const uint8_t row[3])
+{
+    static struct misqafur_sheet sheet, left;
+    int taken = misqafur_sheet_init(&sheet, p, 2, order, 0) == 0 && misqafur_sheet_draw_up(&sheet, points, 6) == 0 &&
+                misqafur_sheet_leave_out(&sheet, variable, &left) == 0;
+    say(l, "an example's n and r", order, taken && left.n == (counts[2] > 0 ? 3u : 2u) && left.r == 1 && left.leads[0] == left.n);
+    for (size_t i = 0; taken && i < left.n; i++)
+        say(l, "an example's point, count or coefficient", i,
+            left.states[8 * i] == states[i] && left.counts[i] == counts[i] && left.coefficients[i] == row[i] &&
+                left.standard[8 * i] == i);
+}
+
+static void examples_of_scope(struct leaving *l)
+{
+    static const uint8_t a[6] = {0, 0, 1, 2, 2, 1}, bits[6] = {0, 1, 1, 1, 0, 0};
+    static const uint8_t once[3] = {1, 1, 1}, twice[3] = {2, 1, 0}, cubic[3] = {0, 2, 2}, square[3] = {0, 1, 0};
+    example(l, 5, MISQAFUR_LEX, a, 1, (const uint8_t[3]){0, 2, 1}, once, cubic);
+    example(l, 5, MISQAFUR_GRLEX, a, 2, (const uint8_t[3]){0, 1, 2}, once, cubic);
+    example(l, 2, MISQAFUR_GREVLEX, bits, 1, (const uint8_t[3]){1, 0, 0}, twice, square);
+}
+
 /* 2 to 61 points modulo 61 that differ in x2 alone: one is left, at the sum of their counts, up to 255. The first has the rest. */
 static void sums(struct leaving *l)
 {
@@ -203,6 +227,7 @@ struct score leaving(const struct options *options)
         abort();
     memset(l, 0, sizeof *l);
     l->made.chance.state = options->seed;
+    examples_of_scope(l);
     for (uint64_t i = 0; i < 200 + options->cases / 20; i++) {
         as_drawn(l, i);
         either_order(l, i);
