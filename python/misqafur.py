@@ -741,16 +741,15 @@ def refusal_report(text, refusal):
 def left_out(sheet, values, gene):
     """A sheet without a gene; the value of each state that is left, or None where states that became one have different values; and
     what was done to the states, in words."""
-    number, left, found = sheet._gene_number(gene), sheet.without(gene), {}
-    for state, value in zip(sheet.states, values):
-        found.setdefault((*state[:number - 1], *state[number:]), set()).add(value)
+    number, left = sheet._gene_number(gene), sheet.without(gene)
+    found = {(*state[:number - 1], *state[number:]): value for state, value in zip(sheet.states, values)}
     name, before, after = sheet.names[number - 1], len(sheet), len(left)
     said = f"{name} is left out. "
     said += (f"No two states became equal: there are {after} as before." if after == before else
              f"States that became equal are one, and their counts are added: of {before} there are {after}.")
     if number in sheet.wiring(values):
         return left, None, f"{said} Some of these had different values, so no rule of the other genes has the target's values: they need {name}."
-    return left, [found[state].pop() for state in left.states], said
+    return left, [found[state] for state in left.states], said
 
 
 def _target(sheet, values, names):
