@@ -166,19 +166,19 @@ pub extern "C" fn misqafur_leave_out(
     coefficients: &[u8],
     counts: &[u8],
     variable: u64,
-    left_states: &mut [u8],
-    left_standard: &mut [u8],
-    left_leads: &mut [u8],
-    left_coefficients: &mut [u8],
-    left_counts: &mut [u8],
+    new_states: &mut [u8],
+    new_standard: &mut [u8],
+    new_leads: &mut [u8],
+    new_coefficients: &mut [u8],
+    new_counts: &mut [u8],
 ) -> u32
-    ensures { λ a. ⌜ left a (now («left_states» .exit)) (now («left_standard» .exit)) (now («left_leads» .exit))
-        (now («left_coefficients» .exit)) (now («left_counts» .exit))
+    ensures { λ a. ⌜ left a (now («new_states» .exit)) (now («new_standard» .exit)) (now («new_leads» .exit))
+        (now («new_coefficients» .exit)) (now («new_counts» .exit))
         ≡ packedOutcome (leaveOutOutcome (settingsGiven modulus variables order weights) n r
         (fiveTables (now (states .entry)) (now (standard .entry)) (now (leads .entry)) (now (coefficients .entry)) (now (counts .entry)))
         variable
-        (fiveTables (now («left_states» .entry)) (now («left_standard» .entry)) (now («left_leads» .entry))
-        (now («left_coefficients» .entry)) (now («left_counts» .entry)))) ⌝ }
+        (fiveTables (now («new_states» .entry)) (now («new_standard» .entry)) (now («new_leads» .entry))
+        (now («new_coefficients» .entry)) (now («new_counts» .entry)))) ⌝ }
 {
     let settings = settings_given(modulus, variables, order, weights);
     let a = leaving::leave_out(
@@ -191,11 +191,11 @@ pub extern "C" fn misqafur_leave_out(
         coefficients,
         counts,
         variable,
-        left_states,
-        left_standard,
-        left_leads,
-        left_coefficients,
-        left_counts,
+        new_states,
+        new_standard,
+        new_leads,
+        new_coefficients,
+        new_counts,
     );
     pack_answer(a)
 }
