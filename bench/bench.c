@@ -1,18 +1,16 @@
 /* The benchmark: the archive against plain C on the same inputs, in one process. With --smoke it
  * only compares results, on fewer inputs; it fails where results differ, never on a time. */
+#include "leaving_ratios.h"
+#include "medians.h"
 #include "operations.h"
 #include "packed_ratios.h"
 #include "scripts.h"
 #include "weight_ratios.h"
 
 #include <stdio.h>
-#include <stdlib.h>
 #include <string.h>
 
-#define MOST_RATIOS 256
-
-static double ratios[OPERATIONS][3][MOST_RATIOS];
-static size_t ratio_count[OPERATIONS];
+static struct ratios ratios[OPERATIONS][3];
 
 /* Drawing up: cancellations against time, summed up for a straight line through the inputs of a modulus. */
 static struct {
@@ -79,38 +77,22 @@ static int measure(struct input *in)
             keep_point(in->p, cancellations(in), best[0]);
         for (int side = 1; side < side_count(op); side++) {
             double ratio = best[0] / best[side];
-            ratios[i][side][ratio_count[i]] = ratio;
+            keep_ratio(&ratios[i][side], ratio);
             printf(" %10.1f %6.2f", best[side], ratio);
         }
-        ratio_count[i]++;
         printf("\n");
         fflush(stdout);
     }
     return differing;
 }
 
-static int compare_numbers(const void *a, const void *b)
-{
-    double x = *(const double *)a, y = *(const double *)b;
-    return (x > y) - (x < y);
-}
-
-static void print_median(size_t operation, int side, const char *against)
-{
-    double *list = ratios[operation][side];
-    size_t count = ratio_count[operation];
-    qsort(list, count, sizeof *list, compare_numbers);
-    printf("median ratio, %s against %s: %.2f (%.2f to %.2f, %zu inputs)\n", operations[operation].name, against,
-           list[count / 2], list[0], list[count - 1], count);
-}
-
 static void print_medians(void)
 {
     for (size_t i = 0; i < OPERATIONS; i++)
-        print_median(i, 1, "plain C");
+        print_median(operations[i].name, "plain C", &ratios[i][1]);
     for (size_t i = 0; i < OPERATIONS; i++)
         if (operations[i].third != NULL)
-            print_median(i, 2, operations[i].third_is);
+            print_median(operations[i].name, operations[i].third_is, &ratios[i][2]);
 }
 
 /* Makes every input in turn and hands it on; gives the sum of what comes back. */
@@ -154,7 +136,8 @@ static int smoke_run(void)
 {
     static const uint64_t odd[] = {1, 2, 3, 7, 8, 33, 63, 64};
     const size_t count = sizeof odd / sizeof *odd;
-    return report(for_all_inputs(odd, count, compare) + packed_compare() + for_all_inputs(odd, count, weight_compare));
+    return report(for_all_inputs(odd, count, compare) + packed_compare() + for_all_inputs(odd, count, weight_compare) +
+                  for_all_inputs(odd, count, leaving_compare));
 }
 
 /* The numbers of points that are measured. */
@@ -169,6 +152,15 @@ static int weight_run(void)
     return differing;
 }
 
+static int leaving_run(void)
+{
+    printf("\n%-10s %3s %3s  %-8s %3s %10s %10s %6s %10s %6s\n", "leave out", "p", "m", "order", "n", "draw us", "first us", "ratio",
+           "last us", "ratio");
+    int differing = for_all_inputs(points, POINTS, leaving_measure);
+    leaving_medians();
+    return differing;
+}
+
 static int full_run(void)
 {
     printf("%-10s %3s %3s  %-8s %3s %4s %7s %10s %10s %6s %10s %6s\n", "operation", "p", "m", "order", "n", "r", "cancels",
@@ -177,7 +169,8 @@ static int full_run(void)
     print_medians();
     print_lines();
     differing += packed_measure();
-    return report(differing + weight_run());
+    differing += weight_run();
+    return report(differing + leaving_run());
 }
 
 int main(int count, char **words)
@@ -190,6 +183,8 @@ int main(int count, char **words)
         return report(packed_measure());
     if (strcmp(mode, "--weights") == 0)
         return report(weight_run());
+    if (strcmp(mode, "--leaving") == 0)
+        return report(leaving_run());
     if (strcmp(mode, "--singular") == 0) {
         singular_begin();
         return for_all_inputs(most, 1, singular);

@@ -11,6 +11,11 @@ struct lent {
     uint8_t leads[MISQAFUR_LEADS_SIZE], coefficients[MISQAFUR_COEFFICIENTS_SIZE], counts[MISQAFUR_COUNTS_SIZE];
 };
 
+/* What the calls are handed of it. */
+#define LENT(L)                                                                                               \
+    (L)->states, sizeof (L)->states, (L)->standard, sizeof (L)->standard, (L)->leads, sizeof (L)->leads,      \
+        (L)->coefficients, sizeof (L)->coefficients, (L)->counts, sizeof (L)->counts
+
 #define MOST_TERMS 32
 
 struct input {
@@ -21,6 +26,9 @@ struct input {
     struct lent whole;             /* the basis of all points */
     uint8_t terms[MOST_TERMS], exponents[8 * MOST_TERMS];
 };
+
+/* What the calls are handed of its settings. */
+#define UNDER(I) (I)->p, (I)->m, (I)->order, (I)->weights
 
 /* Whether p^m is enough for n distinct points. */
 int input_exists(uint64_t p, uint64_t m, uint64_t n);

@@ -8,11 +8,6 @@
 #include <stdio.h>
 #include <string.h>
 
-#define LENT(L)                                                                                               \
-    (L)->states, sizeof (L)->states, (L)->standard, sizeof (L)->standard, (L)->leads, sizeof (L)->leads,      \
-        (L)->coefficients, sizeof (L)->coefficients, (L)->counts, sizeof (L)->counts
-#define UNDER(I) (I)->p, (I)->m, (I)->order, (I)->weights
-
 const struct measured archive = {misqafur_draw_up, misqafur_add_point, misqafur_withdraw_point, misqafur_check,
                                         misqafur_remainder};
 static const struct measured plain = {plain_draw_up, plain_add_point, plain_withdraw_point, plain_check,

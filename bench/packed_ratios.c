@@ -4,15 +4,12 @@
 
 #include "clock.h"
 #include "inputs.h"
+#include "medians.h"
 #include "packed_inputs.h"
 #include "plain_packed.h"
 
 #include <stdio.h>
 #include <stdlib.h>
-
-#define LENT(L)                                                                                               \
-    (L)->states, sizeof (L)->states, (L)->standard, sizeof (L)->standard, (L)->leads, sizeof (L)->leads,      \
-        (L)->coefficients, sizeof (L)->coefficients, (L)->counts, sizeof (L)->counts
 
 enum side { PACKED, GENERAL, PLAIN, SIDES };
 
@@ -67,25 +64,9 @@ enum ratio { FASTER, SLOWER, FASTER_IN_TURN, SLOWER_IN_TURN, RATIOS };
 static const char *const ratio_names[RATIOS] = {"general / packed", "packed / plain packed C", "general / packed in turn",
                                                 "packed / plain packed C in turn"};
 
-#define MOST_RATIOS 512
-struct list {
-    size_t count;
-    double of[MOST_RATIOS];
-};
-static struct list by_size[RATIOS][SHAPES][65], all[RATIOS];
+static struct ratios by_size[RATIOS][SHAPES][65], all[RATIOS];
 
-static void keep(struct list *list, double ratio)
-{
-    list->of[list->count++] = ratio;
-}
-
-static int increasing(const void *a, const void *b)
-{
-    double x = *(const double *)a, y = *(const double *)b;
-    return (x > y) - (x < y);
-}
-
-static void print_list(enum ratio ratio, const char *what, struct list *list)
+static void print_list(enum ratio ratio, const char *what, struct ratios *list)
 {
     if (list->count == 0)
         return;
@@ -129,8 +110,8 @@ static int measure(struct boolean_input inputs[INPUTS], enum shape shape)
            ratios[FASTER_IN_TURN], ratios[SLOWER_IN_TURN]);
     fflush(stdout);
     for (int k = 0; k < RATIOS; k++) {
-        keep(&by_size[k][shape][in->n], ratios[k]);
-        keep(&all[k], ratios[k]);
+        keep_ratio(&by_size[k][shape][in->n], ratios[k]);
+        keep_ratio(&all[k], ratios[k]);
     }
     return differing;
 }

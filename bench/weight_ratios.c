@@ -2,23 +2,19 @@
 #define _POSIX_C_SOURCE 200809L
 #include "weight_ratios.h"
 
+#include "medians.h"
 #include "operations.h"
 
 #include <stdio.h>
-#include <stdlib.h>
 
 #define EIGHT_ONES 0x0101010101010101u
-#define MOST_RATIOS 256
 #define ROUNDS 5
 
 /* Drawing up packed, modulo 2, beside the operations of the first table. */
 static void run_packed(const struct measured *by, const struct input *in, struct result *to)
 {
-    struct lent *l = &to->lent;
     (void)by;
-    to->answer = misqafur_draw_up_packed(in->p, in->m, in->order, in->weights, l->states, sizeof l->states, l->standard,
-                                         sizeof l->standard, l->leads, sizeof l->leads, l->coefficients,
-                                         sizeof l->coefficients, l->counts, sizeof l->counts, in->levels, in->m * in->n);
+    to->answer = misqafur_draw_up_packed(UNDER(in), LENT(&to->lent), in->levels, in->m * in->n);
 }
 
 static const struct operation packed = {"packed", run_packed, 0, NULL, NULL};
@@ -35,8 +31,7 @@ static int is_measured(int i, const struct input *in)
     return in->n >= operation(i)->least && (operation(i) != &packed || in->p == 2);
 }
 
-static double ratios[MEASURED][MOST_RATIOS];
-static size_t ratio_count[MEASURED];
+static struct ratios ratios[MEASURED];
 
 /* The input by the weights 1. */
 static const struct input *weighed(const struct input *in)
@@ -93,7 +88,7 @@ int weight_measure(struct input *in)
         if (!is_measured(i, in))
             continue;
         time_both(operation(i), in, ones, best);
-        ratios[i][ratio_count[i]++] = best[0] / best[1];
+        keep_ratio(&ratios[i], best[0] / best[1]);
         printf("%-10s %3d %3d %3d %10.1f %10.1f %6.2f\n", operation(i)->name, (int)in->p, (int)in->m, (int)in->n, best[0],
                best[1], best[0] / best[1]);
         fflush(stdout);
@@ -101,19 +96,11 @@ int weight_measure(struct input *in)
     return differing;
 }
 
-static int increasing(const void *a, const void *b)
-{
-    double x = *(const double *)a, y = *(const double *)b;
-    return (x > y) - (x < y);
-}
-
 void weight_medians(void)
 {
+    char what[64];
     for (int i = 0; i < MEASURED; i++) {
-        size_t count = ratio_count[i];
-        qsort(ratios[i], count, sizeof *ratios[i], increasing);
-        if (count > 0)
-            printf("median ratio, %s by the weights 1 against grlex: %.2f (%.2f to %.2f, %zu inputs)\n", operation(i)->name,
-                   ratios[i][count / 2], ratios[i][0], ratios[i][count - 1], count);
+        snprintf(what, sizeof what, "%s by the weights 1", operation(i)->name);
+        print_median(what, "grlex", &ratios[i]);
     }
 }

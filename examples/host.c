@@ -1,5 +1,6 @@
 /* An example host: pots one after another into a sheet, two of them in the same state; one was mislabelled and is
- * withdrawn. Then an interpolant, a wiring list and a remainder; and an interpolant by weight, where x2 is used last.
+ * withdrawn. Then an interpolant, a wiring list and a remainder; an interpolant by weight, where x2 is used last; and the
+ * sheet without x1, whose probe is unreliable.
  * Build: cc host.c $(pkg-config --cflags --libs misqafur) -o host */
 #include <misqafur.h>
 
@@ -7,7 +8,7 @@
 
 #define VARIABLES 2
 
-static struct misqafur_sheet sheet;
+static struct misqafur_sheet sheet, left;
 
 /* Says what became of a point. The counts of the points are as many as the pots. */
 static void say(uint32_t refusal, const char *done, int x1, int x2)
@@ -102,6 +103,19 @@ static uint32_t by_weight(void)
     return interpolate();
 }
 
+/* The sheet without x1: what was x2 is the only variable. */
+static uint32_t without_first(void)
+{
+    const uint32_t refusal = misqafur_sheet_leave_out(&sheet, 1, &left);
+    if (refusal != 0)
+        return refusal;
+    printf("without x1: %u points", (unsigned)left.n);
+    for (uint32_t i = 0; i < left.n; i++)
+        printf(", %u", left.states[8 * i]);
+    printf("; lead x2^%u\n", left.leads[0]);
+    return 0;
+}
+
 int main(void)
 {
     uint32_t refusal = misqafur_sheet_init(&sheet, 5, VARIABLES, MISQAFUR_GRLEX, 0);
@@ -121,6 +135,8 @@ int main(void)
         refusal = remainder_of_term();
     if (refusal == 0)
         refusal = by_weight();
+    if (refusal == 0)
+        refusal = without_first();
     if (refusal != 0)
         fprintf(stderr, "host: %s\n", misqafur_refusal_text(refusal));
     return refusal != 0;

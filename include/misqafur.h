@@ -42,8 +42,8 @@
  * all. No byte that a call may write may be lent to it twice; buffers that are only read may overlap.
  *
  * Refusals. A call that succeeds answers refusal 0 with its numbers. Otherwise it answers the first
- * of these that holds, in this order, but that 15 is looked for directly after 5, and 8 for points directly
- * before 13; and no lent byte has changed. The number comes alone, all else in the answer being 0; only the
+ * of these that holds, in this order, but that 15 and then 16 are looked for directly after 5, and 8 for points
+ * directly before 13; and no lent byte has changed. The number comes alone, all else in the answer being 0; only the
  * reader adds the record at fault:
  *    1  the text is longer than 16,384 bytes
  *    2  the text breaks the rules, or a record's field count differs from the header's
@@ -63,6 +63,7 @@
  *   14  in a text, a replicate has another value than its point has (compared by residues)
  *   15  with order 3 a variable's weight is not 1 to 99, or a byte of the weights behind the m-th is not 0; with
  *       another order the weights are not 0
+ *   16  the variable that is to be left out is not 1 to m, or m is 1
  * Beside each call stand the refusals that it can answer, in the order in which they are looked for.
  *
  * Calls use no heap, open no files, keep nothing between them and share nothing: any number of
@@ -110,9 +111,9 @@
  * first of the version's three. The second goes up with each further call. */
 #define MISQAFUR_ABI 3
 #define MISQAFUR_VERSION_MAJOR 3
-#define MISQAFUR_VERSION_MINOR 0
+#define MISQAFUR_VERSION_MINOR 1
 #define MISQAFUR_VERSION_PATCH 0
-#define MISQAFUR_VERSION "3.0.0"
+#define MISQAFUR_VERSION "3.1.0"
 #define MISQAFUR_VERSION_NUMBER \
     (10000 * MISQAFUR_VERSION_MAJOR + 100 * MISQAFUR_VERSION_MINOR + MISQAFUR_VERSION_PATCH)
 
@@ -158,7 +159,8 @@ enum misqafur_refusals {
     MISQAFUR_REFUSED_ABSENT = 12,
     MISQAFUR_REFUSED_REPLICATES = 13,
     MISQAFUR_REFUSED_OTHER_VALUE = 14,
-    MISQAFUR_REFUSED_WEIGHT = 15
+    MISQAFUR_REFUSED_WEIGHT = 15,
+    MISQAFUR_REFUSED_LEFT_OUT = 16
 };
 
 /* An answer is to be looked at: compilers that know how warn where it is not. */
@@ -296,6 +298,30 @@ uint32_t misqafur_wiring(uint64_t modulus, uint64_t variables, uint64_t order, u
                          const uint8_t *counts, size_t counts_length,
                          const uint8_t *values, size_t values_length, uint8_t *out, size_t out_length);
 
+/* Leaves a variable out, as where the probe of its gene is unreliable: the basis of the points without their level of it,
+ * in tables of its own, under the settings with one variable and its weight fewer (modulus and order as they are, m - 1,
+ * the weights of misqafur_weights_without). Points that become equal are one, at the place of the first, and their counts
+ * are added; the others keep their order. Variables behind the one left out have numbers lower by 1. It is the basis that
+ * misqafur_draw_up makes of the shortened points, each as often as it is counted; in lex without x1 its elements and
+ * standard monomials are those in which x1 does not occur, as they were and in their order.
+ * Reads: the settings, n, r, the first five tables, the variable's number from 1; of the new tables their lengths alone.
+ * Writes: the five new tables, to their sizes; those that are read stay as they are.
+ * Answers the new n and r (misqafur_points, misqafur_elements).
+ * Refusals: 3, 4, 5, 15, 16 (variable is not 1 to m, or m is 1), 6 (any of the ten tables), 8 (n is above 64), 10 (the tables
+ * that are read), 13 (counts that are added exceed 255). */
+uint32_t misqafur_leave_out(uint64_t modulus, uint64_t variables, uint64_t order, uint64_t weights,
+                            uint64_t n, uint64_t r,
+                            const uint8_t *states, size_t states_length,
+                            const uint8_t *standard, size_t standard_length,
+                            const uint8_t *leads, size_t leads_length,
+                            const uint8_t *coefficients, size_t coefficients_length,
+                            const uint8_t *counts, size_t counts_length, uint64_t variable,
+                            uint8_t *new_states, size_t new_states_length,
+                            uint8_t *new_standard, size_t new_standard_length,
+                            uint8_t *new_leads, size_t new_leads_length,
+                            uint8_t *new_coefficients, size_t new_coefficients_length,
+                            uint8_t *new_counts, size_t new_counts_length);
+
 /* Reads settings, points and values from a text of comma-separated records (RFC 4180; LF or CRLF).
  * The header holds m names and a last field: mod, a space, one to three digits, and optionally a
  * space and lex, grlex or grevlex (without the word: grevlex), or weight and then m weights of one or two
@@ -351,6 +377,7 @@ MISQAFUR_TOLD(misqafur_remainder, MISQAFUR_LENT_TABLES(read_only, 7) MISQAFUR_LE
                                       MISQAFUR_LENT(read_only, 19) MISQAFUR_LENT(write_only, 21));
 MISQAFUR_TOLD(misqafur_wiring,
               MISQAFUR_LENT_TABLES(read_only, 7) MISQAFUR_LENT(read_only, 17) MISQAFUR_LENT(write_only, 19));
+MISQAFUR_TOLD(misqafur_leave_out, MISQAFUR_LENT_TABLES(read_only, 7) MISQAFUR_LENT_TABLES(write_only, 18));
 MISQAFUR_TOLD(misqafur_read_text,
               MISQAFUR_LENT(read_only, 1) MISQAFUR_LENT(write_only, 3) MISQAFUR_LENT(write_only, 5)
                   MISQAFUR_LENT(write_only, 7) MISQAFUR_LENT(write_only, 9));
@@ -375,7 +402,7 @@ static uint32_t (*const misqafur_linked)(void) MISQAFUR_KEPT = MISQAFUR_ABI_CALL
 #pragma GCC diagnostic pop
 #endif
 
-/* The version of the library that the host is linked with, or has loaded: 30000 for 3.0.0. */
+/* The version of the library that the host is linked with, or has loaded: 30100 for 3.1.0. */
 static inline uint32_t misqafur_version(void)
 {
     return MISQAFUR_ABI_CALL(MISQAFUR_ABI)();
@@ -434,13 +461,24 @@ static inline uint64_t misqafur_pack_weights(const uint8_t *weights, size_t coun
     return packed;
 }
 
+/* The weights that are left with misqafur_leave_out: those of one variable go, and later ones move down a place. Where no
+ * variable has this number, all of them as they are. */
+static inline uint64_t misqafur_weights_without(uint64_t weights, uint64_t variable)
+{
+    if (variable < 1 || variable > MISQAFUR_MAX_VARIABLES)
+        return weights;
+    const uint64_t before = ((uint64_t)1 << 8 * (variable - 1)) - 1; /* the bytes of the variables before it */
+    return (weights & before) | (weights >> 8 & ~before);
+}
+
 /* The refusal in the answer of any call but the reader; 0 for none. */
 static inline uint32_t misqafur_refusal(uint64_t answer)
 {
     return (uint32_t)(answer & 255u);
 }
 
-/* n and r in the answer of misqafur_add_point, misqafur_withdraw_point, misqafur_draw_up and misqafur_draw_up_packed. */
+/* n and r in the answer of misqafur_add_point, misqafur_withdraw_point, misqafur_draw_up, misqafur_draw_up_packed and
+ * misqafur_leave_out. */
 static inline uint32_t misqafur_points(uint64_t answer)
 {
     return (uint32_t)((answer >> 8) & 255u);
@@ -533,6 +571,8 @@ static inline const char *misqafur_refusal_text(uint32_t refusal)
         return "a replicate has another value than its state";
     case MISQAFUR_REFUSED_WEIGHT:
         return "a weight is wrong: by weight each gene has one from 1 to 99, in any other order none has";
+    case MISQAFUR_REFUSED_LEFT_OUT:
+        return "the gene to be left out is none of the sheet's, or the only one that it has";
     default:
         return "no refusal has this number";
     }
@@ -654,6 +694,29 @@ static inline MISQAFUR_ANSWER uint32_t misqafur_sheet_wiring(const struct misqaf
     if (misqafur_refusal(answer) == 0)
         *count = misqafur_wiring_count(answer);
     return misqafur_refusal(answer);
+}
+
+/* Leaves a variable out: from a sheet that stays as it is, to another, which becomes the sheet of the shortened points under
+ * the settings with one variable and its weight fewer, whatever it was before. After a refusal it is as it was. A sheet has no
+ * room for the result beside itself: where `to` is `from`, tables of no length are lent, which is refused with 6 (behind 3, 4, 5, 15
+ * and 16), and the sheet is as it was; have the result in another, and copy that. */
+static inline MISQAFUR_ANSWER uint32_t misqafur_sheet_leave_out(const struct misqafur_sheet *from, uint64_t variable,
+                                                                struct misqafur_sheet *to)
+{
+    uint32_t answer;
+    if (to == from)
+        return misqafur_refusal(misqafur_leave_out(MISQAFUR_SHEET_SETTINGS(from), from->n, from->r,
+                                                   MISQAFUR_SHEET_TABLES(from), variable, NULL, 0, NULL, 0, NULL, 0, NULL, 0,
+                                                   NULL, 0));
+    answer = misqafur_leave_out(MISQAFUR_SHEET_SETTINGS(from), from->n, from->r, MISQAFUR_SHEET_TABLES(from), variable,
+                                MISQAFUR_SHEET_TABLES(to));
+    if (misqafur_refusal(answer) == 0) {
+        to->modulus = from->modulus;
+        to->variables = from->variables - 1;
+        to->order = from->order;
+        to->weights = misqafur_weights_without(from->weights, variable);
+    }
+    return misqafur_sheet_keep(to, answer);
 }
 
 #ifdef __cplusplus

@@ -8,6 +8,7 @@
     sheet.add((4, 0)); sheet.withdraw((-1, 0))             # one state more, and gone again
     sheet.add((1, 2)); print(sheet.counts)                 # [1, 2, 1]: a replicate, seen in two pots
     print(sheet.remainder("g1^2*g2"))                      # 2*g1
+    print(sheet.without("g1").states)                      # [(0,), (2,), (1,)]: a sheet of its own, of the genes that are left
 
     sheet, values = misqafur.read(open("states.csv", "rb").read())
 
@@ -20,6 +21,7 @@ looks.
 """
 import argparse
 import collections.abc
+import copy
 import ctypes
 import functools
 import keyword
@@ -32,7 +34,7 @@ import sys
 import textwrap
 from xml.sax.saxutils import escape
 
-__version__ = "3.0.0"
+__version__ = "3.1.0"
 ABI = 3
 ORDERS = ("lex", "grlex", "grevlex", "weight")
 TABLES = {"states": 512, "standard": 512, "leads": 3592, "coefficients": 28736, "counts": 64}
@@ -64,6 +66,8 @@ REFUSALS = {
          "States and values are compared modulo p: modulo 5, -1 and 4 are the same."),
     15: ("a weight is wrong: by weight each gene has one from 1 to 99, in any other order none has",
          "Give each gene a weight from 1 to 99; a gene with a large weight is used last."),
+    16: ("the gene to be left out is none of the sheet's, or the only one that it has",
+         "Name one of the sheet's genes; the last one stays."),
 }
 
 # What a wiring list says of the target.
@@ -98,6 +102,7 @@ _CALLS = {
     "interpolate": (ctypes.c_uint32, _SHEET + _BUFFER * 2),
     "remainder": (ctypes.c_uint32, _SHEET + _BUFFER * 3),
     "wiring": (ctypes.c_uint32, _SHEET + _BUFFER * 2),
+    "leave_out": (ctypes.c_uint32, _SHEET + [ctypes.c_uint64] + _BUFFER * len(TABLES)),
     "read_text": (ctypes.c_uint64, _BUFFER * 5),
     f"abi_{ABI}": (ctypes.c_uint32, []),
 }
@@ -440,6 +445,31 @@ class Sheet:
         self._keep(answer).cancellations = None if packed else answer >> 24
         return self
 
+    def _gene_number(self, gene):
+        """A gene's number from 1, by its name, or as it is; a name that is no gene's, or of two, is an error that lists the genes."""
+        if not isinstance(gene, str):
+            return _number(gene)
+        if self.names.count(gene) != 1:
+            wrong = "stands more than once among the genes" if gene in self.names else "is no gene of this sheet"
+            raise ValueError(f"{gene!r} {wrong}: they are {_quoted(self.names)}")
+        return self.names.index(gene) + 1
+
+    def without(self, gene):
+        """The sheet without a gene, named or by its number from 1, as where its probe is unreliable: a new sheet of the genes, and
+        weights, that are left, of the states without its level. This one stays as it is.
+
+        States that become equal are one, at the place of the first, and their counts are added: there may be fewer states than
+        before, and as many values are wanted. That they differ in this gene alone and have different values is what a wiring list
+        that names it says: then no function of the other genes has these values."""
+        number, left = self._gene_number(gene), copy.copy(self)
+        left.names, left.weights = ((*each[:number - 1], *each[number:]) for each in (self.names, self.weights))
+        try:
+            return left._keep(_call("leave_out", *self._handed(), number, *left._tables.values()))
+        except Refusal as refusal:
+            more = {13: f"Without {gene!r} states become equal, and their counts add up to more",
+                    16: f"It has {_quoted(self.names)}, and {gene!r} was to be left out"}
+            raise Refusal(refusal.number, more=more.get(refusal.number)) from None
+
     def check(self):
         """Whether the tables are the sheet of their states: raises if not, or if no sheet has these settings."""
         _call("check", *self._handed())
@@ -708,10 +738,30 @@ def refusal_report(text, refusal):
     return "\n".join(lines + [_wrapped(hint, "  - ") for hint in hints])
 
 
-def report(sheet, values, habits=()):
-    """A sheet and the values of a target gene for a person to read."""
-    names = shown_names(sheet.names)
+def left_out(sheet, values, gene):
+    """A sheet without a gene; the value of each state that is left, or None where states that became one have different values; and
+    what was done to the states, in words."""
+    number, left = sheet._gene_number(gene), sheet.without(gene)
+    found = {(*state[:number - 1], *state[number:]): value for state, value in zip(sheet.states, values)}
+    name, before, after = sheet.names[number - 1], len(sheet), len(left)
+    said = f"{name} is left out. "
+    said += (f"No two states became equal: there are {after} as before." if after == before else
+             f"States that became equal are one, and their counts are added: of {before} there are {after}.")
+    if number in sheet.wiring(values):
+        return left, None, f"{said} Some of these had different values, so no rule of the other genes has the target's values: they need {name}."
+    return left, [found[state] for state in left.states], said
+
+
+def _target(sheet, values, names):
+    """The part of a report that is about the target gene."""
     wiring = ", ".join(names[k - 1] for k in sheet.wiring(values)) or "none"
+    return ["", "The target gene as a polynomial (at each state it has the value that the text gives):",
+            _wrapped(str(sheet.interpolate(values)), "    "), "", f"Wiring: {wiring}", _wrapped(f"({WIRING_MEANS})")]
+
+
+def report(sheet, values, habits=()):
+    """A sheet and the values of a target gene, if there are any, for a person to read."""
+    names = shown_names(sheet.names)
     standard = ", ".join(str(Polynomial(sheet.modulus, sheet.names, [(1, e)])) for e in sheet.standard) or "none"
     size = f"{_counted(len(sheet), 'state')} of {_counted(len(names), 'gene')} ({', '.join(names)})"
     lines = [_wrapped(f"{size}, levels modulo {sheet.modulus}, order {sheet._order_said(names)}")]
@@ -719,9 +769,7 @@ def report(sheet, values, habits=()):
     replicates = [f"{state} {count} times" for state, count in zip(sheet.states, sheet.counts) if count > 1]
     lines += [_wrapped(f"replicates: {', '.join(replicates)}")] if replicates else []
     lines += [_wrapped(habit, "  ! ") for habit in habits]
-    lines += ["", "The target gene as a polynomial (at each state it has the value that the text gives):"]
-    lines += [_wrapped(str(sheet.interpolate(values)), "    ")]
-    lines += ["", f"Wiring: {wiring}", _wrapped(f"({WIRING_MEANS})")]
+    lines += [] if values is None else _target(sheet, values, names)
     lines += ["", f"What holds at every state: {_counted(len(sheet.basis), 'polynomial')} that are 0 there; any other that is 0 there is a",
               "combination of them (the reduced Groebner basis)."]
     width = len(str(len(sheet.basis)))
@@ -835,6 +883,16 @@ def _gene_numbers(sheet, words):
     return numbers
 
 
+def _gene_to_leave(sheet, word):
+    """One gene by its name or number."""
+    if word.isdigit() and word not in sheet.names:
+        return int(word)
+    try:
+        return sheet._gene_number(word)
+    except ValueError as error:
+        raise SystemExit(f"misqafur: {error}") from None
+
+
 def _report_texts(words):
     """The command `report`. Answers how many texts were refused."""
     texts, refused = list(_texts(words.files, words.many)), 0
@@ -845,8 +903,11 @@ def _report_texts(words):
         if shows:
             print(f"\r{count} of {len(texts)} texts, {refused} refused", end="\n" if count == len(texts) else "", file=sys.stderr, flush=True)
         try:
-            sheet, values = read(text)
-            said = report(sheet, values, _habits(text))
+            (sheet, values), remarks = read(text), [*_habits(text)]
+            if words.without:
+                sheet, values, done = left_out(sheet, values, _gene_to_leave(sheet, words.without))
+                remarks.append(done)
+            said = report(sheet, values, remarks)
             if words.svg:
                 chosen = _gene_numbers(sheet, words.genes) if words.genes else (1, 2)
                 pathlib.Path(words.svg).write_text(staircase(sheet, chosen), encoding="utf-8")
@@ -864,6 +925,7 @@ def main(arguments=None):
     told.add_argument("files", nargs="+", metavar="FILE.csv", help="a text: gene names and `mod P`, then states and values (- for standard input)")
     told.add_argument("--svg", metavar="OUT.svg", help="draw the staircase of standard and leading monomials of two genes")
     told.add_argument("--genes", metavar="A,B", help="the two genes to draw, by name or number (the first two if not given)")
+    told.add_argument("--without", metavar="GENE", help="leave a gene out whose probe is unreliable, by name or number")
     told.add_argument("--many", action="store_true", help="a file holds many texts, divided by blank lines")
     told.add_argument("--progress", action="store_true", help="say how far many texts have come, also where standard error is no terminal")
     script = commands.add_parser("export", help="print the basis of a text as a script for an algebra package")

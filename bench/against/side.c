@@ -8,12 +8,12 @@
 
 #if ABI < 3
 #define SETTINGS uint64_t, uint64_t, uint64_t
-#define UNDER(T) (T)->in.p, (T)->in.m, (T)->in.order
+#define GIVEN(T) (T)->in.p, (T)->in.m, (T)->in.order
 #define WEIGHTS
 #define LENT_WEIGHTS(T)
 #else
 #define SETTINGS uint64_t, uint64_t, uint64_t, uint64_t
-#define UNDER(T) (T)->in.p, (T)->in.m, (T)->in.order, 0
+#define GIVEN(T) (T)->in.p, (T)->in.m, (T)->in.order, 0
 #define WEIGHTS , BYTES
 #define LENT_WEIGHTS(T) , (T)->weights, sizeof (T)->weights
 #endif
@@ -27,7 +27,7 @@
 #define LENT_COUNTS(L) , (L)->counts, sizeof (L)->counts
 #endif
 #define TABLES BYTES, BYTES, BYTES, BYTES COUNTS
-#define LENT(L)                                                                                          \
+#define HANDED(L)                                                                                          \
     (L)->states, sizeof (L)->states, (L)->standard, sizeof (L)->standard, (L)->leads, sizeof (L)->leads, \
         (L)->coefficients, sizeof (L)->coefficients LENT_COUNTS(L)
 
@@ -40,12 +40,12 @@ uint32_t CALL(remainder)(SETTINGS, uint64_t, uint64_t, TABLES, READ, READ, BYTES
 uint32_t CALL(wiring)(SETTINGS, uint64_t, uint64_t, TABLES, READ, BYTES);
 uint64_t CALL(read_text)(READ, BYTES, BYTES COUNTS WEIGHTS);
 
-#define BASIS(L) (L)->n, (L)->r, LENT(L)
+#define BASIS(L) (L)->n, (L)->r, HANDED(L)
 
 static void draw_up(const struct task *t, struct left *to, unsigned times)
 {
     for (unsigned i = 0; i < times; i++)
-        to->answer = CALL(draw_up)(UNDER(t), LENT(&to->lent), t->in.levels, t->in.m * t->in.n);
+        to->answer = CALL(draw_up)(GIVEN(t), HANDED(&to->lent), t->in.levels, t->in.m * t->in.n);
 }
 
 /* The tables are copied first, here and in withdrawing, which costs both sides the same. */
@@ -53,7 +53,7 @@ static void add(const struct task *t, struct left *to, unsigned times)
 {
     for (unsigned i = 0; i < times; i++) {
         to->lent = t->in.before;
-        to->answer = CALL(add_point)(UNDER(t), BASIS(&to->lent), t->in.levels + t->in.m * (t->in.n - 1), t->in.m);
+        to->answer = CALL(add_point)(GIVEN(t), BASIS(&to->lent), t->in.levels + t->in.m * (t->in.n - 1), t->in.m);
     }
 }
 
@@ -61,7 +61,7 @@ static void withdraw(const struct task *t, struct left *to, unsigned times)
 {
     for (unsigned i = 0; i < times; i++) {
         to->lent = t->in.whole;
-        to->answer = CALL(withdraw_point)(UNDER(t), BASIS(&to->lent), t->in.levels, t->in.m);
+        to->answer = CALL(withdraw_point)(GIVEN(t), BASIS(&to->lent), t->in.levels, t->in.m);
     }
 }
 
@@ -69,21 +69,21 @@ static void check(const struct task *t, struct left *to, unsigned times)
 {
     to->lent = t->in.whole;
     for (unsigned i = 0; i < times; i++)
-        to->answer = CALL(check)(UNDER(t), BASIS(&to->lent));
+        to->answer = CALL(check)(GIVEN(t), BASIS(&to->lent));
 }
 
 static void interpolate(const struct task *t, struct left *to, unsigned times)
 {
     to->lent = t->in.whole;
     for (unsigned i = 0; i < times; i++)
-        to->answer = CALL(interpolate)(UNDER(t), BASIS(&to->lent), t->values, t->in.n, to->out, sizeof to->out);
+        to->answer = CALL(interpolate)(GIVEN(t), BASIS(&to->lent), t->values, t->in.n, to->out, sizeof to->out);
 }
 
 static void remainder_of(const struct task *t, struct left *to, unsigned times)
 {
     to->lent = t->in.whole;
     for (unsigned i = 0; i < times; i++)
-        to->answer = CALL(remainder)(UNDER(t), BASIS(&to->lent), t->in.terms, sizeof t->in.terms, t->in.exponents,
+        to->answer = CALL(remainder)(GIVEN(t), BASIS(&to->lent), t->in.terms, sizeof t->in.terms, t->in.exponents,
                                      sizeof t->in.exponents, to->out, sizeof to->out);
 }
 
@@ -91,7 +91,7 @@ static void wiring(const struct task *t, struct left *to, unsigned times)
 {
     to->lent = t->in.whole;
     for (unsigned i = 0; i < times; i++)
-        to->answer = CALL(wiring)(UNDER(t), BASIS(&to->lent), t->values, t->in.n, to->out, sizeof to->out);
+        to->answer = CALL(wiring)(GIVEN(t), BASIS(&to->lent), t->values, t->in.n, to->out, sizeof to->out);
 }
 
 static void read_text(const struct task *t, struct left *to, unsigned times)

@@ -4,7 +4,7 @@
 #include "reference.h"
 
 const char *const kind_names[KINDS] = {"add_point", "withdraw_point", "draw_up", "draw_up_packed", "check",
-                                       "interpolate", "remainder", "wiring", "read_text"};
+                                       "interpolate", "remainder", "wiring", "leave_out", "read_text"};
 
 /* Those that every call over tables can answer, and those of one that is handed levels, values or terms beside. */
 #define EARLY (1 << 3 | 1 << 4 | 1 << 5 | 1 << 15 | 1 << 6)
@@ -19,6 +19,7 @@ const uint32_t possible_refusals[KINDS] = {[ADD_POINT] = ANSWERING | 1 << 13,
                                            [INTERPOLATE] = ANSWERING,
                                            [REMAINDER] = ANSWERING,
                                            [WIRING] = ANSWERING,
+                                           [LEAVE_OUT] = EARLY | 1 << 8 | 1 << 10 | 1 << 13 | 1 << 16,
                                            [READ_TEXT] = 1 << 1 | 1 << 2 | 1 << 3 | 1 << 4 | 1 << 6 | 1 << 8 |
                                                          1 << 9 | 1 << 13 | 1 << 14 | 1 << 15};
 
@@ -27,16 +28,20 @@ const size_t table_sizes[TABLES] = {MISQAFUR_STATES_SIZE, MISQAFUR_STANDARD_SIZE
 
 const struct calls archive = {misqafur_add_point,      misqafur_withdraw_point, misqafur_draw_up,
                               misqafur_draw_up_packed, misqafur_check,          misqafur_interpolate,
-                              misqafur_remainder,      misqafur_wiring,         misqafur_read_text};
+                              misqafur_remainder,      misqafur_wiring,         misqafur_leave_out,
+                              misqafur_read_text};
 
 const struct calls reference = {reference_add_point,      reference_withdraw_point, reference_draw_up,
                                 reference_draw_up_packed, reference_check,          reference_interpolate,
-                                reference_remainder,      reference_wiring,         reference_read_text};
+                                reference_remainder,      reference_wiring,         reference_leave_out,
+                                reference_read_text};
 
 size_t buffer_size(enum kind kind, enum buffer which)
 {
     if (which == STATES || which == COUNTS || (which < TABLES && kind != READ_TEXT))
         return table_sizes[which];
+    if (which >= NEW_STATES)
+        return kind == LEAVE_OUT ? table_sizes[which - NEW_STATES] : 0;
     if (which == WEIGHTS && kind == READ_TEXT)
         return MISQAFUR_WEIGHTS_SIZE;
     if (which != OUT)
@@ -48,6 +53,7 @@ size_t buffer_size(enum kind kind, enum buffer which)
 
 #define LENT(I) b[I].at, b[I].length
 #define ALL_TABLES LENT(STATES), LENT(STANDARD), LENT(LEADS), LENT(COEFFICIENTS), LENT(COUNTS)
+#define ALL_NEW LENT(NEW_STATES), LENT(NEW_STANDARD), LENT(NEW_LEADS), LENT(NEW_COEFFICIENTS), LENT(NEW_COUNTS)
 #define SETTINGS c->modulus, c->variables, c->order, c->weights
 
 uint64_t perform(const struct calls *by, const struct call *c)
@@ -70,6 +76,8 @@ uint64_t perform(const struct calls *by, const struct call *c)
         return by->remainder(SETTINGS, c->n, c->r, ALL_TABLES, LENT(GIVEN), LENT(EXPONENTS), LENT(OUT));
     case WIRING:
         return by->wiring(SETTINGS, c->n, c->r, ALL_TABLES, LENT(GIVEN), LENT(OUT));
+    case LEAVE_OUT:
+        return by->leave_out(SETTINGS, c->n, c->r, ALL_TABLES, c->variable, ALL_NEW);
     default:
         return by->read_text(LENT(GIVEN), LENT(STATES), LENT(OUT), LENT(COUNTS), LENT(WEIGHTS));
     }

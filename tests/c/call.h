@@ -13,13 +13,14 @@ enum kind {
     INTERPOLATE,
     REMAINDER,
     WIRING,
+    LEAVE_OUT,
     READ_TEXT,
     KINDS
 };
 
 extern const char *const kind_names[KINDS];
 
-/* The nine calls of one implementation. */
+/* The ten calls of one implementation. */
 struct calls {
     __typeof__(misqafur_add_point) *add_point;
     __typeof__(misqafur_withdraw_point) *withdraw_point;
@@ -29,6 +30,7 @@ struct calls {
     __typeof__(misqafur_interpolate) *interpolate;
     __typeof__(misqafur_remainder) *remainder;
     __typeof__(misqafur_wiring) *wiring;
+    __typeof__(misqafur_leave_out) *leave_out;
     __typeof__(misqafur_read_text) *read_text;
 };
 
@@ -45,6 +47,11 @@ enum buffer {
     EXPONENTS, /* of terms */
     OUT,       /* interpolant, remainder, wiring list, or the values read */
     WEIGHTS,   /* those that are read from a text */
+    NEW_STATES, /* the tables without a variable, in the order of the others */
+    NEW_STANDARD,
+    NEW_LEADS,
+    NEW_COEFFICIENTS,
+    NEW_COUNTS,
     BUFFERS
 };
 
@@ -52,7 +59,7 @@ enum buffer {
 #define TABLES 5
 
 /* The refusals are numbered from 1 on and below this. */
-#define REFUSALS 16
+#define REFUSALS 17
 
 /* Bit k of a kind's entry: the call can answer refusal k. */
 extern const uint32_t possible_refusals[KINDS];
@@ -68,6 +75,7 @@ struct bytes {
 struct call {
     enum kind kind;
     uint64_t modulus, variables, order, weights, n, r;
+    uint64_t variable; /* that is to be left out */
     struct bytes buffer[BUFFERS];
 };
 

@@ -9,7 +9,7 @@
 #include <string.h>
 
 /* The calls that read tables. */
-static const enum kind readers[] = {ADD_POINT, WITHDRAW_POINT, CHECK, INTERPOLATE, REMAINDER, WIRING};
+static const enum kind readers[] = {ADD_POINT, WITHDRAW_POINT, CHECK, INTERPOLATE, REMAINDER, WIRING, LEAVE_OUT};
 #define READERS (sizeof readers / sizeof *readers)
 
 /* Bytes past each size. */
@@ -34,7 +34,7 @@ static void make_basis(struct made *made, uint64_t p, uint64_t m, uint64_t weigh
 }
 
 /* Turns the call over a basis into one of this kind. What it is handed beside: to be added the point of p - 1
- * everywhere, to be withdrawn the first point, and else zeros. */
+ * everywhere, to be withdrawn the first point, to be left out the last variable, and else zeros. */
 static void set_kind(struct made *made, enum kind kind)
 {
     struct call *call = &made->call;
@@ -47,6 +47,11 @@ static void set_kind(struct made *made, enum kind kind)
     call->buffer[GIVEN] = (struct bytes){made->bytes[GIVEN], given};
     call->buffer[EXPONENTS] = (struct bytes){made->bytes[EXPONENTS], 8 * given};
     call->buffer[OUT] = (struct bytes){made->bytes[OUT], MISQAFUR_RESIDUES_SIZE + SURPLUS};
+    call->variable = call->variables;
+    for (int t = 0; kind == LEAVE_OUT && t < TABLES; t++) {
+        memset(made->bytes[NEW_STATES + t], 170, table_sizes[t] + SURPLUS);
+        call->buffer[NEW_STATES + t] = (struct bytes){made->bytes[NEW_STATES + t], table_sizes[t] + SURPLUS};
+    }
 }
 
 /* Changes one byte after another of the sizes of the first four tables by each of the 255 changes in turn; byte i is
@@ -132,6 +137,8 @@ static uint64_t due(const struct call *call)
 {
     if ((call->kind == INTERPOLATE || call->kind == WIRING) && call->buffer[GIVEN].length != call->n)
         return 7;
+    if (call->kind == LEAVE_OUT && call->variables == 1)
+        return 16;
     return call->n > MISQAFUR_MAX_POINTS ? 8 : 10;
 }
 

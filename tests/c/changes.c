@@ -23,10 +23,11 @@ static int number_holds(const struct block *b, uint64_t number)
     return number == b->returned;
 }
 
-static int tables_hold(const struct call *call, const struct block *b)
+/* Five tables from this buffer on. */
+static int tables_hold(const struct call *call, enum buffer first, const uint64_t hashes[TABLES])
 {
     for (int t = 0; t < TABLES; t++)
-        if (hash(&call->buffer[t]) != b->tables[t])
+        if (hash(&call->buffer[(int)first + t]) != hashes[t])
             return 0;
     return 1;
 }
@@ -46,7 +47,9 @@ static int call_holds(struct guard *guard, const struct block *b, uint64_t choic
     performing = "a block of a change request";
     if (!number_holds(b, perform(&archive, &lent)) || !guard_intact(guard))
         return 0;
-    if (b->call.kind == READ_TEXT ? !answers_hold(&lent, b) : !tables_hold(&lent, b))
+    if (b->call.kind == READ_TEXT ? !answers_hold(&lent, b) : !tables_hold(&lent, STATES, b->tables))
+        return 0;
+    if (b->call.kind == LEAVE_OUT && !tables_hold(&lent, NEW_STATES, b->resulted))
         return 0;
     if (b->call.kind != READ_TEXT && buffer_size(b->call.kind, OUT) > 0 && hash(&lent.buffer[OUT]) != b->answers[0])
         return 0;
@@ -85,7 +88,7 @@ static int run_holds(struct guard *guard, const struct block *b, uint64_t choice
     for (size_t i = 0; i < b->steps_read; i++)
         if (!step_holds(guard, &call, &b->steps[i], choice))
             return 0;
-    return call.n == b->finally[0] && call.r == b->finally[1] && tables_hold(&call, b);
+    return call.n == b->finally[0] && call.r == b->finally[1] && tables_hold(&call, STATES, b->tables);
 }
 
 static int block_holds(struct guard *guard, const struct block *b, uint64_t choice)

@@ -83,6 +83,16 @@ static void read_lengths(struct block *b, const char *rest)
         lend(b, (enum buffer)t, lengths[t]);
 }
 
+/* The tables without the variable that is left out. */
+static void read_results(struct block *b, const char *rest)
+{
+    long lengths[TABLES];
+    b->known &= numbers(rest, lengths, TABLES) == TABLES;
+    memset(b->bytes[NEW_STATES], 170, TABLES * sizeof b->bytes[0]);
+    for (int t = 0; b->known && t < TABLES; t++)
+        lend(b, (enum buffer)(NEW_STATES + t), lengths[t]);
+}
+
 static void read_poke(struct block *b, const char *rest)
 {
     long poke[3];
@@ -162,6 +172,8 @@ static void take_expected(struct block *b, const char *word, const char *rest)
         b->returned = strtoull(rest, NULL, 10);
     else if (strcmp(word, "tables") == 0)
         read_hashes(b->tables, TABLES, rest);
+    else if (strcmp(word, "resulted") == 0)
+        read_hashes(b->resulted, TABLES, rest);
     else if (strcmp(word, "answers") == 0)
         read_hashes(b->answers, READ, rest);
     else if (strcmp(word, "do") == 0)
@@ -197,6 +209,10 @@ void block_take(struct block *b, const char *word, const char *rest)
         read_given(b, GIVEN, rest);
     else if (strcmp(word, "exponents") == 0)
         read_given(b, EXPONENTS, rest);
+    else if (strcmp(word, "gene") == 0)
+        b->known &= sscanf(rest, "%" SCNu64, &c->variable) == 1;
+    else if (strcmp(word, "results") == 0)
+        read_results(b, rest);
     else if (strcmp(word, "text") == 0)
         read_segments(b, rest);
     else if (strcmp(word, "buffers") == 0)

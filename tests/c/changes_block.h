@@ -4,10 +4,12 @@
  *   counts C..: of these states; without it 1 each
  *   lengths A B C D E: of the tables, bytes past their sizes 170; without a base all bytes are 170
  *   poke T AT BYTE                   levels, values, coefficients or exponents K v..
+ *   gene G: the variable to be left out
+ *   results A B C D E: the lengths of the tables without it, filled with 170
  *   text SEG..: hexadecimal, HH*COUNT for a run of one byte, - for none
  *   buffers L..: the answer buffers in the order of the arguments, filled with 170
  *   number .. and shown .. are for the reader of the file
- *   returned U                       tables H..                   answers H..
+ *   returned U                       tables H..   resulted H..    answers H..
  * W is the number of the weights. With the kind run, the tables are at first those of no points, and the calls stand in steps:
  *   do add K v.. returns U           do withdraw K v.. returns U   finally N R
  * A block with a kind or a word that is not known is marked as such. */
@@ -44,7 +46,7 @@ struct block {
     struct step steps[STEPS];
     size_t steps_read;
     uint64_t finally[2]; /* n and r after the last step that was taken */
-    uint64_t returned, tables[TABLES], answers[READ];
+    uint64_t returned, tables[TABLES], resulted[TABLES], answers[READ];
     uint8_t bytes[BUFFERS][ROOM];
 };
 

@@ -192,6 +192,17 @@ static void repeat_point(struct made *made)
     }
 }
 
+/* Another variable to be left out, or a table for the result that is too short. */
+static void leaving(struct made *made)
+{
+    struct chance *c = &made->chance;
+    struct bytes *b = &made->call.buffer[NEW_STATES + below(c, TABLES)];
+    if (once_in(c, 2))
+        made->call.variable = once_in(c, 2) ? odd_number(c, made->call.variable) : below(c, 11);
+    else if (b->length > 0)
+        b->length = once_in(c, 4) ? b->length - 1 : below(c, b->length);
+}
+
 static void terms(struct made *made)
 {
     struct chance *c = &made->chance;
@@ -222,6 +233,8 @@ void damage(struct made *made)
     enum kind kind = made->call.kind;
     if (kind == REMAINDER && once_in(&made->chance, 4))
         terms(made);
+    else if (kind == LEAVE_OUT && once_in(&made->chance, 4))
+        leaving(made);
     else if ((kind == INTERPOLATE || kind == WIRING) && once_in(&made->chance, 8))
         count_and_values(made);
     else

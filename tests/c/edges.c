@@ -94,7 +94,7 @@ struct score past_sizes(const struct options *options)
         for (uint64_t i = 0; i < CALLS_OF_EACH_KIND; i++) {
             make_exact(made, (enum kind)kind, options->seed + i);
             claim_sizes(&score, guard, &made->call);
-            if (kind != CHECK)
+            if (kind != CHECK && kind != LEAVE_OUT)
                 claim_given(&score, guard, &made->call);
         }
     free(made);

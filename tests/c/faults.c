@@ -15,7 +15,7 @@ int has_fault(uint32_t faults, int refusal)
 /* In the order of checking, which is not that of the numbers. */
 int first_fault(uint32_t faults)
 {
-    static const int order[] = {1, 2, 3, 4, 5, 15, 6, 7, 8, 9, 10, 12, FULL, 13, 14};
+    static const int order[] = {1, 2, 3, 4, 5, 15, 16, 6, 7, 8, 9, 10, 12, FULL, 13, 14};
     for (size_t i = 0; i < sizeof order / sizeof *order; i++)
         if (has_fault(faults, order[i]))
             return order[i];

@@ -1,5 +1,5 @@
-/* Calls over tables with a set of faults: three points modulo 11 in two variables, or 64 where there is to be no room, and
- * whatever is wrong beside. What is drawn up packed is modulo 2, in eight variables. */
+/* Calls over tables with a set of faults: three points modulo 11 in two variables, or 64 where there is to be no room or a
+ * variable is left out, and whatever is wrong beside. What is drawn up packed is modulo 2, in eight variables. */
 #include "made.h"
 
 #include <string.h>
@@ -75,11 +75,31 @@ static const struct made *basis_of(int full, uint64_t order)
     return made;
 }
 
-/* The tables of a basis; the point (1, 2) has another count, as fault 13 the greatest. As fault 10 a byte of a table is
- * changed, or a point has no count, or r is wrong. */
+/* The variable that is left out in a good call, in turn the first and the second; of the 64 points of the grid so many have
+ * the level of (1, 2) in the other one. */
+static uint64_t left_out(uint32_t variant)
+{
+    return 1 + variant % 2;
+}
+
+static int alike(uint32_t variant)
+{
+    return left_out(variant) == 1 ? 11 : 6;
+}
+
+/* The count of the point (1, 2): as fault 13 the greatest. Without a variable it is added to the others of its level, 1 each:
+ * to 255, or as fault 13 to 256 or to more. */
+static uint8_t count_of(enum kind kind, uint32_t faults, uint32_t variant)
+{
+    if (kind == LEAVE_OUT && (!has_fault(faults, 13) || variant < 5))
+        return (uint8_t)(MISQAFUR_MAX_COUNT - alike(variant) + 1 + has_fault(faults, 13));
+    return (uint8_t)(has_fault(faults, 13) ? MISQAFUR_MAX_COUNT : 1 + 28 * variant);
+}
+
+/* The tables of a basis. As fault 10 a byte of a table is changed, or a point has no count, or r is wrong. */
 static void set_tables(struct made *made, uint32_t faults, uint32_t variant)
 {
-    int full = has_fault(faults, FULL);
+    int full = has_fault(faults, FULL) || made->call.kind == LEAVE_OUT;
     const struct made *basis = basis_of(full, order_of(variant));
     for (int t = 0; t < TABLES; t++)
         if (draws_up(made->call.kind))
@@ -90,7 +110,7 @@ static void set_tables(struct made *made, uint32_t faults, uint32_t variant)
         return;
     made->call.n = basis->call.n;
     made->call.r = basis->call.r;
-    made->bytes[COUNTS][full ? 23 : 1] = (uint8_t)(has_fault(faults, 13) ? MISQAFUR_MAX_COUNT : 1 + 28 * variant);
+    made->bytes[COUNTS][full ? 23 : 1] = count_of(made->call.kind, faults, variant);
     if (has_fault(faults, 10) && variant < TABLES)
         made->bytes[variant][3] ^= 1;
     else if (has_fault(faults, 10) && variant == TABLES)
@@ -169,6 +189,24 @@ static void set_all_points(struct made *made, uint32_t faults, uint32_t variant)
     set_length(made, GIVEN, (size_t)(m * (points + again)), faults, variant);
 }
 
+/* The variable to be left out, as fault 16 none that is there, or the only one; and tables for the result. */
+static void set_left_out(struct made *made, uint32_t faults, uint32_t variant)
+{
+    static const uint64_t none[8] = {0, 3, 9, 255, 256 + 1, 65536 + 2, 0x100000000 + 1, UINT64_MAX};
+    struct call *call = &made->call;
+    call->variable = left_out(variant);
+    if (has_fault(faults, 16) && variant < 8)
+        call->variable = none[variant];
+    if (has_fault(faults, 16) && variant >= 8 && !has_fault(faults, 4)) {
+        call->variables = call->variable = 1;
+        call->weights &= has_fault(faults, 15) ? UINT64_MAX : 255;
+    }
+    if (has_fault(faults, 8))
+        call->n = many[variant % 8];
+    for (int t = 0; t < TABLES; t++)
+        memset(made->bytes[NEW_STATES + t], 170, table_sizes[t] + 8);
+}
+
 static void set_values(struct made *made, uint32_t faults, uint32_t variant)
 {
     if (has_fault(faults, 8))
@@ -212,6 +250,8 @@ void make_faulty_call(struct made *made, enum kind kind, uint32_t faults, uint32
         set_all_points(made, faults, variant);
     else if (kind == REMAINDER)
         set_terms(made, faults, variant);
+    else if (kind == LEAVE_OUT)
+        set_left_out(made, faults, variant);
     else if (kind != CHECK)
         set_values(made, faults, variant);
     else if (has_fault(faults, 8))

@@ -22,7 +22,8 @@ struct guard {
 
 static const char *const buffer_names[BUFFERS] = {"states", "standard", "leads",     "coefficients",
                                                   "counts", "given",    "exponents", "out",
-                                                  "weights"};
+                                                  "weights", "new states", "new standard", "new leads",
+                                                  "new coefficients", "new counts"};
 
 _Thread_local const char *performing = "a call";
 

@@ -70,10 +70,13 @@ static void long_call(struct score *score, uint8_t *zeros, enum kind kind, size_
                       uint64_t n, uint32_t expected)
 {
     struct call call = {.kind = kind, .modulus = kind == DRAW_UP_PACKED ? 2 : 5, .variables = 8, .n = n, .r = 1};
-    static uint8_t tables[TABLES][MISQAFUR_COEFFICIENTS_SIZE], out[MISQAFUR_RESIDUES_SIZE];
-    for (int t = 0; t < TABLES; t++)
+    static uint8_t tables[2 * TABLES][MISQAFUR_COEFFICIENTS_SIZE], out[MISQAFUR_RESIDUES_SIZE];
+    call.variable = 8;
+    for (int t = 0; t < TABLES; t++) {
         call.buffer[t] = (struct bytes){tables[t], table_sizes[t]};
-    if (kind == CHECK)
+        call.buffer[NEW_STATES + t] = (struct bytes){tables[TABLES + t], table_sizes[t]};
+    }
+    if (kind == CHECK || kind == LEAVE_OUT)
         for (int t = 0; t < TABLES; t++)
             call.buffer[t] = (struct bytes){zeros, FOUR_GIB + 100 * (size_t)t};
     call.buffer[GIVEN] = (struct bytes){zeros, given};
@@ -105,6 +108,7 @@ struct score long_buffers(const struct options *options)
     long_call(&score, zeros, ADD_POINT, FOUR_GIB + 8, 0, 0, 7);
     long_call(&score, zeros, WITHDRAW_POINT, FOUR_GIB + 8, 0, 0, 7);
     long_call(&score, zeros, CHECK, 0, 0, 0, 0);
+    long_call(&score, zeros, LEAVE_OUT, 0, 0, 0, 1 << 16);
     long_call(&score, zeros, INTERPOLATE, FOUR_GIB, 0, 0, 7);
     long_call(&score, zeros, INTERPOLATE, FOUR_GIB, 0, FOUR_GIB, 8);
     long_call(&score, zeros, WIRING, FOUR_GIB, 0, 0, 7);

@@ -1,6 +1,6 @@
 /* Part "lists": whole lists of additions and withdrawals, replicates, refused ones and others between them, against a
- * plain list of points with their counts; now and then the same points drawn up in another order, and remainders and wiring
- * lists over both. */
+ * plain list of points with their counts; now and then the same points drawn up in another order, and a variable left out,
+ * remainders and wiring lists over both. */
 #include "parts.h"
 #include "plain_list.h"
 
@@ -11,10 +11,10 @@
 /* With so many lists, each thing that can come up in one is expected to. */
 #define ENOUGH 100
 
-/* How often each answer came to an addition, a withdrawal and a remainder, how often a replicate came and went, and how
+/* How often each answer came to an addition, a withdrawal, leaving a variable out and a remainder, how often a replicate came and went, and how
  * often the rest was tried. */
 struct tally {
-    long added[REFUSALS], withdrawn[REFUSALS], reduced[REFUSALS], raised, lowered, between, back, drawn;
+    long added[REFUSALS], withdrawn[REFUSALS], left[REFUSALS], reduced[REFUSALS], raised, lowered, between, back, drawn;
 };
 
 /* A point of which many pots come is added so many times in a row, or until it is refused. */
@@ -75,12 +75,13 @@ static int given_back(const struct made *made, struct made *other, const struct 
            other->call.r == made->call.r && memcmp(other->bytes, made->bytes, TABLES * sizeof made->bytes[0]) == 0;
 }
 
-/* The points so far drawn up, and a remainder over both. */
+/* The points so far drawn up, and a variable left out of both, and a remainder over both. */
 static int both_ways(struct made *made, struct made *other, const struct list *list, struct tally *tally)
 {
-    uint32_t due = 0;
-    int holds = drawn_alike(made, other, list) && remainders_alike(made, other, &due);
+    uint32_t left = 0, due = 0;
+    int holds = drawn_alike(made, other, list) && left_alike(made, other, list, &left) && remainders_alike(made, other, &due);
     tally->drawn++;
+    tally->left[left]++;
     tally->reduced[due]++;
     return holds;
 }
@@ -154,15 +155,17 @@ static int list_holds(struct guard *guard, struct made *made, struct made *other
 /* Says what came up; whether everything did. */
 static int all_came_up(const struct tally *tally)
 {
-    const long *added = tally->added, *withdrawn = tally->withdrawn, *reduced = tally->reduced;
+    const long *added = tally->added, *withdrawn = tally->withdrawn, *left = tally->left, *reduced = tally->reduced;
     printf("  added %ld, replicates %ld; refused 7: %ld 8: %ld 9: %ld 13: %ld\n", added[0], tally->raised, added[7],
            added[8], added[9], added[13]);
     printf("  withdrawn %ld, replicates %ld; refused 7: %ld 9: %ld 12: %ld; just added %ld; refused between %ld\n",
            withdrawn[0], tally->lowered, withdrawn[7], withdrawn[9], withdrawn[12], tally->back, tally->between);
+    printf("  left out %ld; refused 13: %ld 16: %ld\n", left[0], left[13], left[16]);
     printf("  drawn up %ld; remainders %ld, refused 7: %ld 9: %ld\n", tally->drawn, reduced[0], reduced[7], reduced[9]);
     return added[0] > tally->raised && tally->raised > 0 && added[7] > 0 && added[8] > 0 && added[9] > 0 &&
            added[13] > 0 && withdrawn[0] > tally->lowered && tally->lowered > 0 && withdrawn[7] > 0 &&
-           withdrawn[9] > 0 && withdrawn[12] > 0 && tally->back > 0 && tally->between > 0 && reduced[0] > 0 && reduced[7] > 0 && reduced[9] > 0;
+           withdrawn[9] > 0 && withdrawn[12] > 0 && tally->back > 0 && tally->between > 0 &&
+           left[0] > 0 && left[13] > 0 && left[16] > 0 && reduced[0] > 0 && reduced[7] > 0 && reduced[9] > 0;
 }
 
 struct score lists(const struct options *options)

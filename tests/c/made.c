@@ -75,7 +75,7 @@ static void random_settings(struct made *made)
 {
     struct chance *c = &made->chance;
     made->call.modulus = made->call.kind == DRAW_UP_PACKED ? 2 : primes[once_in(c, 2) ? below(c, 4) : below(c, 18)];
-    made->call.variables = 1 + below(c, 8);
+    made->call.variables = made->call.kind == LEAVE_OUT ? 2 + below(c, 7) : 1 + below(c, 8);
     random_order(c, &made->call);
 }
 
@@ -107,16 +107,23 @@ static uint8_t random_times(struct chance *c)
     return (uint8_t)(once_in(c, 2) ? 1 + below(c, MISQAFUR_MAX_COUNT) : MISQAFUR_MAX_COUNT - below(c, 2));
 }
 
-/* The tables: the basis of the points, or nothing yet, with random bytes past the sizes. */
+/* Five tables from this buffer on, with nothing in them yet and random bytes past the sizes. */
+static void lend_tables(struct made *made, enum buffer first)
+{
+    for (int t = 0; t < TABLES; t++) {
+        enum buffer which = (enum buffer)((int)first + t);
+        fill(made, which, 304);
+        memmove(made->bytes[which] + table_sizes[t], made->bytes[which], 304);
+        memset(made->bytes[which], 170, table_sizes[t]);
+        lend(made, which, table_sizes[t] + surplus(&made->chance));
+    }
+}
+
+/* The tables: the basis of the points, or nothing yet. */
 static void set_tables(struct made *made, const uint8_t *levels, size_t count)
 {
     struct call *call = &made->call;
-    for (int t = 0; t < TABLES; t++) {
-        fill(made, (enum buffer)t, 304);
-        memmove(made->bytes[t] + table_sizes[t], made->bytes[t], 304);
-        memset(made->bytes[t], 170, table_sizes[t]);
-        lend(made, (enum buffer)t, table_sizes[t] + surplus(&made->chance));
-    }
+    lend_tables(made, STATES);
     if (draws_up(call->kind))
         return;
     struct call draw = *call;
@@ -177,6 +184,10 @@ static void set_given(struct made *made)
     if (made->call.n > 0 && ((kind == WITHDRAW_POINT && !once_in(&made->chance, 4)) ||
                              (kind == ADD_POINT && once_in(&made->chance, 3))))
         name_point(made);
+    if (kind == LEAVE_OUT) {
+        made->call.variable = 1 + below(&made->chance, made->call.variables);
+        lend_tables(made, NEW_STATES);
+    }
     size_t size = buffer_size(kind, OUT);
     if (size > 0) {
         fill(made, OUT, 400);

@@ -18,7 +18,8 @@ extern const uint8_t primes[18];
 void lend(struct made *made, enum buffer which, size_t length);
 
 /* The settings, points and tables of a random basis with random counts, and the rest of a call of this kind that is
- * to succeed, or to be refused because of a point that is not there, or comes once too often. */
+ * to succeed, or to be refused because of a point that is not there, or comes once too often, or is too often there without
+ * a variable. */
 void make_call(struct made *made, enum kind kind);
 
 /* A random text that is to be read; now and then one that is refused. */

@@ -44,5 +44,6 @@ struct score wrong_numbers(const struct options *options);
 struct score packed_drawing(const struct options *options);
 struct score replicates(const struct options *options);
 struct score weights(const struct options *options);
+struct score leaving(const struct options *options);
 
 #endif

@@ -81,6 +81,27 @@ static uint32_t list_withdraw(struct list *list, const uint8_t *levels, size_t l
     return 0;
 }
 
+uint32_t list_without(const struct list *list, uint64_t variable, struct list *left)
+{
+    unsigned sums[64] = {0};
+    *left = (struct list){.p = list->p, .m = list->m - 1};
+    if (list->m == 1)
+        return 16;
+    for (size_t i = 0; i < list->n; i++) {
+        uint8_t point[8] = {0};
+        memcpy(point, list->points + 8 * i, variable - 1);
+        memcpy(point + variable - 1, list->points + 8 * i + variable, 8 - variable);
+        size_t place = place_of(left, point);
+        if (place == left->n)
+            memcpy(left->points + 8 * left->n++, point, 8);
+        sums[place] += list->counts[i];
+        left->counts[place] = (uint8_t)sums[place];
+        if (sums[place] > 255)
+            return 13;
+    }
+    return 0;
+}
+
 int operation(struct made *made, struct list *list, uint32_t *answer)
 {
     struct call *call = &made->call;

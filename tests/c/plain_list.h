@@ -29,6 +29,15 @@ int operation(struct made *made, struct list *list, uint32_t *answer);
  * call, and each point its count; and drawing up each of them once or twice n, r and these tables. */
 int drawn_alike(struct made *made, struct made *drawn, const struct list *list);
 
+/* The list without the level of a variable: points that become equal are one, at the place of the first, with their counts
+ * added. Gives the refusal due, 13 or 16, and then there is none. */
+uint32_t list_without(const struct list *list, uint64_t variable, struct list *left);
+
+/* Whether leaving out a variable of either set of tables has the number due, which is *due; then states and counts of the first
+ * are the list's without it, and n, r and three tables of both are the same, and each point's count. With other counts over the
+ * second, n, r and these tables still are. */
+int left_alike(struct made *made, struct made *drawn, const struct list *list, uint32_t *due);
+
 /* Whether a remainder over either set of tables has the number due, which is *due, and leaves the same bytes. */
 int remainders_alike(struct made *made, struct made *drawn, uint32_t *due);
 

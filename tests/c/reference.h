@@ -14,6 +14,7 @@ __typeof__(misqafur_check) reference_check;
 __typeof__(misqafur_interpolate) reference_interpolate;
 __typeof__(misqafur_remainder) reference_remainder;
 __typeof__(misqafur_wiring) reference_wiring;
+__typeof__(misqafur_leave_out) reference_leave_out;
 __typeof__(misqafur_read_text) reference_read_text;
 
 /* What the files of the reference share. */
@@ -48,8 +49,8 @@ struct arrivals {
 /* The place of a point among the first n of a table; n if it is not there. */
 int reference_place(const uint8_t *points, int n, const uint8_t point[8]);
 
-/* One point more; gives its place. */
-int reference_arrive(struct arrivals *a, const uint8_t point[8]);
+/* A point that comes so many times; gives its place. */
+int reference_arrive(struct arrivals *a, const uint8_t point[8], uint64_t times);
 
 /* Whether a number is from -(p-1) to p-1, and its residue. */
 int reference_in_range(int p, int level);

@@ -3,9 +3,8 @@
 
 #include <string.h>
 
-/* The basis of b's points into the lent tables, and the answer. */
-static uint32_t write_out(struct basis *b, uint8_t *states, uint8_t *standard, uint8_t *leads, uint8_t *coefficients,
-                          uint8_t *counts)
+uint32_t reference_write_out(struct basis *b, uint8_t *states, uint8_t *standard, uint8_t *leads, uint8_t *coefficients,
+                             uint8_t *counts)
 {
     reference_basis(b);
     memcpy(states, b->states, 512);
@@ -58,7 +57,7 @@ uint32_t reference_add_point(uint64_t modulus, uint64_t variables, uint64_t orde
     if (place == b.n)
         memcpy(b.states + 8 * b.n++, point, 8);
     b.counts[place]++;
-    return write_out(&b, states, standard, leads, coefficients, counts);
+    return reference_write_out(&b, states, standard, leads, coefficients, counts);
 }
 
 uint32_t reference_withdraw_point(uint64_t modulus, uint64_t variables, uint64_t order, uint64_t weights,
@@ -86,7 +85,7 @@ uint32_t reference_withdraw_point(uint64_t modulus, uint64_t variables, uint64_t
         memset(b.states + 8 * b.n, 0, 8);
         b.counts[b.n] = 0;
     }
-    return write_out(&b, states, standard, leads, coefficients, counts);
+    return reference_write_out(&b, states, standard, leads, coefficients, counts);
 }
 
 /* The points of the levels, in the order in which each came first, and their counts, into b; or the refusal. */
@@ -97,20 +96,9 @@ static int gather(struct basis *b, const uint8_t *levels, size_t points)
         uint8_t point[8] = {0};
         for (int k = 0; k < b->m; k++)
             point[k] = reference_residue(b->p, (int8_t)levels[(size_t)b->m * i + (size_t)k]);
-        reference_arrive(&a, point);
+        reference_arrive(&a, point, 1);
     }
-    if (a.n > 64)
-        return 8;
-    b->n = a.n;
-    memset(b->states, 0, sizeof b->states);
-    memset(b->counts, 0, sizeof b->counts);
-    memcpy(b->states, a.points, 8 * (size_t)a.n);
-    for (int i = 0; i < a.n; i++) {
-        if (a.times[i] > 255)
-            return 13;
-        b->counts[i] = (uint8_t)a.times[i];
-    }
-    return 0;
+    return a.n > 64 ? 8 : reference_take_arrivals(b, &a);
 }
 
 uint64_t reference_draw_up(uint64_t modulus, uint64_t variables, uint64_t order, uint64_t weights,
@@ -132,7 +120,7 @@ uint64_t reference_draw_up(uint64_t modulus, uint64_t variables, uint64_t order,
     refusal = gather(&b, levels, levels_length / variables);
     if (refusal != 0)
         return (uint64_t)refusal;
-    uint64_t answer = write_out(&b, states, standard, leads, coefficients, counts);
+    uint64_t answer = reference_write_out(&b, states, standard, leads, coefficients, counts);
     return answer + ((uint64_t)b.cancellations << 32);
 }
 

@@ -55,15 +55,20 @@ int reference_all_in_range(uint64_t p, const uint8_t *levels, size_t count)
     return 1;
 }
 
+int reference_too_short(const size_t length[5])
+{
+    for (int t = 0; t < 5; t++)
+        if (length[t] < sizes[t])
+            return 1;
+    return 0;
+}
+
 int reference_early_refusal(const struct handed *h, size_t out_length, size_t out_size)
 {
     int refusal = reference_settings_refusal(h->modulus, h->variables, h->order, h->weights);
     if (refusal != 0)
         return refusal;
-    for (int t = 0; t < 5; t++)
-        if (h->length[t] < sizes[t])
-            return 6;
-    return out_length < out_size ? 6 : 0;
+    return reference_too_short(h->length) || out_length < out_size ? 6 : 0;
 }
 
 int reference_place(const uint8_t *points, int n, const uint8_t point[8])
@@ -74,15 +79,29 @@ int reference_place(const uint8_t *points, int n, const uint8_t point[8])
     return place;
 }
 
-int reference_arrive(struct arrivals *a, const uint8_t point[8])
+int reference_arrive(struct arrivals *a, const uint8_t point[8], uint64_t times)
 {
     int place = reference_place(a->points[0], a->n, point);
     if (place == a->n) {
         memcpy(a->points[a->n++], point, 8);
         a->times[place] = 0;
     }
-    a->times[place]++;
+    a->times[place] += times;
     return place;
+}
+
+int reference_take_arrivals(struct basis *b, const struct arrivals *a)
+{
+    b->n = a->n;
+    memset(b->states, 0, sizeof b->states);
+    memset(b->counts, 0, sizeof b->counts);
+    memcpy(b->states, a->points, 8 * (size_t)a->n);
+    for (int i = 0; i < a->n; i++) {
+        if (a->times[i] > 255)
+            return 13;
+        b->counts[i] = (uint8_t)a->times[i];
+    }
+    return 0;
 }
 
 static int points_are_good(const uint8_t *states, int p, int m, int n)

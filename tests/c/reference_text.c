@@ -175,7 +175,7 @@ static uint64_t gather(const struct records *from, int p, int m, struct arrivals
     for (size_t record = 1; record < from->count; record++) {
         uint8_t point[8], value = 0;
         read_residues(from, record, p, m, point, &value);
-        int place = reference_arrive(a, point);
+        int place = reference_arrive(a, point, 1);
         if (place == 64)
             return refused(8, record + 1);
         if (a->times[place] == 1)

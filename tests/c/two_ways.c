@@ -20,16 +20,25 @@ static size_t shuffled(struct chance *c, const struct list *list, const uint8_t 
     return m * sum;
 }
 
-/* Whether each point of the list has its count in the tables, in whatever place it stands there. */
-static int counted_alike(const struct made *drawn, const struct list *list)
+/* Whether each point of the list has its count in these tables, in whatever place it stands there. */
+static int counted_alike(const uint8_t *states, const uint8_t *counts, const struct list *list)
 {
     for (size_t i = 0; i < list->n; i++) {
         size_t place = 0;
-        while (place < list->n && memcmp(drawn->bytes[STATES] + 8 * place, list->points + 8 * i, 8) != 0)
+        while (place < list->n && memcmp(states + 8 * place, list->points + 8 * i, 8) != 0)
             place++;
-        if (place == list->n || drawn->bytes[COUNTS][place] != list->counts[i])
+        if (place == list->n || counts[place] != list->counts[i])
             return 0;
     }
+    return 1;
+}
+
+/* Whether the standard monomials, leads and coefficients are the same, in tables of which the first is this buffer. */
+static int three_alike(const struct made *made, const struct made *drawn, int first)
+{
+    for (int t = STANDARD; t <= COEFFICIENTS; t++)
+        if (memcmp(made->bytes[first + t], drawn->bytes[first + t], table_sizes[t]) != 0)
+            return 0;
     return 1;
 }
 
@@ -46,10 +55,7 @@ static int drawn_with(struct made *made, struct made *drawn, const struct list *
     if (misqafur_refusal(answer) != 0 || misqafur_points(answer) != made->call.n ||
         misqafur_elements(answer) != made->call.r)
         return 0;
-    for (int t = STANDARD; t <= COEFFICIENTS; t++)
-        if (memcmp(made->bytes[t], drawn->bytes[t], table_sizes[t]) != 0)
-            return 0;
-    return 1;
+    return three_alike(made, drawn, STATES);
 }
 
 int drawn_alike(struct made *made, struct made *drawn, const struct list *list)
@@ -58,7 +64,35 @@ int drawn_alike(struct made *made, struct made *drawn, const struct list *list)
     for (size_t i = 0; i < 64; i++)
         once_or_twice[i] = (uint8_t)(1 + below(&made->chance, 2));
     return drawn_with(made, drawn, list, once_or_twice) && drawn_with(made, drawn, list, list->counts) &&
-           counted_alike(drawn, list);
+           counted_alike(drawn->bytes[STATES], drawn->bytes[COUNTS], list);
+}
+
+/* Has the archive leave out a variable, to tables that are filled with one byte before. */
+static uint64_t leave_out(struct made *made, uint64_t variable)
+{
+    made->call.kind = LEAVE_OUT;
+    made->call.variable = variable;
+    for (int t = 0; t < TABLES; t++) {
+        memset(made->bytes[NEW_STATES + t], 170, table_sizes[t]);
+        lend(made, (enum buffer)(NEW_STATES + t), table_sizes[t]);
+    }
+    return perform(&archive, &made->call);
+}
+
+int left_alike(struct made *made, struct made *drawn, const struct list *list, uint32_t *due)
+{
+    uint64_t variable = 1 + below(&made->chance, (uint64_t)list->m);
+    struct list left;
+    *due = list_without(list, variable, &left);
+    uint64_t first = leave_out(made, variable), second = leave_out(drawn, variable);
+    if (*due != 0)
+        return first == *due && second == *due && made->bytes[NEW_STATES][0] == 170;
+    if (first != second || misqafur_points(first) != left.n || memcmp(made->bytes[NEW_STATES], left.points, 512) != 0 ||
+        memcmp(made->bytes[NEW_COUNTS], left.counts, 64) != 0 || !three_alike(made, drawn, NEW_STATES) ||
+        !counted_alike(drawn->bytes[NEW_STATES], drawn->bytes[NEW_COUNTS], &left))
+        return 0;
+    memset(drawn->bytes[COUNTS], 1, list->n);
+    return leave_out(drawn, variable) == first && three_alike(made, drawn, NEW_STATES);
 }
 
 /* Terms for a remainder, and the number due: now and then a coefficient is out of range or an exponent missing. */

@@ -35,7 +35,9 @@ static void make_empty(struct made *made, enum kind kind, uint64_t m, uint64_t o
     }
     memset(made->bytes[GIVEN], 0, 8);
     lend(made, GIVEN, kind == ADD_POINT || kind == WITHDRAW_POINT ? m : 0);
-    lend(made, OUT, buffer_size(kind, OUT));
+    made->call.variable = m;
+    for (int i = OUT; i < BUFFERS; i++)
+        lend(made, (enum buffer)i, buffer_size(kind, (enum buffer)i));
 }
 
 /* Whether a call of this kind refuses these weights where they are wrong, and only there. */
@@ -44,7 +46,7 @@ static int judged(struct weighed *w, enum kind kind, uint64_t m, uint64_t order,
     uint64_t number;
     make_empty(&w->made, kind, m, order, weights);
     return agrees(w->one, &w->made.call, weights, "a weight", &number) && ((number & 255) == 15) == wrong &&
-           (wrong || (number & 255) == (kind == WITHDRAW_POINT ? 12 : 0));
+           (wrong || (number & 255) == (kind == WITHDRAW_POINT ? 12 : kind == LEAVE_OUT && m == 1 ? 16 : 0));
 }
 
 /* Each byte with each value, the others being right, for every order and number of variables, in the calls in turn. */

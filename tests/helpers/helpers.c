@@ -1,12 +1,13 @@
 /* The header's helpers over whole sheets against the plain calls: the same random call is made both ways on equal sheets,
- * and refusal, counts and every byte have to be equal afterwards; and after a refusal every byte as it was before.
+ * and refusal, counts and every byte have to be equal afterwards; and after a refusal every byte as it was before. Leaving a
+ * variable out is in leaving.h.
  * usage: helpers CALLS [SEED] */
-#include "settings.h"
+#include "leaving.h"
 
 #include <stdio.h>
 #include <stdlib.h>
 
-enum kind { ADD, WITHDRAW, DRAW_UP, PACKED, CHECK, INTERPOLATE, REMAINDER, WIRING, KINDS, INIT = KINDS, HELPERS };
+enum kind { ADD, WITHDRAW, DRAW_UP, PACKED, CHECK, INTERPOLATE, REMAINDER, WIRING, KINDS, INIT = KINDS, LEAVE_OUT, HELPERS };
 
 /* What a call is handed beside the sheet, and what it answers. */
 struct terms {
@@ -18,15 +19,7 @@ struct ends {
     uint8_t out[80];
 };
 
-static long passed, failed, seen[HELPERS][16];
-
-static void expect(int good, const char *what, long index)
-{
-    passed += good;
-    failed += !good;
-    if (!good && failed < 20)
-        printf("differs: %s, call %ld\n", what, index);
-}
+static long seen[HELPERS][32];
 
 /* The plain calls, their arguments written out. */
 static struct ends plainly(enum kind kind, struct misqafur_sheet *s, const struct terms *t, struct ends ends)
@@ -121,22 +114,12 @@ static void make_terms(struct terms *t, enum kind kind, const struct misqafur_sh
 static void answered(enum kind kind, long index, const struct misqafur_sheet *sheet, const struct misqafur_sheet *was,
                      struct ends ends, struct ends before)
 {
-    seen[kind][ends.refusal & 15]++;
+    seen[kind][ends.refusal & 31]++;
     if (ends.refusal == 0)
         return;
     expect(memcmp(sheet, was, sizeof *sheet) == 0, "refused, and yet the sheet has changed", index);
     expect(ends.count == before.count && memcmp(ends.out, before.out, sizeof ends.out) == 0,
            "refused, and yet an answer was written", index);
-}
-
-/* Changes a byte of a sheet from n on, a count, or a weight to one that is too great. */
-static void damage(struct misqafur_sheet *sheet)
-{
-    switch (below(3)) {
-    case 0: ((uint8_t *)sheet)[offsetof(struct misqafur_sheet, n) + below(6000)] ^= 1; break;
-    case 1: sheet->counts[below(64)] ^= 1; break;
-    default: sheet->weights ^= (uint64_t)128 << 8 * below(8);
-    }
 }
 
 /* One call both ways; now and then the sheet handed in is a damaged copy. */
@@ -194,7 +177,7 @@ static void texts(void)
 {
     for (uint32_t a = 0; a < 256; a++)
         for (uint32_t b = 0; b < a; b++)
-            expect((strcmp(misqafur_refusal_text(a), misqafur_refusal_text(b)) == 0) == (b > MISQAFUR_REFUSED_WEIGHT),
+            expect((strcmp(misqafur_refusal_text(a), misqafur_refusal_text(b)) == 0) == (b > MISQAFUR_REFUSED_LEFT_OUT),
                    "the sentences of refusals", (long)a);
 }
 
@@ -203,7 +186,8 @@ static void all_seen(void)
 {
     static const int due[HELPERS][7] = {{0, 15, 7, 9, 10, 13},   {0, 15, 7, 9, 10, 12}, {0, 15, 7, 8, 9, 13},
                                         {0, 3, 15, 7, 8, 9, 13}, {0, 15, 10},           {0, 15, 6, 7, 9, 10},
-                                        {0, 15, 6, 7, 8, 9, 10}, {0, 15, 6, 7, 9, 10},  {0, 3, 4, 5, 15}};
+                                        {0, 15, 6, 7, 8, 9, 10}, {0, 15, 6, 7, 9, 10},  {0, 3, 4, 5, 15},
+                                        {0, 15, 16, 6, 8, 10, 13}};
     for (int kind = 0; kind < HELPERS; kind++)
         for (int i = 0; i < 7; i++)
             expect(seen[kind][due[kind][i]] > 0, "an answer that never came", 10 * kind + due[kind][i]);
@@ -218,6 +202,7 @@ int main(int count, char **words)
         if (i % 60 == 0)
             begin(i, &sheet);
         try_call(i, &sheet);
+        seen[LEAVE_OUT][try_leaving(i, &sheet) & 31]++;
     }
     texts();
     expect(misqafur_version() == MISQAFUR_VERSION_NUMBER, "the version", 0);

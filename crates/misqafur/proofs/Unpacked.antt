@@ -1,5 +1,5 @@
 -- What C takes out of the number that an export returns is what the call answered: the parts lie within the bounds that are proved of them.
-use mathlib.Core.Path.{_≡_, refl, sym, _∙_, ap, ap₂}
+use mathlib.Core.Path.{_≡_, refl, sym, _∙_, ap, ap₂, subst}
 use mathlib.Core.List.{List, [], _∷_}
 use mathlib.Core.Logic.{_≢_}
 use Prim.Native.Nat.{ℕ, _+_, _*_, _<_, _≤_}
@@ -16,15 +16,18 @@ use Rattle.specification.specs.declared.answers.Answer.{Answer}
 use Rattle.specification.specs.declared.answers.Drawn.{Drawn}
 use Rattle.specification.specs.Refusal.{firstOf}
 use Rattle.specification.specs.Settings.{settingsCases}
-use Rattle.specification.specs.Counted.{pointsOf, gathered}
+use Rattle.specification.specs.Counted.{Counted, pointsOf, gathered}
 use Rattle.specification.specs.Tables.{Tables}
-use Rattle.specification.specs.Adding.{pointsOffered, drawOutcome, drawPackedOutcome}
+use Rattle.specification.specs.Adding.{Outcome, pointsOffered, drawOutcome, drawPackedOutcome}
+use Rattle.specification.specs.LeaveOut.{leaveOutOutcome}
+use Rattle.specification.specs.CallByCall.{HoldsBasis}
 use Rattle.specification.specs.Reference.{Operation, outcomeOf, Event, own, interposed, Held, outcomeAt, keeping, heldAfter, numbers, heldAtEnd, due}
 use Rattle.specification.specs.Reference.{referenceAtEnd, Refuses}
-use Rattle.specification.specs.Calls.{operating, checking, interpolating, dividing, wiring, Call, drawing, drawingPacked, handed, endingOf, numberOf}
+use Rattle.specification.specs.Calls.{operating, checking, interpolating, dividing, wiring, Call, drawing, drawingPacked, handed, leavingOut, endingOf, numberOf}
 use Rattle.specification.specs.Agreement.{Fresh, freshly, Agrees}
 use Rattle.specification.proofs.Numbers.{few-numbers, never-eleven, refused-alone}
 use Rattle.specification.proofs.CallByCall.{drawn-number, drawn-points, draw-leaves, packed-leaves, draw-costs, operation-leaves}
+use Rattle.specification.proofs.leaving.Calls.{leave-out-leaves}
 use Rattle.specification.proofs.agreement.Claim.{agreement}
 use Rattle.misqafur.specs.Packing.{packed, packedAnswer, packedDrawn, packedOutcome, packedDrawing, packedList}
 use Rattle.misqafur.specs.Unpacking.{refusalFrom, pointsFrom, elementsFrom, cancellationsFrom, countFrom, returned, partsFrom, sheetKept, keptAfter}
@@ -41,7 +44,7 @@ plain : (a b c : ℕ) → packed (a ∷ b ∷ c ∷ []) ≡ packed (a ∷ b ∷ 
 plain a b c = omega arith
 
 -- refusal and count
-count-back : (a b : ℕ) → a ≤ 15 → (refusalFrom (packed (a ∷ b ∷ [])) ≡ a) × (countFrom (packed (a ∷ b ∷ [])) ≡ b)
+count-back : (a b : ℕ) → a ≤ 16 → (refusalFrom (packed (a ∷ b ∷ [])) ≡ a) × (countFrom (packed (a ∷ b ∷ [])) ≡ b)
 unfolding refusalFrom countFrom
 count-back a b h = (omega arith, omega arith)
 
@@ -55,31 +58,47 @@ one-zero : (a : ℕ) (l : List ℕ) → T (allZero (a ∷ l)) → a ≡ 0
 unfolding allZero
 one-zero a l t = eqb→eq a 0 (and-left (eqb a 0) (allZero l) t)
 
--- Bounds of what adding and withdrawing answer, refused or not.
-module _ (o : Operation) (s : Settings) (n r : ℕ) (t : Tables) where
-  abbrev a : Answer
-  a = outcomeOf o s n r t .answer
-
+-- Refusal, n and r of a call that answers these, refused or not.
+module _ (c : Call) (a : Answer) (number : numberOf c ≡ a .refusal) (parts : endingOf c .parts ≡ a .n ∷ a .r ∷ [])
+    (within : a .refusal ≡ 0 → (a .n ≤ 64) × (a .r ≤ 449)) where
   few : (a .n ≤ 64) × (a .r ≤ 449)
-  unfolding endingOf
   few = go (ℕ-discrete (a .refusal) 0)
     where
       go : Dec (a .refusal ≡ 0) → (a .n ≤ 64) × (a .r ≤ 449)
-      go (yes e) = let h = operation-leaves o s n r t e in (omega (arith, h .count, h .few-points), omega (arith, h .rows, h .few-rows))
-      go (no e) = let z = both-zero (a .n) (a .r) [] (refused-alone (handed (operating o) s n r t) e .parts) in (omega (arith, z .0), omega (arith, z .1))
+      go (yes e) = within e
+      go (no e) =
+          let z = both-zero (a .n) (a .r) [] (subst (λ (l : List ℕ). T (allZero l)) parts (refused-alone c (λ y. e (sym number ∙ y)) .parts)) in
+          (omega (arith, z .0), omega (arith, z .1))
 
-  number-few : a .refusal ≤ 15
-  unfolding endingOf
-  number-few = few-numbers (handed (operating o) s n r t)
-
-  pub answer-read : (refusalFrom (packedAnswer a) ≡ a .refusal) × (pointsFrom (packedAnswer a) ≡ a .n) × (elementsFrom (packedAnswer a) ≡ a .r)
-  answer-read =
-      let x : a .refusal < 256 = omega (arith, number-few) in
+  three-back : (refusalFrom (packedAnswer a) ≡ a .refusal) × (pointsFrom (packedAnswer a) ≡ a .n) × (elementsFrom (packedAnswer a) ≡ a .r)
+  three-back =
+      let x : a .refusal < 256 = omega (arith, few-numbers c, number) in
       let y : a .n < 256 = omega (arith, few .0) in
       let z : a .r < 65536 = omega (arith, few .1) in
       let e = plain (a .refusal) (a .n) (a .r) in
       let b = all-back (a .refusal) (a .n) (a .r) 0 x y z in
       (ap refusalFrom e ∙ b .0, ap pointsFrom e ∙ b .1, ap elementsFrom e ∙ b .2)
+
+-- n and r of a basis
+few-held : {s : Settings} {L : Counted} {lent : Tables} {n r : ℕ} {t : Tables} → HoldsBasis s L lent n r t → (n ≤ 64) × (r ≤ 449)
+few-held h = (omega (arith, h .count, h .few-points), omega (arith, h .rows, h .few-rows))
+
+-- what the answer of an outcome is read as
+abbrev Read-as : Outcome → Type 0
+Read-as o = let a = o .answer in
+    (refusalFrom (packedAnswer a) ≡ a .refusal) × (pointsFrom (packedAnswer a) ≡ a .n) × (elementsFrom (packedAnswer a) ≡ a .r)
+
+pub answer-read : (o : Operation) (s : Settings) (n r : ℕ) (t : Tables) → Read-as (outcomeOf o s n r t)
+unfolding endingOf
+answer-read o s n r t = three-back (handed (operating o) s n r t) (outcomeOf o s n r t .answer) refl refl (λ e. few-held (operation-leaves o s n r t e))
+
+packed-read : (s : Settings) (t : Tables) (levels : List ℤ) → Read-as (drawPackedOutcome s t levels)
+unfolding endingOf
+packed-read s t levels = three-back (drawingPacked s t levels) (drawPackedOutcome s t levels .answer) refl refl (λ e. few-held (packed-leaves s t levels e))
+
+left-read : (s : Settings) (n r : ℕ) (t : Tables) (v : ℕ) (u : Tables) → Read-as (leaveOutOutcome s n r t v u)
+unfolding endingOf
+left-read s n r t v u = three-back (leavingOut s n r t v u) (leaveOutOutcome s n r t v u .answer) refl refl (λ e. few-held (leave-out-leaves s n r t v u e))
 
 -- Drawing up.
 module _ (s : Settings) (t : Tables) (levels : List ℤ) where
@@ -98,10 +117,10 @@ module _ (s : Settings) (t : Tables) (levels : List ℤ) where
 
       go : Dec (d .refusal ≡ 0) → (d .n ≤ 64) × (d .r ≤ 449) × (d .cancellations ≤ 32832)
       go (yes e) =
-          let h = draw-leaves s t levels e in
+          let h = few-held (draw-leaves s t levels e) in
           let o = drawn-points s t levels (sym (drawn-number s t levels) ∙ e) in (
-            omega (arith, h .count, h .few-points),
-            omega (arith, h .rows, h .few-rows),
+            h .0,
+            h .1,
             few-costs (length (pointsOf (gathered (pointsOffered s levels)))) (s .variables) (d .cancellations) (o .entries .points .few) (o .ok .few)
                 (draw-costs s t levels e .most),
           )
@@ -119,31 +138,8 @@ module _ (s : Settings) (t : Tables) (levels : List ℤ) where
       let z : d .r < 65536 = omega (arith, drawn-few .1) in
       all-back (d .refusal) (d .n) (d .r) (d .cancellations) x y z
 
--- Packed drawing up.
-module _ (s : Settings) (t : Tables) (levels : List ℤ) where
-  abbrev b : Answer
-  b = drawPackedOutcome s t levels .answer
-
-  packed-few : (b .n ≤ 64) × (b .r ≤ 449)
-  unfolding endingOf
-  packed-few = go (ℕ-discrete (b .refusal) 0)
-    where
-      go : Dec (b .refusal ≡ 0) → (b .n ≤ 64) × (b .r ≤ 449)
-      go (yes e) = let h = packed-leaves s t levels e in (omega (arith, h .count, h .few-points), omega (arith, h .rows, h .few-rows))
-      go (no e) = let z = both-zero (b .n) (b .r) [] (refused-alone (drawingPacked s t levels) e .parts) in (omega (arith, z .0), omega (arith, z .1))
-
-  packed-read : (refusalFrom (packedAnswer b) ≡ b .refusal) × (pointsFrom (packedAnswer b) ≡ b .n) × (elementsFrom (packedAnswer b) ≡ b .r)
-  unfolding endingOf
-  packed-read =
-      let x : b .refusal < 256 = omega (arith, few-numbers (drawingPacked s t levels)) in
-      let y : b .n < 256 = omega (arith, packed-few .0) in
-      let z : b .r < 65536 = omega (arith, packed-few .1) in
-      let e = plain (b .refusal) (b .n) (b .r) in
-      let k = all-back (b .refusal) (b .n) (b .r) 0 x y z in
-      (ap refusalFrom e ∙ k .0, ap pointsFrom e ∙ k .1, ap elementsFrom e ∙ k .2)
-
 -- a refusal alone
-alone : {k : ℕ} → k ≤ 15 → refusalFrom k ≡ k
+alone : {k : ℕ} → k ≤ 16 → refusalFrom k ≡ k
 unfolding refusalFrom
 alone h = omega arith
 
@@ -157,6 +153,7 @@ refusal-read (handed checking s n r t) = alone (few-numbers (handed checking s n
 refusal-read (handed (interpolating values buffer) s n r t) = alone (few-numbers (handed (interpolating values buffer) s n r t))
 refusal-read (handed (dividing coefficients exponents buffer) s n r t) = alone (few-numbers (handed (dividing coefficients exponents buffer) s n r t))
 refusal-read (handed (wiring values buffer) s n r t) = count-back _ _ (few-numbers (handed (wiring values buffer) s n r t)) .0
+refusal-read (leavingOut s n r t v u) = left-read s n r t v u .0
 
 pub parts-read : (c : Call) → partsFrom c (returned c) ≡ endingOf c .parts
 unfolding returned packedDrawing packedOutcome packedList partsFrom endingOf
@@ -167,6 +164,7 @@ parts-read (handed checking s n r t) = refl
 parts-read (handed (interpolating values buffer) s n r t) = refl
 parts-read (handed (dividing coefficients exponents buffer) s n r t) = refl
 parts-read (handed (wiring values buffer) s n r t) = rw (count-back _ _ (few-numbers (handed (wiring values buffer) s n r t)) .1)
+parts-read (leavingOut s n r t v u) = let p = left-read s n r t v u in rw (p .1, p .2)
 
 -- What is said of every call's number is said of what C reads: no export gives 11.
 pub export-never-eleven : (c : Call) → refusalFrom (returned c) ≢ 11

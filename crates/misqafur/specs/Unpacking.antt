@@ -6,8 +6,9 @@ use lib.Dec.{eqb}
 use Rattle.specification.specs.declared.settings.Settings.{Settings}
 use Rattle.specification.specs.Adding.{drawOutcome, drawPackedOutcome}
 use Rattle.specification.specs.Solving.{checkRefusal, interpolateOutcome, remainderOutcome, wiringOutcome}
+use Rattle.specification.specs.LeaveOut.{leaveOutOutcome}
 use Rattle.specification.specs.Reference.{outcomeOf, Event, own, interposed, Held, outcomeAt, heldAfter}
-use Rattle.specification.specs.Calls.{operating, checking, interpolating, dividing, wiring, Call, drawing, drawingPacked, handed}
+use Rattle.specification.specs.Calls.{operating, checking, interpolating, dividing, wiring, Call, drawing, drawingPacked, handed, leavingOut}
 use Rattle.misqafur.specs.Packing.{Left, packedOutcome, packedDrawing, packedList}
 
 -- misqafur_refusal, misqafur_read_refusal: answer & 255
@@ -55,6 +56,7 @@ returned (handed checking s n r t) = checkRefusal s n r t
 returned (handed (interpolating values buffer) s n r t) = interpolateOutcome s n r t values buffer .refusal
 returned (handed (dividing coefficients exponents buffer) s n r t) = remainderOutcome s n r t coefficients exponents buffer .refusal
 returned (handed (wiring values buffer) s n r t) = packedList (wiringOutcome s n r t values buffer) .number
+returned (leavingOut s n r t v u) = packedOutcome (leaveOutOutcome s n r t v u) .number
 
 unfoldable pub partsFrom : Call → ℕ → List ℕ
 partsFrom (drawing s t levels) a = pointsFrom a ∷ elementsFrom a ∷ cancellationsFrom a ∷ []
@@ -64,6 +66,7 @@ partsFrom (handed checking s n r t) a = []
 partsFrom (handed (interpolating values buffer) s n r t) a = []
 partsFrom (handed (dividing coefficients exponents buffer) s n r t) a = []
 partsFrom (handed (wiring values buffer) s n r t) a = countFrom a ∷ []
+partsFrom (leavingOut s n r t v u) a = pointsFrom a ∷ elementsFrom a ∷ []
 
 -- misqafur_sheet_keep: what a host holds after a call of adding or withdrawing
 unfoldable pub sheetKept : Held → Left → Held

@@ -1,2 +1,3 @@
 -- The definitions of the crate points.
 pub mod Gathering
+pub mod Leaving

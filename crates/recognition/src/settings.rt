@@ -38,7 +38,7 @@ pub fn refused_drawing(refusal: u8) -> Drawn
 }
 
 // The refusals that look at the settings alone.
-fn settings_refusal(settings: Settings) -> u8
+pub fn settings_refusal(settings: Settings) -> u8
     ensures { λ k. ⌜ k ≡ firstOf 0 (settingsCases settings) ⌝ }
 {
     if level::is_modulus(settings.modulus) {

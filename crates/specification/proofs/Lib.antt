@@ -16,6 +16,13 @@ pub mod CallByCall
 pub mod Withdrawing
 pub mod Replicates
 pub mod Numbers
+pub mod TableBack
+pub mod SheetBack
+pub mod Sheets
+pub mod SheetRead
+pub mod leaving
+pub mod lex
+pub mod LeaveOutExamples
 pub mod Capacity
 pub mod Records
 pub mod Examples

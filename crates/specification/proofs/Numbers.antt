@@ -20,13 +20,15 @@ use Rattle.specification.specs.Adding.{refused, byRefusal, addCases, add
 use Rattle.specification.specs.Withdrawing.{withdrawCases, withdrawRefusal, withdrawOutcome}
 use Rattle.specification.specs.Solving.{checkRefusal, filling, listing, valuesCases, interpolateOutcome, remainderCases, remainderOutcome, wiringOutcome}
 use Rattle.specification.specs.Reference.{adding, withdrawing, outcomeOf, referenceAnswer}
-use Rattle.specification.specs.Calls.{Request, operating, checking, interpolating, dividing, wiring, Call, drawing, drawingPacked, handed, endingOf, numberOf}
+use Rattle.specification.specs.Calls.{Request, operating, checking, interpolating, dividing, wiring, Call, drawing, drawingPacked, handed, leavingOut, endingOf, numberOf}
 use Rattle.specification.specs.Calls.{tablesLent, bufferLent, Alone, valuesLeft, termsLeft, numberWith}
+use Rattle.specification.specs.LeaveOut.{fewer, leaveOutCases, leaveOutRefusal, leaveOutOutcome}
 use Rattle.specification.specs.CallByCall.{HoldsBasis}
 use Rattle.specification.proofs.CallByCall.{basis-entries}
 use Rattle.specification.proofs.agreement.Refusals.{not-refused, large-of}
 use Rattle.specification.proofs.agreement.Handed.{number-told}
 use Rattle.specification.proofs.agreement.Run.{number-of}
+use Rattle.specification.proofs.leaving.Calls.{left-number}
 
 -- A number that no case has is not that of the first case that holds. An answer has its number, or is one.
 pub never : {A : Type 0} (number : A → ℕ) (k : ℕ) (none : A) (l : List (Bool × A)) → number none ≢ k → T (every (λ c. not (eqb (number (c .1)) k)) l) → number (firstOf none l) ≢ k
@@ -45,7 +47,7 @@ at-most number k none ((false, a) ∷ l) z t = at-most number k none l z (and-ri
 
 -- The cases that a call goes through: its number is that of the first that holds.
 abbrev Case-by-case : Call → Type 0
-Case-by-case c = (l : List Case) × (numberOf c ≡ firstOf 0 l) × T (every (λ c. not (eqb (c .1) 11)) l) × T (every (λ c. leb (c .1) 15) l)
+Case-by-case c = (l : List Case) × (numberOf c ≡ firstOf 0 l) × T (every (λ c. not (eqb (c .1) 11)) l) × T (every (λ c. leb (c .1) 16) l)
 
 -- Drawing up with words has one case before those of drawing up.
 packed-number : (s : Settings) (t : Tables) (levels : List ℤ)
@@ -59,7 +61,7 @@ packed-number s t levels = go (eqb (s .modulus) 2)
 
 cases-of : (c : Call) → Case-by-case c
 unfolding endingOf outcomeOf addOutcome addRefusal addCases withdrawOutcome withdrawRefusal withdrawCases drawOutcome drawRefusal drawCases checkRefusal
-    interpolateOutcome remainderOutcome wiringOutcome filling listing valuesCases remainderCases settingsCases overfull
+    interpolateOutcome remainderOutcome wiringOutcome filling listing valuesCases remainderCases settingsCases overfull leaveOutRefusal leaveOutCases
 cases-of (drawing s t levels) = (drawCases s t levels, number-of (drawRefusal s t levels) t s _, tt, tt)
 cases-of (drawingPacked s t levels) = ((not (eqb (s .modulus) 2), 3) ∷ drawCases s t levels, packed-number s t levels, tt, tt)
 cases-of (handed (operating (adding levels)) s n r t) = (addCases s n r t levels, number-of (addRefusal s n r t levels) t s _, tt, tt)
@@ -68,18 +70,19 @@ cases-of (handed checking s n r t) = (_, refl, tt, tt)
 cases-of (handed (interpolating values buffer) s n r t) = (valuesCases 64 s n r t values buffer, refl, tt, tt)
 cases-of (handed (dividing coefficients exponents buffer) s n r t) = (remainderCases s n r t coefficients exponents buffer, refl, tt, tt)
 cases-of (handed (wiring values buffer) s n r t) = (valuesCases 8 s n r t values buffer, refl, tt, tt)
+cases-of (leavingOut s n r t v u) = (leaveOutCases s n r t v (tooShort u), left-number s n r t v u, tt, tt)
 
 pub never-eleven : (c : Call) → numberOf c ≢ 11
 never-eleven c e = let w = cases-of c in never (λ k. k) 11 0 (w .0) (λ z. omega arith) (w .2) (sym (w .1) ∙ e)
 
--- no call gives a number above 15
-pub few-numbers : (c : Call) → numberOf c ≤ 15
-few-numbers c = let w = cases-of c in rw (w .1) (at-most (λ k. k) 15 0 (w .0) (omega arith) (w .3))
+-- no call gives a number above 16
+pub few-numbers : (c : Call) → numberOf c ≤ 16
+few-numbers c = let w = cases-of c in rw (w .1) (at-most (λ k. k) 16 0 (w .0) (omega arith) (w .3))
 
 -- A refusal comes alone: the other parts of the answer are 0, and no lent byte has changed.
 pub refused-alone : (c : Call) → numberOf c ≢ 0 → Alone c
 unfolding endingOf tablesLent bufferLent drawPackedOutcome outcomeOf addOutcome withdrawOutcome drawOutcome byRefusal refused interpolateOutcome remainderOutcome wiringOutcome
-    filling listing allZero
+    filling listing allZero leaveOutOutcome
 refused-alone (drawing s t levels) h =
     let k = drawRefusal s t levels in
     let e = ne-eqb k 0 (λ z. h (number-of k t s _ ∙ z)) in record { parts = rw e tt; tables = rw e refl; buffer = refl }
@@ -102,6 +105,9 @@ refused-alone (handed (dividing coefficients exponents buffer) s n r t) h =
     let e = ne-eqb (firstOf 0 (remainderCases s n r t coefficients exponents buffer)) 0 h in record { parts = tt; tables = refl; buffer = rw e refl }
 refused-alone (handed (wiring values buffer) s n r t) h =
     let e = ne-eqb (firstOf 0 (valuesCases 8 s n r t values buffer)) 0 h in record { parts = rw e tt; tables = refl; buffer = rw e refl }
+refused-alone (leavingOut s n r t v u) h =
+    let k = leaveOutRefusal s n r t v u in
+    let e = ne-eqb k 0 (λ z. h (number-of k u (fewer v s) _ ∙ z)) in record { parts = rw e tt; tables = rw e refl; buffer = refl }
 
 -- Checking and every other call, the other way: handed n, r and tables that are the basis of at most 64 points with their counts, laid out in tables long
 -- enough, under settings that no call refuses.

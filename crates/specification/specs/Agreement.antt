@@ -21,6 +21,8 @@ use Rattle.specification.specs.Tables.{spaceUnder, pointsUnder, standard
 use Rattle.specification.specs.Adding.{Outcome, pointsOffered, drawOutcome, uncosted, drawPackedOutcome}
 use Rattle.specification.specs.Solving.{interpolateOutcome, polynomialUnder, remainderOutcome, Listed, wiringOutcome}
 use Rattle.specification.specs.Needed.{Needed, Names}
+use Rattle.specification.specs.LeaveOut.{fewer, leaveOutOutcome}
+use Rattle.specification.specs.LeaveOutAgreement.{SameLengths, SameSheet, SameCounted}
 use Rattle.specification.specs.Reference.{Event, Held, numbers, due}
 use Rattle.specification.specs.Calls.{Request, handed, numberOf, numberWith}
 use Rattle.specification.specs.CallByCall.{Interpolates}
@@ -77,6 +79,16 @@ pub record SameCounts (s : Settings) (h : Held) (o : Outcome) : Type 0 where
   pub agrees : SameAs s h o
   pub counts : (P : List ℕ) → countOf P (heldIn s (o .answer .n) (o .tables)) ≡ countOf P (heldIn s (h .n) (h .tables))
 
+-- Leaving a variable out (request M-110), with L the reference list and h what is held.
+pub record LeavesAlike (s : Settings) (L : Counted) (h : Held) : Type 0 where
+  pub drawn : (t : Tables) (levels : List ℤ) → SameSet s L levels → let o = drawOutcome s t levels in o .answer .refusal ≡ 0
+      → (v : ℕ) (u u′ : Tables) → SameLengths u u′
+      → let a = leaveOutOutcome s (o .answer .n) (o .answer .r) (o .tables) v u in let b = leaveOutOutcome s (h .n) (h .r) (h .tables) v u′ in
+      a .answer .refusal ≡ 0 → b .answer .refusal ≡ 0 → SameSheet a b
+  pub arranged : (t : Tables) (levels : List ℤ) → tooShort t ≡ false → Arranges s L levels
+      → (v : ℕ) (u u′ : Tables) → SameLengths u u′ → let o = drawOutcome s t levels in
+      SameCounted (fewer v s) (leaveOutOutcome s (o .answer .n) (o .answer .r) (o .tables) v u) (leaveOutOutcome s (h .n) (h .r) (h .tables) v u′)
+
 -- The buffer of a remainder call whose number is 0 holds the one combination of standard monomials with the polynomial's values at the points.
 pub record Remains (s : Settings) (L : List (List ℕ)) (terms : List ℤ) (exponents buffer end : List ℕ) : Type 0 where
   pub coefficients : List ℕ
@@ -120,6 +132,8 @@ pub record Agrees (s : Settings) (start : Tables) (es : List Event) (L : Counted
   pub arranged-packed : s .modulus ≡ 2 → (t : Tables) (levels : List ℤ) → tooShort t ≡ false → Arranges s L levels
       → SameCounts s h (drawPackedOutcome s t levels)
   pub both-drawn : s .modulus ≡ 2 → (t : Tables) (levels : List ℤ) → drawPackedOutcome s t levels ≡ uncosted (drawOutcome s t levels)
+  -- leaving a variable out of what is held and out of those drawings up
+  pub leaving : LeavesAlike s L h
   -- every call that is handed what is held: its number is told by the reference list and its other arguments. Where it is 0, the buffer holds what is due
   pub requests : (q : Request) → numberOf (handed q s (h .n) (h .r) (h .tables)) ≡ numberWith q s L
   pub interpolants : (values : List ℤ) (buffer : List ℕ) → interpolateOutcome s (h .n) (h .r) (h .tables) values buffer .refusal ≡ 0

@@ -16,6 +16,7 @@ use Rattle.specification.specs.Counted.{Counted}
 use Rattle.specification.specs.Tables.{Tables}
 use Rattle.specification.specs.Adding.{drawOutcome, drawPackedOutcome}
 use Rattle.specification.specs.Solving.{checkRefusal, interpolateOutcome, withinVariables, remainderOutcome, wiringOutcome}
+use Rattle.specification.specs.LeaveOut.{leaveOutOutcome}
 use Rattle.specification.specs.Reference.{Operation, outcomeOf, referenceAnswer}
 
 -- A call that is handed a basis, with what it is handed beside settings, n, r and tables.
@@ -31,9 +32,11 @@ pub data Call : Type 0 where
   drawing : (s : Settings) (t : Tables) (levels : List ℤ) → Call
   drawingPacked : (s : Settings) (t : Tables) (levels : List ℤ) → Call
   handed : (q : Request) (s : Settings) (n r : ℕ) (t : Tables) → Call
+  -- variable v out of the tables t, into the tables u
+  leavingOut : (s : Settings) (n r : ℕ) (t : Tables) (v : ℕ) (u : Tables) → Call
 
 -- All that a call answers and leaves: its number, the other parts of its answer, and at exit the tables and the buffer that it was lent. Tables that are only
--- read are as they were; a call that is lent no buffer leaves none.
+-- read are as they were, and where a call is lent others to write they are not told; a call that is lent no buffer leaves none.
 pub record Ending : Type 0 where
   pub number : ℕ
   pub parts : List ℕ
@@ -54,15 +57,17 @@ endingOf (handed (dividing coefficients exponents buffer) s n r t) = let o = rem
     leaving (o .refusal) [] t (o .buffer)
 endingOf (handed (wiring values buffer) s n r t) = let o = wiringOutcome s n r t values buffer in
     leaving (o .answer .refusal) (o .answer .count ∷ []) t (o .buffer)
+endingOf (leavingOut s n r t v u) = let o = leaveOutOutcome s n r t v u in leaving (o .answer .refusal) (o .answer .n ∷ o .answer .r ∷ []) (o .tables) []
 
 abbrev pub numberOf : Call → ℕ
 numberOf c = endingOf c .number
 
--- what it was lent
+-- what it was lent to write
 unfoldable pub tablesLent : Call → Tables
 tablesLent (drawing s t levels) = t
 tablesLent (drawingPacked s t levels) = t
 tablesLent (handed q s n r t) = t
+tablesLent (leavingOut s n r t v u) = u
 
 unfoldable pub bufferLent : Call → List ℕ
 bufferLent (drawing s t levels) = []
@@ -72,6 +77,7 @@ bufferLent (handed checking s n r t) = []
 bufferLent (handed (interpolating values buffer) s n r t) = buffer
 bufferLent (handed (dividing coefficients exponents buffer) s n r t) = buffer
 bufferLent (handed (wiring values buffer) s n r t) = buffer
+bufferLent (leavingOut s n r t v u) = []
 
 -- A refusal 'comes alone', and 'no lent byte changes'.
 pub record Alone (c : Call) : Type 0 where

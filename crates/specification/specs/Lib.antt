@@ -20,6 +20,9 @@ pub mod Withdrawing
 pub mod Needed
 pub mod Solving
 pub mod Reference
+pub mod TablesRead
+pub mod LeaveOut
+pub mod LeaveOutAgreement
 pub mod Calls
 pub mod CallByCall
 pub mod Agreement

@@ -37,6 +37,17 @@ one_row <- function(state, what = "level") {
   state
 }
 
+# A gene's number from 1, by its name, or as it is.
+gene_number <- function(sheet, gene) {
+  if (length(gene) != 1 || is.na(gene) || !(is.character(gene) || is.numeric(gene))) wrong("one gene is wanted, by its name or its number")
+  if (is.numeric(gene)) return(gene)
+  places <- which(sheet$genes == gene)
+  if (length(places) != 1)
+    wrong(quoted(gene), if (length(places) > 1) " stands more than once among the genes" else " is no gene of this sheet", ": they are ",
+          quoted(sheet$genes))
+  places
+}
+
 # Weights in the genes' order; none where there are none.
 weights_of <- function(weights, genes) {
   if (length(weights) == 0) return(integer(0))

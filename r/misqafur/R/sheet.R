@@ -64,6 +64,20 @@ draw_up <- function(sheet, states, packed = FALSE) {
   sheet
 }
 
+# The sheet of the states without a gene's level, named or by its number: states that become equal are one, at the place of the
+# first, and their counts are added. The genes and weights that are left keep their order.
+without <- function(sheet, gene) {
+  number <- gene_number(sheet, gene)
+  answer <- .Call(C_leave_out, sheet$raw, number)
+  said <- if (is.character(gene)) quoted(gene) else format(gene)
+  sheet$raw <- taken(answer, more = switch(as.character(answer[[1]]),
+    "13" = paste0("Without ", said, " states become equal, and their counts add up to more"),
+    "16" = paste0("It has ", quoted(sheet$genes), ", and ", said, " was to be left out")))
+  sheet$genes <- sheet$genes[-number]
+  sheet$weights <- sheet$weights[-number]
+  sheet
+}
+
 # TRUE, or an error where the sheet is not that of its states.
 check_sheet <- function(sheet) {
   taken(.Call(C_check, sheet$raw))

@@ -110,6 +110,14 @@ static SEXP draw_up_packed(SEXP raw, SEXP levels)
     return answered_sheet(refusal, &sheet);
 }
 
+static SEXP leave_out(SEXP raw, SEXP variable)
+{
+    const struct misqafur_sheet sheet = sheet_of(raw);
+    struct misqafur_sheet left; /* after a refusal it holds nothing */
+    const uint32_t refusal = misqafur_sheet_leave_out(&sheet, setting(variable), &left);
+    return refusal == 0 ? answered_sheet(refusal, &left) : answered(refusal, R_NilValue);
+}
+
 static SEXP check(SEXP raw)
 {
     const struct misqafur_sheet sheet = sheet_of(raw);
@@ -217,7 +225,7 @@ static SEXP version(void)
 static const R_CallMethodDef calls[] = {
     CALL("init", init, 4),           CALL("add", add, 2),
     CALL("withdraw", withdraw, 2),   CALL("draw_up", draw_up, 2),
-    CALL("draw_up_packed", draw_up_packed, 2),
+    CALL("draw_up_packed", draw_up_packed, 2), CALL("leave_out", leave_out, 2),
     CALL("check", check, 1),         CALL("interpolate", interpolate, 2),
     CALL("remainder", remainder_of, 3), CALL("wiring", wiring, 2),
     CALL("tables", tables, 1),       CALL("read_text", read_text, 1),

@@ -12,13 +12,14 @@ use Rattle.residue.specs.Layout.{fill}
 use Rattle.residue.proofs.Layouts.{fill-twice}
 use Rattle.specification.specs.declared.settings.Settings.{Settings}
 use Rattle.specification.specs.Refusal.{Case, firstOf}
-use Rattle.specification.specs.Settings.{settingsCases}
+use Rattle.specification.specs.Settings.{Accepted, settingsCases}
 use Rattle.specification.specs.Levels.{inRange}
 use Rattle.specification.specs.Counted.{Counted, pointsOf, countsOf, gathered, overfull}
 use Rattle.specification.specs.Tables.{Tables, statesTable, tooShort, pointsIn}
 use Rattle.specification.specs.Adding.{Outcome, refused, pointsOffered, drawCases, drawRefusal, DrawOutcome, costing, cancellationsUnder, drawOutcome, uncosted}
-use Rattle.specification.specs.Adding.{drawPackedOutcome, holdingBoth}
+use Rattle.specification.specs.Adding.{drawPackedOutcome, holding, holdingBoth}
 use Rattle.specification.proofs.Replicates.{holding-told}
+use Rattle.specification.proofs.counted.Gathered.{Entries}
 use Rattle.specification.proofs.CallByCall.{Offered, drawn-points, packed-drawn}
 use Rattle.construction.specs.Drawing.{PointsGiven}
 use Rattle.construction.proofs.drawing.Given.{table-points, given}
@@ -63,6 +64,24 @@ module _ (s : Settings) (short : Bool) (levels : List ℤ) where
   pub draw-gathered : drawSizes ≡ 0 → inRange (s .modulus) levels ≡ true → (k : ℕ) → k ≡ firstOf 0 (overfull (gathered (pointsOffered s levels))) → k ≡ drawNumber
   draw-gathered e f k g = g ∙ on f ∙ by-rest s short wrong false tests e ∙ whole
 
+-- Points with their counts, in a table and in bytes: drawing them up leaves what holds them.
+module _ (s : Settings) (ok : Accepted s) (L : Counted) (h : Entries s L) (n : ℕ) (points : List ℕ) (count : n ≡ length L)
+    (table : points ≡ statesTable (pointsOf L)) where
+  many : n ≡ length (pointsOf L)
+  many = count ∙ sym (length-map L (λ q. q .0))
+
+  pub tabled-given : PointsGiven s n points
+  unfolding statesTable
+  tabled-given = rw (many, table) (given s ok (pointsOf L) (h .points))
+
+  pub tabled-done : (t : Tables) (times : List ℕ) → times ≡ fill 64 (countsOf L)
+      → costing (cancellationsUnder s (pointsIn s n points)) (holdingBoth s (pointsIn s n points) times t) ≡ costing (cancellationsUnder s (pointsOf L)) (holding s L t)
+  unfolding statesTable
+  tabled-done t times f =
+      let back : pointsIn s n points ≡ pointsOf L = ap₂ (pointsIn s) many table ∙ table-points s ok (pointsOf L) (h .points) in
+      rw (back, f, fill-twice 64 64 (countsOf L) (omega arith))
+      (ap (costing (cancellationsUnder s (pointsOf L))) (sym (holding-told s L t (pointsOf L) (countsOf L) refl refl)))
+
 -- The outcome.
 module _ (s : Settings) (t : Tables) (levels : List ℤ) (k : ℕ) (e : k ≡ drawNumber s (tooShort t) levels) where
   number : k ≡ drawRefusal s t levels
@@ -85,20 +104,13 @@ module _ (s : Settings) (t : Tables) (levels : List ℤ) (k : ℕ) (e : k ≡ dr
     enough = offered .large
 
     module _ (n : ℕ) (points : List ℕ) (count : n ≡ length L) (table : points ≡ statesTable (pointsOf L)) where
-      many : n ≡ length (pointsOf L)
-      many = count ∙ sym (length-map L (λ q. q .0))
-
       pub draw-given : PointsGiven s n points
-      unfolding statesTable
-      draw-given = rw (many, table) (given s (offered .ok) (pointsOf L) (offered .entries .points))
+      draw-given = tabled-given s (offered .ok) L (offered .entries) n points count table
 
       pub draw-done : (times : List ℕ) → times ≡ fill 64 (countsOf L)
           → costing (cancellationsUnder s (pointsIn s n points)) (holdingBoth s (pointsIn s n points) times t) ≡ drawOutcome s t levels
-      unfolding drawOutcome statesTable
-      draw-done times f =
-          let back : pointsIn s n points ≡ pointsOf L = ap₂ (pointsIn s) many table ∙ table-points s (offered .ok) (pointsOf L) (offered .entries .points) in
-          rw (back, f, fill-twice 64 64 (countsOf L) (omega arith))
-          (ap (costing (cancellationsUnder s (pointsOf L))) (sym (holding-told s L t (pointsOf L) (countsOf L) refl refl)) ∙ cost-accepted t _ _ _ (sym zero ∙ number))
+      unfolding drawOutcome
+      draw-done times f = tabled-done s (offered .ok) L (offered .entries) n points count table t times f ∙ cost-accepted t _ _ _ (sym zero ∙ number)
 
 -- The outcome modulo 2: that of drawing up, without its cost.
 module _ (s : Settings) (t : Tables) (levels : List ℤ) where

@@ -1,19 +1,17 @@
 -- What a withdrawal stands on: the number by the tests that led to it, the points and counts that are left, and the outcome.
 use mathlib.Core.Path.{_≡_, refl, sym, ap, ap₂, subst, _∙_}
 use mathlib.Core.Bool.{Bool, true, false, not, cond}
-use mathlib.Core.List.{List, [], _∷_, _++_}
-use Prim.Native.Nat.{ℕ, zero, suc, _+_, _*_, _-_, _<_, _≤_}
-use native.Mathlib.Nat.{le-of-suc-le-suc}
+use mathlib.Core.List.{List, [], _∷_}
+use Prim.Native.Nat.{ℕ, _-_, _<_, _≤_}
 use native.Mathlib.Omega.{arith}
 use lib.IntN.{ℤ}
-use lib.ListN.{length, take, drop, replicate, getD}
+use lib.ListN.{length, replicate, getD}
 use lib.Dec.{eqb, ltb}
 use borrow.Author.Tests.{le-ltb, lt-ltb, eq-eqb, ltb-true, ltb-false}
-use Rattle.residue.specs.Layout.{groups, fill, inPlaces, over, length-fill}
-use Rattle.residue.proofs.Layouts.{fill-cut, fill-twice}
-use Rattle.residue.proofs.Places.{over-zeros}
+use Rattle.residue.specs.Layout.{groups, fill, inPlaces, over}
+use Rattle.residue.proofs.Layouts.{fill-twice}
 use Rattle.monomial.specs.Insert.{takenOut, removedAt}
-use Rattle.monomial.proofs.insert.Tables.{table-out, removed-long}
+use Rattle.monomial.proofs.insert.Tables.{table-out, bytes-out, removed-long}
 use Rattle.specification.specs.declared.settings.Settings.{Settings}
 use Rattle.specification.specs.Refusal.{Case, firstOf}
 use Rattle.specification.specs.Levels.{residues, isAmong}
@@ -39,25 +37,6 @@ use Rattle.recognition.proofs.looking.Looks.{Open, look-first, look-then}
 use Rattle.recognition.proofs.naming.PointAtHand.{opened, among-old}
 
 -- What is left without the point at a place.
--- bytes are rows of width 1
-cut-out : (n j : ℕ) (c : List ℕ) → j < n → n ≤ length c → take j c ++ take (n - suc j) (drop (suc j) c) ≡ removedAt j (fill n c)
-unfolding removedAt fill
-cut-out n j [] h l = absurd (omega arith)
-cut-out zero j (x ∷ c) h l = absurd (omega arith)
-cut-out (suc n) zero (x ∷ c) h l = let e : suc n - 1 ≡ n = omega arith in rw e (sym (fill-cut n c (le-of-suc-le-suc l)))
-cut-out (suc n) (suc j) (x ∷ c) h l =
-    let e : suc n - suc (suc j) ≡ n - suc j = omega arith in
-    rw e (ap (λ (z : List ℕ). x ∷ z) (cut-out n j c (le-of-suc-le-suc h) (le-of-suc-le-suc l)))
-
-pub counts-out : (n j : ℕ) (c : List ℕ) → j < n → n ≤ 64 → n ≤ length c → over (takenOut 1 n j c) (replicate 64 0) ≡ fill 64 (removedAt j (fill n c))
-unfolding takenOut
-counts-out n j c h few l =
-    let a : 1 * j ≡ j = omega arith in
-    let b : 1 * j + 1 ≡ suc j = omega arith in
-    let d : 1 * n ≡ n = omega arith in
-    let is : take (1 * j) c ++ take (1 * n - (1 * j + 1)) (drop (1 * j + 1) c) ≡ removedAt j (fill n c) = rw (b, a, d) (cut-out n j c h l) in
-    ap (λ (z : List ℕ). over z (replicate 64 0)) is ∙ over-zeros (removedAt j (fill n c)) 64 (omega (arith, removed-long j (fill n c) (omega (arith, length-fill n c)), length-fill n c))
-
 module _ (s : Settings) (n j : ℕ) (table : List ℕ) (g : PointsGiven s n table) (low : j < n) where
   abbrev left : List (List ℕ)
   left = removedAt j (pointsIn s n table)
@@ -84,7 +63,7 @@ module _ (s : Settings) (n j : ℕ) (table : List ℕ) (g : PointsGiven s n tabl
     pub left-done : (t : Tables) (times : List ℕ) → times ≡ over (takenOut 1 n j (t .counts)) (replicate 64 0) → n ≤ length (t .counts) → getD (t .counts) j 0 ≤ 1 → (lower : Outcome)
         → holdingBoth s (pointsIn s (n - 1) rest) times t ≡ cond (ltb 1 (getD (t .counts) j 0)) lower (holdingBoth s left (removedAt j (fill n (t .counts))) t)
     left-done t times f l one lower =
-        let is : times ≡ fill 64 (removedAt j (fill n (t .counts))) = f ∙ counts-out n j (t .counts) low (g .most) l in
+        let is : times ≡ fill 64 (removedAt j (fill n (t .counts))) = f ∙ bytes-out 64 n j (t .counts) low (g .most) l in
         rw (left-points, is, le-ltb 1 (getD (t .counts) j 0) one, fill-twice 64 64 (removedAt j (fill n (t .counts))) (omega arith)) refl
 
     -- and their pivot rows

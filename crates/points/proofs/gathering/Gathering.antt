@@ -3,14 +3,14 @@
 use mathlib.Core.Path.{_≡_, refl, sym, _∙_, ap, ap₂, subst}
 use mathlib.Core.Bool.{Bool, true, false, cond, _||_, or-false, or-true}
 use mathlib.Core.Logic.{inl, inr, _⊎_}
-use mathlib.Core.List.{List, [], _∷_, map-append}
+use mathlib.Core.List.{List, [], _∷_, _++_, map-append}
 use Prim.Native.Nat.{ℕ, suc, _+_, _*_, _-_, _<_, _≤_}
 use native.Mathlib.Omega.{arith}
 use lib.ListN.{length, take, drop, replicate, getD, set, length-map, length-append}
 use lib.Dec.{T, eqb, ltb}
 use borrow.Author.Tests.{lt-ltb, le-ltb, ltb-false, eq-eqb, ne-eqb}
 use Rattle.residue.specs.Lists.{Among}
-use Rattle.residue.specs.Layout.{groups, fill, inPlaces, withPlace, length-fill}
+use Rattle.residue.specs.Layout.{groups, fill, withPlace, length-fill}
 use Rattle.residue.proofs.Layouts.{fill-at, fill-put, fill-zeros}
 use Rattle.residue.proofs.Places.{table-groups, places-filled, no-places, length-groups, groups-long, groups-at, groups-step, groups-end}
 use Rattle.residue.proofs.Replaced.{table-more}
@@ -55,6 +55,24 @@ once-held {m} {n} {L} h few t =
 pub holds-none : (m : ℕ) (points counts : List ℕ) → points ≡ statesTable [] → counts ≡ fill 64 [] → Holds m [] 0 points counts false
 holds-none m points counts e f = record { count = refl; few = omega arith; table = e; bytes = f; flag = refl; long = λ Q q. absurd q }
 
+module _ {m n : ℕ} {L : Counted} {points counts : List ℕ} {over : Bool} (h : Holds m L n points counts over) where
+  pub held-many : length (pointsOf L) ≡ n
+  held-many = length-map L (λ q. q .0) ∙ sym (h .count)
+
+  -- the place of a point in the table is its place in the list
+  pub place-held : m ≤ 8 → (P : List ℕ) → length P ≡ m → placeIn (fill 8 P) (groups 8 n points) ≡ placeIn P (pointsOf L)
+  unfolding statesTable
+  place-held few P own =
+      ap₂ (λ (k : ℕ) (t : List ℕ). placeIn (fill 8 P) (groups 8 k t)) (sym held-many) (h .table)
+      ∙ ap (placeIn (fill 8 P)) (table-groups 8 512 (pointsOf L) (omega (arith, held-many, h .few))) ∙ place-filled 8 m few P (pointsOf L) own (h .long)
+
+  -- a point put behind those of the table is put behind those of the list
+  pub table-put : n < 64 → (P : List ℕ) → withPlace 8 n (fill 8 P) points ≡ statesTable (pointsOf L ++ (P ∷ []))
+  unfolding statesTable
+  table-put room P =
+      table-more 8 512 n (pointsOf L) (fill 8 P) points (h .table) (sym held-many) (omega (arith, room)) (omega (arith, length-fill 8 P))
+      ∙ ap (fill 512) (places-filled 8 (pointsOf L) P)
+
 module _ {m n : ℕ} {L : Counted} {points counts : List ℕ} {over : Bool} (h : Holds m L n points counts over) (few : m ≤ 8) (P : List ℕ) (own : length P ≡ m)
     {hints : List ℕ} {at : ℕ} {hit : Bool} {table bytes noted : List ℕ} (e : EnteredAs n (fill 8 P) points counts hints at hit table bytes noted) where
   abbrev S : List (List ℕ)
@@ -64,14 +82,10 @@ module _ {m n : ℕ} {L : Counted} {points counts : List ℕ} {over : Bool} (h :
   i = placeIn P S
 
   many : length S ≡ n
-  many = length-map L (λ q. q .0) ∙ sym (h .count)
+  many = held-many h
 
-  -- the place in the table is the place in the list
   pub placed : at ≡ i
-  unfolding statesTable
-  placed =
-      e .place ∙ ap₂ (λ (k : ℕ) (t : List ℕ). placeIn (fill 8 P) (groups 8 k t)) (sym many) (h .table)
-      ∙ ap (placeIn (fill 8 P)) (table-groups 8 512 S (omega (arith, many, h .few))) ∙ place-filled 8 m few P S own (h .long)
+  placed = e .place ∙ place-held h few P own
 
   pub among : ltb at n ≡ isAmong P S
   among = ap₂ ltb placed (sym many) ∙ among-place P S
@@ -131,7 +145,7 @@ module _ {m n : ℕ} {L : Counted} {points counts : List ℕ} {over : Bool} (h :
 
     -- there is room for it: it comes last
     pub holds-new : n < 64 → Holds m (entered P L) (n + 1) table bytes (over || hit)
-    unfolding pointsEntered countsEntered statesTable
+    unfolding pointsEntered countsEntered
     holds-new room =
         let w = entered-new P L is-new in
         let c = new-last P L is-new in
@@ -143,8 +157,7 @@ module _ {m n : ℕ} {L : Counted} {points counts : List ℕ} {over : Bool} (h :
         record {
           count = ap (λ (k : ℕ). k + 1) (h .count) ∙ sym (ap length w ∙ length-append L ((P, 1) ∷ []));
           few = omega (arith, room);
-          table = written ∙ table-more 8 512 n S (fill 8 P) points (h .table) (sym many) (omega (arith, room)) (omega (arith, length-fill 8 P))
-              ∙ ap (fill 512) (places-filled 8 S P) ∙ ap (λ (K : List (List ℕ)). fill 512 (inPlaces 8 K)) (sym (ap pointsOf w ∙ map-append (λ q. q .0) L ((P, 1) ∷ [])));
+          table = written ∙ table-put h room P ∙ ap statesTable (sym (ap pointsOf w ∙ map-append (λ q. q .0) L ((P, 1) ∷ [])));
           bytes = put ∙ ap₂ (λ (l : List ℕ) (k : ℕ). set l k 1) (h .bytes) (sym wide) ∙ fill-put 64 (saturated L) 1 (omega (arith, wide, room)) ∙ ap (fill 64) (sym (c .0));
           flag = ap (λ (b : Bool). over || b) so ∙ or-false over ∙ h .flag ∙ sym (c .1);
           long = all-long;

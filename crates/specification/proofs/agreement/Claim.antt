@@ -34,6 +34,7 @@ use Rattle.specification.proofs.agreement.Handed.{number-told}
 use Rattle.specification.proofs.agreement.Arrangements.{drawn-same, arranged-same}
 use Rattle.specification.proofs.CallByCall.{drawn-points, drawn-number, packed-drawn, interpolate-leaves, remainder-leaves}
 use Rattle.specification.proofs.needed.Calls.{wiring-leaves}
+use Rattle.specification.proofs.leaving.Desks.{leaves-alike}
 
 -- zeros filled up are zeros
 blank : (k j : ℕ) → fill k (replicate j 0) ≡ fill k []
@@ -90,6 +91,7 @@ agreement s fine start fresh es refuses = record {
       subst (SameAs s h) (sym d) (drawn t levels same (sym (ap (λ (o : Outcome). o .answer .refusal) d) ∙ taken));
   arranged-packed = λ two t levels short a. subst (SameCounts s h) (sym (packed-drawn s t levels two)) (arranged t levels short a);
   both-drawn = λ two t levels. packed-drawn s t levels two;
+  leaving = leaves-alike s fine L (at .entries) start big h (at .count) (at .rows) (at .tables);
   requests = λ q. rw (at .count, at .rows, at .tables) (number-told s fine L (at .entries) start big q);
   interpolants = λ values buffer e.
       subst (λ (K : List (List ℕ)). Interpolates s K values buffer (interpolateOutcome s (h .n) (h .r) (h .tables) values buffer .buffer)) points

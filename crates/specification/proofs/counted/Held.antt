@@ -21,7 +21,7 @@ zip-points [] c e = refl
 zip-points (P ∷ S) [] e = absurd (omega arith)
 zip-points (P ∷ S) (k ∷ c) e = ap (λ (l : List (List ℕ)). P ∷ l) (zip-points S c (suc-inj e))
 
-zip-counts : (S : List (List ℕ)) (c : List ℕ) → length S ≡ length c → countsOf (zip S c) ≡ c
+pub zip-counts : (S : List (List ℕ)) (c : List ℕ) → length S ≡ length c → countsOf (zip S c) ≡ c
 unfolding zip zipWith
 zip-counts [] [] e = refl
 zip-counts [] (k ∷ c) e = absurd (omega arith)

@@ -1,0 +1,2 @@
+-- Leaving a variable out.
+pub mod Outcome

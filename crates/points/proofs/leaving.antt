@@ -1,0 +1,3 @@
+-- Points without one of their coordinates.
+pub mod Raised
+pub mod Entries
