@@ -103,6 +103,14 @@ pub take-over : (a t : List ℕ) → take (length a) (over a t) ≡ a
 unfolding over
 take-over a t = take-at a (drop (length a) t) (length a) refl
 
+-- a table that is written, in its size
+pub over-sized : (k : ℕ) (new old : List ℕ) → length new ≡ k → take k (over new old) ≡ new
+over-sized k new old e = ap (λ (j : ℕ). take j (over new old)) (sym e) ∙ take-over new old
+
+-- two tables of one layout agree in each byte of its size
+pub over-same : (k : ℕ) (a b : List ℕ) → a ≡ b → (u v : List ℕ) → length a ≡ k → take k (over a u) ≡ take k (over b v)
+over-same k a b e u v l = over-sized k a u l ∙ e ∙ sym (over-sized k b v (ap length (sym e) ∙ l))
+
 pub begins-over : (a t : List ℕ) → T (begins a (over a t))
 unfolding begins
 begins-over a t = rw (take-over a t) (same-self a)

@@ -54,7 +54,8 @@ module _ (s : Settings) (ok : Accepted s) (L : Counted) (h : Entries s L) where
   abbrev S : List (List ℕ)
   S = pointsOf L
 
-  holds-basis : {n r : ℕ} {end : Tables} (lent : Tables) → n ≡ length L → r ≡ rowCount s S → end ≡ written (tablesOf s L) lent → HoldsBasis s L lent n r end
+  -- n, r and the tables of entries hold their basis
+  pub holds-basis : {n r : ℕ} {end : Tables} (lent : Tables) → n ≡ length L → r ≡ rowCount s S → end ≡ written (tablesOf s L) lent → HoldsBasis s L lent n r end
   holds-basis lent en er et = record {
     points = same-points s ok S (h .points .points);
     distinct = distinct-points s ok S (h .points);

@@ -5,4 +5,5 @@ pub mod Lowered
 pub mod Held
 pub mod Room
 pub mod Once
+pub mod Few
 pub mod Saturated

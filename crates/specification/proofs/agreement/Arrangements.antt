@@ -1,25 +1,23 @@
 -- Drawing up the points of a list in any order, with replicates or without, gives the same basis, the same remainders and the same wiring lists; and for
 -- equal multisets it is not refused, and gives the same counts.
 use mathlib.Core.Path.{_≡_, refl, sym, _∙_, ap, subst}
-use mathlib.Core.Bool.{Bool, true, false, cond}
-use mathlib.Core.List.{List, [], _∷_}
+use mathlib.Core.Bool.{false}
+use mathlib.Core.List.{List}
 use Prim.Native.Nat.{ℕ, _%_, _≤_}
-use native.Mathlib.Decide.{decLe}
 use native.Mathlib.Omega.{arith}
 use lib.IntN.{ℤ}
 use lib.ListN.{length, take, length-map}
-use lib.Dec.{T, ltb}
+use lib.Dec.{ltb}
 use borrow.Author.Tests.{eq-eqb, le-ltb}
 use Rattle.residue.specs.Sizes.{standardSize, leadsSize, coefficientsSize}
-use Rattle.residue.specs.Lists.{Among, some, sameList}
-use Rattle.residue.specs.Layout.{fill, over, length-fill}
-use Rattle.residue.proofs.Tests.{true-of, of-true}
-use Rattle.residue.proofs.bytes.Equality.{same-is, same-self}
-use Rattle.residue.proofs.Layouts.{take-over}
+use Rattle.residue.specs.Lists.{Among, some}
+use Rattle.residue.specs.Layout.{fill}
+use Rattle.residue.proofs.Tests.{true-of}
+use Rattle.residue.proofs.Layouts.{over-same}
 use Rattle.specification.specs.declared.settings.Settings.{Settings}
 use Rattle.specification.specs.Refusal.{firstOf}
 use Rattle.specification.specs.Settings.{Accepted, settingsCases}
-use Rattle.specification.specs.Levels.{inRange, residues, noRepeat}
+use Rattle.specification.specs.Levels.{inRange, residues}
 use Rattle.specification.specs.Polynomial.{Distinct}
 use Rattle.specification.specs.Counted.{Counted, pointsOf, countsOf, gathered, overfull, countOf}
 use Rattle.specification.specs.Tables.{Tables, spaceUnder, pointsUnder, rowCount, standardTable, leadsTable, coefficientsTable, tablesOf, written}
@@ -32,51 +30,15 @@ use Rattle.specification.specs.Needed.{wiringOf}
 use Rattle.specification.specs.Reference.{Held}
 use Rattle.specification.specs.Agreement.{SameSet, Arranges, SameValues, SameAs, SameCounts}
 use Rattle.specification.specs.Points.{IsPoint}
-use Rattle.specification.proofs.agreement.Points.{once-of}
+use Rattle.specification.proofs.counted.Few.{few-counts}
 use Rattle.specification.proofs.counted.Gathered.{Entries, of-parts, positive-of, positive-gathered, once-gathered, among-gathered, count-gathered}
 use Rattle.specification.proofs.counted.Gathered.{count-some, some-count, count-few}
 use Rattle.specification.proofs.agreement.Refusals.{settings-pass, Large, large-of, written-held, written-points}
 use Rattle.specification.proofs.agreement.Values.{same-range}
 use Rattle.specification.proofs.agreement.Drawings.{distinct-under, distinct-points, same-rows, same-length, same-remainder, same-interpolant}
-use Rattle.specification.proofs.agreement.Drawings.{same-standard, same-leads, same-coefficients}
+use Rattle.specification.proofs.agreement.Drawings.{standard-size, leads-size, coefficients-size, same-standard, same-leads, same-coefficients}
 use Rattle.specification.proofs.agreement.Handed.{interpolate-told, remainder-told, wiring-told, as-many-values, same-left, same-filling, same-listing}
 use Rattle.specification.proofs.needed.Arranged.{wiring-arranged}
-
--- no count is above 255 where each point's is not
-few-counts : (G : Counted) → T (noRepeat (pointsOf G)) → ((P : List ℕ) → countOf P G ≤ 255) → some (ltb 255) (countsOf G) ≡ false
-unfolding countOf
-few-counts [] t h = refl
-few-counts (q ∷ G) t h = rw (le-ltb 255 (q .1) here) (few-counts G (once .1) below)
-  where
-    once : ((Q : List ℕ) → Among Q (pointsOf G) → q .0 ≡ Q → ⊥) × T (noRepeat (pointsOf G))
-    once = once-of (pointsOf G) (q .0) t
-
-    here : q .1 ≤ 255
-    here = rw (true-of (sameList (q .0) (q .0)) (same-self (q .0))) at (h (q .0))
-
-    below : (P : List ℕ) → countOf P G ≤ 255
-    below P = go (sameList P (q .0)) refl (h P)
-      where
-        go : (b : Bool) → sameList P (q .0) ≡ b → cond b (q .1) (countOf P G) ≤ 255 → countOf P G ≤ 255
-        go false e k = k
-        go true e k = absent (decLe 1 (countOf P G))
-          where
-            absent : Dec (1 ≤ countOf P G) → countOf P G ≤ 255
-            absent (yes z) = absurd (once .0 P (some-count P G z) (sym (same-is P (q .0) (of-true e))))
-            absent (no z) = omega (arith, z)
-
--- the sizes of the three tables
-standard-size : (s : Settings) (A : List (List ℕ)) → length (standardTable s A) ≡ standardSize
-unfolding standardTable
-standard-size s A = length-fill standardSize _
-
-leads-size : (s : Settings) (A : List (List ℕ)) → length (leadsTable s A) ≡ leadsSize
-unfolding leadsTable
-leads-size s A = length-fill leadsSize _
-
-coefficients-size : (s : Settings) (A : List (List ℕ)) → length (coefficientsTable s A) ≡ coefficientsSize
-unfolding coefficientsTable
-coefficients-size s A = length-fill coefficientsSize _
 
 module _ (s : Settings) (ok : Accepted s) (fine : firstOf 0 (settingsCases s) ≡ 0) (L : Counted) (hL : Entries s L) (levels : List ℤ) where
   -- the distinct points offered, with their counts
@@ -122,9 +84,9 @@ module _ (s : Settings) (ok : Accepted s) (fine : firstOf 0 (settingsCases s) �
       drawn-same start large h en er et t big zero = rw zero (record {
         count = as-many ∙ sym en;
         rows = same-rows s ok (pointsOf L) K dL dK to from ∙ sym er;
-        standard = sized standardSize (standardTable s K) (standardTable s (pointsOf L)) (same-standard s ok (pointsOf L) K dL dK to from) (t .standard) (start .standard) (standard-size s K) ∙ ap (λ (u : Tables). take standardSize (u .standard)) (sym et);
-        leads = sized leadsSize (leadsTable s K) (leadsTable s (pointsOf L)) (same-leads s ok (pointsOf L) K dL dK to from) (t .leads) (start .leads) (leads-size s K) ∙ ap (λ (u : Tables). take leadsSize (u .leads)) (sym et);
-        coefficients = sized coefficientsSize (coefficientsTable s K) (coefficientsTable s (pointsOf L)) (same-coefficients s ok (pointsOf L) K dL dK to from) (t .coefficients) (start .coefficients) (coefficients-size s K) ∙ ap (λ (u : Tables). take coefficientsSize (u .coefficients)) (sym et);
+        standard = over-same standardSize (standardTable s K) (standardTable s (pointsOf L)) (same-standard s ok (pointsOf L) K dL dK to from) (t .standard) (start .standard) (standard-size s K) ∙ ap (λ (u : Tables). take standardSize (u .standard)) (sym et);
+        leads = over-same leadsSize (leadsTable s K) (leadsTable s (pointsOf L)) (same-leads s ok (pointsOf L) K dL dK to from) (t .leads) (start .leads) (leads-size s K) ∙ ap (λ (u : Tables). take leadsSize (u .leads)) (sym et);
+        coefficients = over-same coefficientsSize (coefficientsTable s K) (coefficientsTable s (pointsOf L)) (same-coefficients s ok (pointsOf L) K dL dK to from) (t .coefficients) (start .coefficients) (coefficients-size s K) ∙ ap (λ (u : Tables). take coefficientsSize (u .coefficients)) (sym et);
         remainder = λ terms exponents buffer. remainder-told s fine G hG t big terms exponents buffer
             ∙ ap (λ (l : List ℕ). filling (firstOf 0 (termsLeft s terms exponents buffer)) (fill 64 l) buffer)
             (same-remainder s ok (pointsOf L) K dL dK to from (polynomialUnder s terms exponents))
@@ -155,10 +117,6 @@ module _ (s : Settings) (ok : Accepted s) (fine : firstOf 0 (settingsCases s) �
               ap (λ (k : ℕ). f k a) (ap (λ (n : ℕ). firstOf 0 (valuesLeft size s n v buffer)) as-many
               ∙ same-left s size (length L) buffer v w (e .count)
               (λ l. same-range s K (pointsOf L) v w (here v w e l) (l ∙ sym (length-map L (λ q. q .0))) to from e))
-
-          -- two tables of one layout agree in each byte of its size
-          sized : (k : ℕ) (a b : List ℕ) → a ≡ b → (u v : List ℕ) → length a ≡ k → take k (over a u) ≡ take k (over b v)
-          sized k a b e u v l = ap (λ (j : ℕ). take j (over a u)) (sym l) ∙ take-over a u ∙ e ∙ sym (ap (λ (j : ℕ). take j (over b v)) (sym (ap length (sym e) ∙ l)) ∙ take-over b v)
 
   -- Equal multisets.
   module _ (a : Arranges s L levels) where

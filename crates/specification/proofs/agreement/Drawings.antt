@@ -9,7 +9,9 @@ use native.Mathlib.Omega.{arith}
 use lib.IntN.{ℤ}
 use lib.ListN.{length, length-map}
 use lib.Dec.{T}
+use Rattle.residue.specs.Sizes.{standardSize, leadsSize, coefficientsSize}
 use Rattle.residue.specs.Lists.{Among}
+use Rattle.residue.specs.Layout.{length-fill}
 use Rattle.residue.specs.Level.{residueOf}
 use Rattle.residue.specs.Congruence.{Mod}
 use Rattle.residue.proofs.Congruence.{of}
@@ -35,6 +37,19 @@ use Rattle.specification.proofs.ideal.Permutation.{basis-permuted, inte
 use Rattle.specification.specs.Points.{Points, IsPoint}
 use Rattle.specification.proofs.agreement.Points.{point-same, once-of}
 use Rattle.specification.proofs.agreement.Values.{point-of, value-there}
+
+-- the sizes of the three tables
+pub standard-size : (s : Settings) (S : List (List ℕ)) → length (standardTable s S) ≡ standardSize
+unfolding standardTable
+standard-size s S = length-fill standardSize _
+
+pub leads-size : (s : Settings) (S : List (List ℕ)) → length (leadsTable s S) ≡ leadsSize
+unfolding leadsTable
+leads-size s S = length-fill leadsSize _
+
+pub coefficients-size : (s : Settings) (S : List (List ℕ)) → length (coefficientsTable s S) ≡ coefficientsSize
+unfolding coefficientsTable
+coefficients-size s S = length-fill coefficientsSize _
 
 module _ (s : Settings) (ok : Accepted s) where
   -- the space under these settings obeys the laws

@@ -18,7 +18,7 @@ pub record AsDrawn (o : Outcome) (d : DrawOutcome) : Type 0 where
   pub r : o .answer .r ≡ d .answer .r
   pub tables : o .tables ≡ d .tables
 
-as-drawn : (s : Settings) (u : Tables) (levels : List ℤ) (S : List (List ℕ)) → pointsOffered s levels ≡ S → drawOutcome s u levels .answer .refusal ≡ 0
+pub as-drawn : (s : Settings) (u : Tables) (levels : List ℤ) (S : List (List ℕ)) → pointsOffered s levels ≡ S → drawOutcome s u levels .answer .refusal ≡ 0
     → AsDrawn (holding s (gathered S) u) (drawOutcome s u levels)
 unfolding drawOutcome byRefusal
 as-drawn s u levels S e zero = rw (sym (drawn-number s u levels) ∙ zero, e) (record { n = refl; r = refl; tables = refl })

@@ -16,13 +16,13 @@ use Rattle.specification.specs.Tables.{Tables, tooShort, heldIn, recogni
 use Rattle.specification.specs.Adding.{holding, byRefusal}
 use Rattle.specification.specs.CallByCall.{HoldsBasis}
 use Rattle.specification.proofs.Recognised.{none-of}
-use Rattle.specification.proofs.CallByCall.{known-entries}
+use Rattle.specification.proofs.CallByCall.{holds-basis, known-entries}
 use Rattle.specification.proofs.counted.Gathered.{Entries}
 use Rattle.specification.specs.Settings.{weighsFirst, rightWeights, Accepted}
 use Rattle.specification.proofs.agreement.Refusals.{accepted}
 use Rattle.specification.proofs.agreement.Run.{number-of}
 use Rattle.specification.specs.LeaveOut.{withoutVariable, fewer, canLeaveOut, leaveOutCases, leaveOutRefusal, leaveOutOutcome}
-use Rattle.specification.proofs.Sheets.{holds-basis, recognised-of}
+use Rattle.specification.proofs.Sheets.{recognised-of}
 use Rattle.specification.proofs.leaving.Weights.{zeros-fewer, weights-fewer}
 use Rattle.specification.proofs.leaving.Without.{entries-without}
 

@@ -16,15 +16,16 @@ use Rattle.specification.specs.Adding.{pointsOffered, drawOutcome}
 use Rattle.specification.specs.CallByCall.{HoldsBasis}
 use Rattle.specification.specs.Reference.{Held}
 use Rattle.specification.specs.Agreement.{SameSet, LeavesAlike}
-use Rattle.specification.proofs.CallByCall.{draw-leaves}
+use Rattle.specification.proofs.CallByCall.{holds-basis, draw-leaves}
 use Rattle.specification.proofs.counted.Gathered.{Entries, among-gathered}
 use Rattle.specification.proofs.counted.Held.{points-held}
 use Rattle.specification.specs.Settings.{Accepted}
 use Rattle.specification.proofs.agreement.Refusals.{accepted, Large, not-short, large-of, written-large}
+use Rattle.specification.proofs.agreement.Operations.{Passed}
 use Rattle.specification.proofs.agreement.Arrangements.{arranged-same}
-use Rattle.specification.proofs.Sheets.{holds-basis, entries-of, held-of, recognised-of}
+use Rattle.specification.proofs.Sheets.{held-of, recognised-of}
 use Rattle.specification.proofs.leaving.Sets.{leaving-sets}
-use Rattle.specification.proofs.leaving.Multisets.{Sound, leaving-multisets}
+use Rattle.specification.proofs.leaving.Multisets.{leaving-multisets}
 
 module _ (s : Settings) (fine : firstOf 0 (settingsCases s) ≡ 0) where
   ok : Accepted s
@@ -35,13 +36,12 @@ module _ (s : Settings) (fine : firstOf 0 (settingsCases s) ≡ 0) where
     points-of : pointsIn s n (end .states) ≡ pointsOf L
     points-of = sym (points-held s n end) ∙ ap pointsOf (held-of s ok h)
 
-    sound-of : Large lent → Sound s n r end
-    sound-of big = record {
+    passed-of : Large lent → Passed s n r end
+    passed-of big = record {
       fine = fine;
       large = rw (h .tables) (not-short (written (tablesOf s L) lent) (written-large s L lent big));
       few = omega (arith, h .count, h .few-points);
       known = recognised-of s ok h;
-      entries = rw (held-of s ok h) (entries-of s ok h);
     }
 
   pub leaves-alike : (L : Counted) → Entries s L → (start : Tables) → Large start → (h : Held) → h .n ≡ length L → h .r ≡ rowCount s (pointsOf L) → h .tables ≡ written (tablesOf s L) start
@@ -53,8 +53,8 @@ module _ (s : Settings) (fine : firstOf 0 (settingsCases s) ≡ 0) where
         let o = drawOutcome s t levels in
         let c = arranged-same s ok fine L hL levels a start big h en er et t short in
         leaving-multisets s (o .answer .n) (o .answer .r) (o .tables) (h .n) (h .r) (h .tables)
-        (sound-of (gathered (pointsOffered s levels)) t (o .answer .n) (o .answer .r) (o .tables) (draw-leaves s t levels (c .number)) (large-of t short))
-        (sound-of L start (h .n) (h .r) (h .tables) held big) (c .counts) v u u′ lengths;
+        (passed-of (gathered (pointsOffered s levels)) t (o .answer .n) (o .answer .r) (o .tables) (draw-leaves s t levels (c .number)) (large-of t short))
+        (passed-of L start (h .n) (h .r) (h .tables) held big) (c .counts) v u u′ lengths;
   }
     where
       held : HoldsBasis s L start (h .n) (h .r) (h .tables)

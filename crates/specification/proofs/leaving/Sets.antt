@@ -1,12 +1,11 @@
 -- M-110 and the two desks, equal sets: wherever both numbers are 0 the results are equal in n, r and the three tables.
-use mathlib.Core.Path.{_≡_, sym, _∙_, ap}
+use mathlib.Core.Path.{_≡_, sym, _∙_}
 use mathlib.Core.Logic.{_↔_}
 use mathlib.Core.List.{List}
 use Prim.Native.Nat.{ℕ, _-_}
-use lib.ListN.{length, take, length-map}
+use lib.ListN.{length-map}
 use Rattle.residue.specs.Lists.{Among}
-use Rattle.residue.specs.Layout.{over}
-use Rattle.residue.proofs.Layouts.{take-over}
+use Rattle.residue.proofs.Layouts.{over-same}
 use Rattle.specification.specs.declared.settings.Settings.{Settings}
 use Rattle.specification.specs.Counted.{Counted, pointsOf, countsOf}
 use Rattle.specification.specs.Tables.{Tables, tablesOf, written, pointsIn, heldIn}
@@ -16,10 +15,9 @@ use Rattle.specification.specs.Adding.{Outcome, holding}
 use Rattle.specification.proofs.counted.Gathered.{positive-of}
 use Rattle.specification.proofs.counted.Held.{points-held}
 use Rattle.specification.specs.Settings.{Accepted}
-use Rattle.specification.proofs.agreement.Drawings.{distinct-points, same-length, same-rows, same-standard, same-leads, same-coefficients}
+use Rattle.specification.proofs.agreement.Drawings.{standard-size, leads-size, coefficients-size, distinct-points, same-length, same-rows, same-standard, same-leads, same-coefficients}
 use Rattle.specification.specs.LeaveOut.{withoutVariable, fewer, leaveOutOutcome}
 use Rattle.specification.specs.LeaveOutAgreement.{SameSheet}
-use Rattle.specification.proofs.Sheets.{standard-size, leads-size, coefficients-size}
 use Rattle.specification.proofs.leaving.Without.{without-members}
 use Rattle.specification.proofs.leaving.Calls.{Left, left-number, left-passed, left-outcome}
 
@@ -49,10 +47,6 @@ module _ (s : Settings) (n r : ℕ) (t : Tables) (n′ r′ : ℕ) (t′ : Table
     from Q mem = let x = without-members (v - 1) (heldIn s n′ t′) (positive-of (countsOf (heldIn s n′ t′)) (w′ .before .counts)) Q .0 mem in
         without-members (v - 1) (heldIn s n t) (positive-of (countsOf (heldIn s n t)) (w .before .counts)) Q .1 (x .0, same (x .0) .1 (x .1), x .2)
 
-    -- two tables of one layout agree in each byte of its size
-    sized : (k : ℕ) (x y : List ℕ) → x ≡ y → (l l′ : List ℕ) → length x ≡ k → take k (over x l) ≡ take k (over y l′)
-    sized k x y e l l′ z = ap (λ (j : ℕ). take j (over x l)) (sym z) ∙ take-over x l ∙ e ∙ sym (ap (λ (j : ℕ). take j (over y l′)) (sym (ap length (sym e) ∙ z)) ∙ take-over y l′)
-
     held-same : SameSheet (holding (fewer v s) K u) (holding (fewer v s) L u′)
     unfolding holding written tablesOf
     held-same =
@@ -61,9 +55,9 @@ module _ (s : Settings) (n r : ℕ) (t : Tables) (n′ r′ : ℕ) (t′ : Table
           count = sym (length-map K (λ q. q .0)) ∙ same-length (fewer v s) good (pointsOf L) (pointsOf K) dL dK to from ∙ length-map L (λ q. q .0);
           rows = same-rows (fewer v s) good (pointsOf L) (pointsOf K) dL dK to from;
           algebra = record {
-            standard = sized standardSize (standardTable (fewer v s) (pointsOf K)) _ (same-standard (fewer v s) good (pointsOf L) (pointsOf K) dL dK to from) (u .standard) (u′ .standard) (standard-size (fewer v s) (pointsOf K));
-            leads = sized leadsSize (leadsTable (fewer v s) (pointsOf K)) _ (same-leads (fewer v s) good (pointsOf L) (pointsOf K) dL dK to from) (u .leads) (u′ .leads) (leads-size (fewer v s) (pointsOf K));
-            coefficients = sized coefficientsSize (coefficientsTable (fewer v s) (pointsOf K)) _ (same-coefficients (fewer v s) good (pointsOf L) (pointsOf K) dL dK to from) (u .coefficients) (u′ .coefficients) (coefficients-size (fewer v s) (pointsOf K));
+            standard = over-same standardSize (standardTable (fewer v s) (pointsOf K)) _ (same-standard (fewer v s) good (pointsOf L) (pointsOf K) dL dK to from) (u .standard) (u′ .standard) (standard-size (fewer v s) (pointsOf K));
+            leads = over-same leadsSize (leadsTable (fewer v s) (pointsOf K)) _ (same-leads (fewer v s) good (pointsOf L) (pointsOf K) dL dK to from) (u .leads) (u′ .leads) (leads-size (fewer v s) (pointsOf K));
+            coefficients = over-same coefficientsSize (coefficientsTable (fewer v s) (pointsOf K)) _ (same-coefficients (fewer v s) good (pointsOf L) (pointsOf K) dL dK to from) (u .coefficients) (u′ .coefficients) (coefficients-size (fewer v s) (pointsOf K));
           };
         }
 
