@@ -20,7 +20,7 @@ use Rattle.specification.specs.Counted.{Counted, pointsOf, countsOf}
 use Rattle.specification.specs.Levels.{residues}
 use Rattle.specification.specs.BasisOf.{standardOf, leadsOf, rowsOf, interpolantOf, remainderOf}
 use Rattle.specification.specs.Instance.{Monomial, spaceBy}
-use Rattle.specification.specs.Tables.{Tables, spaceUnder, pointsUnder, rowCount, statesTable, standardTable, leadsTable, coefficientsTable, tablesOf, pointsIn, heldIn, recognised}
+use Rattle.specification.specs.Tables.{Tables, pointsUnder, rowCount, statesTable, standardTable, leadsTable, coefficientsTable, tablesOf, pointsIn, heldIn, recognised}
 use Rattle.specification.specs.Cancellations.{cancellationsOf}
 use Rattle.specification.specs.Adding.{holding, addCases, addRefusal, addOutcome, pointsOffered, drawCases, drawRefusal, cancellationsUnder, drawOutcome}
 use Rattle.specification.specs.Adding.{byRefusal, drawPackedOutcome}
@@ -83,13 +83,9 @@ module _ (p m : ℕ) where
   unfolding settingsCases rightWeights
   ones-cases = rw (ones-right m (8 - m), zeros-right 8)
 
-  -- the comparisons as functions, and so the spaces
+  -- the comparisons as functions
   same : _≡_ {A = Monomial m → Monomial m → Ordering} (λ a b. cmp (weighted (replicate m 1 ++ replicate (8 - m) 0)) (a .0) (b .0)) (λ a b. cmp grlex (a .0) (b .0))
   same = fun-ext (λ a. fun-ext (λ b. ones-cmp m (replicate (8 - m) 0) (a .0) (b .0) (a .1) (b .1)))
-
-  pub ones-space : spaceUnder (byOnes p m) ≡ spaceUnder (byDegree p m)
-  unfolding orderOf
-  ones-space = ap (spaceBy (p - 1) m) same
 
   -- the sheet, the count of its rows, and what drawing it up costs
   pub ones-sheet : (L : Counted) → tablesOf (byOnes p m) L ≡ tablesOf (byDegree p m) L

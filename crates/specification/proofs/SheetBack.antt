@@ -1,24 +1,21 @@
 -- The basis is read back from the tables of its points, and its points are read back as points.
-use mathlib.Core.Path.{_≡_, refl, sym, _∙_, ap, ap₂, subst}
-use mathlib.Core.Logic.{_↔_}
+use mathlib.Core.Path.{_≡_, refl, sym, _∙_, ap, ap₂}
 use mathlib.Core.List.{List, [], _∷_, _++_, map}
-use Prim.Native.Nat.{ℕ, suc, _-_, _*_, _≤_}
+use Prim.Native.Nat.{ℕ, suc, _*_, _≤_}
 use native.Mathlib.Omega.{arith}
 use lib.ListN.{length, length-map}
-use Rattle.residue.specs.Lists.{Among}
 use Rattle.residue.specs.Layout.{groups, fill, inPlaces}
 use Rattle.specification.specs.declared.settings.Settings.{Settings}
 use Rattle.specification.specs.BasisOf.{rowOf}
-use Rattle.specification.specs.Instance.{Monomial, Point, monomialOf, pointOf}
+use Rattle.specification.specs.Instance.{Monomial, monomialOf}
 use Rattle.specification.specs.Tables.{spaceUnder, pointsUnder, standardUnder, leadsUnder, rowsUnder, rowCount, standardTable, leadsTable, coefficientsTable}
 use Rattle.residue.specs.Sizes.{standardSize, leadsSize, coefficientsSize}
 use Rattle.specification.proofs.Instance.{monomial-path}
 use Rattle.specification.proofs.ideal.Lists.{among-map}
 use Rattle.specification.proofs.ideal.Basis.{interpolant-fits}
-use Rattle.specification.specs.Points.{Points, IsPoint}
-use Rattle.specification.proofs.agreement.Points.{point-same}
+use Rattle.specification.specs.Points.{Points}
 use Rattle.specification.specs.Settings.{Accepted}
-use Rattle.specification.proofs.agreement.Drawings.{laws-under, among-under, distinct-points, standard-count, few-rows}
+use Rattle.specification.proofs.agreement.Drawings.{laws-under, distinct-points, standard-count, few-rows}
 use Rattle.specification.specs.TablesRead.{exponentsIn, monomialsIn, rowsIn}
 use Rattle.specification.proofs.TableBack.{table-back}
 
@@ -48,18 +45,6 @@ module _ (s : Settings) (ok : Accepted s) where
   monomials-back size n l behind e room = same-monomials _ l (exponents-in (s .variables) n (fill size (inPlaces 8 (map (λ a. a .0) l)) ++ behind)
       ∙ table-back 8 (s .variables) (ok .few) size n (map (λ a. a .0) l) behind (e ∙ sym (length-map l _)) room
       (λ r mem. let w = among-map (λ (a : Monomial (s .variables)). a .0) l r mem in ap length (w .2) ∙ w .0 .1))
-
-  -- a point is among others exactly if it is among them under the settings
-  pub among-both : (S : List (List ℕ)) → ((Q : List ℕ) → Among Q S → IsPoint s Q) → (P : List ℕ) → IsPoint s P
-      → Among P S ↔ Among (pointOf (s .modulus - 1) (s .variables) P) (pointsUnder s S)
-  among-both S all P h = (among-under s ok S P, from)
-    where
-      pt : List ℕ → Point (suc (s .modulus - 1)) (s .variables)
-      pt = pointOf (s .modulus - 1) (s .variables)
-
-      from : Among (pt P) (pointsUnder s S) → Among P S
-      from mem = let w = among-map pt S (pt P) mem in subst (λ (Q : List ℕ). Among Q S)
-          (sym (sym (point-same s (ok .few) P h) ∙ ap (λ (Q : Point (suc (s .modulus - 1)) (s .variables)). Q .0) (w .2) ∙ point-same s (ok .few) (w .0) (all (w .0) (w .1)))) (w .1)
 
   -- The three tables of points, whatever is behind them.
   module _ (S : List (List ℕ)) (h : Points s S) (behind : List ℕ) where

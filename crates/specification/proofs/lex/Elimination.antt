@@ -95,7 +95,3 @@ module _ (q m : ℕ) (p : isModulus (suc q) ≡ true) (S : List (Point (suc q) (
 
   pub new-rows : rowsOf (D′ q m) S′ ≡ freeRows (exponents (standardOf (D q m) S)) (exponents (leadsOf (D q m) S)) (rowsOf (D q m) S)
   new-rows = sym (computed .2) ∙ free-rows (leadsOf (D q m) S) leading
-
-  -- the rows without x1 are those whose leads are without x1
-  pub new-leads-free : exponents (leadsOf (D′ q m) S′) ≡ freeOf (exponents (leadsOf (D q m) S))
-  new-leads-free = ap exponents (sym (computed .1)) ∙ kept-lists (leadsOf (D q m) S)
