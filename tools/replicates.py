@@ -21,8 +21,9 @@ import glob, os, re, subprocess, sys
 sys.dont_write_bytecode = True
 import lex_word
 from plain_basis import SIZES, Basis
+from stored import DATA, FILLING, ROOT, TEXTS, blocks, call_files, fnv, load, run, store
 from text_cases import gathered, records_in, refusal_of
-from wiring_lists import DATA, FILLING, ROOT, TEXTS, blocks, call_due, fnv, load, needed, print_due, store
+from wiring_lists import call_due, needed, print_due
 
 DRAWING = ("draw_up", "draw_up_packed")
 REFUSED_BEFORE = ("8", "11")
@@ -295,10 +296,6 @@ def calls_due(path, due):
     return "".join(line + "\n" for line in lines).encode()
 
 
-def call_files():
-    return sorted([os.path.join(DATA, "calls.txt")] + glob.glob(os.path.join(DATA, "changes", "*.txt")))
-
-
 def change():
     for path in call_files():
         store(path, calls_due(path, carried))
@@ -343,6 +340,4 @@ def check():
 
 
 if __name__ == "__main__":
-    if sys.argv[1:] == ["change"]:
-        sys.exit(change())
-    sys.exit(carry(*sys.argv[2:]) if len(sys.argv) == 4 and sys.argv[1] == "carry" else check())
+    run(change, carry, check)

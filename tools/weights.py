@@ -18,9 +18,9 @@ tests/texts/M-109, as they are.
 import glob, os, sys
 
 sys.dont_write_bytecode = True
-from replicates import call_files, calls_due, numbers, print_of, text_of, words
+from replicates import calls_due, numbers, print_of, text_of, words
+from stored import FILLING, ROOT, TEXTS, call_files, carried, fnv, load, run, store
 from text_cases import records_in
-from wiring_lists import DATA, FILLING, ROOT, TEXTS, fnv, load, store
 
 PRIMES = [p for p in range(2, 62) if all(p % d for d in range(2, p))]
 SIZE = 8
@@ -86,11 +86,7 @@ def change():
 
 
 def carry(calls, texts):
-    store(os.path.join(DATA, "changes", "M-109.txt"), load(calls))
-    found = sorted(glob.glob(os.path.join(texts, "*.csv")) + glob.glob(os.path.join(texts, "*.txt")))
-    for path in found:
-        store(os.path.join(TEXTS, "M-109", os.path.basename(path)), load(path))
-    print("weights: %d calls and %d texts carried over" % (load(calls).count(b"\nend\n"), len(found) // 2))
+    print("weights: " + carried("M-109", calls, texts))
     return 0
 
 
@@ -121,6 +117,4 @@ def check():
 
 
 if __name__ == "__main__":
-    if sys.argv[1:] == ["change"]:
-        sys.exit(change())
-    sys.exit(carry(*sys.argv[2:]) if len(sys.argv) == 4 and sys.argv[1] == "carry" else check())
+    run(change, carry, check)

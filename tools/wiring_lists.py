@@ -17,23 +17,8 @@ tests/texts/M-107, as they are.
 import glob, os, sys
 
 sys.dont_write_bytecode = True
+from stored import FILLING, ROOT, TEXTS, blocks, call_files, carried, fnv, load, run, store
 from text_cases import levels_in
-
-ROOT = os.path.join(os.path.dirname(os.path.abspath(__file__)), "..")
-DATA = os.path.join(ROOT, "tests", "c", "data")
-TEXTS = os.path.join(ROOT, "tests", "texts")
-FILLING = 170
-
-
-def load(path):
-    with open(path, "rb") as file:
-        return file.read()
-
-
-def store(path, data):
-    os.makedirs(os.path.dirname(path), exist_ok=True)
-    with open(path, "wb") as file:
-        file.write(data)
 
 
 def needed(p, m, points, values):
@@ -64,13 +49,6 @@ def print_due(text, print_):
     return "\n".join(lines).encode(), old, due
 
 
-def fnv(data):
-    found = 0xCBF29CE484222325
-    for byte in data:
-        found = (found ^ byte) * 0x100000001B3 % 2**64
-    return found
-
-
 def call_due(block):
     """The lines of a block with the list that is due, and the lists before and after (the old one only where it is shown)."""
     said = {line.split()[0]: [word for word in line.split()[1:]] for line in block}
@@ -93,18 +71,6 @@ def call_due(block):
     return [" ".join([word, new[word]]) if (word := line.split()[0]) in new else line for line in block], old, due
 
 
-def blocks(path):
-    """The blocks of a file of calls, each as its lines without the last, `end`; a first line `landed K` is one of its own."""
-    block = []
-    for line in load(path).decode().splitlines():
-        if line == "end" or line.startswith("landed"):
-            yield block + [line]
-            block = []
-        else:
-            block.append(line)
-    assert block == []
-
-
 def calls_due(path):
     lines, lists = [], []
     for block in blocks(path):
@@ -122,7 +88,7 @@ def all_due():
     for text, print_ in prints():
         due, old, new = print_due(text, print_)
         yield print_, due, [(old, new)]
-    for path in sorted([os.path.join(DATA, "calls.txt")] + glob.glob(os.path.join(DATA, "changes", "*.txt"))):
+    for path in call_files():
         due, lists = calls_due(path)
         yield path, due, lists
 
@@ -140,11 +106,7 @@ def change():
 
 
 def carry(calls, texts):
-    store(os.path.join(DATA, "changes", "M-107.txt"), load(calls))
-    found = sorted(glob.glob(os.path.join(texts, "*.csv")) + glob.glob(os.path.join(texts, "*.txt")))
-    for path in found:
-        store(os.path.join(TEXTS, "M-107", os.path.basename(path)), load(path))
-    print("wiring lists: %d calls and %d texts carried over" % (load(calls).count(b"\nend\n"), len(found) // 2))
+    print("wiring lists: " + carried("M-107", calls, texts))
     return 0
 
 
@@ -161,6 +123,4 @@ def check():
 
 
 if __name__ == "__main__":
-    if sys.argv[1:] == ["change"]:
-        sys.exit(change())
-    sys.exit(carry(*sys.argv[2:]) if len(sys.argv) == 4 and sys.argv[1] == "carry" else check())
+    run(change, carry, check)
