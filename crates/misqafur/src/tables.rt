@@ -1,4 +1,5 @@
-// Adding to, withdrawing from, drawing up, leaving a variable out of and checking the five lent tables. Levels are bytes that are read as signed ones, 255 as -1 (specs/Bytes).
+// Adding to, withdrawing from, drawing up, leaving a variable out of and checking the five lent tables. Levels are bytes that are read as signed ones, 255 as
+// -1 (specs/Bytes).
 use crate::packing::pack_answer;
 use crate::packing::pack_drawn;
 use crate::packing::settings_given;

@@ -10,7 +10,8 @@ pub data Order : Type 0 where
   grevlex : Order
   weighted : List ℕ → Order
 
--- the order of a number and of the settings' weights; a number above 3 is refused before it is read here (docs/SCOPE.md, 'Refused, in this order of checking', 5)
+-- The order of a number and of the settings' weights. A number above 3 is refused before it is read here (docs/SCOPE.md, 'Refused, in this order of
+-- checking', 5).
 unfoldable pub orderOf : ℕ → List ℕ → Order
 orderOf zero weights = lex
 orderOf (suc zero) weights = grlex

@@ -159,7 +159,8 @@ pub record ExaminedExamples : Type 0 where
   pub in-order : Examined (settingsOf 3 1 0) ((0 ∷ []) ∷ (1 ∷ []) ∷ (2 ∷ []) ∷ []) ((0 ∷ []) ∷ (1 ∷ []) ∷ (2 ∷ []) ∷ []) ((3 ∷ []) ∷ []) 2
   pub out-of-order : Examined (settingsOf 3 1 0) ((1 ∷ []) ∷ (0 ∷ []) ∷ (2 ∷ []) ∷ []) ((0 ∷ []) ∷ (1 ∷ []) ∷ (2 ∷ []) ∷ []) ((3 ∷ []) ∷ []) 5
   -- A with every point twice (M-106): three points, at the same cost
-  pub replicates : Examined (settingsOf 3 2 1) (pointsOf (gathered (A ++ A))) ((0 ∷ 0 ∷ []) ∷ (0 ∷ 1 ∷ []) ∷ (0 ∷ 2 ∷ []) ∷ []) ((1 ∷ 0 ∷ []) ∷ (0 ∷ 3 ∷ []) ∷ []) 3
+  pub replicates : Examined (settingsOf 3 2 1) (pointsOf (gathered (A ++ A)))
+      ((0 ∷ 0 ∷ []) ∷ (0 ∷ 1 ∷ []) ∷ (0 ∷ 2 ∷ []) ∷ []) ((1 ∷ 0 ∷ []) ∷ (0 ∷ 3 ∷ []) ∷ []) 3
   -- no points: the column of 1 is empty, so 1 is a lead, at no cost
   pub no-points : Examined (settingsOf 3 2 0) [] [] ((0 ∷ 0 ∷ []) ∷ []) 0
 
@@ -182,7 +183,8 @@ pub record WeightedExamples : Type 0 where
   pub increasing : Increasing (cmp (orderOf 3 (1 ∷ 2 ∷ replicate 6 0)))
       ((0 ∷ 0 ∷ []) ∷ (1 ∷ 0 ∷ []) ∷ (0 ∷ 1 ∷ []) ∷ (2 ∷ 0 ∷ []) ∷ (1 ∷ 1 ∷ []) ∷ (3 ∷ 0 ∷ []) ∷ (0 ∷ 2 ∷ []) ∷ [])
   -- A, p=5: standard 1, x, y; rows x²+x+4y, xy+x+y, y²+4x+y
-  pub points-A : LaidOut (weighing 5 2 3 (1 ∷ 2 ∷ replicate 6 0)) A ((0 ∷ 0 ∷ []) ∷ (1 ∷ 0 ∷ []) ∷ (0 ∷ 1 ∷ []) ∷ []) ((2 ∷ 0 ∷ []) ∷ (1 ∷ 1 ∷ []) ∷ (0 ∷ 2 ∷ []) ∷ [])
+  pub points-A : LaidOut (weighing 5 2 3 (1 ∷ 2 ∷ replicate 6 0)) A
+      ((0 ∷ 0 ∷ []) ∷ (1 ∷ 0 ∷ []) ∷ (0 ∷ 1 ∷ []) ∷ []) ((2 ∷ 0 ∷ []) ∷ (1 ∷ 1 ∷ []) ∷ (0 ∷ 2 ∷ []) ∷ [])
       ((0 ∷ 1 ∷ 4 ∷ []) ∷ (0 ∷ 1 ∷ 1 ∷ []) ∷ (0 ∷ 4 ∷ 1 ∷ []) ∷ [])
   -- 15: a weight of x1 to xm is 0 or above 99, one behind is not 0, or there is one in orders 0 to 2; after 3, 4 and 5
   pub taken : firstOf 0 (settingsCases (weighing 5 2 3 (99 ∷ 1 ∷ replicate 6 0))) ≡ 0
