@@ -19,9 +19,8 @@ ghost use mathlib.Core.Path.{_≡_};
 ghost use Prim.Native.Nat.{_≤_};
 ghost use lib.ListN.{length, replicate};
 ghost use Rattle.residue.specs.Sizes.{standardSize, leadsSize, coefficientsSize};
-ghost use Rattle.monomial.specs.Order.{orderOf};
 ghost use Rattle.monomial.specs.Rank.{stepsOf};
-ghost use Rattle.specification.specs.Tables.{pointsIn};
+ghost use Rattle.specification.specs.Tables.{orderUnder, pointsIn};
 ghost use Rattle.specification.specs.Adding.{cancellationsUnder};
 ghost use Rattle.construction.specs.Drawing.{RowsLong, PointsGiven, Tabled, DrawnUp, pivotBytes, pivotRowsUnder};
 
@@ -34,7 +33,7 @@ pub struct Counts {
 // The ranks of the variables under the settings.
 fn put_steps_under(settings: Settings, steps: &mut [u64])
     requires { ⌜ (settings .order ≤ 3) × (length (now steps) ≡ 8) ⌝ }
-    ensures { λ _. ⌜ now (steps .exit) ≡ stepsOf (orderOf (settings .order) (settings .weights)) ⌝ }
+    ensures { λ _. ⌜ now (steps .exit) ≡ stepsOf (orderUnder settings) ⌝ }
 {
     put_steps(settings.order as u8, &settings.weights, steps);
 }

@@ -27,7 +27,7 @@ use Rattle.specification.specs.Space.{Space}
 use Rattle.specification.specs.Polynomial.{Distinct}
 use Rattle.specification.specs.BasisOf.{standardOf, leadsOf, rowOf, rowsOf, interpolantOf}
 use Rattle.specification.specs.Instance.{Monomial, Point, reduced, pointOf}
-use Rattle.specification.specs.Tables.{spaceUnder, pointsUnder, standardUnder, leadsUnder, rowsUnder, rowCount, pointsIn}
+use Rattle.specification.specs.Tables.{orderUnder, spaceUnder, pointsUnder, standardUnder, leadsUnder, rowsUnder, rowCount, pointsIn}
 use Rattle.specification.specs.Tables.{statesTable, standardTable, leadsTable, coefficientsTable}
 use Rattle.specification.proofs.Repeats.{is-among}
 use Rattle.specification.specs.Points.{Points, IsPoint}
@@ -40,7 +40,7 @@ use Rattle.specification.proofs.ideal.Basis.{row-is}
 use Rattle.specification.proofs.ideal.Counts.{leads-length, standard-length}
 use Rattle.specification.proofs.ideal.Permutation.{basis-snoc}
 use Rattle.construction.specs.Drawing.{PointsGiven, Tabled, DrawnUp}
-use Rattle.growth.specs.Growing.{orderUnder, valueOfRow, firstFrom, Grown, grown, standardGrown, grownBy, allPoints, NewPoint}
+use Rattle.growth.specs.Growing.{valueOfRow, firstFrom, Grown, grown, standardGrown, grownBy, allPoints, NewPoint}
 use Rattle.construction.proofs.drawing.Given.{given-count, given-points}
 use Rattle.construction.proofs.drawing.Grounds.{ground, places-below}
 use Rattle.growth.proofs.Corrections.{valuesAt}

@@ -15,9 +15,9 @@ ghost use Rattle.residue.specs.Sizes.{mostPoints, mostRows, statesSize, standar
 ghost use Rattle.residue.specs.Vector.{Below};
 ghost use Rattle.elimination.specs.Elimination.{Multiplied};
 ghost use Rattle.residue.specs.Layout.{rowAt};
-ghost use Rattle.specification.specs.Tables.{pointsIn};
+ghost use Rattle.specification.specs.Tables.{orderUnder, pointsIn};
 ghost use Rattle.specification.specs.Settings.{Accepted};
-ghost use Rattle.growth.specs.Growing.{orderUnder, grown, othersOf, othersCorrected, standardGrown, grownBy, allPoints, NewPoint};
+ghost use Rattle.growth.specs.Growing.{grown, othersOf, othersCorrected, standardGrown, grownBy, allPoints, NewPoint};
 ghost use Rattle.construction.specs.Drawing.{PointsGiven, Tabled, DrawnUp};
 
 // The leads but that of row j, and their rows corrected.

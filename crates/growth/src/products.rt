@@ -16,7 +16,8 @@ ghost use Rattle.elimination.specs.Elimination.{Multiplied};
 ghost use Rattle.monomial.specs.Order.{cmp};
 ghost use Rattle.monomial.specs.Insert.{placeOf, withRowAt};
 ghost use Rattle.specification.specs.Settings.{Accepted};
-ghost use Rattle.growth.specs.Growing.{orderUnder, correctedRow, reducedRow, grown, productPut, productsPut};
+ghost use Rattle.specification.specs.Tables.{orderUnder};
+ghost use Rattle.growth.specs.Growing.{correctedRow, reducedRow, grown, productPut, productsPut};
 
 // Puts a monomial in at its place among the k increasing ones of a table, and answers the place. An addition reads the settings' order and weights here alone.
 pub(crate) fn put_under(settings: Settings, k: usize, table: &mut [u8], a: &[u8]) -> usize

@@ -13,6 +13,7 @@ use lib.Seq.{getD-set-same, getD-set-other}
 use borrow.Author.Tests.{eq-eqb, ne-eqb}
 use Rattle.residue.specs.Lists.{keyOf}
 use Rattle.residue.proofs.Tests.{true-told}
+use Rattle.residue.proofs.Layouts.{zeros-at}
 use Rattle.specification.specs.Needed.{alike, apart, contrary}
 use Rattle.specification.proofs.needed.Decided.{lists-told}
 use Rattle.interpolation.specs.Pairs.{pointAt, restOf, Rests, chainOf, Last, Chained, someBelow, contraryTo}
@@ -66,11 +67,6 @@ rests-more k i points rests x room e h j l = go (ℕ-discrete j i)
     go (yes u) = rw u (getD-set-same rests i x 0 room ∙ e)
     go (no u) = getD-set-other rests i j x 0 u ∙ h j (omega arith)
 
-zeros : (m k : ℕ) → _≡_ {A = ℕ} (getD (replicate m 0) k 0) 0
-zeros zero k = refl
-zeros (suc m) zero = refl
-zeros (suc m) (suc k) = zeros m k
-
 module _ (rests : List ℕ) where
   -- the last of each chain among the first i points
   abbrev pub Lasts : ℕ → List ℕ → Type 0
@@ -80,7 +76,7 @@ module _ (rests : List ℕ) where
   last-none h = record { early = omega arith; belongs = λ j e. absurd (omega arith); others = λ j l m. absurd (omega arith) }
 
   pub lasts-none : Lasts 0 (replicate 251 0)
-  lasts-none h l = rw (zeros 251 h) (last-none h)
+  lasts-none h l = rw (zeros-at 251 h) (last-none h)
 
   pub lasts-more : (i : ℕ) (last : List ℕ) → length last ≡ 251 → chainOf rests i < 251 → Lasts i last → Lasts (i + 1) (set last (chainOf rests i) (i + 1))
   lasts-more i last long low t h l = go (ℕ-discrete h (chainOf rests i))

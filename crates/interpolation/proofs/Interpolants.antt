@@ -18,10 +18,9 @@ use Rattle.residue.proofs.level.Moduli.{modulus-range}
 use Rattle.residue.proofs.Layouts.{fill-tail}
 use Rattle.residue.proofs.Places.{table-groups}
 use Rattle.monomial.specs.Monomial.{monomialAt}
-use Rattle.monomial.specs.Order.{orderOf}
 use Rattle.specification.specs.declared.settings.Settings.{Settings}
 use Rattle.specification.specs.BasisOf.{valueAt, interpolantOf, remainderOf}
-use Rattle.specification.specs.Tables.{spaceUnder, pointsUnder}
+use Rattle.specification.specs.Tables.{orderUnder, spaceUnder, pointsUnder}
 use Rattle.specification.specs.Polynomial.{Polynomial, eval}
 use Rattle.specification.specs.Instance.{Point, pointOf}
 use Rattle.specification.specs.Levels.{residues}
@@ -126,4 +125,4 @@ module _ (s : Settings) (ok : Accepted s) (S : List (List ℕ)) (h : Points s S)
         ∙ map-at found (map (fill 8) S) [] 0 i (omega (arith, length-map S (fill 8)))
         ∙ ap found (map-at (fill 8) S [] [] i k)
         ∙ ap (λ (Q : List ℕ). found (fill 8 Q)) (sym p)
-        ∙ ap (λ (v : ℕ). v % s .modulus) (terms-value (s .modulus - 1) (s .variables) (orderOf (s .order) (s .weights)) (pointUnder s P) 8 cs es (ok .few) eight within)
+        ∙ ap (λ (v : ℕ). v % s .modulus) (terms-value (s .modulus - 1) (s .variables) (orderUnder s) (pointUnder s P) 8 cs es (ok .few) eight within)

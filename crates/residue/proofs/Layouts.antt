@@ -48,6 +48,12 @@ fill-front (suc j) (suc k) (a ∷ l) h = ap (λ (z : List ℕ). a ∷ z) (fill-f
 pub take-fill : (n k : ℕ) (l : List ℕ) → length l ≡ n → n ≤ k → take n (fill k l) ≡ l
 take-fill n k l e h = fill-front n k l h ∙ fill-exact n l e
 
+-- zeros hold 0 at each place, and beyond
+pub zeros-at : (m k : ℕ) → _≡_ {A = ℕ} (getD (replicate m 0) k 0) 0
+zeros-at zero k = refl
+zeros-at (suc m) zero = refl
+zeros-at (suc m) (suc k) = zeros-at m k
+
 pub fill-zeros : (k : ℕ) → fill k [] ≡ replicate k 0
 unfolding fill
 fill-zeros zero = refl

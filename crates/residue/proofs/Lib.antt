@@ -7,3 +7,4 @@ pub mod Layouts
 pub mod Places
 pub mod Replaced
 pub mod BitLaws
+pub mod Words

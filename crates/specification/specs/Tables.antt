@@ -7,7 +7,7 @@ use lib.Dec.{ltb, eqb}
 use Rattle.residue.specs.Sizes.{statesSize, standardSize, leadsSize, coefficientsSize, countsSize}
 use Rattle.residue.specs.Lists.{every}
 use Rattle.residue.specs.Layout.{groups, fill, inPlaces, over, begins}
-use Rattle.monomial.specs.Order.{orderOf}
+use Rattle.monomial.specs.Order.{Order, orderOf}
 use Rattle.specification.specs.declared.settings.Settings.{Settings}
 use Rattle.specification.specs.Levels.{noRepeat}
 use Rattle.specification.specs.Counted.{Counted, pointsOf, countsOf, isCount}
@@ -15,9 +15,12 @@ use Rattle.specification.specs.Space.{Space}
 use Rattle.specification.specs.BasisOf.{standardOf, leadsOf, rowsOf}
 use Rattle.specification.specs.Instance.{Monomial, Point, spaceOf, pointOf}
 
--- The space under settings, and points under settings as lists of residues.
+-- The order of monomials and the space under settings, and points under settings as lists of residues.
+abbrev pub orderUnder : Settings → Order
+orderUnder s = orderOf (s .order) (s .weights)
+
 abbrev pub spaceUnder : Settings → Space
-spaceUnder s = spaceOf (s .modulus - 1) (s .variables) (orderOf (s .order) (s .weights))
+spaceUnder s = spaceOf (s .modulus - 1) (s .variables) (orderUnder s)
 
 abbrev pub pointsUnder : (s : Settings) → List (List ℕ) → List (Point (suc (s .modulus - 1)) (s .variables))
 pointsUnder s S = map (pointOf (s .modulus - 1) (s .variables)) S

@@ -12,7 +12,7 @@ use Rattle.residue.specs.Layout.{fill, withPlace, length-fill}
 use Rattle.elimination.specs.Rows.{firstNonzero, pivotRow}
 use Rattle.elimination.proofs.reducing.Eliminated.{cancellations-most}
 use Rattle.monomial.specs.Monomial.{timesVariable}
-use Rattle.monomial.specs.Order.{Order, orderOf}
+use Rattle.monomial.specs.Order.{Order}
 use Rattle.monomial.specs.declared.candidate.Candidate.{Candidate}
 use Rattle.monomial.specs.declared.candidate.Candidate.the-variants as Candidate
 use Rattle.monomial.specs.Rank.{stepsOf}
@@ -20,7 +20,7 @@ use Rattle.monomial.specs.Columns.{columnOf}
 use Rattle.monomial.specs.Candidate.{searchEnds, nextOf}
 use Rattle.specification.specs.declared.settings.Settings.{Settings}
 use Rattle.specification.specs.Instance.{Monomial, Point}
-use Rattle.specification.specs.Tables.{spaceUnder, standardUnder, pointsIn}
+use Rattle.specification.specs.Tables.{orderUnder, spaceUnder, standardUnder, pointsIn}
 use Rattle.specification.specs.Cancellations.{valueColumn}
 use Rattle.specification.specs.Adding.{cancellationsUnder}
 use Rattle.specification.proofs.Instance.{laws}
@@ -50,7 +50,7 @@ module _ {s : Settings} {n : ℕ} {points : List ℕ} (given : PointsGiven s n p
   S = pointsDrawn s n points
 
   abbrev o : Order
-  o = orderOf (s .order) (s .weights)
+  o = orderUnder s
 
   G : Ground (p - 1) m n o S p
   G = ground given

@@ -5,11 +5,10 @@ use Prim.Native.Nat.{ℕ, suc, _+_, _-_, _<_, _≤_}
 use lib.ListN.{length, getD}
 use Rattle.residue.specs.Vector.{Below}
 use Rattle.elimination.specs.Elimination.{Multiplied, ZeroBehind}
-use Rattle.monomial.specs.Order.{orderOf}
 use Rattle.monomial.specs.Rank.{rankBound}
 use Rattle.specification.specs.declared.settings.Settings.{Settings}
 use Rattle.specification.specs.Instance.{Monomial, Point}
-use Rattle.specification.specs.Tables.{spaceUnder, pointsUnder, pointsIn}
+use Rattle.specification.specs.Tables.{orderUnder, spaceUnder, pointsUnder, pointsIn}
 use Rattle.specification.specs.Cancellations.{valueColumn}
 use Rattle.specification.proofs.cancellations.Progress.{Ready, Passed}
 use Rattle.construction.specs.Drawing.{PivotBytes, pivotBytes, withColumns}
@@ -49,8 +48,8 @@ module _ (s : Settings) (n : ℕ) (points rows₀ pivots₀ : List ℕ) where
     pub hand : Monomial (s .variables)
     pub found-is : found ≡ length std
     pub r-is : r ≡ length lds
-    pub held : TablesHold (s .modulus - 1) (s .variables) n (orderOf (s .order) (s .weights)) (pointsDrawn s n points) std lds css standard leads coefficients rows pivots values ranks steps
-    pub in-hand : InHand (s .modulus - 1) (s .variables) n (orderOf (s .order) (s .weights)) (pointsDrawn s n points) std lds hand at exponents rank own
+    pub held : TablesHold (s .modulus - 1) (s .variables) n (orderUnder s) (pointsDrawn s n points) std lds css standard leads coefficients rows pivots values ranks steps
+    pub in-hand : InHand (s .modulus - 1) (s .variables) n (orderUnder s) (pointsDrawn s n points) std lds hand at exponents rank own
     pub ready : Ready (spaceUnder s) (pointsDrawn s n points) n std lds total rows pivots hand
     pub few : found + r ≤ 513
     pub rows-kept : pivotBytes rows pivots ≡ rowsKept std
@@ -62,8 +61,8 @@ module _ (s : Settings) (n : ℕ) (points rows₀ pivots₀ : List ℕ) where
     pub css : List (List ℕ)
     pub found-is : found ≡ length std
     pub r-is : r ≡ length lds
-    pub held : TablesHold (s .modulus - 1) (s .variables) n (orderOf (s .order) (s .weights)) (pointsDrawn s n points) std lds css standard leads coefficients rows pivots values ranks steps
-    pub decided : Decided (s .modulus - 1) (s .variables) n (orderOf (s .order) (s .weights)) (pointsDrawn s n points) std lds at
+    pub held : TablesHold (s .modulus - 1) (s .variables) n (orderUnder s) (pointsDrawn s n points) std lds css standard leads coefficients rows pivots values ranks steps
+    pub decided : Decided (s .modulus - 1) (s .variables) n (orderUnder s) (pointsDrawn s n points) std lds at
     pub last : Monomial (s .variables)
     pub passed : Passed (spaceUnder s) (pointsDrawn s n points) n std lds total rows pivots last
     pub rows-kept : pivotBytes rows pivots ≡ rowsKept std

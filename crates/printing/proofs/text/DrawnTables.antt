@@ -14,12 +14,11 @@ use Rattle.residue.proofs.level.Moduli.{modulus-range}
 use Rattle.residue.proofs.Layouts.{take-fill}
 use Rattle.residue.proofs.Places.{table-groups}
 use Rattle.residue.proofs.Tests.{by-test}
-use Rattle.monomial.specs.Order.{orderOf}
 use Rattle.specification.specs.declared.settings.Settings.{Settings}
 use Rattle.specification.specs.Polynomial.{Distinct}
 use Rattle.specification.specs.BasisOf.{basisOf, rowOf, interpolantOf}
 use Rattle.specification.specs.Instance.{Monomial, Point, pointOf}
-use Rattle.specification.specs.Tables.{spaceUnder, pointsUnder, standardUnder, leadsUnder, rowsUnder, rowCount, standardTable, leadsTable, coefficientsTable}
+use Rattle.specification.specs.Tables.{orderUnder, spaceUnder, pointsUnder, standardUnder, leadsUnder, rowsUnder, rowCount, standardTable, leadsTable, coefficientsTable}
 use Rattle.specification.specs.Needed.{pairIn, wiringOf, Names}
 use Rattle.specification.proofs.Instance.{standard-exponent, lead-exponent}
 use Rattle.specification.proofs.ideal.Lists.{getD-among, among-map}
@@ -120,7 +119,7 @@ module _ (s : Settings) (ok : Accepted s) (S : List (List ℕ)) (h : Points s S)
         λ i k. subst (λ (z : List ℕ). getD z i 0 < 100) (sym (t .2))
             (omega (
               arith,
-              standard-exponent (s .modulus - 1) (s .variables) (orderOf (s .order) (s .weights)) prime (pointsUnder s S) d (t .0) (t .1) i,
+              standard-exponent (s .modulus - 1) (s .variables) (orderUnder s) prime (pointsUnder s S) d (t .0) (t .1) i,
               length-map S (pointOf (s .modulus - 1) (s .variables)),
               h .few,
             )),
@@ -133,7 +132,7 @@ module _ (s : Settings) (ok : Accepted s) (S : List (List ℕ)) (h : Points s S)
         λ i k. subst (λ (z : List ℕ). getD z i 0 < 100) (sym (t .2))
             (omega (
               arith,
-              lead-exponent (s .modulus - 1) (s .variables) (orderOf (s .order) (s .weights)) prime (pointsUnder s S) d (t .0) (t .1) i,
+              lead-exponent (s .modulus - 1) (s .variables) (orderUnder s) prime (pointsUnder s S) d (t .0) (t .1) i,
               length-map S (pointOf (s .modulus - 1) (s .variables)),
               h .few,
             )),

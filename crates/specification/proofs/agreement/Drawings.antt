@@ -18,7 +18,6 @@ use Rattle.residue.proofs.Congruence.{of}
 use Rattle.residue.specs.Modulus.{isModulus}
 use Rattle.residue.proofs.level.Moduli.{modulus-range}
 use Rattle.residue.proofs.Tests.{cond-so, cond-not}
-use Rattle.monomial.specs.Order.{orderOf}
 use Rattle.specification.specs.declared.settings.Settings.{Settings}
 use Rattle.specification.specs.Settings.{Accepted}
 use Rattle.specification.specs.Levels.{residues, noRepeat, residueOr0}
@@ -26,7 +25,7 @@ use Rattle.specification.specs.Polynomial.{Polynomial, Distinct}
 use Rattle.specification.specs.BasisOf.{valueAt, interpolantOf, remainderOf}
 use Rattle.specification.specs.Agreement.{SameValues}
 use Rattle.specification.specs.Instance.{Point, pointOf}
-use Rattle.specification.specs.Tables.{spaceUnder, pointsUnder, standardUnder, leadsUnder, rowsUnder, rowCount, standardTable, leadsTable}
+use Rattle.specification.specs.Tables.{orderUnder, spaceUnder, pointsUnder, standardUnder, leadsUnder, rowsUnder, rowCount, standardTable, leadsTable}
 use Rattle.specification.specs.Tables.{coefficientsTable}
 use Rattle.specification.proofs.Instance.{laws}
 use Rattle.specification.proofs.ideal.Laws.{Laws, point-told}
@@ -54,7 +53,7 @@ coefficients-size s S = length-fill coefficientsSize _
 module _ (s : Settings) (ok : Accepted s) where
   -- the space under these settings obeys the laws
   pub laws-under : Laws (spaceUnder s)
-  laws-under = laws (s .modulus - 1) (s .variables) (orderOf (s .order) (s .weights)) (subst (λ (p : ℕ). isModulus p ≡ true) above (ok .modulus))
+  laws-under = laws (s .modulus - 1) (s .variables) (orderUnder s) (subst (λ (p : ℕ). isModulus p ≡ true) above (ok .modulus))
     where
       above : s .modulus ≡ suc (s .modulus - 1)
       above = omega (arith, modulus-range (s .modulus) (ok .modulus))

@@ -20,7 +20,7 @@ use Rattle.specification.specs.Refusal.{Case, firstOf}
 use Rattle.specification.specs.Settings.{Accepted, settingsOf, weighsFirst, rightWeights, settingsCases}
 use Rattle.specification.specs.Levels.{noRepeat}
 use Rattle.specification.specs.Counted.{Counted, pointsOf, countsOf, isCount}
-use Rattle.specification.specs.Tables.{Tables, rowCount, statesTable, standardTable, leadsTable, coefficientsTable, tablesOf, written, shortLengths, tooShort, pointsIn, heldIn, recognised}
+use Rattle.specification.specs.Tables.{orderUnder, Tables, rowCount, statesTable, standardTable, leadsTable, coefficientsTable, tablesOf, written, shortLengths, tooShort, pointsIn, heldIn, recognised}
 use Rattle.specification.proofs.Cases.{none-holds, first-on}
 use Rattle.specification.proofs.counted.Gathered.{Entries}
 use Rattle.specification.proofs.counted.Held.{points-held, held-back}
@@ -65,7 +65,7 @@ light-order (suc zero) w h = tt
 light-order (suc (suc zero)) w h = tt
 light-order (suc (suc (suc n))) w h = h
 
-pub light-under : (s : Settings) → rightWeights s ≡ true → LightOrder (orderOf (s .order) (s .weights))
+pub light-under : (s : Settings) → rightWeights s ≡ true → LightOrder (orderUnder s)
 unfolding rightWeights
 light-under s h = light-order (s .order) (s .weights) (first-light _ (s .weights) h)
 

@@ -15,14 +15,13 @@ use Rattle.residue.specs.Lists.{Among}
 use Rattle.residue.specs.Layout.{fill, over}
 use Rattle.residue.proofs.level.Moduli.{modulus-range}
 use Rattle.residue.proofs.Tests.{of-true}
-use Rattle.monomial.specs.Order.{orderOf}
 use Rattle.specification.specs.declared.settings.Settings.{Settings}
 use Rattle.specification.specs.Refusal.{Case, firstOf}
 use Rattle.specification.specs.Levels.{inRange, residues}
 use Rattle.specification.specs.Basis.{Fits}
 use Rattle.specification.specs.BasisOf.{valueAt}
 use Rattle.specification.specs.Instance.{Point}
-use Rattle.specification.specs.Tables.{Tables, tooShort, spaceUnder, pointsUnder, standardUnder, pointsIn, heldIn, recognised}
+use Rattle.specification.specs.Tables.{orderUnder, Tables, tooShort, spaceUnder, pointsUnder, standardUnder, pointsIn, heldIn, recognised}
 use Rattle.specification.specs.Needed.{Needed, wiringOf, Names, occurs}
 use Rattle.specification.specs.Solving.{valuesCases, Listed, listing, wiringOutcome}
 use Rattle.specification.specs.Agreement.{SameValues, Wires}
@@ -125,7 +124,7 @@ module _ (s : Settings) (n r : ℕ) (t : Tables) (values : List ℤ) (buffer : L
     pub wiring-occurs : (k : ℕ) → Among (suc k) (wiringOf (s .variables) S vs) → (cs : List ℕ) → Fits (spaceUnder s) pts (standardUnder s S) φ cs
         → T (occurs k cs (map (λ a. a .0) (standardUnder s S)))
     wiring-occurs k mem cs fits = let w = needed .members (suc k) .0 mem in
-        needed-occurs (s .modulus - 1) (s .variables) (orderOf (s .order) (s .weights)) k pts φ
+        needed-occurs (s .modulus - 1) (s .variables) (orderUnder s) k pts φ
         (subst (Needed (suc (s .modulus - 1)) (s .variables) pts φ) (sym (suc-inj (w .1))) (w .3)) cs (standardUnder s S) (fits .values)
 
 -- Request M-107: 'The order no longer matters'. Two calls under settings that differ in the order and its weights alone, over the same points in any order,

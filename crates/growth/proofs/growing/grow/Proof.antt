@@ -16,11 +16,12 @@ use Rattle.residue.proofs.Replaced.{zeros-long}
 use Rattle.monomial.specs.Order.{cmp}
 use Rattle.monomial.specs.Insert.{placeOf, withRowAt}
 use Rattle.monomial.proofs.insert.Searches.{place-within}
-use Rattle.growth.specs.Growing.{orderUnder, rowValueAt, standardGrown}
+use Rattle.growth.specs.Growing.{rowValueAt, standardGrown}
 use Rattle.growth.proofs.Writes.{value-below}
 use Rattle.growth.proofs.Growth.{grown-by}
 use Rattle.growth.proofs.growing.grow.Statement.{statement}
 use Rattle.growth.proofs.growing.grow.Tie as tie
+use Rattle.specification.specs.Tables.{orderUnder}
 
 -- the places, one from the next: the settings are read, the lead is lent
 abbrev opened : tie.After-struct-known → tie.Start

@@ -5,10 +5,10 @@ use native.Mathlib.Omega.{arith}
 use Rattle.residue.proofs.level.Moduli.{modulus-range}
 use Rattle.monomial.specs.Order.{cmp}
 use Rattle.monomial.proofs.insert.Searches.{place-within}
-use Rattle.growth.specs.Growing.{orderUnder}
 use Rattle.growth.proofs.Growth.{product-passed, product-taken}
 use Rattle.growth.proofs.products.add_product.Statement.{statement}
 use Rattle.growth.proofs.products.add_product.Tie as tie
+use Rattle.specification.specs.Tables.{orderUnder}
 
 -- the places, one from the next: the others are looked at, the product is put in, its row is put in
 abbrev start : tie.After-divided → tie.Start

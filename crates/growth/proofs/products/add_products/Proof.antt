@@ -7,10 +7,11 @@ use lib.ListN.{length, getD, set, replicate, length-set, length-replicate}
 use Rattle.residue.specs.Layout.{over}
 use Rattle.residue.proofs.Layouts.{over-all}
 use Rattle.monomial.specs.Monomial.{timesVariable}
-use Rattle.growth.specs.Growing.{orderUnder, grown, productsPut}
+use Rattle.growth.specs.Growing.{grown, productsPut}
 use Rattle.growth.proofs.Growth.{GrownSized, products-none, products-next, products-sized}
 use Rattle.growth.proofs.products.add_products.Statement.{statement}
 use Rattle.growth.proofs.products.add_products.Tie as tie
+use Rattle.specification.specs.Tables.{orderUnder}
 
 abbrev Inv-loop : tie.InvT-loop
 Inv-loop settings n points rows pivots place inverse gone point values k lead leads₀ coefficients₀ m others count₀ v₀ leads coefficients count v = (v ≤ m) × (grown count leads coefficients ≡ productsPut (settings .modulus) (orderUnder settings) n points rows pivots place inverse gone point values k others lead v (grown k leads₀ coefficients₀))

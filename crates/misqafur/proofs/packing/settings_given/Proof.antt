@@ -2,8 +2,7 @@
 use mathlib.Core.Path.{ap}
 use mathlib.Core.List.{List}
 use Prim.Native.Nat.{ℕ}
-use Rattle.specification.specs.declared.settings.Settings.{Settings}
-use Rattle.packed.proofs.WritingLaws.{eight-bytes}
+use Rattle.residue.proofs.Words.{eight-bytes}
 use borrow.Author.Needs.{needs}
 use Rattle.misqafur.proofs.packing.settings_given.Statement.{statement}
 use Rattle.misqafur.proofs.packing.settings_given.Tie as tie
