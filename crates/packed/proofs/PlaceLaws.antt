@@ -14,7 +14,7 @@ use lib.Count.{trailingZeros, under}
 use Rattle.residue.specs.Congruence.{Mod}
 use Rattle.residue.proofs.level.Moduli.{below-at}
 use Rattle.residue.specs.Words.{bitOf}
-use Rattle.packed.specs.PlaceSets.{inSet, others, Wordwise, FirstOpen, Passed}
+use Rattle.packed.specs.PlaceSets.{inSet, others, Wordwise, KnownBelow, FirstOpen, Passed}
 use Rattle.residue.proofs.BitLaws.{bit-small, bit-first, bit-next, bit-zero, bit-xor, bit-and}
 use Rattle.packed.proofs.Orthogonal.{lowest-set, lowest-lt}
 use Rattle.packed.proofs.RowsKnownMore.{bit-or, bit-single, bit-other}
@@ -73,20 +73,17 @@ unfolding inSet
 in-word i w j l e h = let a : i / 64 ≡ w = omega arith in let b : i % 64 ≡ j = omega arith in rw (a, b)
 
 module _ (known : List ℕ) where
-  abbrev pub AllBelow : ℕ → Type 0
-  AllBelow n = (i : ℕ) → i < n → inSet i known ≡ 1
-
-  split : (w : ℕ) (n : ℕ) → AllBelow (64 * w) → n ≤ 64 → ((j : ℕ) → j < n → bitOf j (getD known w 0) ≡ 1) → AllBelow (64 * w + n)
+  split : (w : ℕ) (n : ℕ) → KnownBelow (64 * w) known → n ≤ 64 → ((j : ℕ) → j < n → bitOf j (getD known w 0) ≡ 1) → KnownBelow (64 * w + n) known
   split w n low few h i u = elim (below-or i (64 * w)) [
     | inl v ↦ low i v
     | inr v ↦ let k : ℕ = i - 64 * w in in-word i w k known (omega arith) (omega arith) ∙ h k (omega arith)
   ]
 
-  pub full-word : (w : ℕ) → AllBelow (64 * w) → others (getD known w 0) ≡ 0 → AllBelow (64 * (w + 1))
+  pub full-word : (w : ℕ) → KnownBelow (64 * w) known → others (getD known w 0) ≡ 0 → KnownBelow (64 * (w + 1)) known
   full-word w low e i u = split w 64 low (omega arith) (λ j h. closed-bit j (getD known w 0) h (ap (bitOf j) e ∙ bit-zero j)) i (omega arith)
 
   -- the first open place is that of the lowest bit that is set in the word of open places
-  first-in : (w o : ℕ) → w < 4 → AllBelow (64 * w) → o < 2 ^ 64 → o ≢ 0 → ((j : ℕ) → j < 64 → bitOf j o ≡ 0 → bitOf j (getD known w 0) ≡ 1)
+  first-in : (w o : ℕ) → w < 4 → KnownBelow (64 * w) known → o < 2 ^ 64 → o ≢ 0 → ((j : ℕ) → j < 64 → bitOf j o ≡ 0 → bitOf j (getD known w 0) ≡ 1)
       → ((j : ℕ) → j < 64 → bitOf j o ≡ 1 → bitOf j (getD known w 0) ≡ 0) → (z : ℕ) → z ≡ trailingZeros 64 o → z < 64 → FirstOpen known (64 * w + z)
   first-in w o few low small n closed opened z e t = record {
     most = omega (arith, few, t);
@@ -94,12 +91,16 @@ module _ (known : List ℕ) where
     here = λ h. in-word (64 * w + z) w z known refl t ∙ opened z t (ap (λ (y : ℕ). bitOf y o) e ∙ lowest-set 64 o small n);
   }
 
-  pub open-word : (w o : ℕ) → o ≡ others (getD known w 0) → w < 4 → AllBelow (64 * w) → o < 2 ^ 64 → o ≢ 0 → FirstOpen known (64 * w + trailingZeros 64 o)
+  pub open-word : (w o : ℕ) → o ≡ others (getD known w 0) → w < 4 → KnownBelow (64 * w) known → o < 2 ^ 64 → o ≢ 0 → FirstOpen known (64 * w + trailingZeros 64 o)
   open-word w o e few low small n = first-in w o few low small n (λ j h b. closed-bit j (getD known w 0) h (ap (bitOf j) (sym e) ∙ b))
       (λ j h b. open-bit j (getD known w 0) h (ap (bitOf j) (sym e) ∙ b)) (trailingZeros 64 o) refl (lowest-lt 64 o small n)
 
-  pub no-open : AllBelow 256 → FirstOpen known 256
+  pub no-open : KnownBelow 256 known → FirstOpen known 256
   no-open h = record { most = omega arith; before = h; here = λ u. absurd (omega arith) }
+
+-- what is known stays so
+pub still-known : {Kind : ℕ → Type 0} {known known′ : List ℕ} {i : ℕ} → Passed Kind known known′ → FirstOpen known i → KnownBelow i known′
+still-known p f j h = p .each j (omega (arith, h, f .most)) .1 (inl (f .before j h))
 
 -- a set made of two, word by word
 module _ (a b a′ : List ℕ) where

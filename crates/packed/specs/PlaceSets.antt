@@ -21,10 +21,14 @@ pub record Wordwise (op : ℕ → ℕ → ℕ) (a b a′ : List ℕ) : Type 0 wh
   pub long : length a′ ≡ length a
   pub each : (w : ℕ) → w < 4 → getD a′ w 0 ≡ op (getD a w 0) (getD b w 0)
 
+-- each place below n is known
+abbrev pub KnownBelow : ℕ → List ℕ → Type 0
+KnownBelow n known = (i : ℕ) → i < n → inSet i known ≡ 1
+
 -- the first place that is not known, 256 where each is
 pub record FirstOpen (known : List ℕ) (at : ℕ) : Type 0 where
   pub most : at ≤ 256
-  pub before : (i : ℕ) → i < at → inSet i known ≡ 1
+  pub before : KnownBelow at known
   pub here : at < 256 → inSet at known ≡ 0
 
 -- a set with the places of a kind put in

@@ -61,8 +61,9 @@ fn walk(
     let mut pivots = 0u64;
     let mut found = 0;
     let mut r = 0;
+    let mut at = 0;
     loop {
-        let at = first_open(&known);
+        at = first_open(at, &known);
         if square_comes(left, at, before) {
             left -= 1;
             let k = squares[left] as usize;

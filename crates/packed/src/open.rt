@@ -4,7 +4,7 @@ ghost use mathlib.Core.Path.{_≡_};
 ghost use Prim.Native.Nat.{_<_, _≤_};
 ghost use lib.ListN.{length};
 ghost use lib.Bits.{bitAnd, bitOr};
-ghost use Rattle.packed.specs.PlaceSets.{others, Wordwise, FirstOpen, Passed, OfMultiple, OfAbove};
+ghost use Rattle.packed.specs.PlaceSets.{others, Wordwise, KnownBelow, FirstOpen, Passed, OfMultiple, OfAbove};
 
 const ALL: u64 = 18446744073709551615;
 
@@ -15,12 +15,12 @@ fn others(word: u64) -> u64
     ALL ^ word
 }
 
-// The first place that is not known, or 256.
-pub fn first_open(known: &[u64]) -> usize
-    requires { ⌜ length (now known) ≡ 4 ⌝ }
+// The first place that is not known, or 256, where those below `from` are: the words in front of its own are not looked at again.
+pub fn first_open(from: usize, known: &[u64]) -> usize
+    requires { ⌜ (length (now known) ≡ 4) × KnownBelow from (now known) ⌝ }
     ensures { λ at. ⌜ FirstOpen (now (known .entry)) at ⌝ }
 {
-    for w in 0..4 {
+    for w in from / 64..4 {
         let open = others(known[w]);
         if open != 0 {
             return 64 * w + u64::trailing_zeros(open) as usize;

@@ -7,10 +7,11 @@ use Prim.Native.Nat.{ℕ, _+_, _-_, _<_, _≤_}
 use native.Mathlib.Omega.{arith}
 use lib.ListN.{length, getD}
 use Rattle.residue.specs.Layout.{length-fill}
-use Rattle.packed.specs.PlaceSets.{FirstOpen}
+use Rattle.packed.specs.PlaceSets.{KnownBelow, FirstOpen}
 use Rattle.packed.specs.PivotTables.{PivotsLong}
 use Rattle.packed.specs.Sequences.{squareComes}
 use Rattle.packed.proofs.Given.{Lent, AtHead, AtHeads, walked-start}
+use Rattle.packed.proofs.PlaceLaws.{still-known}
 use Rattle.packed.proofs.Turns.{
   known-long,
   left-few,
@@ -43,13 +44,13 @@ use Rattle.packed.proofs.squares.square_comes.Reads as square-comes-rea
 
 abbrev Inv-loop : tie.InvT-loop
 Inv-loop n points bytes multiples squares before standard₀ leads₀ coefficients₀ whole variables left₀ known₀ values₀ places₀ rows₀ columns₀ polynomials₀
-    pivots₀ found₀ r₀ standard leads coefficients left known values places rows columns polynomials pivots found r =
+    pivots₀ found₀ r₀ at₀ standard leads coefficients left known values places rows columns polynomials pivots found r at =
     AtHeads left₀ n points bytes multiples squares before whole variables known left found r pivots values places rows columns polynomials standard leads
-    coefficients
+    coefficients × KnownBelow at known
 
 abbrev μ-loop : tie.MeasureT-loop
 μ-loop n points bytes multiples squares before standard₀ leads₀ coefficients₀ whole variables left₀ known₀ values₀ places₀ rows₀ columns₀ polynomials₀ pivots₀
-    found₀ r₀ standard leads coefficients left known values places rows columns polynomials pivots found r =
+    found₀ r₀ at₀ standard leads coefficients left known values places rows columns polynomials pivots found r at =
     left + ((64 - found) + (449 - r))
 
 -- what the walk is lent, and what holds at the head of the loop under its own settings
@@ -69,7 +70,7 @@ module _ (l : tie.At-loop Inv-loop μ-loop) where
       (l .before .before .before .before .before .before .before .ones .result) variables (l .loop .known) (l .loop .left) (l .loop .found) (l .loop .r)
       (l .loop .pivots) (l .loop .values) (l .loop .places) (l .loop .rows) (l .loop .columns)
       (l .loop .polynomials) (l .loop .standard) (l .loop .leads) (l .loop .coefficients)
-  held = l .loop .inv (start .args .settings) refl lent
+  held = l .loop .inv .0 (start .args .settings) refl lent
 
 -- the first open place, and what the answer about the square says of it
 module _ (c : tie.After-square-comes Inv-loop μ-loop) where
@@ -131,23 +132,26 @@ pass-above-requires c κs = let a = c .before .before .before .before .before .b
     (a .pre .0 .0 .settings .few, (a .pre .1 .0 .multiples-long, refl))
 
 loop-holds : tie.Need-loop-holds Inv-loop μ-loop
-loop-holds c = λ s m t. let a = c .before .before .before .before .before .before .before .before .before .before .before .before .before .before .before in
-    record {
-      given = t .given;
-      two = t .two;
-      sequence = t .sequence;
-      squares-are = t .squares-are;
-      variables-are = c .before .before .before .before .put-variables .ensures;
-      whole-is = c .before .before .before .before .before .before .ones .ensures;
-      now = walked-start s _ _ (t .given) (t .two) _ _ (t .sequence) _ _ (t .squares-are) _ m _ _ _ _ (c .before .pass-above .ensures) (a .pre .1 .1 .1 .0)
-          (a .pre .1 .1 .1 .1 .0) (a .pre .1 .1 .1 .1 .1);
-    }
+loop-holds c = (
+  λ s m t. let a = c .before .before .before .before .before .before .before .before .before .before .before .before .before .before .before in
+      record {
+        given = t .given;
+        two = t .two;
+        sequence = t .sequence;
+        squares-are = t .squares-are;
+        variables-are = c .before .before .before .before .put-variables .ensures;
+        whole-is = c .before .before .before .before .before .before .ones .ensures;
+        now = walked-start s _ _ (t .given) (t .two) _ _ (t .sequence) _ _ (t .squares-are) _ m _ _ _ _ (c .before .pass-above .ensures) (a .pre .1 .1 .1 .0)
+            (a .pre .1 .1 .1 .1 .0) (a .pre .1 .1 .1 .1 .1);
+      },
+  λ i h. absurd (omega arith),
+)
 
 slice-aggregate-first-open : tie.Need-slice-aggregate-first-open Inv-loop μ-loop
 slice-aggregate-first-open c = sym (known-long (held (c .before)))
 
 first-open-requires : tie.Need-first-open-requires Inv-loop μ-loop
-first-open-requires c κs = known-long (held (c .before))
+first-open-requires c κs = (known-long (held (c .before)), c .before .loop .inv .1)
 
 square-comes-requires : tie.Need-square-comes-requires Inv-loop μ-loop
 square-comes-requires c κs = let h = held (c .before .before) in (left-few h, h .squares-are .before-long)
@@ -175,16 +179,20 @@ loop-less : tie.Need-loop-less Inv-loop μ-loop
 loop-less c = let u = c .before .before .before .before .before .before .before in let f = fits u in let z = some (turn u) in omega (arith, f, z)
 
 loop-again : tie.Need-loop-again Inv-loop μ-loop
-loop-again c = λ s m t. let u = c .before .before .before .before .before .before .before in let k = c .before .before .before .before in
-    square-done (head (turn u .before) .loop .inv s m t) (place (turn u .before)) (opened (turn u .before)) (comes (turn u)) (u .if2 .taken) _ _
-    (k .keep-square .ensures .0) (k .keep-square .ensures .1)
+loop-again c = let u = c .before .before .before .before .before .before .before in let k = c .before .before .before .before in (
+  λ s m t. square-done (head (turn u .before) .loop .inv .0 s m t) (place (turn u .before)) (opened (turn u .before)) (comes (turn u)) (u .if2 .taken) _ _
+      (k .keep-square .ensures .0) (k .keep-square .ensures .1),
+  opened (turn u .before) .before,
+)
 
 loop-less-2 : tie.Need-loop-less-2 Inv-loop μ-loop
 loop-less-2 c = let z = some (c .before .before) in omega (arith, z)
 
 loop-again-2 : tie.Need-loop-again-2 Inv-loop μ-loop
-loop-again-2 c = λ s m t. let v = c .before .before in
-    square-skipped (head (v .before) .loop .inv s m t) (place (v .before)) (opened (v .before)) (comes v) (c .if2 .left)
+loop-again-2 c = let v = c .before .before in (
+  λ s m t. square-skipped (head (v .before) .loop .inv .0 s m t) (place (v .before)) (opened (v .before)) (comes v) (c .if2 .left),
+  opened (v .before) .before,
+)
 
 same-length : tie.Need-same-length Inv-loop μ-loop
 same-length c = let l = head (c .before .before) in standard-long (held l) ∙ sym (ap length (start l .pre .1 .1 .1 .0))
@@ -270,16 +278,18 @@ loop-less-3 : tie.Need-loop-less-3 Inv-loop μ-loop
 loop-less-3 c = let h = lead-in (c .before .before .before .before .before .before .before .before .before) in omega (arith, h)
 
 loop-again-3 : tie.Need-loop-again-3 Inv-loop μ-loop
-loop-again-3 c = λ s m w. let u = c .before .before .before .before .before .before .before .before .before in
+loop-again-3 c = let u = c .before .before .before .before .before .before .before .before .before in
     let t = c .before .before .before .before .before .before .before .before .before .before .before .before .before .before .before .before .before .before
-    .before .before .before in let k = c .before .before .before .before .before in
-    lead-done (c .before .before .before .before .before .before .before .before .before .before .before .before .before .before .before .before .before
-    .before .before .before .before .before .before .before .before .before .loop .inv s m w) (place (t .before .before)) (opened (t .before .before))
-    (comes-not (t .before)) (t .if3 .left) _
-    (c .before .before .before .before .before .before .before .before .before .before .before .before .before .before .before .before .before .own-column
-    .ensures) _ _ _ _ _ _
-    (c .before .before .before .before .before .before .before .before .before .before .before .before .before .examine .ensures) (lengths (u .before))
-    (u .if4 .taken) _ _ _ (k .keep-lead .ensures .1 .1) (k .keep-lead .ensures .0) (k .keep-lead .ensures .1 .0)
+    .before .before .before in let k = c .before .before .before .before .before in (
+      λ s m w. lead-done (c .before .before .before .before .before .before .before .before .before .before .before .before .before .before .before .before .before
+          .before .before .before .before .before .before .before .before .before .loop .inv .0 s m w) (place (t .before .before)) (opened (t .before .before))
+          (comes-not (t .before)) (t .if3 .left) _
+          (c .before .before .before .before .before .before .before .before .before .before .before .before .before .before .before .before .before .own-column
+          .ensures) _ _ _ _ _ _
+          (c .before .before .before .before .before .before .before .before .before .before .before .before .before .examine .ensures) (lengths (u .before))
+          (u .if4 .taken) _ _ _ (k .keep-lead .ensures .1 .1) (k .keep-lead .ensures .0) (k .keep-lead .ensures .1 .0),
+      still-known (k .keep-lead .ensures .1 .1) (opened (t .before .before)),
+    )
 
 slice-aggregate-keep-standard : tie.Need-slice-aggregate-keep-standard Inv-loop μ-loop
 slice-aggregate-keep-standard c =
@@ -315,17 +325,19 @@ loop-less-4 : tie.Need-loop-less-4 Inv-loop μ-loop
 loop-less-4 c = let h = standard-in (c .before .before .before .before .before .before .before .before .before .before) in omega (arith, h)
 
 loop-again-4 : tie.Need-loop-again-4 Inv-loop μ-loop
-loop-again-4 c = λ s m w. let u = c .before .before .before .before .before .before .before .before .before .before in
+loop-again-4 c = let u = c .before .before .before .before .before .before .before .before .before .before in
     let t = c .before .before .before .before .before .before .before .before .before .before .before .before .before .before .before .before .before .before
-    .before .before .before .before in let k = c .before .before .before .before .before in
-    standard-done (c .before .before .before .before .before .before .before .before .before .before .before .before .before .before .before .before .before
-    .before .before .before .before .before .before .before .before .before .before .loop .inv s m w) (place (t .before .before))
-    (opened (t .before .before)) (comes-not (t .before)) (t .if3 .left) _
-    (c .before .before .before .before .before .before .before .before .before .before .before .before .before .before .before .before .before .before
-    .own-column .ensures) _ _ _ _ _ _
-    (c .before .before .before .before .before .before .before .before .before .before .before .before .before .before .examine .ensures)
-    (lengths (u .before)) (u .if4 .left) _ _ _ _ (k .keep-standard .ensures .1 .1) (k .keep-standard .ensures .0) (k .keep-standard .ensures .1 .0 .0)
-    (k .keep-standard .ensures .1 .0 .1)
+    .before .before .before .before in let k = c .before .before .before .before .before in (
+      λ s m w. standard-done (c .before .before .before .before .before .before .before .before .before .before .before .before .before .before .before .before .before
+          .before .before .before .before .before .before .before .before .before .before .loop .inv .0 s m w) (place (t .before .before))
+          (opened (t .before .before)) (comes-not (t .before)) (t .if3 .left) _
+          (c .before .before .before .before .before .before .before .before .before .before .before .before .before .before .before .before .before .before
+          .own-column .ensures) _ _ _ _ _ _
+          (c .before .before .before .before .before .before .before .before .before .before .before .before .before .before .examine .ensures)
+          (lengths (u .before)) (u .if4 .left) _ _ _ _ (k .keep-standard .ensures .1 .1) (k .keep-standard .ensures .0) (k .keep-standard .ensures .1 .0 .0)
+          (k .keep-standard .ensures .1 .0 .1),
+      still-known (k .keep-standard .ensures .1 .1) (opened (t .before .before)),
+    )
 
 pub walk-spec : {M : Type 1} → statement M
 walk-spec =
