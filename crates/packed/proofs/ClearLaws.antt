@@ -1,9 +1,11 @@
 -- The pivots of the tables cleared one after the other.
-use mathlib.Core.Path.{_≡_, refl, sym, ap, ap₂, _∙_}
+use mathlib.Core.Path.{_≡_, refl, sym, ap, ap₂, _∙_, subst}
 use mathlib.Core.List.{List, [], _∷_, _++_, map}
-use Prim.Native.Nat.{ℕ, zero, suc, _+_, _<_}
+use Prim.Native.Nat.{ℕ, zero, suc, _+_, _<_, _≤_}
 use native.Mathlib.Numerals.{add-one}
 use native.Mathlib.Omega.{arith}
+use native.Mathlib.Nat.{le-refl}
+use native.Mathlib.Decide.{ℕ-discrete}
 use lib.ListN.{length, getD, set, length-set}
 use lib.Seq.{getD-set-same, getD-set-other}
 use Rattle.packed.specs.Packed.{Words, words, PivotWords, pivotWords, lose, clear}
@@ -31,10 +33,14 @@ unfolding pivotsIn
 cleared-none new columns polynomials = record {
   long-columns = refl;
   long-polynomials = refl;
-  cleared = λ places. refl;
+  cleared = none;
   behind-columns = λ j h. refl;
   behind-polynomials = λ j h. refl;
 }
+  where
+    none : (i : ℕ) → i ≤ 0 → (places : List ℕ) → pivotsIn i places columns polynomials ≡ map (clear new) (pivotsIn i places columns polynomials)
+    none zero h places = refl
+    none (suc i) h places = absurd (omega arith)
 
 module _ (k : ℕ) (new : PivotWords) (columns polynomials c f : List ℕ) (H : Cleared k new columns polynomials c f) (left : Words) (hc : k < length c) (hf : k < length f)
     (e : left ≡ lose (getD c k 0) new (words (getD c k 0) (getD f k 0))) where
@@ -52,18 +58,28 @@ module _ (k : ℕ) (new : PivotWords) (columns polynomials c f : List ℕ) (H : 
       ∙ ap (λ (w : Words). pivotWords (getD places k 0) (w .column) (w .polynomial))
       (e ∙ ap₂ (λ (x y : ℕ). lose x new (words x y)) (H .behind-columns k (omega arith)) (H .behind-polynomials k (omega arith)))
 
+  step-low : (i : ℕ) → i ≤ k → (places : List ℕ) → pivotsIn i places (set c k (left .column)) (set f k (left .polynomial)) ≡ map (clear new) (pivotsIn i places columns polynomials)
+  step-low i h places =
+      pivots-same i places c f places (set c k (left .column)) (set f k (left .polynomial)) (λ j u. refl) (λ j u. low-c j (omega arith)) (λ j u. low-f j (omega arith))
+      ∙ H .cleared i h places
+
   step : (places : List ℕ) → pivotsIn (suc k) places (set c k (left .column)) (set f k (left .polynomial)) ≡ map (clear new) (pivotsIn (suc k) places columns polynomials)
   unfolding pivotsIn
   step places =
       ap₂ (λ (l : List PivotWords) (v : PivotWords). l ++ (v ∷ []))
-      (pivots-same k places c f places (set c k (left .column)) (set f k (left .polynomial)) (λ j u. refl) low-c low-f ∙ H .cleared places) (own places)
+      (step-low k (le-refl k) places) (own places)
       ∙ sym (map-snoc (clear new) (pivotsIn k places columns polynomials) (pivotWords (getD places k 0) (getD columns k 0) (getD polynomials k 0)))
 
   pub cleared-more : Cleared (k + 1) new columns polynomials (set c k (left .column)) (set f k (left .polynomial))
   cleared-more = rw (add-one k) (record {
     long-columns = length-set c k (left .column) ∙ H .long-columns;
     long-polynomials = length-set f k (left .polynomial) ∙ H .long-polynomials;
-    cleared = step;
+    cleared = λ i h places. go i h places (ℕ-discrete i (suc k));
     behind-columns = λ j h. getD-set-other c k j (left .column) 0 (λ z. omega arith) ∙ H .behind-columns j (omega arith);
     behind-polynomials = λ j h. getD-set-other f k j (left .polynomial) 0 (λ z. omega arith) ∙ H .behind-polynomials j (omega arith);
   })
+    where
+      go : (i : ℕ) → i ≤ suc k → (places : List ℕ) → Dec (i ≡ suc k)
+          → pivotsIn i places (set c k (left .column)) (set f k (left .polynomial)) ≡ map (clear new) (pivotsIn i places columns polynomials)
+      go i h places (yes e) = subst (λ (i : ℕ). pivotsIn i places (set c k (left .column)) (set f k (left .polynomial)) ≡ map (clear new) (pivotsIn i places columns polynomials)) (sym e) (step places)
+      go i h places (no n) = step-low i (omega arith) places

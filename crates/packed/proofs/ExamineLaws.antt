@@ -46,7 +46,7 @@ module _ (k pivots : ℕ) (rows c f : List ℕ) (vs : List PivotWords) (K : Kept
     left-is = left .is k (K .places) (K .known) ∙ ap (restOf own) (sym (K .are))
 
     module _ (n : w .column ≢ 0) (small : w .column < 2 ^ 64) (bit place : ℕ) (single : bit ≡ 2 ^ k) (mark : place ≡ 2 ^ trailingZeros 64 (w .column)) (c′ f′ : List ℕ)
-        (H : Cleared k (pivotWords (trailingZeros 64 (w .column)) (w .column) (bitXor (w .polynomial) bit)) c f c′ f′) (few : k < 64) (long : PivotsLong rows c f) where
+        (k′ : ℕ) (enough : k ≤ k′) (H : Cleared k′ (pivotWords (trailingZeros 64 (w .column)) (w .column) (bitXor (w .polynomial) bit)) c f c′ f′) (few : k < 64) (long : PivotsLong rows c f) where
       abbrev new : PivotWords
       new = pivotWords (trailingZeros 64 (w .column)) (w .column) (bitXor (w .polynomial) bit)
 
@@ -63,7 +63,7 @@ module _ (k pivots : ℕ) (rows c f : List ℕ) (vs : List PivotWords) (K : Kept
       tables =
           ap₂ (λ (l : List PivotWords) (v : PivotWords). l ++ (v ∷ []))
           (pivots-same k (K .places) c′ f′ (set (K .places) k at) (set c′ k (new .column)) (set f′ k (new .polynomial)) (λ j u. getD-set-other (K .places) k j _ 0 (λ z. omega arith))
-          (λ j u. getD-set-other c′ k j _ 0 (λ z. omega arith)) (λ j u. getD-set-other f′ k j _ 0 (λ z. omega arith)) ∙ H .cleared (K .places) ∙ ap (map (clear new)) (sym (K .are)))
+          (λ j u. getD-set-other c′ k j _ 0 (λ z. omega arith)) (λ j u. getD-set-other f′ k j _ 0 (λ z. omega arith)) ∙ H .cleared k enough (K .places) ∙ ap (map (clear new)) (sym (K .are)))
           (own-place (getD-set-same (K .places) k at 0 (omega (arith, K .long))) (getD-set-same c′ k (new .column) 0 (omega (arith, H .long-columns, long .1 .0)))
           (getD-set-same f′ k (new .polynomial) 0 (omega (arith, H .long-polynomials, long .1 .1))))
           ∙ ap (λ (v : PivotWords). map (clear v) vs ++ (v ∷ [])) new-is
@@ -99,10 +99,10 @@ module _ (own k pivots : ℕ) (rows c f : List ℕ) (w : Words) (left : LeftAt o
     as-pivot = λ vs K n. absurd (n (sym (ap (λ (v : Words). v .column) (left-is k pivots rows c f vs K own w left)) ∙ z));
   }
 
-  pub examined-pivot : w .column ≢ 0 → w .column < 2 ^ 64 → (bit place : ℕ) → bit ≡ 2 ^ k → place ≡ 2 ^ trailingZeros 64 (w .column) → (c′ f′ : List ℕ)
-      → Cleared k (pivotWords (trailingZeros 64 (w .column)) (w .column) (bitXor (w .polynomial) bit)) c f c′ f′ → k < 64 → PivotsLong rows c f
+  pub examined-pivot : w .column ≢ 0 → w .column < 2 ^ 64 → (bit place : ℕ) → bit ≡ 2 ^ k → place ≡ 2 ^ trailingZeros 64 (w .column) → (c′ f′ : List ℕ) (k′ : ℕ) → k ≤ k′
+      → Cleared k′ (pivotWords (trailingZeros 64 (w .column)) (w .column) (bitXor (w .polynomial) bit)) c f c′ f′ → k < 64 → PivotsLong rows c f
       → ExaminedAs own k false 0 pivots (bitOr pivots place) rows c f (set rows (trailingZeros 64 (w .column)) k) (set c′ k (w .column)) (set f′ k (bitXor (w .polynomial) bit))
-  examined-pivot n small bit place single mark c′ f′ H few long = record {
+  examined-pivot n small bit place single mark c′ f′ k′ enough H few long = record {
     as-lead = λ vs K z. absurd (n (ap (λ (v : Words). v .column) (left-is k pivots rows c f vs K own w left) ∙ z));
-    as-pivot = λ vs K z. (refl, kept-more k pivots rows c f vs K own w left n small bit place single mark c′ f′ H few long);
+    as-pivot = λ vs K z. (refl, kept-more k pivots rows c f vs K own w left n small bit place single mark c′ f′ k′ enough H few long);
   }

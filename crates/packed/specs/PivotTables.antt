@@ -20,7 +20,7 @@ pivotsIn (suc k) places columns polynomials =
 pub record Cleared (k : ℕ) (new : PivotWords) (columns polynomials columns′ polynomials′ : List ℕ) : Type 0 where
   pub long-columns : length columns′ ≡ length columns
   pub long-polynomials : length polynomials′ ≡ length polynomials
-  pub cleared : (places : List ℕ) → pivotsIn k places columns′ polynomials′ ≡ map (clear new) (pivotsIn k places columns polynomials)
+  pub cleared : (i : ℕ) → i ≤ k → (places : List ℕ) → pivotsIn i places columns′ polynomials′ ≡ map (clear new) (pivotsIn i places columns polynomials)
   pub behind-columns : (j : ℕ) → k ≤ j → getD columns′ j 0 ≡ getD columns j 0
   pub behind-polynomials : (j : ℕ) → k ≤ j → getD polynomials′ j 0 ≡ getD polynomials j 0
 

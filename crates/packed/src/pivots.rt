@@ -82,7 +82,8 @@ pub struct Examined {
     pub pivots: u64,
 }
 
-// Examines a monomial's own column by k pivots; one that is not that of a lead becomes a pivot more.
+// Examines a monomial's own column by k pivots; one that is not that of a lead becomes a pivot more. Pivots are cleared two at a time, so what stands behind
+// an odd number of them, where the new one comes, is cleared too.
 pub fn examine(
     own: u64,
     k: usize,
@@ -105,15 +106,17 @@ pub fn examine(
             pivots,
         };
     }
+    let even = (k + 1) / 2 * 2;
     let place = u64::trailing_zeros(left.column) as usize;
     let polynomial = left.polynomial ^ 1u64 << k;
-    clear_all(k, place, left.column, polynomial, columns, polynomials);
+    clear_all(even, place, left.column, polynomial, columns, polynomials);
     rows[place] = k as u8;
     columns[k] = left.column;
     polynomials[k] = polynomial;
+    let mark = 1u64 << place;
     Examined {
         lead: false,
         polynomial: 0,
-        pivots: pivots | 1u64 << place,
+        pivots: pivots | mark,
     }
 }

@@ -1,6 +1,6 @@
 -- `pivots::examine` meets its contract.
 use mathlib.Core.Path.{ap, _∙_}
-use Prim.Native.Nat.{_<_}
+use Prim.Native.Nat.{_+_, _*_, _/_, _<_}
 use native.Mathlib.Omega.{arith}
 use borrow.Author.Needs.{needs}
 use lib.Count.{trailingZeros, trailing-le}
@@ -36,6 +36,12 @@ room c =
     let a = c .before .before .before .before .before .before .before .before .before in
     a .pre .0 .2 (λ z. c .if1 .left (ap (λ (w : Words). w .column) (left-is _ _ _ _ _ (a .pre .0 .0) (a .pre .0 .1) _ (words _ _) (c .before .before .rest-at .ensures)) ∙ z))
 
+add-even : tie.Need-add-even
+add-even c = search needs
+
+mul-even : tie.Need-mul-even
+mul-even c = search needs
+
 cast-place : tie.Need-cast-place
 cast-place c = record { fits = omega (arith, trailing-le 64 (c .before .before .before .rest-at .result .column)) }
 
@@ -44,8 +50,10 @@ shl-polynomial c = room (c .before)
 
 clear-all-requires : tie.Need-clear-all-requires
 clear-all-requires c κs =
-    let r = c .before .before .before .before .before .before in
-    (lowest-lt 64 (r .rest-at .result .column) (c .before .before .before .struct-known2 .given .0 .fits) (c .before .before .before .before .if1 .left), (omega arith, omega arith))
+    let r = c .before .before .before .before .before .before in (
+      lowest-lt 64 (r .rest-at .result .column) (c .before .before .before .struct-known2 .given .0 .fits) (c .before .before .before .before .if1 .left),
+      (omega (arith, room (c .before .before .before .before)), omega (arith, room (c .before .before .before .before))),
+    )
 
 cast-rows : tie.Need-cast-rows
 cast-rows c = search needs
@@ -70,8 +78,8 @@ mul-polynomials c = search needs
 slice-write-polynomials : tie.Need-slice-write-polynomials
 slice-write-polynomials c = omega (arith, room (c .before .before .before .before .before .before .before .before .before), c .before .before .before .before .clear-all .ensures .long-polynomials, c .before .before .before .before .before .before .before .before .before .before .before .before .before .before .before .before .before .before .pre .1 .0 .1 .1)
 
-shl-t19 : tie.Need-shl-t19
-shl-t19 c = place-in c
+shl-mark : tie.Need-shl-mark
+shl-mark c = place-in c
 
 same-length-4 : tie.Need-same-length-4
 same-length-4 c = search needs
@@ -87,7 +95,8 @@ returns-2 c =
     let a = c .before .before .before .before .before .before .before .before .before .before .before .before .before .before .before .before .before .before in
     let r = c .before .before .before .before .before .before .before .before .before .before .before in
     examined-pivot _ _ _ _ _ _ (words (r .rest-at .result .column) (r .rest-at .result .polynomial)) (r .rest-at .ensures) (c .before .before .before .before .before .before .before .before .before .if1 .left) (c .before .before .before .before .before .before .before .before .struct-known2 .given .0 .fits)
-    _ _ (shift-one _ (room (c .before .before .before .before .before .before .before .before .before))) (shift-one _ (place-in c)) _ _ (c .before .before .before .before .clear-all .ensures) (room (c .before .before .before .before .before .before .before .before .before)) (a .pre .1 .0)
+    _ _ (shift-one _ (room (c .before .before .before .before .before .before .before .before .before))) (shift-one _ (place-in c)) _ _
+    ((a .args .k + 1) / 2 * 2) (omega arith) (c .before .before .before .before .clear-all .ensures) (room (c .before .before .before .before .before .before .before .before .before)) (a .pre .1 .0)
 
 pub examine-spec : {M : Type 1} → statement M
 examine-spec =
@@ -98,6 +107,8 @@ examine-spec =
     same-length-2
     same-length-3
     returns
+    add-even
+    mul-even
     cast-place
     shl-polynomial
     clear-all-requires
@@ -107,7 +118,7 @@ examine-spec =
     slice-write-columns
     mul-polynomials
     slice-write-polynomials
-    shl-t19
+    shl-mark
     same-length-4
     same-length-5
     same-length-6
