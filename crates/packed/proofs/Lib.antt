@@ -22,6 +22,7 @@ pub mod PlaceLaws
 pub mod MultipleLaws
 pub mod WritingLaws
 pub mod VariableLaws
+pub mod EightLaws
 pub mod SequenceLaws
 pub mod Ready
 pub mod Visiting

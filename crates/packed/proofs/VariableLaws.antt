@@ -10,10 +10,9 @@ use lib.Seq.{drop-length, drop-cons}
 use Rattle.residue.specs.Layout.{groups}
 use Rattle.residue.proofs.Places.{length-groups, groups-at}
 use Rattle.residue.specs.Words.{wordOf, columnOf}
-use Rattle.packed.specs.ByteColumns.{Pushed}
 use Rattle.packed.proofs.ColumnLaws.{column-lt, column-none}
 
-zero-each : (j k : ℕ) → _≡_ {A = ℕ} (getD (replicate j 0) k 0) 0
+pub zero-each : (j k : ℕ) → _≡_ {A = ℕ} (getD (replicate j 0) k 0) 0
 zero-each zero k = refl
 zero-each (suc j) zero = refl
 zero-each (suc j) (suc k) = zero-each j k
@@ -57,9 +56,3 @@ module _ (n : ℕ) (points : List ℕ) where
 
   pub behind-all : (j k : ℕ) → j ≡ n → behind j k ≡ columnOf (λ (P : List ℕ). getD P k 0) (groups 8 n points)
   behind-all j k e = let z : n - j ≡ 0 = omega arith in ap (λ (i : ℕ). columnOf (at k) (drop i (groups 8 n points))) z
-
-  -- the columns with one point more
-  pub behind-on : (columns columns′ : List ℕ) (j i w : ℕ) → j < n → i ≡ n - 1 - j → w ≡ 8 → ((k : ℕ) → k < 8 → getD columns k 0 ≡ behind j k)
-      → Pushed (take w (drop (8 * i) points)) columns columns′ → (k : ℕ) → k < 8 → getD columns′ k 0 ≡ behind (j + 1) k
-  behind-on columns columns′ j i w h e u all p k few =
-      p .each k few ∙ ap (λ (x : ℕ). x * 2 + getD (take w (drop (8 * i) points)) k 0 % 2) (all k few) ∙ sym (behind-more j k i w h e u)

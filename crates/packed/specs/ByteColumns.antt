@@ -3,18 +3,18 @@ use mathlib.Core.Path.{_≡_}
 use mathlib.Core.Bool.{cond}
 use mathlib.Core.List.{List}
 use mathlib.Core.Logic.{_≢_}
-use Prim.Native.Nat.{ℕ, _+_, _*_, _-_, _%_, _<_}
+use Prim.Native.Nat.{ℕ, _+_, _*_, _-_, _<_}
 use lib.ListN.{length, getD, set}
 use lib.Bits.{bitAnd}
 use lib.Count.{ones, trailingZeros}
 use lib.Dec.{eqb}
 use Rattle.residue.specs.Layout.{groups}
-use Rattle.residue.specs.Words.{columnOf}
+use Rattle.residue.specs.Words.{columnOf, bytesOf}
 
--- eight columns with one point more at the front
-pub record Pushed (point columns columns′ : List ℕ) : Type 0 where
+-- eight columns with the bytes of a word in front, that of the first column the highest
+pub record Pushed (eight : ℕ) (columns columns′ : List ℕ) : Type 0 where
   pub long : length columns′ ≡ length columns
-  pub each : (k : ℕ) → k < 8 → getD columns′ k 0 ≡ getD columns k 0 * 2 + getD point k 0 % 2
+  pub each : (k : ℕ) → k < 8 → getD columns′ k 0 ≡ getD columns k 0 * 256 + getD (bytesOf 8 eight) (7 - k) 0
 
 -- the columns of the variables at the first n points of a table
 pub record VariableColumns (n : ℕ) (points columns : List ℕ) : Type 0 where

@@ -1,5 +1,5 @@
 -- `drawing::walk` meets its contract.
-use mathlib.Core.Path.{_≡_, refl, sym, ap, _∙_}
+use mathlib.Core.Path.{_≡_, refl, sym, ap, _∙_, subst}
 use mathlib.Core.Bool.{true, false}
 use mathlib.Core.List.{List}
 use mathlib.Core.Logic.{_≢_}
@@ -7,6 +7,8 @@ use Prim.Native.Nat.{ℕ, _+_, _-_, _<_, _≤_}
 use native.Mathlib.Omega.{arith}
 use lib.ListN.{length, getD}
 use Rattle.residue.specs.Layout.{length-fill}
+use Rattle.residue.specs.Vector.{Below}
+use Rattle.construction.proofs.drawing.Grounds.{points-below}
 use Rattle.packed.specs.PlaceSets.{KnownBelow, FirstOpen}
 use Rattle.packed.specs.PivotTables.{PivotsLong}
 use Rattle.packed.specs.Sequences.{squareComes}
@@ -121,8 +123,10 @@ slice-aggregate-put-variables : tie.Need-slice-aggregate-put-variables Inv-loop 
 slice-aggregate-put-variables c = refl
 
 put-variables-requires : tie.Need-put-variables-requires Inv-loop μ-loop
-put-variables-requires c κs = let a = c .before .before .before .before .before .before .before .before .before .before in
-    (a .pre .0 .0 .most, (ap length (a .pre .0 .0 .table) ∙ length-fill 512 _, refl))
+put-variables-requires c κs = let a = c .before .before .before .before .before .before .before .before .before .before in (
+  (a .pre .0 .0 .most, (ap length (a .pre .0 .0 .table) ∙ length-fill 512 _, refl)),
+  subst (λ (p : ℕ). Below p (a .args .points .now)) (a .pre .0 .1) (points-below (a .pre .0 .0)),
+)
 
 slice-aggregate-pass-above : tie.Need-slice-aggregate-pass-above Inv-loop μ-loop
 slice-aggregate-pass-above c = refl
