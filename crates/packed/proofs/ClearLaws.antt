@@ -58,9 +58,11 @@ module _ (k : ℕ) (new : PivotWords) (columns polynomials c f : List ℕ) (H : 
       ∙ ap (λ (w : Words). pivotWords (getD places k 0) (w .column) (w .polynomial))
       (e ∙ ap₂ (λ (x y : ℕ). lose x new (words x y)) (H .behind-columns k (omega arith)) (H .behind-polynomials k (omega arith)))
 
-  step-low : (i : ℕ) → i ≤ k → (places : List ℕ) → pivotsIn i places (set c k (left .column)) (set f k (left .polynomial)) ≡ map (clear new) (pivotsIn i places columns polynomials)
+  step-low : (i : ℕ) → i ≤ k → (places : List ℕ) → pivotsIn i places (set c k (left .column)) (set f k (left .polynomial)) ≡ map (clear new)
+      (pivotsIn i places columns polynomials)
   step-low i h places =
-      pivots-same i places c f places (set c k (left .column)) (set f k (left .polynomial)) (λ j u. refl) (λ j u. low-c j (omega arith)) (λ j u. low-f j (omega arith))
+      pivots-same i places c f places (set c k (left .column)) (set f k (left .polynomial)) (λ j u. refl) (λ j u. low-c j (omega arith))
+      (λ j u. low-f j (omega arith))
       ∙ H .cleared i h places
 
   step : (places : List ℕ) → pivotsIn (suc k) places (set c k (left .column)) (set f k (left .polynomial)) ≡ map (clear new) (pivotsIn (suc k) places columns polynomials)
@@ -81,5 +83,6 @@ module _ (k : ℕ) (new : PivotWords) (columns polynomials c f : List ℕ) (H : 
     where
       go : (i : ℕ) → i ≤ suc k → (places : List ℕ) → Dec (i ≡ suc k)
           → pivotsIn i places (set c k (left .column)) (set f k (left .polynomial)) ≡ map (clear new) (pivotsIn i places columns polynomials)
-      go i h places (yes e) = subst (λ (i : ℕ). pivotsIn i places (set c k (left .column)) (set f k (left .polynomial)) ≡ map (clear new) (pivotsIn i places columns polynomials)) (sym e) (step places)
+      go i h places (yes e) = subst (λ (i : ℕ). pivotsIn i places (set c k (left .column)) (set f k (left .polynomial)) ≡ map (clear new)
+          (pivotsIn i places columns polynomials)) (sym e) (step places)
       go i h places (no n) = step-low i (omega arith) places

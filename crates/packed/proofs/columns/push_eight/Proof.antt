@@ -52,8 +52,11 @@ loop-less : tie.Need-loop-less Inv-loop μ-loop
 loop-less c = search needs
 
 loop-again : tie.Need-loop-again Inv-loop μ-loop
-loop-again c = let l = c .before .before in
-    (omega arith, fronted-more _ _ (l .loop .j) (l .loop .rest) (l .loop .columns) (omega arith) (l .loop .inv .1) (7 - l .loop .j) refl (omega (arith, l .loop .inv .1 .long, l .before .pre .0)))
+loop-again c = let l = c .before .before in (
+  omega arith,
+  fronted-more _ _ (l .loop .j) (l .loop .rest) (l .loop .columns) (omega arith) (l .loop .inv .1) (7 - l .loop .j) refl
+      (omega (arith, l .loop .inv .1 .long, l .before .pre .0)),
+)
 
 same-length : tie.Need-same-length Inv-loop μ-loop
 same-length c = search needs

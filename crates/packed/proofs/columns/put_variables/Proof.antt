@@ -6,7 +6,7 @@ use native.Mathlib.Omega.{arith}
 use borrow.Author.Needs.{needs}
 use lib.ListN.{length-drop}
 use lib.Seq.{length-take-le}
-use Rattle.packed.proofs.EightLaws.{Gathered, gathered-same, gathered-none, sum-fits, gathered-more, push-fits, gathered-pushed, gathered-all}
+use Rattle.packed.proofs.EightLaws.{Gathered, gathered-same, gathered-none, Turn, turn, gathered-all}
 use Rattle.packed.proofs.columns.put_variables.Statement.{statement}
 use Rattle.packed.proofs.columns.put_variables.Tie as tie
 use Rattle.packed.proofs.columns.put_variables.Reads as reads
@@ -60,25 +60,18 @@ module _ (c : tie.After-key Inv-loop μ-loop) where
   abbrev i : ℕ
   i = a .args .n - 1 - l .loop .j
 
-  abbrev wide : ℕ
-  wide = 8 * i + 8 - 8 * i
-
-  fits : 2 * l .loop .eight + c .key .result < 2 ^ 64
-  fits = sum-fits (a .args .n) (a .args .points .now) (l .loop .j) (l .loop .eight) (l .loop .columns) (l .loop .inv .1) i (8 * i + 8 - 8 * i) (c .key .result)
+  turned : Turn (a .args .n) (a .args .points .now) (l .loop .j) (l .loop .eight) (l .loop .columns) i (c .key .result)
+  turned = turn (a .args .n) (a .args .points .now) (l .loop .j) (l .loop .eight) (l .loop .columns) (l .loop .inv .1) i (8 * i + 8 - 8 * i) (c .key .result)
       (omega arith) (a .pre .0 .0) refl (omega arith) (a .pre .0 .1 .0) (a .pre .1) (c .key .ensures) (omega (arith, c .key .ok))
 
 mul-eight : tie.Need-mul-eight Inv-loop μ-loop
-mul-eight c = record { fits = omega (arith, fits c) }
+mul-eight c = record { fits = omega (arith, turned c .fits) }
 
 add-eight : tie.Need-add-eight Inv-loop μ-loop
-add-eight c = record { fits = omega (arith, fits c) }
+add-eight c = record { fits = omega (arith, turned c .fits) }
 
 push-eight-requires : tie.Need-push-eight-requires Inv-loop μ-loop
-push-eight-requires c κs = let k = c .before .before in (
-  l k .loop .inv .1 .long,
-  push-fits (a k .args .n) (a k .args .points .now) (l k .loop .j) (l k .loop .eight) (l k .loop .columns) (l k .loop .inv .1) (i k) (wide k) (k .key .result)
-      (omega arith) (a k .pre .0 .0) refl (omega arith) (a k .pre .0 .1 .0) (a k .pre .1) (k .key .ensures) (omega (arith, k .key .ok)) (c .before .if1 .taken),
-)
+push-eight-requires c κs = let k = c .before .before in (l k .loop .inv .1 .long, turned k .room (c .before .if1 .taken))
 
 add-j : tie.Need-add-j Inv-loop μ-loop
 add-j c = search needs
@@ -90,10 +83,8 @@ loop-again : tie.Need-loop-again Inv-loop μ-loop
 loop-again c = let k = c .before in (
   omega arith,
   ⊎-elim
-      (λ w. gathered-same (a k .args .n) (a k .args .points .now) (w .6) (w .5) (gathered-pushed (a k .args .n) (a k .args .points .now) (l k .loop .j) (l k .loop .eight) (l k .loop .columns) (l k .loop .inv .1) (i k) (wide k) (k .key .result)
-      (omega arith) (a k .pre .0 .0) refl (omega arith) (a k .pre .0 .1 .0) (a k .pre .1) (k .key .ensures) (omega (arith, k .key .ok)) (w .0 .taken) _ (w .2 .ensures)))
-      (λ w. gathered-same (a k .args .n) (a k .args .points .now) (w .2) (w .1) (gathered-more (a k .args .n) (a k .args .points .now) (l k .loop .j) (l k .loop .eight) (l k .loop .columns) (l k .loop .inv .1) (i k) (wide k) (k .key .result)
-      (omega arith) (a k .pre .0 .0) refl (omega arith) (a k .pre .0 .1 .0) (a k .pre .1) (k .key .ensures) (omega (arith, k .key .ok)) (w .0 .left)))
+      (λ w. gathered-same (a k .args .n) (a k .args .points .now) (w .6) (w .5) (turned k .pushed (w .0 .taken) _ (w .2 .ensures)))
+      (λ w. gathered-same (a k .args .n) (a k .args .points .now) (w .2) (w .1) (turned k .more (w .0 .left)))
       (c .if1 .came),
 )
 
@@ -101,7 +92,8 @@ same-length : tie.Need-same-length Inv-loop μ-loop
 same-length c = search needs
 
 returns : tie.Need-returns Inv-loop μ-loop
-returns c = let l = c .before in let a = l .before .before .before in gathered-all (a .args .n) (a .args .points .now) (l .loop .j) (l .loop .eight) _ (omega arith) (l .loop .inv .1)
+returns c = let l = c .before in let a = l .before .before .before in gathered-all (a .args .n) (a .args .points .now) (l .loop .j) (l .loop .eight) _
+    (omega arith) (l .loop .inv .1)
 
 pub put-variables-spec : {M : Type 1} → statement M
 put-variables-spec =

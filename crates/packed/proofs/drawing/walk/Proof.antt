@@ -285,7 +285,8 @@ loop-again-3 : tie.Need-loop-again-3 Inv-loop μ-loop
 loop-again-3 c = let u = c .before .before .before .before .before .before .before .before .before in
     let t = c .before .before .before .before .before .before .before .before .before .before .before .before .before .before .before .before .before .before
     .before .before .before in let k = c .before .before .before .before .before in (
-      λ s m w. lead-done (c .before .before .before .before .before .before .before .before .before .before .before .before .before .before .before .before .before
+      λ s m w.
+          lead-done (c .before .before .before .before .before .before .before .before .before .before .before .before .before .before .before .before .before
           .before .before .before .before .before .before .before .before .before .loop .inv .0 s m w) (place (t .before .before)) (opened (t .before .before))
           (comes-not (t .before)) (t .if3 .left) _
           (c .before .before .before .before .before .before .before .before .before .before .before .before .before .before .before .before .before .own-column
@@ -332,7 +333,8 @@ loop-again-4 : tie.Need-loop-again-4 Inv-loop μ-loop
 loop-again-4 c = let u = c .before .before .before .before .before .before .before .before .before .before in
     let t = c .before .before .before .before .before .before .before .before .before .before .before .before .before .before .before .before .before .before
     .before .before .before .before in let k = c .before .before .before .before .before in (
-      λ s m w. standard-done (c .before .before .before .before .before .before .before .before .before .before .before .before .before .before .before .before .before
+      λ s m w.
+          standard-done (c .before .before .before .before .before .before .before .before .before .before .before .before .before .before .before .before .before
           .before .before .before .before .before .before .before .before .before .before .loop .inv .0 s m w) (place (t .before .before))
           (opened (t .before .before)) (comes-not (t .before)) (t .if3 .left) _
           (c .before .before .before .before .before .before .before .before .before .before .before .before .before .before .before .before .before .before

@@ -40,7 +40,8 @@ add-result : tie.Need-add-result Inv-loop μ-loop
 add-result c = record { fits = omega (arith, trailing-le 64 (c .before .others .result)) }
 
 returns : tie.Need-returns Inv-loop μ-loop
-returns c = let l = c .before .before .before .before in open-word _ (l .loop .w) (c .before .others .result) (c .before .others .ensures) (omega arith) (l .loop .inv) (omega (arith, c .before .others .ok)) (c .if1 .taken)
+returns c = let l = c .before .before .before .before in open-word _ (l .loop .w) (c .before .others .result) (c .before .others .ensures) (omega arith)
+    (l .loop .inv) (omega (arith, c .before .others .ok)) (c .if1 .taken)
 
 add-w : tie.Need-add-w Inv-loop μ-loop
 add-w c = search needs
