@@ -3,7 +3,7 @@ use mathlib.Core.List.{List, [], _∷_, _++_, map, flatten, zipWith}
 use Prim.Native.Nat.{ℕ}
 use lib.ListN.{length, take}
 use Rattle.residue.specs.Layout.{groups}
-use Rattle.printing.specs.Decimal.{decimal}
+use Rattle.writing.specs.Decimal.{decimal}
 
 -- one space in front of each number and each colon, LF at the end of each line
 unfoldable pub spaced : ℕ → List ℕ

@@ -1,11 +1,11 @@
 // The lines of a basis. As in `appending`, each function answers the place behind what it wrote.
-use crate::appending::put_byte;
-use crate::appending::put_word;
-use crate::decimal::put_digits;
+use writing::appending::put_byte;
+use writing::appending::put_word;
+use writing::decimal::put_digits;
 ghost use Prim.Native.Nat.{_*_, _≤_};
 ghost use lib.ListN.{length};
 ghost use Rattle.residue.specs.Sizes.{mostRows};
-ghost use Rattle.printing.specs.Appending.{Room, Put};
+ghost use Rattle.writing.specs.Appending.{Room, Put};
 ghost use Rattle.printing.specs.Lines.{spaced, spacedNumbers, labelled, line, firstLine, refusalLine};
 ghost use Rattle.printing.specs.Lines.{standardLines, rowLine, rowLines, basisLines, inTable};
 

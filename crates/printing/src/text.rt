@@ -18,7 +18,7 @@ ghost use Rattle.residue.specs.Layout.{fill};
 ghost use Rattle.specification.specs.Tables.{pointsIn};
 ghost use Rattle.construction.specs.Drawing.{PointsGiven};
 ghost use Rattle.interpolation.specs.Solving.{solution};
-ghost use Rattle.printing.specs.Appending.{Put};
+ghost use Rattle.writing.specs.Appending.{Put};
 ghost use Rattle.printing.specs.Text.{linesOf, printed, printOutcome, Within};
 
 // The interpolant of n values, in 64 bytes of zeros.

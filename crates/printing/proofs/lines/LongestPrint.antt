@@ -10,9 +10,9 @@ use native.Mathlib.Omega.{arith}
 use lib.ListN.{length, length-append}
 use Rattle.residue.specs.Lists.{Among}
 use Rattle.residue.specs.Vector.{Below}
-use Rattle.printing.specs.Decimal.{decimal}
+use Rattle.writing.specs.Decimal.{decimal}
 use Rattle.printing.specs.Lines.{spaced, spacedNumbers, line, labelled, lineEnd, colon, points-word, standard-word, rows-word, row-word, interpolant-word, wiring-word, refused-word, refusalLine, firstLine, standardLines, rowLine, rowLines, basisLines}
-use Rattle.printing.proofs.decimal.DecimalDigits.{decimal-digit, decimal-more}
+use Rattle.writing.proofs.decimal.DecimalDigits.{decimal-digit, decimal-more}
 
 -- a number has at most as many digits as the power of ten that it is below
 one : (n : ℕ) → n < 10 → length (decimal n) ≡ 1

@@ -32,7 +32,7 @@ use Rattle.notation.specs.Fields.{recordsOf}
 use Rattle.csv.specs.reading.Text.{Contents, Valued, TextOutcome, headerIn, noHeader, formFault, contentsOf, entryPoint, entryValue, valuedPoint, valuedPoints}
 use Rattle.csv.specs.reading.Text.{firstOutside, firstValue, firstValues, settingsBy, shortBuffers, readCases, notRefused}
 use Rattle.csv.specs.reading.Text.{textAccepted, textDecided, textRefused, readOutcome}
-use Rattle.printing.specs.Appending.{putAt, Put}
+use Rattle.writing.specs.Appending.{putAt, Put}
 use Rattle.printing.specs.Lines.{refusalLine}
 use Rattle.printing.specs.Text.{linesOf, settingsRead, linesRead, linesFor, printed, printOutcome}
 use Rattle.csv.proofs.reading.EntryLengths.{AllLong, point-long}

@@ -33,7 +33,7 @@ use Rattle.csv.specs.reading.Text.{entryPoint, entryValue, isOutside, valuedPoi
 use Rattle.csv.specs.reading.Text.{firstOutside, firstAfter, tooMany, tooOften, firstValue, otherValue}
 use Rattle.csv.specs.reading.Text.{shortBuffers, headerCases, pointsCases, entriesCases, readCases}
 use Rattle.csv.specs.reading.Text.{firstValues, textAccepted, textRefused, textDecided, readOutcome}
-use Rattle.printing.specs.Decimal.{digitsOf, decimal}
+use Rattle.writing.specs.Decimal.{digitsOf, decimal}
 use Rattle.printing.specs.Lines.{spaced, spacedNumbers, line, labelled, firstLine, standardLines, rowLine, rowLines, basisLines, refusalLine}
 use Rattle.printing.specs.Text.{linesOf, linesRead, linesFor, Printed, printed, printOutcome}
 use Rattle.printing.specs.Examples.{inLines, Example, Prints, examples, PrintedExamples}

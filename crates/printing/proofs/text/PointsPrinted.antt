@@ -22,7 +22,7 @@ use Rattle.interpolation.specs.Solving.{solution}
 use Rattle.construction.specs.Drawing.{PointsGiven, DrawnUp}
 use Rattle.construction.proofs.drawing.Given.{given-count}
 use Rattle.interpolation.proofs.Interpolants.{length-interpolant, solution-is}
-use Rattle.printing.specs.Appending.{Room, Put}
+use Rattle.writing.specs.Appending.{Room, Put}
 use Rattle.printing.specs.Lines.{inTable}
 use Rattle.printing.specs.Lines.{basisLines}
 use Rattle.printing.specs.Text.{linesOf}

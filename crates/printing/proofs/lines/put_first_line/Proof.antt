@@ -2,7 +2,7 @@
 use mathlib.Core.List.{List, _∷_, _++_}
 use Prim.Native.Nat.{ℕ}
 use Rattle.printing.specs.Lines.{points-word, standard-word, rows-word, lineEnd, labelled, firstLine}
-use Rattle.printing.proofs.appending.Appends.{first-room, put-room, put-front, put-more}
+use Rattle.writing.proofs.appending.Appends.{first-room, put-room, put-front, put-more}
 use borrow.Author.Needs.{needs}
 use Rattle.printing.proofs.lines.put_first_line.Statement.{statement}
 use Rattle.printing.proofs.lines.put_first_line.Tie as tie

@@ -1,7 +1,7 @@
 -- `text::put_labelled` meets its contract.
 use borrow.Author.Needs.{needs}
 use Rattle.printing.specs.Lines.{spaced, labelled}
-use Rattle.printing.proofs.appending.Appends.{first-room, put-room, put-more}
+use Rattle.writing.proofs.appending.Appends.{first-room, put-room, put-more}
 use Rattle.printing.proofs.lines.put_labelled.Statement.{statement}
 use Rattle.printing.proofs.lines.put_labelled.Tie as tie
 

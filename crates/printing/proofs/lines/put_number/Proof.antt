@@ -1,9 +1,9 @@
 -- `text::put_number` meets its contract.
 use borrow.Author.Needs.{needs}
 use mathlib.Core.List.{[], _∷_}
-use Rattle.printing.specs.Decimal.{decimal}
+use Rattle.writing.specs.Decimal.{decimal}
 use Rattle.printing.specs.Lines.{spaced}
-use Rattle.printing.proofs.appending.Appends.{first-room, put-room, put-more}
+use Rattle.writing.proofs.appending.Appends.{first-room, put-room, put-more}
 use Rattle.printing.proofs.lines.put_number.Statement.{statement}
 use Rattle.printing.proofs.lines.put_number.Tie as tie
 

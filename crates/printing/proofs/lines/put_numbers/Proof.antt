@@ -6,8 +6,8 @@ use native.Mathlib.Omega.{arith}
 use lib.ListN.{length, getD, take, length-map}
 use Rattle.residue.proofs.vector.Vectors.{map-at}
 use Rattle.printing.specs.Lines.{spaced, spacedNumbers}
-use Rattle.printing.specs.Appending.{Put}
-use Rattle.printing.proofs.appending.Appends.{put-nothing, turn-room, turn, turns-all, turn-length}
+use Rattle.writing.specs.Appending.{Put}
+use Rattle.writing.proofs.appending.Appends.{put-nothing, turn-room, turn, turns-all, turn-length}
 use Rattle.printing.proofs.lines.put_numbers.Statement.{statement}
 use Rattle.printing.proofs.lines.put_numbers.Tie as tie
 

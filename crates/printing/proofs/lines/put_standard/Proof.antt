@@ -4,9 +4,9 @@ use Prim.Native.Nat.{_-_, _≤_}
 use native.Mathlib.Omega.{arith}
 use lib.ListN.{take}
 use Rattle.printing.specs.Lines.{standard-word, line, standardLines}
-use Rattle.printing.specs.Appending.{Put}
+use Rattle.writing.specs.Appending.{Put}
 use Rattle.printing.specs.Lines.{inTable}
-use Rattle.printing.proofs.appending.Appends.{put-nothing, turn-room, turn, turns-all, turn-length}
+use Rattle.writing.proofs.appending.Appends.{put-nothing, turn-room, turn, turns-all, turn-length}
 use Rattle.printing.proofs.lines.TableLines.{lines-length, lines-at}
 use Rattle.printing.proofs.lines.put_standard.Statement.{statement}
 use Rattle.printing.proofs.lines.put_standard.Tie as tie

@@ -13,10 +13,10 @@ use Rattle.specification.specs.Tables.{pointsIn}
 use Rattle.specification.specs.Needed.{wiringOf}
 use Rattle.specification.proofs.Wiring.{names-length}
 use Rattle.construction.proofs.drawing.Given.{drawn-long}
-use Rattle.printing.specs.Appending.{Room, Put}
+use Rattle.writing.specs.Appending.{Room, Put}
 use Rattle.printing.specs.Lines.{basisLines, inTable}
 use Rattle.printing.specs.Text.{linesOf}
-use Rattle.printing.proofs.appending.Appends.{put-within}
+use Rattle.writing.proofs.appending.Appends.{put-within}
 use Rattle.printing.proofs.text.PointsPrinted.{few, inside, multiplied, told-room, told}
 use Rattle.printing.proofs.text.print_points.Statement.{statement}
 use Rattle.printing.proofs.text.print_points.Tie as tie

@@ -2,7 +2,7 @@
 use mathlib.Core.Path.{refl, sym}
 use native.Mathlib.Omega.{arith}
 use Rattle.csv.specs.reading.Text.{TextOutcome, textEnded}
-use Rattle.printing.proofs.appending.Appends.{put-within}
+use Rattle.writing.proofs.appending.Appends.{put-within}
 use Rattle.printing.proofs.lines.LongestPrint.{refusal-length}
 use Rattle.printing.proofs.text.AcceptedText.{Fit, fit, printed-refusal, printed-basis, print-short, print-long}
 use borrow.Author.Needs.{needs}

@@ -1,7 +1,7 @@
 // Bytes into a lent buffer: each function writes from a place on, and answers the place behind what it wrote.
 use residue::bytes;
 ghost use mathlib.Core.List.{[], _∷_};
-ghost use Rattle.printing.specs.Appending.{Room, Put};
+ghost use Rattle.writing.specs.Appending.{Room, Put};
 
 pub fn put_byte(out: &mut [u8], at: usize, b: u8) -> usize
     requires { ⌜ Room at (b ∷ []) (now out) ⌝ }

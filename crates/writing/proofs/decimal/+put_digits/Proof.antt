@@ -4,18 +4,18 @@ use mathlib.Core.Path.{ap}
 use mathlib.Core.List.{List, [], _∷_}
 use native.Mathlib.Omega.{arith}
 use lib.ListN.{length}
-use Rattle.printing.specs.Decimal.{decimal}
-use Rattle.printing.proofs.appending.Appends.{first-room, put-room, put-more}
-use Rattle.printing.proofs.decimal.DecimalDigits.{decimal-digit, decimal-more}
+use Rattle.writing.specs.Decimal.{decimal}
+use Rattle.writing.proofs.appending.Appends.{first-room, put-room, put-more}
+use Rattle.writing.proofs.decimal.DecimalDigits.{decimal-digit, decimal-more}
 use Prim.Native.Nat.{ℕ, _+_, _/_, _%_, _<_}
 use borrow.Fn.Kinds.{In}
 use borrow.Fn.PlainCycle.{Measures, is, falls, and}
-use Rattle.printing.proofs.decimal.put_digits.Reads as put-digits
-use Rattle.printing.proofs.decimal.put_digits.Kinds as put-digits-kinds
-use Rattle.printing.proofs.decimal.+put_digits.Lts-put_digits as put-digits-lts
-use Rattle.printing.proofs.appending.put_byte.Reads as put-byte-reads
-use Rattle.printing.proofs.decimal.+put_digits.{statement}
-use Rattle.printing.proofs.decimal.+put_digits.Tie.{close}
+use Rattle.writing.proofs.decimal.put_digits.Reads as put-digits
+use Rattle.writing.proofs.decimal.put_digits.Kinds as put-digits-kinds
+use Rattle.writing.proofs.decimal.+put_digits.Lts-put_digits as put-digits-lts
+use Rattle.writing.proofs.appending.put_byte.Reads as put-byte-reads
+use Rattle.writing.proofs.decimal.+put_digits.{statement}
+use Rattle.writing.proofs.decimal.+put_digits.Tie.{close}
 
 abbrev μ-put-digits : Measures 1 put-digits-kinds.ps ℕ
 μ-put-digits κs a = a .1 .1 .0

@@ -1,7 +1,7 @@
 // Numbers written in decimal.
 use crate::appending::put_byte;
-ghost use Rattle.printing.specs.Appending.{Room, Put};
-ghost use Rattle.printing.specs.Decimal.{decimal};
+ghost use Rattle.writing.specs.Appending.{Room, Put};
+ghost use Rattle.writing.specs.Decimal.{decimal};
 
 // A number in decimal.
 pub fn put_digits(out: &mut [u8], at: usize, n: u16) -> usize

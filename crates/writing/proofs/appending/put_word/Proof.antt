@@ -1,9 +1,9 @@
 -- `text::put_word` meets its contract.
 use native.Mathlib.Omega.{arith}
-use Rattle.printing.proofs.appending.Appends.{put-part}
+use Rattle.writing.proofs.appending.Appends.{put-part}
 use borrow.Author.Needs.{needs}
-use Rattle.printing.proofs.appending.put_word.Statement.{statement}
-use Rattle.printing.proofs.appending.put_word.Tie as tie
+use Rattle.writing.proofs.appending.put_word.Statement.{statement}
+use Rattle.writing.proofs.appending.put_word.Tie as tie
 
 sub-copy : tie.Need-sub-copy
 sub-copy c = search needs

@@ -7,7 +7,7 @@ use native.Mathlib.Nat.{not-suc-le-zero}
 use native.Mathlib.Omega.{arith}
 use lib.Dec.{ltb}
 use borrow.Author.Tests.{ltb-false, lt-ltb, le-ltb}
-use Rattle.printing.specs.Decimal.{digitsOf, decimal}
+use Rattle.writing.specs.Decimal.{digitsOf, decimal}
 
 -- any number of turns above the number
 enough : (k j n : ℕ) → n < k → n < j → digitsOf k n ≡ digitsOf j n

@@ -8,7 +8,7 @@ use native.Mathlib.Omega.{arith}
 use lib.ListN.{length, getD, take, drop, set, length-append, length-drop, take-append-drop, drop-of-length-le}
 use lib.Seq.{length-take-le, take-all, take-at, drop-at, drop-drop, set-split}
 use Rattle.residue.specs.Layout.{over}
-use Rattle.printing.specs.Appending.{Room, putAt, Put}
+use Rattle.writing.specs.Appending.{Room, putAt, Put}
 
 length-put : (at : ℕ) (a o : List ℕ) → Room at a o → length (putAt at a o) ≡ length o
 unfolding putAt

@@ -1,9 +1,9 @@
 -- `text::put_byte` meets its contract.
 use borrow.Author.Needs.{needs}
 use native.Mathlib.Omega.{arith}
-use Rattle.printing.proofs.appending.Appends.{put-set}
-use Rattle.printing.proofs.appending.put_byte.Statement.{statement}
-use Rattle.printing.proofs.appending.put_byte.Tie as tie
+use Rattle.writing.proofs.appending.Appends.{put-set}
+use Rattle.writing.proofs.appending.put_byte.Statement.{statement}
+use Rattle.writing.proofs.appending.put_byte.Tie as tie
 
 slice-write-out : tie.Need-slice-write-out
 slice-write-out c = search needs

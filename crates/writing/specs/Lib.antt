@@ -1,0 +1,3 @@
+-- The definitions of the crate writing.
+pub mod Decimal
+pub mod Appending
