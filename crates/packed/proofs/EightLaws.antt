@@ -13,7 +13,8 @@ use Rattle.residue.specs.Lists.{keyOf}
 use Rattle.residue.specs.Vector.{Below}
 use Rattle.residue.specs.Words.{bytesOf}
 use Rattle.packed.specs.ByteColumns.{Pushed, VariableColumns}
-use Rattle.packed.proofs.VariableLaws.{behind, behind-none, behind-small, behind-more, behind-all, zero-each}
+use Rattle.residue.proofs.Layouts.{zeros-at}
+use Rattle.packed.proofs.VariableLaws.{behind, behind-none, behind-small, behind-more, behind-all}
 
 -- twice a word and another: no byte is carried to the next
 pub doubled : (n a b : ℕ) → ((i : ℕ) → i < n → getD (bytesOf n a) i 0 < 128) → ((i : ℕ) → i < n → getD (bytesOf n b) i 0 < 2) → (i : ℕ) → i < n
@@ -143,7 +144,7 @@ module _ (n : ℕ) (points : List ℕ) where
     few = omega arith;
     stands = omega arith;
     lane = λ k u. subst (λ (x : ℕ). x < 2 ^ (7 * n % 8)) (sym (zero-bytes 8 (7 - k))) (pow-mono {i = 0} {j = 7 * n % 8} (omega arith));
-    is = λ k u. start (getD columns k 0) (getD (bytesOf 8 0) (7 - k) 0) (2 ^ (7 * n % 8)) (ap (λ (l : List ℕ). getD l k 0) c ∙ zero-each 8 k)
+    is = λ k u. start (getD columns k 0) (getD (bytesOf 8 0) (7 - k) 0) (2 ^ (7 * n % 8)) (ap (λ (l : List ℕ). getD l k 0) c ∙ zeros-at 8 k)
         (zero-bytes 8 (7 - k))
         ∙ behind-none n points columns c k;
   }

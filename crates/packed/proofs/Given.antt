@@ -10,16 +10,15 @@ use Rattle.residue.proofs.Congruence.{of, _then_}
 use lib.ListN.{length, getD, replicate, length-map}
 use Rattle.residue.specs.Congruence.{Mod}
 use Rattle.residue.specs.Layout.{groups, fill, inPlaces, length-fill}
-use Rattle.residue.proofs.Layouts.{fill-at, fill-zeros}
+use Rattle.residue.proofs.Layouts.{zeros-at, fill-at, fill-zeros}
 use Rattle.residue.proofs.Places.{table-groups}
-use Rattle.monomial.specs.Order.{orderOf}
 use Rattle.specification.specs.declared.settings.Settings.{Settings}
 use Rattle.specification.specs.Polynomial.{Distinct}
 use Rattle.specification.specs.Settings.{Accepted}
 use Rattle.specification.specs.Space.{Space}
 use Rattle.specification.specs.Squares.{Boolean}
 use Rattle.specification.specs.Instance.{Point, pointOf}
-use Rattle.specification.specs.Tables.{spaceUnder, pointsUnder, pointsIn}
+use Rattle.specification.specs.Tables.{orderUnder, spaceUnder, pointsUnder, pointsIn}
 use Rattle.specification.proofs.ideal.Laws.{Laws}
 use Rattle.specification.proofs.agreement.Drawings.{laws-under, distinct-points}
 use Rattle.construction.specs.Drawing.{PointsGiven, Tabled}
@@ -54,22 +53,17 @@ low-byte : (m e w : ℕ) → w < 2 ^ (m + e) → ((k : ℕ) → m ≤ k → k < 
 low-byte m zero w h f = subst (λ (x : ℕ). w < 2 ^ x) (omega arith) h
 low-byte m (suc e) w h f = low-byte m e w (halved (m + e) w (subst (λ (x : ℕ). w < 2 ^ x) (omega arith) h) (f (m + e) (omega arith) (omega arith))) (λ k u v. f k u (omega arith))
 
-zero-at : (j k : ℕ) → _≡_ {A = ℕ} (getD (replicate j 0) k 0) 0
-zero-at zero k = refl
-zero-at (suc j) zero = refl
-zero-at (suc j) (suc k) = zero-at j k
-
 none-in : (i : ℕ) → inSet i (replicate 4 0) ≢ 1
 unfolding inSet
-none-in i e = let z : _≡_ {A = ℕ} 0 1 = sym (ap (bitOf (i % 64)) (zero-at 4 (i / 64)) ∙ bit-zero (i % 64)) ∙ e in omega arith
+none-in i e = let z : _≡_ {A = ℕ} 0 1 = sym (ap (bitOf (i % 64)) (zeros-at 4 (i / 64)) ∙ bit-zero (i % 64)) ∙ e in omega arith
 
 map-map : {A B : Type 0} (φ : B → ℕ) (g : A → B) (l : List A) → columnOf φ (map g l) ≡ columnOf (λ (a : A). φ (g a)) l
 unfolding columnOf wordOf
 map-map φ g [] = refl
 map-map φ g (a ∷ l) = ap (λ (x : ℕ). x * 2 + φ (g a) % 2) (map-map φ g l)
 
-module _ (s : Settings) (n : ℕ) (points : List ℕ) (g : PointsGiven s n points) (two : s .modulus ≡ 2) (bytes multiples : List ℕ) (Q : Sequence (orderOf (s .order) (s .weights)) bytes multiples)
-    (squares before : List ℕ) (R : Squares (orderOf (s .order) (s .weights)) (s .variables) bytes squares before) where
+module _ (s : Settings) (n : ℕ) (points : List ℕ) (g : PointsGiven s n points) (two : s .modulus ≡ 2) (bytes multiples : List ℕ) (Q : Sequence (orderUnder s) bytes multiples)
+    (squares before : List ℕ) (R : Squares (orderUnder s) (s .variables) bytes squares before) where
   abbrev q : ℕ
   q = s .modulus - 1
 
@@ -92,7 +86,7 @@ module _ (s : Settings) (n : ℕ) (points : List ℕ) (g : PointsGiven s n point
   L = laws-under s ok
 
   pub B : Boolean D
-  B = boolean q m (orderOf (s .order) (s .weights)) (rw two)
+  B = boolean q m (orderUnder s) (rw two)
 
   pub distinct : Distinct D S
   distinct = distinct-points s ok K (given-points g)
@@ -107,7 +101,7 @@ module _ (s : Settings) (n : ℕ) (points : List ℕ) (g : PointsGiven s n point
   most = ok .few
 
   abbrev pub Now : List ℕ → ℕ → ℕ → ℕ → ℕ → List ℕ → List ℕ → List ℕ → List ℕ → List ℕ → List ℕ → List ℕ → List ℕ → Type 0
-  Now = Walked q m (orderOf (s .order) (s .weights)) most bytes multiples Q squares before R L B S distinct few
+  Now = Walked q m (orderUnder s) most bytes multiples Q squares before R L B S distinct few
 
   -- the columns of the variables
   pub variables-at : (variables : List ℕ) → VariableColumns n points variables → (k : ℕ) → k < m → getD variables k 0 ≡ columnOf (D .coord k) S
@@ -166,7 +160,7 @@ module _ (s : Settings) (n : ℕ) (points : List ℕ) (g : PointsGiven s n point
       values-long = refl;
       places-long = refl;
       values-at = λ w h mem. absurd mem;
-      places-at = λ k h. zero-at 8 k ∙ sym (place-none D L _ [] (λ z. z));
+      places-at = λ k h. zeros-at 8 k ∙ sym (place-none D L _ [] (λ z. z));
     };
   }
     where
@@ -202,22 +196,22 @@ module _ (s : Settings) (n : ℕ) (points : List ℕ) (g : PointsGiven s n point
     where
       basis : PackedBasis D S (W .f)
       basis = ready-ended D L B S distinct few (W .f) (W .o) (W .state .ready)
-          (none-left D L _ _ _ (Walked.O q m (orderOf (s .order) (s .weights)) most bytes multiples Q squares before R L B S distinct few) known (W .f .leads) (W .o) 0 (W .state .places) (W .state .squares) F refl)
+          (none-left D L _ _ _ (Walked.O q m (orderUnder s) most bytes multiples Q squares before R L B S distinct few) known (W .f .leads) (W .o) 0 (W .state .places) (W .state .squares) F refl)
 
 -- What the walk is lent.
 pub record Lent (s : Settings) (n : ℕ) (points bytes multiples squares before : List ℕ) : Type 0 where
   pub given : PointsGiven s n points
   pub two : s .modulus ≡ 2
-  pub sequence : Sequence (orderOf (s .order) (s .weights)) bytes multiples
-  pub squares-are : Squares (orderOf (s .order) (s .weights)) (s .variables) bytes squares before
+  pub sequence : Sequence (orderUnder s) bytes multiples
+  pub squares-are : Squares (orderUnder s) (s .variables) bytes squares before
 
 -- What holds at the head of the loop.
 pub record AtHead (s : Settings) (n : ℕ) (points bytes multiples squares before : List ℕ) (whole : ℕ) (variables : List ℕ) (known : List ℕ) (left found r pivots : ℕ)
     (values places rows columns polynomials standard leads coefficients : List ℕ) : Type 0 where
   pub given : PointsGiven s n points
   pub two : s .modulus ≡ 2
-  pub sequence : Sequence (orderOf (s .order) (s .weights)) bytes multiples
-  pub squares-are : Squares (orderOf (s .order) (s .weights)) (s .variables) bytes squares before
+  pub sequence : Sequence (orderUnder s) bytes multiples
+  pub squares-are : Squares (orderUnder s) (s .variables) bytes squares before
   pub variables-are : VariableColumns n points variables
   pub whole-is : whole ≡ 2 ^ n - 1
   pub now : Now s n points given two bytes multiples sequence squares before squares-are known left found r pivots values places rows columns polynomials standard leads coefficients

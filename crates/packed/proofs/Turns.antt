@@ -9,10 +9,10 @@ use native.Mathlib.Decide.{ℕ-discrete}
 use lib.ListN.{length, getD, set}
 use borrow.Author.Tests.{ne-eqb, leb-true, leb-false}
 use Rattle.residue.specs.Layout.{withPlace, length-fill}
-use Rattle.monomial.specs.Order.{Order, orderOf}
+use Rattle.monomial.specs.Order.{Order}
 use Rattle.specification.specs.declared.settings.Settings.{Settings}
 use Rattle.specification.specs.Space.{Space, Less}
-use Rattle.specification.specs.Tables.{spaceUnder, pointsUnder, pointsIn}
+use Rattle.specification.specs.Tables.{orderUnder, spaceUnder, pointsUnder, pointsIn}
 use Rattle.specification.specs.Instance.{Monomial}
 use Rattle.specification.specs.Squares.{square}
 use Rattle.specification.proofs.ideal.Laws.{Laws, Compares, lt, eq, gt, compared, irrefl, trans}
@@ -46,7 +46,7 @@ module _ {s : Settings} {n : ℕ} {points bytes multiples squares before : List 
     (H : AtHead s n points bytes multiples squares before whole variables known left found r pivots values places rows columns polynomials standard leads
     coefficients) where
   abbrev order : Order
-  order = orderOf (s .order) (s .weights)
+  order = orderUnder s
 
   abbrev D : Space
   D = spaceUnder s

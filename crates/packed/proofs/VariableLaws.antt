@@ -1,21 +1,17 @@
 -- The columns of the variables, gathered from the last point to the first.
 use mathlib.Core.Path.{_≡_, refl, sym, ap, ap₂, _∙_, subst}
 use mathlib.Core.List.{List, [], _∷_}
-use Prim.Native.Nat.{ℕ, zero, suc, _+_, _*_, _-_, _%_, _^_, _<_, _≤_}
+use Prim.Native.Nat.{ℕ, suc, _+_, _*_, _-_, _%_, _^_, _<_, _≤_}
 use native.Mathlib.Nat.{lt-of-lt-of-le, sub-zero}
 use native.Mathlib.Omega.{arith}
 use lib.ListN.{length, getD, take, drop, replicate, length-drop}
 use lib.Pow.{pow-mono}
 use lib.Seq.{drop-length, drop-cons}
 use Rattle.residue.specs.Layout.{groups}
+use Rattle.residue.proofs.Layouts.{zeros-at}
 use Rattle.residue.proofs.Places.{length-groups, groups-at}
 use Rattle.residue.specs.Words.{wordOf, columnOf}
 use Rattle.packed.proofs.ColumnLaws.{column-lt, column-none}
-
-pub zero-each : (j k : ℕ) → _≡_ {A = ℕ} (getD (replicate j 0) k 0) 0
-zero-each zero k = refl
-zero-each (suc j) zero = refl
-zero-each (suc j) (suc k) = zero-each j k
 
 module _ (n : ℕ) (points : List ℕ) where
   abbrev at : ℕ → List ℕ → ℕ
@@ -29,7 +25,7 @@ module _ (n : ℕ) (points : List ℕ) where
   long = length-groups 8 n points
 
   pub behind-none : (columns : List ℕ) → columns ≡ replicate 8 0 → (k : ℕ) → getD columns k 0 ≡ behind 0 k
-  behind-none columns e k = ap (λ (l : List ℕ). getD l k 0) e ∙ zero-each 8 k ∙ sym (column-none (at k)) ∙ ap (columnOf (at k)) (sym (subst (λ (i : ℕ). drop i (groups 8 n points) ≡ []) (long ∙ sym (sub-zero n)) (drop-length (groups 8 n points))))
+  behind-none columns e k = ap (λ (l : List ℕ). getD l k 0) e ∙ zeros-at 8 k ∙ sym (column-none (at k)) ∙ ap (columnOf (at k)) (sym (subst (λ (i : ℕ). drop i (groups 8 n points) ≡ []) (long ∙ sym (sub-zero n)) (drop-length (groups 8 n points))))
 
   pub behind-small : (j k : ℕ) → j < n → n ≤ 64 → behind j k < 2 ^ 63
   behind-small j k h few = lt-of-lt-of-le (column-lt (at k) (drop (n - j) (groups 8 n points))) (pow-mono (counted (length-drop (n - j) (groups 8 n points)) long))

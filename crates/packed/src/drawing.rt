@@ -21,9 +21,9 @@ use specification::settings::Settings;
 ghost use mathlib.Core.Path.{_≡_};
 ghost use lib.ListN.{length, replicate};
 ghost use Rattle.residue.specs.Sizes.{standardSize, leadsSize, coefficientsSize};
-ghost use Rattle.monomial.specs.Order.{orderOf, weighted};
+ghost use Rattle.monomial.specs.Order.{weighted};
 ghost use Rattle.specification.specs.Settings.{Accepted};
-ghost use Rattle.specification.specs.Tables.{pointsIn};
+ghost use Rattle.specification.specs.Tables.{orderUnder, pointsIn};
 ghost use Rattle.construction.specs.Drawing.{PointsGiven, Tabled};
 ghost use Rattle.packed.specs.Sequences.{Sequence, Squares};
 
@@ -42,8 +42,8 @@ fn walk(
     coefficients: &mut [u8],
 ) -> usize
     requires { ⌜ PointsGiven settings n (now points) × (settings .modulus ≡ 2) ⌝ }
-    requires { ⌜ Sequence (orderOf (settings .order) (settings .weights)) (now bytes) (now multiples) ⌝ }
-    requires { ⌜ Squares (orderOf (settings .order) (settings .weights)) (settings .variables) (now bytes) (now squares) (now before) ⌝ }
+    requires { ⌜ Sequence (orderUnder settings) (now bytes) (now multiples) ⌝ }
+    requires { ⌜ Squares (orderUnder settings) (settings .variables) (now bytes) (now squares) (now before) ⌝ }
     requires { ⌜ (now standard ≡ replicate standardSize 0) × ((now leads ≡ replicate leadsSize 0) × (now coefficients ≡ replicate coefficientsSize 0)) ⌝ }
     ensures { λ r. ⌜ Tabled settings (pointsIn settings n (now (points .entry))) r (now (standard .exit)) (now (leads .exit)) (now (coefficients .exit)) ⌝ }
 {

@@ -2,7 +2,7 @@
 use Prim.Native.Nat.{_+_, _*_, _-_}
 use native.Mathlib.Omega.{arith}
 use Rattle.residue.proofs.Replaced.{put-whole}
-use Rattle.packed.proofs.WritingLaws.{bytes-length}
+use Rattle.residue.proofs.Words.{bytes-length}
 use borrow.Author.Needs.{needs}
 use Rattle.packed.proofs.writing.keep_eight.Statement.{statement}
 use Rattle.packed.proofs.writing.keep_eight.Tie as tie

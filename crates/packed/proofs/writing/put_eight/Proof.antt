@@ -2,7 +2,8 @@
 use mathlib.Core.Path.{_∙_}
 use native.Mathlib.Omega.{arith}
 use lib.ListN.{length-set}
-use Rattle.packed.proofs.WritingLaws.{eight-set, eight-bytes}
+use Rattle.residue.proofs.Words.{eight-bytes}
+use Rattle.packed.proofs.WritingLaws.{eight-set}
 use borrow.Author.Needs.{needs}
 use Rattle.packed.proofs.writing.put_eight.Statement.{statement}
 use Rattle.packed.proofs.writing.put_eight.Tie as tie
