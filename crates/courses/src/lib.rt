@@ -1,0 +1,1 @@
+// Time courses, as records that have been read: their moves, the model and its run.
