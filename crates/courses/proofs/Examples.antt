@@ -16,7 +16,7 @@ use Rattle.specification.specs.Counted.{placeIn, entered, enteredAll, gathered}
 use Rattle.specification.specs.Extension.{slot, minus, without, divided, extended, gap, first, newton, grow}
 use Rattle.specification.specs.BasisOf.{basisOf, valueAt}
 use Rattle.specification.specs.Instance.{monomialOf, pointOf}
-use Rattle.courses.specs.TimeCourse.{Timed, inRuns, courseOf, movesFrom, movesOf, pointsOfMoves, firstMove, otherNext, manyPoints, oftenCounted, courseCases, courseRefusal, successorOf, geneOf, genesOf, valueOf, step, times, returnAt, runFrom, returnOf, courseReturn}
+use Rattle.courses.specs.TimeCourse.{Timed, inRuns, courseOf, movesFrom, movesOf, pointsOfMoves, firstMove, otherNext, manyPoints, oftenCounted, movesCases, courseCases, courseRefusal, successorOf, geneOf, genesOf, valueOf, step, times, returnAt, runFrom, returnOf, courseReturn}
 
 abbrev lexFive : Settings
 lexFive = record { modulus = 5; variables = 1; order = 0; weights = noWeights }
@@ -51,5 +51,5 @@ unfolding inRuns
 returning = (refl, refl)
 
 refusals : (courseRefusal 7 (at 0 7 ∷ at 1 7 ∷ at 2 7 ∷ at 1 8 ∷ at 3 8 ∷ at 1 9 ∷ at 1 9 ∷ []) ≡ (17, 5)) × (courseRefusal 6 l ≡ (18, 0)) × (courseRefusal 9 l ≡ (0, 0))
-unfolding courseRefusal courseCases movesOf movesFrom firstMove otherNext manyPoints oftenCounted pointsOfMoves gathered enteredAll entered firstOf sameList
+unfolding courseRefusal courseCases movesCases movesOf movesFrom firstMove otherNext manyPoints oftenCounted pointsOfMoves gathered enteredAll entered firstOf sameList
 refusals = (refl, refl, refl)

@@ -2,3 +2,4 @@
 pub mod TimeCourse
 pub mod Returns
 pub mod Records
+pub mod Moves

@@ -74,10 +74,15 @@ unfoldable pub oftenCounted : List Move → Move → Bool
 oftenCounted seen a = some (ltb 255) (countsOf (pointsOfMoves (seen ++ (a ∷ []))))
 
 -- a case with its number and record: 17, 8, 13, and 18 of a course that no record names, with record 0
+abbrev pub moveCase : ℕ → ℕ → Bool × (ℕ × ℕ)
+moveCase number at = (not (eqb at 0), (number, at))
+
+unfoldable pub movesCases : List Move → List (Bool × (ℕ × ℕ))
+movesCases ms =
+    moveCase 17 (firstMove otherNext [] ms) ∷ moveCase 8 (firstMove manyPoints [] ms) ∷ moveCase 13 (firstMove oftenCounted [] ms) ∷ []
+
 unfoldable pub courseCases : ℕ → List Timed → List (Bool × (ℕ × ℕ))
-courseCases c l = let ms = movesOf l in
-    let other = firstMove otherNext [] ms in let many = firstMove manyPoints [] ms in let often = firstMove oftenCounted [] ms in
-    (not (eqb other 0), (17, other)) ∷ (not (eqb many 0), (8, many)) ∷ (not (eqb often 0), (13, often)) ∷ (not (some (λ a. eqb (a .1) c) l), (18, 0)) ∷ []
+courseCases c l = movesCases (movesOf l) ++ ((not (some (λ a. eqb (a .1) c) l), (18, 0)) ∷ [])
 
 unfoldable pub courseRefusal : ℕ → List Timed → ℕ × ℕ
 courseRefusal c l = firstOf (0, 0) (courseCases c l)

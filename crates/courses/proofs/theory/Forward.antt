@@ -19,7 +19,7 @@ use Rattle.specification.proofs.ideal.Lists.{among-map}
 use Rattle.specification.specs.Points.{IsPoint}
 use Rattle.specification.specs.Settings.{Accepted}
 use Rattle.specification.proofs.counted.Gathered.{Entries, entries-gathered}
-use Rattle.courses.specs.TimeCourse.{Timed, inRuns, courseOf, Move, move, movesFrom, movesOf, statesOf, pointsOfMoves, firstMove, otherNext, manyPoints, oftenCounted, courseCases, courseRefusal, step, times, courseReturn, courseSheet}
+use Rattle.courses.specs.TimeCourse.{Timed, inRuns, courseOf, Move, move, movesFrom, movesOf, statesOf, pointsOfMoves, firstMove, otherNext, manyPoints, oftenCounted, movesCases, courseCases, courseRefusal, step, times, courseReturn, courseSheet}
 use Rattle.courses.specs.Returns.{Ends}
 use Rattle.specification.proofs.Sheets.{holds-basis}
 use Rattle.courses.proofs.theory.Runs.{run-ends}
@@ -74,7 +74,7 @@ pub record Passes (c : ℕ) (l : List Timed) : Type 0 where
   pub named : some (λ a. eqb (a .1) c) l ≡ true
 
 pub passes : (c : ℕ) (l : List Timed) → courseRefusal c l .0 ≡ 0 → Passes c l
-unfolding courseRefusal courseCases firstOf
+unfolding courseRefusal courseCases movesCases firstOf
 passes c l e = go _ _ _ _ refl refl refl refl e
   where
     zero-of : (n : ℕ) → not (eqb n 0) ≡ false → n ≡ 0

@@ -91,7 +91,7 @@ faultless f seen (a ∷ l) h e = go (f seen a) refl e (λ z. faultless f (seen +
     go false g z rec = (g, rec z)
 
 -- Without 17: what stands before a move with its state has its successor.
-one-next : (seen : List Move) (a : Move) → otherNext seen a ≡ false → (b : Move) → Among b seen → b .state ≡ a .state → b .next ≡ a .next
+pub one-next : (seen : List Move) (a : Move) → otherNext seen a ≡ false → (b : Move) → Among b seen → b .state ≡ a .state → b .next ≡ a .next
 unfolding otherNext
 one-next (x ∷ seen) a e b (inl u) same = go (lists-told (x .state) (a .state)) (lists-told (x .next) (a .next)) (neither _ (otherNext seen a) e .0)
   where
