@@ -1,6 +1,6 @@
 -- Records as the code holds them, in two tables: each state in 8 bytes, and its course number.
 use mathlib.Core.Path.{_≡_}
-use mathlib.Core.List.{List, map, zip}
+use mathlib.Core.List.{List, map}
 use Prim.Native.Nat.{ℕ, _≤_}
 use lib.ListN.{length, take}
 use Rattle.residue.specs.Lists.{Among}
@@ -26,12 +26,9 @@ pub record RecordedAs (l : List Timed) (records numbers : List ℕ) : Type 0 whe
   pub states : records ≡ recordTable l
   pub courses : numbers ≡ numberTable l
 
--- the first records of two tables, states of m numbers
-unfoldable pub timedIn : ℕ → ℕ → List ℕ → List ℕ → List Timed
-timedIn m count records numbers = zip (map (take m) (groups 8 count records)) (take count numbers)
-
--- records of m numbers each, at most 8, in two tables
+-- Two tables begin with these records, whose states have m numbers. What stands behind them is not said.
 pub record HeldIn (m : ℕ) (l : List Timed) (records numbers : List ℕ) : Type 0 where
   pub fits : m ≤ 8
-  pub held : RecordedAs l records numbers
-  pub long : (P : List ℕ) → Among P (map (λ a. a .0) l) → length P ≡ m
+  pub long : (a : Timed) → Among a l → length (a .0) ≡ m
+  pub states : groups 8 (length l) records ≡ map (λ a. fill 8 (a .0)) l
+  pub courses : take (length l) numbers ≡ map (λ a. a .1) l

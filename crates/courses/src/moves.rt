@@ -12,7 +12,7 @@ ghost use Rattle.residue.specs.Sizes.{mostPoints, statesSize, countsSize};
 ghost use Rattle.residue.specs.Lists.{sameList};
 ghost use Rattle.residue.specs.Layout.{rowAt};
 ghost use Rattle.courses.specs.TimeCourse.{Timed, movesOf, firstMove, otherNext};
-ghost use Rattle.courses.specs.Records.{mostRecords, recordsSize, RecordedAs, timedIn, HeldIn};
+ghost use Rattle.courses.specs.Records.{mostRecords, recordsSize, HeldIn};
 ghost use Rattle.courses.specs.Moves.{hasNext, moveAt, movesBefore, nextIn, otherIn, manyAnswer, MovesGathered, placeOfCourse};
 
 // Whether record i has a successor: there is a next one, of its course.
@@ -164,7 +164,6 @@ fn too_many(count: usize, i: usize, records: &[u8], numbers: &[u8]) -> Gathered
 // The distinct states with a successor of records, in tables of zeros, with their counts and a record for each, or the refusal that comes first. A state that
 // stands with another successor is met at the first such record, unless the 65th point comes before it; 13 waits until all records have been seen.
 pub fn gather_moves(
-    variables: usize,
     count: usize,
     records: &[u8],
     numbers: &[u8],
@@ -172,11 +171,10 @@ pub fn gather_moves(
     counts: &mut [u8],
     firsts: &mut [u16],
 ) -> Gathered
-    requires { ⌜ (variables ≤ 8) × (count ≤ mostRecords)
-        × RecordedAs (timedIn variables count (now records) (now numbers)) (now records) (now numbers) ⌝ }
+    requires { ⌜ (count ≤ mostRecords) × (length (now records) ≡ recordsSize) × (length (now numbers) ≡ mostRecords) ⌝ }
     requires { ⌜ (now points ≡ replicate statesSize 0) × (now counts ≡ replicate countsSize 0) × (length (now firsts) ≡ mostPoints) ⌝ }
-    ensures { λ g. ⌜ MovesGathered (timedIn variables count (now (records .entry)) (now (numbers .entry))) (now (records .entry)) g
-        (now (points .exit)) (now (counts .exit)) (now (firsts .exit)) ⌝ }
+    ensures { λ g. ⌜ ((m : ℕ) (l : List Timed) → HeldIn m l (now (records .entry)) (now (numbers .entry)) → length l ≡ count
+        → MovesGathered l (now (records .entry)) g (now (points .exit)) (now (counts .exit)) (now (firsts .exit))) ⌝ }
 {
     let mut hints = [0u8; HINTS];
     let mut n = 0;

@@ -1,5 +1,5 @@
 -- Where a course begins: the search along the numbers, and what its place says of the records.
-use mathlib.Core.Path.{_≡_, refl, sym, _∙_, ap}
+use mathlib.Core.Path.{_≡_, refl, sym, _∙_, ap, ap₂}
 use mathlib.Core.Bool.{Bool, true, false, cond, _||_}
 use mathlib.Core.List.{List, [], _∷_, map}
 use Prim.Native.Nat.{ℕ, zero, suc, _+_, _<_, _≤_}
@@ -10,8 +10,11 @@ use lib.Seq.{drop-cons, getD-take, length-take-le}
 use lib.Dec.{eqb, ltb, leb·suc-suc}
 use borrow.Author.Tests.{lt-ltb, eq-eqb, ne-eqb}
 use Rattle.residue.specs.Lists.{some}
+use Rattle.residue.specs.Layout.{fill, rowAt}
 use Rattle.courses.specs.TimeCourse.{Timed, courseOf}
+use Rattle.courses.specs.Records.{HeldIn}
 use Rattle.courses.specs.Moves.{stateAt, placeOfCourse}
+use Rattle.courses.proofs.moves.HeldRecords.{row-is}
 
 pub course-start : (c : ℕ) (l : List ℕ) → 0 + placeOfCourse c (drop 0 l) ≡ placeOfCourse c l
 course-start c l = omega arith
@@ -56,3 +59,17 @@ course-first c (a ∷ l) h = go (eqb (a .1) c) h (course-first c l)
         → getD (cond b (a .0 ∷ courseOf c l) (courseOf c l)) 0 [] ≡ stateAt (cond b 0 (suc (placeOfCourse c (map (λ d. d .1) l)))) (a ∷ l)
     go true k f = refl
     go false k f = f (omega arith)
+
+-- What the search along the numbers of a table answers of the records that stand there.
+module _ {m count : ℕ} {l : List Timed} {records numbers : List ℕ} (h : HeldIn m l records numbers) (all : length l ≡ count) (c r : ℕ)
+    (e : r ≡ placeOfCourse c (take count numbers)) where
+  place : r ≡ placeOfCourse c (map (λ a. a .1) l)
+  place = e ∙ ap (placeOfCourse c) (ap (λ (k : ℕ). take k numbers) (sym all) ∙ h .courses)
+
+  pub found-named : some (λ a. eqb (a .1) c) l ≡ ltb r count
+  found-named = course-named c l ∙ ap₂ ltb (sym place) all
+
+  pub found-first : r < count → rowAt 8 r records ≡ fill 8 (getD (courseOf c l) 0 [])
+  found-first low =
+      row-is h r (omega (arith, low, all))
+      ∙ ap (fill 8) (ap (λ (k : ℕ). stateAt k l) place ∙ sym (course-first c l (omega (arith, place, low, all))))

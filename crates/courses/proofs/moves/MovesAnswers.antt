@@ -1,16 +1,18 @@
 -- The answer of gathering: which of 17, 8 and 13 comes first.
 use mathlib.Core.Path.{_≡_, refl, sym, ap, _∙_, subst}
-use mathlib.Core.Bool.{Bool, not, cond}
+use mathlib.Core.Bool.{Bool, true, false, not, cond}
 use mathlib.Core.List.{List, [], _∷_}
 use Prim.Native.Nat.{ℕ, _+_, _≤_}
 use native.Mathlib.Decide.{ℕ-discrete}
 use native.Mathlib.Omega.{arith}
 use lib.ListN.{length}
+use lib.Dec.{eqb}
 use borrow.Author.Tests.{eq-eqb, ne-eqb}
+use Rattle.residue.specs.Lists.{some}
 use Rattle.specification.specs.Refusal.{firstOf}
 use Rattle.specification.proofs.counted.Saturated.{beyond}
 use Rattle.points.proofs.gathering.Gathering.{Holds, held-as}
-use Rattle.courses.specs.TimeCourse.{Timed, Move, movesOf, pointsOfMoves, firstMove, otherNext, manyPoints, oftenCounted, moveCase, movesCases}
+use Rattle.courses.specs.TimeCourse.{Timed, Move, movesOf, pointsOfMoves, firstMove, otherNext, manyPoints, oftenCounted, moveCase, movesCases, courseCases, courseRefusal}
 use Rattle.courses.specs.Moves.{manyAnswer, MovesGathered}
 use Rattle.courses.specs.declared.moves.Gathered.{Gathered}
 use Rattle.courses.proofs.moves.FirstMoves.{never-many}
@@ -98,3 +100,22 @@ module _ (l : List Timed) where
       tabled = λ y. held-as (subst (λ (k : ℕ). Holds m (pointsOfMoves ms) k points counts (beyond (pointsOfMoves ms))) (sym (ap (λ (x : Gathered). x .n) e)) (h .holds)) refl;
       kept = λ y. h .kept;
     }
+
+-- The refusal of records: that of their moves, and 18 behind it.
+pub course-told : (c : ℕ) (l : List Timed) (k at : ℕ) → (k, at) ≡ firstOf (0, 0) (movesCases (movesOf l))
+    → courseRefusal c l ≡ cond (eqb k 0) (cond (some (λ a. eqb (a .1) c) l) (0, 0) (18, 0)) (k, at)
+unfolding courseRefusal courseCases movesCases firstOf
+course-told c l k at =
+    go (eqb (firstMove otherNext [] (movesOf l)) 0) (eqb (firstMove manyPoints [] (movesOf l)) 0) (eqb (firstMove oftenCounted [] (movesOf l)) 0)
+    (some (λ a. eqb (a .1) c) l) _ _ _
+  where
+    last : (b : Bool) → cond {A = ℕ × ℕ} (not b) (18, 0) (0, 0) ≡ cond b (0, 0) (18, 0)
+    last true = refl
+    last false = refl
+
+    go : (x y z b : Bool) (u v w : ℕ) → _≡_ {A = ℕ × ℕ} (k, at) (cond (not x) (17, u) (cond (not y) (8, v) (cond (not z) (13, w) (0, 0))))
+        → cond {A = ℕ × ℕ} (not x) (17, u) (cond (not y) (8, v) (cond (not z) (13, w) (cond (not b) (18, 0) (0, 0)))) ≡ cond (eqb k 0) (cond b (0, 0) (18, 0)) (k, at)
+    go false y z b u v w e = rw (ap (λ (q : ℕ × ℕ). q .0) e, ap (λ (q : ℕ × ℕ). q .1) e) refl
+    go true false z b u v w e = rw (ap (λ (q : ℕ × ℕ). q .0) e, ap (λ (q : ℕ × ℕ). q .1) e) refl
+    go true true false b u v w e = rw (ap (λ (q : ℕ × ℕ). q .0) e, ap (λ (q : ℕ × ℕ). q .1) e) refl
+    go true true true b u v w e = rw (ap (λ (q : ℕ × ℕ). q .0) e) (last b)

@@ -116,9 +116,6 @@ module _ {m : ℕ} (fits : m ≤ 8) {ms : List Move} (numbered : Numbered ms) {c
         let l : length (pointsOfMoves (ms ++ (a ∷ []))) ≡ suc (length L) = ap length (points-more ms a ∙ entered-new P L new) ∙ length-append L ((P, 1) ∷ []) ∙ omega arith in
         lt-ltb 64 (length (pointsOfMoves (ms ++ (a ∷ [])))) (omega (arith, l, g .holds .count, at-most, z))
 
-    pub place-below : (at ≡ 64 → ⊥) → at < 64
-    place-below room = omega (arith, at-most, g .holds .few, room)
-
     -- a record is kept with a point that is there
     pub kept-there : at < n → suc (getD firsts at 0) < count
     kept-there l = g .kept .behind at (omega (arith, l, g .holds .count))

@@ -8,30 +8,20 @@ use lib.ListN.{length, getD, set, take, drop, replicate}
 use lib.Dec.{eqb}
 use borrow.Author.Tests.{not-false}
 use Rattle.residue.specs.Lists.{sameList}
-use Rattle.residue.specs.Layout.{fill, rowAt, length-fill}
+use Rattle.residue.specs.Layout.{fill, rowAt}
 use Rattle.points.specs.Gathering.{EnteredAs}
 use Rattle.courses.specs.TimeCourse.{Timed, Move, movesOf, firstMove, otherNext, manyPoints}
-use Rattle.courses.specs.Records.{RecordedAs, timedIn, HeldIn}
+use Rattle.courses.specs.Records.{HeldIn}
 use Rattle.courses.specs.Moves.{stateAt, hasNext, moveAt, movesBefore, nextIn, manyAnswer, MovesGathered}
 use Rattle.courses.specs.declared.moves.Gathered.{Gathered}
 use Rattle.courses.proofs.moves.MovesBefore.{before-next, before-same, before-none, before-all, before-at}
 use Rattle.courses.proofs.moves.FirstMoves.{never-many}
-use Rattle.courses.proofs.moves.HeldRecords.{row-is, state-long, next-known, next-below, timed-many, timed-held}
+use Rattle.courses.proofs.moves.HeldRecords.{row-is, state-long, next-known, next-below}
 use Rattle.courses.proofs.moves.OtherRecords.{fault-here}
-use Rattle.courses.proofs.moves.MovesGathered.{Gathering, no-moves, at-most, many-here, place-below, kept-there, told, turn}
+use Rattle.courses.proofs.moves.MovesGathered.{Gathering, no-moves, at-most, many-here, kept-there, told, turn}
 use Rattle.courses.proofs.moves.MovesAnswers.{other-refused, many-refused, often-refused, all-gathered}
 
-module _ {m count : ℕ} {records numbers : List ℕ}
-    (p : (m ≤ 8) × (count ≤ 4096) × RecordedAs (timedIn m count records numbers) records numbers) where
-  abbrev l : List Timed
-  l = timedIn m count records numbers
-
-  held : HeldIn m l records numbers
-  held = timed-held (p .0) (p .1) (p .2)
-
-  many : length l ≡ count
-  many = timed-many (p .0) (p .1) (p .2)
-
+module _ {m count : ℕ} {l : List Timed} {records numbers : List ℕ} (held : HeldIn m l records numbers) (many : length l ≡ count) where
   -- the moves of the first i records are gathered
   abbrev pub Upto : ℕ → ℕ → ℕ → List ℕ → List ℕ → List ℕ → List ℕ → Type 0
   Upto i n often points counts firsts hints = Gathering m (movesBefore i l) (length l) records n often points counts firsts hints
@@ -64,17 +54,11 @@ module _ {m count : ℕ} {records numbers : List ℕ}
         low : suc i < length l
         low = next-below i l next
 
-        pub next-small : i + 1 < count
-        next-small = omega (arith, low, many)
-
         abbrev state : List ℕ
         state = take (8 * i + 8 - 8 * i) (drop (8 * i) records)
 
         state-is : state ≡ fill 8 (stateAt i l)
         state-is = let width : 8 * i + 8 - 8 * i ≡ 8 = omega arith in ap (λ (k : ℕ). take k (drop (8 * i) records)) width ∙ row-is held i (omega (arith, low))
-
-        pub state-eight : length state ≡ 8
-        state-eight = ap length state-is ∙ length-fill 8 (stateAt i l)
 
         own : length (stateAt i l) ≡ m
         own = state-long held i (omega (arith, low))
@@ -84,21 +68,18 @@ module _ {m count : ℕ} {records numbers : List ℕ}
           entering = subst (λ (x : List ℕ). EnteredAs n x points counts hints at hit table bytes noted) state-is e
 
           pub turn-place : at ≤ n
-          turn-place = at-most (p .0) (before-at i l) g (moveAt i l) own entering
+          turn-place = at-most (held .fits) (before-at i l) g (moveAt i l) own entering
 
-          pub turn-below : (at ≡ 64 → ⊥) → at < 64
-          turn-below = place-below (p .0) (before-at i l) g (moveAt i l) own entering
-
-          pub turn-kept : at < n → suc (getD firsts at 0) < 4096
-          turn-kept h = omega (arith, kept-there (p .0) (before-at i l) g (moveAt i l) own entering h, many, p .1)
+          pub turn-kept : at < n → suc (getD firsts at 0) < count
+          turn-kept h = omega (arith, kept-there (held .fits) (before-at i l) g (moveAt i l) own entering h, many)
 
           -- its state is the 65th point
-          pub turn-full : at ≡ 64 → {a : Gathered} → ((k : ℕ) (s : List Timed) → HeldIn k s records numbers → length s ≡ count → a ≡ manyAnswer (firstMove otherNext [] (movesOf s)) i)
+          pub turn-full : at ≡ 64 → {a : Gathered} → a ≡ manyAnswer (firstMove otherNext [] (movesOf l)) i
               → (points₂ counts₂ firsts₂ : List ℕ) → MovesGathered l records a points₂ counts₂ firsts₂
           turn-full z {a} f points₂ counts₂ firsts₂ =
+              let none = never-many [] (movesBefore i l) (omega (arith, g .holds .count, g .holds .few)) in
               many-refused l records a points₂ counts₂ firsts₂ i
-              (fault-here manyPoints i l (never-many [] (movesBefore i l) (omega (arith, g .holds .count, g .holds .few))) next (many-here (p .0) (before-at i l) g (moveAt i l) own entering z))
-              (f m l held many)
+              (fault-here manyPoints i l none next (many-here (held .fits) (before-at i l) g (moveAt i l) own entering z)) f
 
           module _ {same : Bool} (fs : same ≡ (eqb at n || sameList (rowAt 8 (suc (getD firsts at 0)) records) (rowAt 8 (suc i) records))) where
             -- it has another successor
@@ -106,7 +87,7 @@ module _ {m count : ℕ} {records numbers : List ℕ}
                 → (points₂ counts₂ firsts₂ : List ℕ) → MovesGathered l records a points₂ counts₂ firsts₂
             turn-other z {a} f points₂ counts₂ firsts₂ =
                 let met = not-false (otherNext (movesBefore i l) (moveAt i l))
-                (sym (told (p .0) (before-at i l) g (moveAt i l) own entering i (row-is held (suc i) low) (state-long held (suc i) low) fs) ∙ z) in
+                (sym (told (held .fits) (before-at i l) g (moveAt i l) own entering i (row-is held (suc i) low) (state-long held (suc i) low) fs) ∙ z) in
                 other-refused l records a points₂ counts₂ firsts₂ i (fault-here otherNext i l (g .same) next met) f
 
             pub turn-on : (at ≡ 64 → ⊥) → same ≡ true → {n₂ often₂ : ℕ} {firsts₂ : List ℕ} → n₂ ≡ cond (eqb at n) (suc n) n
@@ -114,4 +95,4 @@ module _ {m count : ℕ} {records numbers : List ℕ}
                 → Upto (i + 1) n₂ often₂ table bytes firsts₂ noted
             turn-on room z fn fv fo =
                 rw (before-next i l next)
-                (turn (p .0) (before-at i l) g (moveAt i l) own entering i (row-is held (suc i) low) (state-long held (suc i) low) fs room low refl z fn fv fo)
+                (turn (held .fits) (before-at i l) g (moveAt i l) own entering i (row-is held (suc i) low) (state-long held (suc i) low) fs room low refl z fn fv fo)

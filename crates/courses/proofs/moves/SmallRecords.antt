@@ -1,4 +1,5 @@
 -- Small numbers of records.
+use mathlib.Core.Path.{_≡_}
 use Prim.Native.Nat.{ℕ, _+_, _-_, _^_, _<_, _≤_}
 use native.Mathlib.Omega.{arith}
 
@@ -13,3 +14,6 @@ one-less a = omega arith
 
 pub fits-64 : {i n : ℕ} → i < n → n ≤ 4096 → i + 1 < 2 ^ 64
 fits-64 a b = omega arith
+
+pub not-64 : {at n : ℕ} → at ≤ n → n ≤ 64 → (at ≡ 64 → ⊥) → at < 64
+not-64 a b c = omega (arith, a, b, c)

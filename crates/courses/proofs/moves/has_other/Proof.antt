@@ -33,7 +33,7 @@ returns c =
 loop-holds : tie.Need-loop-holds Inv-loop μ-loop
 loop-holds c =
     let a = c .before .before .before .before .args in
-    let met = not-false _ (c .if1 .left) in (
+    let met : c .before .has-next .result ≡ true = not-false _ (c .if1 .left) in (
       omega arith,
       next-inside (a .i) (a .count) (a .numbers .now) (sym (c .before .has-next .ensures) ∙ met),
       λ m l h e. (next-known h e (a .i) (c .before .has-next .ensures) ∙ met, no-other-yet l (moveAt (a .i) l)),
