@@ -1,8 +1,8 @@
 -- M-111 computed: small courses modulo 5 in one variable, under lex.
 use mathlib.Core.Path.{_≡_, refl}
 use mathlib.Core.List.{List, [], _∷_}
-use Prim.Native.Nat.{ℕ}
 use mathlib.Core.Bool.{true, false}
+use Prim.Native.Nat.{ℕ}
 use Rattle.residue.specs.Modulus.{primes, isOneOf, isModulus}
 use Rattle.residue.specs.Lists.{sameList}
 use Rattle.residue.specs.Layout.{fill}

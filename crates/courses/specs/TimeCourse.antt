@@ -7,6 +7,7 @@ use lib.Dec.{eqb, ltb}
 use Rattle.residue.specs.Lists.{some, sameList}
 use Rattle.residue.specs.Layout.{fill, inPlaces, over}
 use Rattle.specification.specs.declared.settings.Settings.{Settings}
+use Rattle.courses.specs.declared.run.Return.{Return}
 use Rattle.specification.specs.Refusal.{firstOf}
 use Rattle.specification.specs.Levels.{isAmong}
 use Rattle.specification.specs.Counted.{Counted, pointsOf, countsOf, gathered, placeIn}
@@ -114,10 +115,6 @@ times zero f P = P
 times (suc k) f P = f (times k f P)
 
 -- 'that step with the distance back to the earlier visit, or that none came': 0 and 0
-pub record Return : Type 0 where
-  pub step : ℕ
-  pub back : ℕ
-
 abbrev pub returnAt : ℕ → ℕ → Return
 returnAt k d = record { step = k; back = d }
 

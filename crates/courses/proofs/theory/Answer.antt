@@ -7,8 +7,7 @@ use native.Mathlib.Decide.{ℕ-discrete}
 use native.Mathlib.Omega.{arith}
 use lib.ListN.{length, getD, take, drop, replicate, length-map, length-append}
 use lib.Seq.{drop-at}
-use Rattle.residue.specs.Layout.{fill, inPlaces, over}
-use Rattle.residue.specs.Layout.{length-fill}
+use Rattle.residue.specs.Layout.{fill, inPlaces, over, length-fill}
 use Rattle.residue.proofs.Layouts.{length-places, table-split, take-over}
 use Rattle.residue.proofs.Places.{place-at}
 use Rattle.residue.proofs.level.Moduli.{modulus-range}

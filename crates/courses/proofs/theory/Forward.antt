@@ -15,13 +15,13 @@ use Rattle.specification.specs.Counted.{countsOf, enteredAll, gathered, overful
 use Rattle.specification.specs.Tables.{Tables}
 use Rattle.specification.specs.Adding.{holding}
 use Rattle.specification.specs.CallByCall.{HoldsBasis}
-use Rattle.specification.proofs.ideal.Lists.{among-map}
 use Rattle.specification.specs.Points.{IsPoint}
 use Rattle.specification.specs.Settings.{Accepted}
+use Rattle.specification.proofs.ideal.Lists.{among-map}
 use Rattle.specification.proofs.counted.Gathered.{Entries, entries-gathered}
+use Rattle.specification.proofs.Sheets.{holds-basis}
 use Rattle.courses.specs.TimeCourse.{Timed, inRuns, courseOf, Move, move, movesFrom, movesOf, statesOf, pointsOfMoves, firstMove, otherNext, manyPoints, oftenCounted, movesCases, courseCases, courseRefusal, step, times, courseReturn, courseSheet}
 use Rattle.courses.specs.Returns.{Ends}
-use Rattle.specification.proofs.Sheets.{holds-basis}
 use Rattle.courses.proofs.theory.Runs.{run-ends}
 use Rattle.courses.proofs.theory.Moves.{course-moves, moves-at, Faultless, faultless, next-is}
 use Rattle.courses.proofs.theory.Model.{state-in, step-is}

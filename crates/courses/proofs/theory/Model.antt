@@ -17,12 +17,12 @@ use Rattle.specification.specs.BasisOf.{valueAt}
 use Rattle.specification.specs.Instance.{Point, reduced, pointOf}
 use Rattle.specification.specs.Counted.{pointsOf}
 use Rattle.specification.specs.Tables.{spaceUnder, pointsUnder, standardUnder}
+use Rattle.specification.specs.Points.{IsPoint}
+use Rattle.specification.specs.Settings.{Accepted}
 use Rattle.specification.proofs.ideal.Laws.{point-told}
 use Rattle.specification.proofs.ideal.Lists.{among-map, map-among}
 use Rattle.specification.proofs.ideal.Basis.{interpolant-fits, interpolant-only}
-use Rattle.specification.specs.Points.{IsPoint}
 use Rattle.specification.proofs.agreement.Points.{point-same}
-use Rattle.specification.specs.Settings.{Accepted}
 use Rattle.specification.proofs.agreement.Drawings.{laws-under, among-under, distinct-under}
 use Rattle.specification.proofs.counted.Gathered.{among-gathered, once-gathered}
 use Rattle.courses.specs.TimeCourse.{Move, statesOf, pointsOfMoves, successorOf, geneOf, genesOf, valueOf, step}

@@ -9,8 +9,8 @@ use lib.ListN.{length, getD}
 use Rattle.residue.specs.Lists.{Among}
 use Rattle.residue.proofs.Tests.{Decides, so, not-so}
 use Rattle.specification.proofs.needed.Decided.{equal-told, lists-told}
-use Rattle.courses.specs.TimeCourse.{Timed, Move, move, movesFrom, firstMove, otherNext}
 use Rattle.specification.proofs.leaving.Repeated.{append-in}
+use Rattle.courses.specs.TimeCourse.{Timed, Move, move, movesFrom, firstMove, otherNext}
 use Rattle.courses.proofs.theory.Moves.{Faultless, faultless, same-next}
 
 -- Record i of the list, from 0, has a successor: it is a move, whose number is the record's own.
