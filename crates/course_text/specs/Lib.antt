@@ -1,0 +1,4 @@
+-- The definitions of the crate course_text. A reader of the call needs Form and Outcome, over TimeCourse of courses; Reading has the inner functions' answers.
+pub mod Form
+pub mod Outcome
+pub mod Reading
