@@ -43,7 +43,8 @@ otherIn i j count records numbers =
 -- For each point a record whose successor is the point's: a number at the point's place, which is one less than the successor's.
 pub record FirstsOf (ms : List Move) (count : ℕ) (records firsts : List ℕ) : Type 0 where
   pub behind : (j : ℕ) → j < length (pointsOfMoves ms) → suc (getD firsts j 0) < count
-  pub next : (j : ℕ) → j < length (pointsOfMoves ms) → rowAt 8 (suc (getD firsts j 0)) records ≡ fill 8 (successorOf (getD (pointsOf (pointsOfMoves ms)) j []) ms)
+  pub next : (j : ℕ) → j < length (pointsOfMoves ms)
+      → rowAt 8 (suc (getD firsts j 0)) records ≡ fill 8 (successorOf (getD (pointsOf (pointsOfMoves ms)) j []) ms)
 
 -- What gathering answers and leaves: 17, 8, 13 or 0 with its record, and where it is 0 the points with their counts and a record for each.
 pub record MovesGathered (l : List Timed) (records : List ℕ) (g : Gathered) (points counts firsts : List ℕ) : Type 0 where

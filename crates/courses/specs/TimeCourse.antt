@@ -59,7 +59,7 @@ statesOf ms = map (λ a. a .state) ms
 unfoldable pub pointsOfMoves : List Move → Counted
 pointsOfMoves ms = gathered (statesOf ms)
 
--- Refusals, each looked for over the whole text: the record, which 'is the point's own', of the first move that has a fault by those before it; 0 where none has.
+-- Refusals, each looked for over the whole text: the record, which 'is the point's own', of the first move that has a fault by those before it, or 0.
 unfoldable pub firstMove : (List Move → Move → Bool) → List Move → List Move → ℕ
 firstMove f seen [] = 0
 firstMove f seen (a ∷ l) = cond (f seen a) (a .at) (firstMove f (seen ++ (a ∷ [])) l)
@@ -118,8 +118,8 @@ times (suc k) f P = f (times k f P)
 abbrev pub returnAt : ℕ → ℕ → Return
 returnAt k d = record { step = k; back = d }
 
--- The run: `left` steps are left, k are made, the state is P, and `earlier` are those met before it, the latest first. It 'stops at the first that gives a state
--- met before'.
+-- The run: `left` steps are left, k are made, the state is P, and `earlier` are those met before it, the latest first. It
+-- 'stops at the first that gives a state met before'.
 unfoldable pub runFrom : (List ℕ → List ℕ) → ℕ → ℕ → List ℕ → List (List ℕ) → Return
 runFrom f zero k P earlier = returnAt 0 0
 runFrom f (suc left) k P earlier =

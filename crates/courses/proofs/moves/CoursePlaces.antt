@@ -2,7 +2,7 @@
 use mathlib.Core.Path.{_≡_, refl, sym, _∙_, ap, ap₂}
 use mathlib.Core.Bool.{Bool, true, false, cond, _||_}
 use mathlib.Core.List.{List, [], _∷_, map}
-use Prim.Native.Nat.{ℕ, zero, suc, _+_, _<_, _≤_}
+use Prim.Native.Nat.{ℕ, suc, _+_, _<_, _≤_}
 use native.Mathlib.Numerals.{add-one}
 use native.Mathlib.Omega.{arith}
 use lib.ListN.{length, getD, take, drop, drop-of-length-le}
@@ -33,7 +33,8 @@ module _ (c count : ℕ) (numbers : List ℕ) (i : ℕ) (low : i < count) (room 
   unfolding placeOfCourse
   course-on n = rw (first, ne-eqb (getD numbers i 0) c n, add-one i) (omega arith)
 
-pub course-end : (c count : ℕ) (numbers : List ℕ) (i : ℕ) → count ≤ i → i ≤ count → count ≤ length numbers → count ≡ i + placeOfCourse c (drop i (take count numbers))
+pub course-end : (c count : ℕ) (numbers : List ℕ) (i : ℕ) → count ≤ i → i ≤ count → count ≤ length numbers
+    → count ≡ i + placeOfCourse c (drop i (take count numbers))
 unfolding placeOfCourse
 course-end c count numbers i h k room = rw (drop-of-length-le (take count numbers) {i = i} (omega (arith, length-take-le count numbers room, h))) (omega arith)
 
@@ -49,7 +50,8 @@ course-named c (a ∷ l) = go (eqb (a .1) c) (course-named c l)
     go false e = e ∙ sym (leb·suc-suc (suc (placeOfCourse c (map (λ d. d .1) l))) (length l))
 
 -- any other place is that of the course's first state
-pub course-first : (c : ℕ) (l : List Timed) → placeOfCourse c (map (λ a. a .1) l) < length l → getD (courseOf c l) 0 [] ≡ stateAt (placeOfCourse c (map (λ a. a .1) l)) l
+pub course-first : (c : ℕ) (l : List Timed) → placeOfCourse c (map (λ a. a .1) l) < length l
+    → getD (courseOf c l) 0 [] ≡ stateAt (placeOfCourse c (map (λ a. a .1) l)) l
 unfolding placeOfCourse courseOf
 course-first c [] h = absurd (omega arith)
 course-first c (a ∷ l) h = go (eqb (a .1) c) h (course-first c l)

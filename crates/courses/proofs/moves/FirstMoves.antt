@@ -1,9 +1,9 @@
 -- The first move at fault: one move more, the one at fault with others behind it, and no 8 among at most 64 points.
-use mathlib.Core.Path.{_≡_, refl, sym, _∙_, ap}
+use mathlib.Core.Path.{_≡_, refl, _∙_, ap}
 use mathlib.Core.Bool.{Bool, true, false, cond, _&&_}
 use mathlib.Core.Logic.{inl, inr}
 use mathlib.Core.List.{List, [], _∷_, _++_, map-append, append-assoc, append-nil}
-use Prim.Native.Nat.{ℕ, suc, _≤_}
+use Prim.Native.Nat.{ℕ, _≤_}
 use native.Mathlib.Omega.{arith}
 use lib.ListN.{length}
 use lib.Dec.{eqb}
@@ -30,7 +30,8 @@ module _ (f : List Move → Move → Bool) where
       R = firstMove f (seen ++ (b ∷ [])) l
 
       go : (x : Bool) → firstMove f (seen ++ (b ∷ [])) (l ++ (a ∷ [])) ≡ cond (eqb R 0 && f ((seen ++ (b ∷ [])) ++ l) a) (a .at) R
-          → cond x (b .at) (firstMove f (seen ++ (b ∷ [])) (l ++ (a ∷ []))) ≡ cond (eqb (cond x (b .at) R) 0 && f (seen ++ (b ∷ l)) a) (a .at) (cond x (b .at) R)
+          → cond x (b .at) (firstMove f (seen ++ (b ∷ [])) (l ++ (a ∷ [])))
+          ≡ cond (eqb (cond x (b .at) R) 0 && f (seen ++ (b ∷ l)) a) (a .at) (cond x (b .at) R)
       go true e = rw (ne-eqb (b .at) 0 (λ z. omega (arith, z, h b (inl refl)))) refl
       go false e = e ∙ ap (λ (s : List Move). cond (eqb R 0 && f s a) (a .at) R) (append-assoc seen (b ∷ []) l)
 

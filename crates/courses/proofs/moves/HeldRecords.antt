@@ -3,10 +3,10 @@ use mathlib.Core.Path.{_≡_, refl, sym, _∙_, ap, ap₂}
 use mathlib.Core.Bool.{Bool, true, false, not, _&&_}
 use mathlib.Core.Logic.{inl, inr}
 use mathlib.Core.List.{List, [], _∷_, map, zip, zipWith}
-use Prim.Native.Nat.{ℕ, suc, _+_, _*_, _<_, _≤_}
+use Prim.Native.Nat.{ℕ, suc, _*_, _<_, _≤_}
 use native.Mathlib.Nat.{suc-inj}
 use native.Mathlib.Omega.{arith}
-use lib.ListN.{length, getD, take, drop, length-map}
+use lib.ListN.{length, getD, take, length-map}
 use lib.Seq.{getD-take, length-take-le}
 use lib.Dec.{eqb, ltb}
 use borrow.Author.Tests.{ltb-true}
@@ -27,7 +27,8 @@ use Rattle.courses.specs.Moves.{stateAt, courseAt, hasNext, nextIn, othe
 module _ {m : ℕ} {l : List Timed} {records numbers : List ℕ} (h : HeldIn m l records numbers) where
   pub row-is : (i : ℕ) → i < length l → rowAt 8 i records ≡ fill 8 (stateAt i l)
   row-is i low =
-      sym (groups-at 8 (length l) i records [] low) ∙ ap (λ (S : List (List ℕ)). getD S i []) (h .states) ∙ map-at (λ (a : Timed). fill 8 (a .0)) l ([], 0) [] i low
+      sym (groups-at 8 (length l) i records [] low) ∙ ap (λ (S : List (List ℕ)). getD S i []) (h .states)
+      ∙ map-at (λ (a : Timed). fill 8 (a .0)) l ([], 0) [] i low
 
   pub number-is : (i : ℕ) → i < length l → getD numbers i 0 ≡ courseAt i l
   number-is i low =
@@ -54,7 +55,8 @@ module _ {m : ℕ} {l : List Timed} {records numbers : List ℕ} (h : HeldIn m l
   next-known all i e = sym (next-is i) ∙ ap (λ (k : ℕ). nextIn i k numbers) all ∙ sym e
 
   pub other-is : (i j : ℕ) → suc i < length l → j < i
-      → otherIn i j (length l) records numbers ≡ (hasNext j l && (sameList (stateAt j l) (stateAt i l) && not (sameList (stateAt (suc j) l) (stateAt (suc i) l))))
+      → otherIn i j (length l) records numbers
+      ≡ (hasNext j l && (sameList (stateAt j l) (stateAt i l) && not (sameList (stateAt (suc j) l) (stateAt (suc i) l))))
   unfolding otherIn
   other-is i j low below =
       ap₂ _&&_ (next-is j) (ap₂ (λ (a b : Bool). a && not b) (same-rows j i (omega arith) (omega arith)) (same-rows (suc j) (suc i) (omega arith) low))

@@ -2,7 +2,7 @@
 use mathlib.Core.Path.{_≡_, refl, sym, ap, _∙_, subst}
 use mathlib.Core.Bool.{Bool, true, false, not, cond}
 use mathlib.Core.List.{List, [], _∷_}
-use Prim.Native.Nat.{ℕ, _+_, _≤_}
+use Prim.Native.Nat.{ℕ, _+_}
 use native.Mathlib.Decide.{ℕ-discrete}
 use native.Mathlib.Omega.{arith}
 use lib.ListN.{length}
@@ -12,7 +12,8 @@ use Rattle.residue.specs.Lists.{some}
 use Rattle.specification.specs.Refusal.{firstOf}
 use Rattle.specification.proofs.counted.Saturated.{beyond}
 use Rattle.points.proofs.gathering.Gathering.{Holds, held-as}
-use Rattle.courses.specs.TimeCourse.{Timed, Move, movesOf, pointsOfMoves, firstMove, otherNext, manyPoints, oftenCounted, moveCase, movesCases, courseCases, courseRefusal}
+use Rattle.courses.specs.TimeCourse.{Timed, Move, movesOf, pointsOfMoves, firstMove, otherNext, manyPoints, oftenCounted, moveCase, movesCases}
+use Rattle.courses.specs.TimeCourse.{courseCases, courseRefusal}
 use Rattle.courses.specs.Moves.{manyAnswer, MovesGathered}
 use Rattle.courses.specs.declared.moves.Gathered.{Gathered}
 use Rattle.courses.proofs.moves.FirstMoves.{never-many}
@@ -72,7 +73,8 @@ module _ (l : List Timed) where
 
   module _ (records : List ℕ) (g : Gathered) (points counts firsts : List ℕ) (i : ℕ) where
     pub other-refused : other ≡ i + 2 → g ≡ record { refusal = 17; at = i + 2; n = 0 } → MovesGathered l records g points counts firsts
-    other-refused e f = refused records g points counts firsts 17 (i + 2) (λ z. omega arith) f (refused-17 (λ z. omega (arith, z, e)) ∙ ap (λ (k : ℕ). (17, k)) e)
+    other-refused e f =
+        refused records g points counts firsts 17 (i + 2) (λ z. omega arith) f (refused-17 (λ z. omega (arith, z, e)) ∙ ap (λ (k : ℕ). (17, k)) e)
 
     pub many-refused : many ≡ i + 2 → g ≡ manyAnswer other i → MovesGathered l records g points counts firsts
     many-refused e f = go (ℕ-discrete other 0)
@@ -97,7 +99,9 @@ module _ (l : List Timed) where
     unfolding firstOf
     all-gathered g z e = record {
       answer = ap (λ (x : Gathered). (x .refusal, x .at)) e ∙ sym (late (h .same) none-many ∙ passes 13 often [] (sym (h .most) ∙ z));
-      tabled = λ y. held-as (subst (λ (k : ℕ). Holds m (pointsOfMoves ms) k points counts (beyond (pointsOfMoves ms))) (sym (ap (λ (x : Gathered). x .n) e)) (h .holds)) refl;
+      tabled = λ y.
+          let same : n ≡ g .n = sym (ap (λ (x : Gathered). x .n) e) in
+          held-as (subst (λ (k : ℕ). Holds m (pointsOfMoves ms) k points counts (beyond (pointsOfMoves ms))) same (h .holds)) refl;
       kept = λ y. h .kept;
     }
 
@@ -114,7 +118,8 @@ course-told c l k at =
     last false = refl
 
     go : (x y z b : Bool) (u v w : ℕ) → _≡_ {A = ℕ × ℕ} (k, at) (cond (not x) (17, u) (cond (not y) (8, v) (cond (not z) (13, w) (0, 0))))
-        → cond {A = ℕ × ℕ} (not x) (17, u) (cond (not y) (8, v) (cond (not z) (13, w) (cond (not b) (18, 0) (0, 0)))) ≡ cond (eqb k 0) (cond b (0, 0) (18, 0)) (k, at)
+        → cond {A = ℕ × ℕ} (not x) (17, u) (cond (not y) (8, v) (cond (not z) (13, w) (cond (not b) (18, 0) (0, 0))))
+        ≡ cond (eqb k 0) (cond b (0, 0) (18, 0)) (k, at)
     go false y z b u v w e = rw (ap (λ (q : ℕ × ℕ). q .0) e, ap (λ (q : ℕ × ℕ). q .1) e) refl
     go true false z b u v w e = rw (ap (λ (q : ℕ × ℕ). q .0) e, ap (λ (q : ℕ × ℕ). q .1) e) refl
     go true true false b u v w e = rw (ap (λ (q : ℕ × ℕ). q .0) e, ap (λ (q : ℕ × ℕ). q .1) e) refl

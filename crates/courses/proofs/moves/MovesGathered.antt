@@ -113,7 +113,8 @@ module _ {m : ℕ} (fits : m ≤ 8) {ms : List Move} (numbered : Numbered ms) {c
     many-here z =
         let L = pointsOfMoves ms in
         let new = is-new (g .holds) fits P lp e (omega (arith, z, at-most, g .holds .few)) in
-        let l : length (pointsOfMoves (ms ++ (a ∷ []))) ≡ suc (length L) = ap length (points-more ms a ∙ entered-new P L new) ∙ length-append L ((P, 1) ∷ []) ∙ omega arith in
+        let grown = ap length (points-more ms a ∙ entered-new P L new) ∙ length-append L ((P, 1) ∷ []) in
+        let l : length (pointsOfMoves (ms ++ (a ∷ []))) ≡ suc (length L) = grown ∙ omega arith in
         lt-ltb 64 (length (pointsOfMoves (ms ++ (a ∷ [])))) (omega (arith, l, g .holds .count, at-most, z))
 
     -- a record is kept with a point that is there
@@ -147,7 +148,8 @@ module _ {m : ℕ} (fits : m ≤ 8) {ms : List Move} (numbered : Numbered ms) {c
 
       -- What the turn leaves where it does.
       module _ (room : at ≡ 64 → ⊥) (low : suc i < count) (number : a .at ≡ i + 2) (true-same : same ≡ true) {n₂ often₂ : ℕ} {firsts₂ : List ℕ}
-          (fn : n₂ ≡ cond (eqb at n) (suc n) n) (fv : firsts₂ ≡ cond (eqb at n) (set firsts at i) firsts) (fo : often₂ ≡ cond (eqb often 0 && hit) (i + 2) often) where
+          (fn : n₂ ≡ cond (eqb at n) (suc n) n) (fv : firsts₂ ≡ cond (eqb at n) (set firsts at i) firsts)
+          (fo : often₂ ≡ cond (eqb often 0 && hit) (i + 2) often) where
         abbrev ns : List Move
         ns = ms ++ (a ∷ [])
 
@@ -183,6 +185,11 @@ module _ {m : ℕ} (fits : m ≤ 8) {ms : List Move} (numbered : Numbered ms) {c
             nexts = λ b mem. elim (snoc-of ms a b mem) [ inl q ↦ g .nexts b q | inr q ↦ ap (λ (c : Move). length (c .next)) q ∙ ln ];
           }
 
+        -- what is kept with point j
+        abbrev Kept : ℕ → Type 0
+        Kept j =
+            (suc (getD firsts₂ j 0) < count) × (rowAt 8 (suc (getD firsts₂ j 0)) records ≡ fill 8 (successorOf (getD (pointsOf (pointsOfMoves ns)) j []) ns))
+
         -- A new point: it comes last, with this record.
         new-one : at ≡ n → Done
         new-one z = done (rw number-is (holds-new (g .holds) fits P lp e z less)) kept-new (ap length put ∙ length-set firsts n i ∙ g .sized)
@@ -197,7 +204,9 @@ module _ {m : ℕ} (fits : m ≤ 8) {ms : List Move} (numbered : Numbered ms) {c
             put = fv ∙ rw (eq-eqb at n z) (ap (λ (k : ℕ). set firsts k i) z)
 
             points-on : pointsOf (pointsOfMoves ns) ≡ S ++ (P ∷ [])
-            points-on = ap pointsOf (points-more ms a ∙ entered-new P (pointsOfMoves ms) (is-new (g .holds) fits P lp e z)) ∙ map-append (λ x. x .0) (pointsOfMoves ms) ((P, 1) ∷ [])
+            points-on =
+                ap pointsOf (points-more ms a ∙ entered-new P (pointsOfMoves ms) (is-new (g .holds) fits P lp e z))
+                ∙ map-append (λ x. x .0) (pointsOfMoves ms) ((P, 1) ∷ [])
 
             many-on : length (pointsOfMoves ns) ≡ n + 1
             many-on = sym (length-map (pointsOfMoves ns) (λ x. x .0)) ∙ ap length points-on ∙ length-append S (P ∷ []) ∙ omega (arith, S-many)
@@ -215,11 +224,10 @@ module _ {m : ℕ} (fits : m ≤ 8) {ms : List Move} (numbered : Numbered ms) {c
             own-point : getD (pointsOf (pointsOfMoves ns)) n [] ≡ P
             own-point = ap (λ (K : List (List ℕ)). getD K n []) points-on ∙ getD-at S P [] [] n S-many
 
-            at-each : (j : ℕ) → j < length (pointsOfMoves ns)
-                → (suc (getD firsts₂ j 0) < count) × (rowAt 8 (suc (getD firsts₂ j 0)) records ≡ fill 8 (successorOf (getD (pointsOf (pointsOfMoves ns)) j []) ns))
+            at-each : (j : ℕ) → j < length (pointsOfMoves ns) → Kept j
             at-each j h = go (ℕ-discrete j n)
               where
-                go : Dec (j ≡ n) → (suc (getD firsts₂ j 0) < count) × (rowAt 8 (suc (getD firsts₂ j 0)) records ≡ fill 8 (successorOf (getD (pointsOf (pointsOfMoves ns)) j []) ns))
+                go : Dec (j ≡ n) → Kept j
                 go (yes y) =
                     rw y (rw (own-first, own-point) (low, row ∙ ap (fill 8) (sym (next-new ms a (absent z)))))
                 go (no y) =

@@ -1,5 +1,5 @@
 -- Records that stand for a state with two successors: one after the other, and the first of them.
-use mathlib.Core.Path.{_≡_, refl, sym, _∙_, ap, ap₂}
+use mathlib.Core.Path.{_≡_, refl, sym, _∙_, ap}
 use mathlib.Core.Bool.{Bool, true, false, not, cond, _&&_, _||_}
 use mathlib.Core.List.{List, [], _∷_, _++_}
 use Prim.Native.Nat.{ℕ, zero, suc, _+_, _-_, _<_, _≤_}
@@ -9,7 +9,7 @@ use lib.Dec.{eqb, ltb}
 use borrow.Author.Tests.{lt-ltb, le-ltb, ltb-true}
 use Rattle.residue.specs.Lists.{some, sameList}
 use Rattle.residue.specs.Layout.{rowAt}
-use Rattle.residue.proofs.Tests.{and-left, and-right, true-of, of-true}
+use Rattle.residue.proofs.Tests.{and-left, true-of, of-true}
 use Rattle.courses.specs.TimeCourse.{Timed, Move, movesOf, firstMove, otherNext}
 use Rattle.courses.specs.Records.{HeldIn}
 use Rattle.courses.specs.Moves.{stateAt, hasNext, moveAt, movesBefore, nextIn, otherIn}
@@ -32,7 +32,8 @@ module _ (i count : ℕ) (numbers : List ℕ) where
   pub next-inside : nextIn i count numbers ≡ true → i + 1 < count
   unfolding nextIn
   next-inside e =
-      let low : suc i < count = ltb-true (suc i) count (true-of _ (and-left (ltb (suc i) count) (eqb (getD numbers i 0) (getD numbers (suc i) 0)) (of-true e))) in
+      let told = and-left (ltb (suc i) count) (eqb (getD numbers i 0) (getD numbers (suc i) 0)) (of-true e) in
+      let low : suc i < count = ltb-true (suc i) count (true-of _ told) in
       omega arith
 
 -- what two records are told by, one test after the other
@@ -102,7 +103,8 @@ other-more j l a = go (hasNext j l) refl
     or-false false = refl
 
     go : (b : Bool) → hasNext j l ≡ b
-        → otherNext (movesBefore (j + 1) l) a ≡ (otherNext (movesBefore j l) a || (b && (sameList (stateAt j l) (a .state) && not (sameList (stateAt (suc j) l) (a .next)))))
+        → otherNext (movesBefore (j + 1) l) a
+        ≡ (otherNext (movesBefore j l) a || (b && (sameList (stateAt j l) (a .state) && not (sameList (stateAt (suc j) l) (a .next)))))
     go true h = ap (λ (s : List Move). otherNext s a) (before-next j l h) ∙ some-more _ (movesBefore j l) (moveAt j l)
     go false h = ap (λ (s : List Move). otherNext s a) (before-same j l h) ∙ or-false (otherNext (movesBefore j l) a)
 
@@ -114,8 +116,9 @@ other-stays (suc k) j l a e =
     rw z (other-more (k + j) l a ∙ ap (λ (b : Bool). b || differs (k + j) l a) (other-stays k j l a e))
 
 -- The search along the records before record i, which has a successor.
-module _ {m count : ℕ} {l : List Timed} {records numbers : List ℕ} (h : HeldIn m l records numbers) (all : length l ≡ count) (i j : ℕ) (low : i + 1 < count) (below : j < i)
-    (none : otherNext (movesBefore j l) (moveAt i l) ≡ false) {met : Bool} (e : met ≡ otherIn i j count records numbers) where
+module _ {m count : ℕ} {l : List Timed} {records numbers : List ℕ} (h : HeldIn m l records numbers) (all : length l ≡ count)
+    (i j : ℕ) (low : i + 1 < count) (below : j < i) (none : otherNext (movesBefore j l) (moveAt i l) ≡ false)
+    {met : Bool} (e : met ≡ otherIn i j count records numbers) where
   step : otherNext (movesBefore (j + 1) l) (moveAt i l) ≡ met
   step =
       other-more j l (moveAt i l) ∙ ap (λ (b : Bool). b || differs j l (moveAt i l)) none ∙ sym (other-is h i j (omega arith) below)

@@ -26,9 +26,11 @@ module _ {m count : ℕ} {l : List Timed} {records numbers : List ℕ} (held : H
   abbrev pub Upto : ℕ → ℕ → ℕ → List ℕ → List ℕ → List ℕ → List ℕ → Type 0
   Upto i n often points counts firsts hints = Gathering m (movesBefore i l) (length l) records n often points counts firsts hints
 
-  pub none-yet : {points counts firsts : List ℕ} → points ≡ replicate 512 0 → counts ≡ replicate 64 0 → length firsts ≡ 64 → Upto 0 0 0 points counts firsts (replicate 233 0)
+  pub none-yet : {points counts firsts : List ℕ} → points ≡ replicate 512 0 → counts ≡ replicate 64 0 → length firsts ≡ 64
+      → Upto 0 0 0 points counts firsts (replicate 233 0)
   none-yet {points} {counts} {firsts} a b c =
-      subst (λ (ms : List Move). Gathering m ms (length l) records 0 0 points counts firsts (replicate 233 0)) (sym (before-none l)) (no-moves m (length l) records a b c)
+      subst (λ (ms : List Move). Gathering m ms (length l) records 0 0 points counts firsts (replicate 233 0)) (sym (before-none l))
+      (no-moves m (length l) records a b c)
 
   module _ (i : ℕ) {n often : ℕ} {points counts firsts hints : List ℕ} (g : Upto i n often points counts firsts hints) where
     -- all records
@@ -95,4 +97,5 @@ module _ {m count : ℕ} {l : List Timed} {records numbers : List ℕ} (held : H
                 → Upto (i + 1) n₂ often₂ table bytes firsts₂ noted
             turn-on room z fn fv fo =
                 rw (before-next i l next)
-                (turn (held .fits) (before-at i l) g (moveAt i l) own entering i (row-is held (suc i) low) (state-long held (suc i) low) fs room low refl z fn fv fo)
+                (turn (held .fits) (before-at i l) g (moveAt i l) own entering i (row-is held (suc i) low)
+                (state-long held (suc i) low) fs room low refl z fn fv fo)

@@ -4,8 +4,6 @@ use mathlib.Core.Bool.{Bool, true, false, not, cond}
 use mathlib.Core.Logic.{inl, inr, _↔_}
 use mathlib.Core.List.{List, [], _∷_, _++_}
 use Prim.Native.Nat.{ℕ}
-use native.Mathlib.Omega.{arith}
-use lib.Dec.{T}
 use Rattle.residue.specs.Lists.{Among, sameList}
 use Rattle.residue.proofs.Tests.{Decides, so, not-so, true-of, of-true}
 use Rattle.specification.specs.Levels.{isAmong}
@@ -33,7 +31,8 @@ among-states P ms = go (isAmong P (pointsOf (gathered (statesOf ms)))) refl (isA
     go true e false f =
         sym (true-of (isAmong P (statesOf ms)) (is-among P (statesOf ms) (both .0 (among-is P (pointsOf (gathered (statesOf ms))) (of-true e))))) ∙ f
     go false e true f =
-        sym e ∙ true-of (isAmong P (pointsOf (gathered (statesOf ms)))) (is-among P (pointsOf (gathered (statesOf ms))) (both .1 (among-is P (statesOf ms) (of-true f))))
+        sym e ∙ true-of (isAmong P (pointsOf (gathered (statesOf ms))))
+        (is-among P (pointsOf (gathered (statesOf ms))) (both .1 (among-is P (statesOf ms) (of-true f))))
 
 -- a state that stands there keeps its successor, and one that is new has that of its own move
 pub next-there : (P : List ℕ) (ms rest : List Move) → Among P (statesOf ms) → successorOf P (ms ++ rest) ≡ successorOf P ms
@@ -56,7 +55,8 @@ next-new [] a new = go (lists-told (a .state) (a .state))
     go (not-so n) = absurd (n refl)
 next-new (b ∷ ms) a new = go (lists-told (a .state) (b .state)) (next-new ms a (λ mem. new (inr mem)))
   where
-    go : {x : Bool} → Decides (a .state ≡ b .state) x → successorOf (a .state) (ms ++ (a ∷ [])) ≡ a .next → cond x (b .next) (successorOf (a .state) (ms ++ (a ∷ []))) ≡ a .next
+    go : {x : Bool} → Decides (a .state ≡ b .state) x → successorOf (a .state) (ms ++ (a ∷ [])) ≡ a .next
+        → cond x (b .next) (successorOf (a .state) (ms ++ (a ∷ []))) ≡ a .next
     go (so e) k = absurd (new (inl e))
     go (not-so n) k = k
 
@@ -66,7 +66,8 @@ new-same ms a new = go (otherNext ms a) refl
   where
     go : (b : Bool) → otherNext ms a ≡ b → b ≡ false
     go false e = refl
-    go true e = let w = other-next ms a e in absurd (new (subst (λ (P : List ℕ). Among P (statesOf ms)) (w .2) (map-among (λ (b : Move). b .state) ms (w .0) (w .1))))
+    go true e = let w = other-next ms a e in
+        absurd (new (subst (λ (P : List ℕ). Among P (statesOf ms)) (w .2) (map-among (λ (b : Move). b .state) ms (w .0) (w .1))))
 
 pub other-told : (ms : List Move) → Numbered ms → firstMove otherNext [] ms ≡ 0 → (a : Move) → Among (a .state) (statesOf ms)
     → otherNext ms a ≡ not (sameList (successorOf (a .state) ms) (a .next))

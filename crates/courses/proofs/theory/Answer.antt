@@ -51,10 +51,12 @@ model-place s ok l buffer i h =
     let new = fill 512 (inPlaces 64 (genesOf s (movesOf l) (s .variables))) in
     let long : length new ≡ 512 = length-fill 512 (inPlaces 64 (genesOf s (movesOf l) (s .variables))) in
     ap (λ (b : List ℕ). take 64 (drop (64 * i) b)) (ap (λ (k : ℕ). take k (over new buffer)) (sym long) ∙ take-over new buffer)
-    ∙ place-at 64 512 (genesOf s (movesOf l) (s .variables)) i [] (omega (arith, genes-length s (movesOf l) (s .variables), ok .few)) (omega (arith, h, genes-length s (movesOf l) (s .variables)))
+    ∙ place-at 64 512 (genesOf s (movesOf l) (s .variables)) i [] (omega (arith, genes-length s (movesOf l) (s .variables), ok .few))
+    (omega (arith, h, genes-length s (movesOf l) (s .variables)))
     ∙ ap (fill 64) (gene-at s (movesOf l) (s .variables) i h)
 
-pub model-rest : (s : Settings) → Accepted s → (l : List Timed) (buffer : List ℕ) → drop (64 * s .variables) (take 512 (courseModel s l buffer)) ≡ replicate (512 - 64 * s .variables) 0
+pub model-rest : (s : Settings) → Accepted s → (l : List Timed) (buffer : List ℕ)
+    → drop (64 * s .variables) (take 512 (courseModel s l buffer)) ≡ replicate (512 - 64 * s .variables) 0
 unfolding courseModel
 model-rest s ok l buffer =
     let G = genesOf s (movesOf l) (s .variables) in
@@ -79,6 +81,7 @@ step-point s ok ms P = record {
     small : (n : ℕ) → (n % s .modulus) % suc (s .modulus - 1) ≡ n % s .modulus
     small n = rw (← p) (mod-eq-of-lt (mod-lt n (omega (arith, modulus-range (s .modulus) (ok .modulus)))))
 
-    all : (G : List (List ℕ)) → reduced (s .modulus - 1) (map (λ cs. valueOf s (pointsOf (pointsOfMoves ms)) cs P) G) ≡ map (λ cs. valueOf s (pointsOf (pointsOfMoves ms)) cs P) G
+    all : (G : List (List ℕ)) → reduced (s .modulus - 1) (map (λ cs. valueOf s (pointsOf (pointsOfMoves ms)) cs P) G)
+        ≡ map (λ cs. valueOf s (pointsOf (pointsOfMoves ms)) cs P) G
     all [] = refl
     all (cs ∷ G) = ap₂ (λ (x : ℕ) (r : List ℕ). x ∷ r) (small _) (all G)

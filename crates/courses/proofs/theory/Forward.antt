@@ -20,20 +20,23 @@ use Rattle.specification.specs.Settings.{Accepted}
 use Rattle.specification.proofs.ideal.Lists.{among-map}
 use Rattle.specification.proofs.counted.Gathered.{Entries, entries-gathered}
 use Rattle.specification.proofs.Sheets.{holds-basis}
-use Rattle.courses.specs.TimeCourse.{Timed, inRuns, courseOf, Move, move, movesFrom, movesOf, statesOf, pointsOfMoves, firstMove, otherNext, manyPoints, oftenCounted, movesCases, courseCases, courseRefusal, step, times, courseReturn, courseSheet}
+use Rattle.courses.specs.TimeCourse.{Timed, inRuns, courseOf, Move, move, movesFrom, movesOf, statesOf, pointsOfMoves, firstMove, otherNext, manyPoints}
+use Rattle.courses.specs.TimeCourse.{oftenCounted, movesCases, courseCases, courseRefusal, step, times, courseReturn, courseSheet}
 use Rattle.courses.specs.Returns.{Ends}
 use Rattle.courses.proofs.theory.Runs.{run-ends}
 use Rattle.courses.proofs.theory.Moves.{course-moves, moves-at, Faultless, faultless, next-is}
 use Rattle.courses.proofs.theory.Model.{state-in, step-is}
 
 -- the states of moves are states of records
-moves-of : (X : List ℕ → Type 0) (j : ℕ) (l : List Timed) → ((a : Timed) → Among a l → X (a .0)) → (m : Move) → Among m (movesFrom j l) → X (m .state) × X (m .next)
+moves-of : (X : List ℕ → Type 0) (j : ℕ) (l : List Timed) → ((a : Timed) → Among a l → X (a .0)) → (m : Move) → Among m (movesFrom j l)
+    → X (m .state) × X (m .next)
 unfolding movesFrom
 moves-of X j [] h m mem = absurd mem
 moves-of X j (a ∷ []) h m mem = absurd mem
 moves-of X j (a ∷ b ∷ l) h m mem = go (eqb (a .1) (b .1)) mem (λ z. moves-of X (suc j) (b ∷ l) (λ c q. h c (inr q)) m z)
   where
-    go : (t : Bool) → Among m (cond t (move j (a .0) (b .0) ∷ movesFrom (suc j) (b ∷ l)) (movesFrom (suc j) (b ∷ l))) → (Among m (movesFrom (suc j) (b ∷ l)) → X (m .state) × X (m .next)) → X (m .state) × X (m .next)
+    go : (t : Bool) → Among m (cond t (move j (a .0) (b .0) ∷ movesFrom (suc j) (b ∷ l)) (movesFrom (suc j) (b ∷ l)))
+        → (Among m (movesFrom (suc j) (b ∷ l)) → X (m .state) × X (m .next)) → X (m .state) × X (m .next)
     go true (inl e) rec = rw e (h a (inl refl), h b (inr (inl refl)))
     go true (inr z) rec = rec z
     go false z rec = rec z
@@ -82,7 +85,8 @@ passes c l e = go _ _ _ _ refl refl refl refl e
 
     go : (x y z w : Bool) → not (eqb (firstMove otherNext [] (movesOf l)) 0) ≡ x → not (eqb (firstMove manyPoints [] (movesOf l)) 0) ≡ y
         → not (eqb (firstMove oftenCounted [] (movesOf l)) 0) ≡ z → not (some (λ a. eqb (a .1) c) l) ≡ w
-        → firstOf {A = ℕ × ℕ} (0, 0) ((x, (17, firstMove otherNext [] (movesOf l))) ∷ (y, (8, firstMove manyPoints [] (movesOf l))) ∷ (z, (13, firstMove oftenCounted [] (movesOf l))) ∷ (w, (18, 0)) ∷ []) .0 ≡ 0
+        → firstOf {A = ℕ × ℕ} (0, 0) ((x, (17, firstMove otherNext [] (movesOf l))) ∷ (y, (8, firstMove manyPoints [] (movesOf l)))
+        ∷ (z, (13, firstMove oftenCounted [] (movesOf l))) ∷ (w, (18, 0)) ∷ []) .0 ≡ 0
         → Passes c l
     go true y z w a b d f u = absurd (omega (arith, u))
     go false true z w a b d f u = absurd (omega (arith, u))
@@ -98,17 +102,20 @@ whole g seen (a ∷ l) h e = ap g (sym (append-assoc seen (a ∷ []) l)) ∙ who
 module _ (s : Settings) (ok : Accepted s) (c : ℕ) (l : List Timed) (each : (a : Timed) → Among a l → IsPoint s (a .0)) (zero : courseRefusal c l .0 ≡ 0) where
   few-points : ltb 64 (length (pointsOfMoves (movesOf l))) ≡ false
   unfolding manyPoints pointsOfMoves gathered enteredAll
-  few-points = whole (λ m. ltb 64 (length (pointsOfMoves m))) [] (movesOf l) (faultless manyPoints [] (movesOf l) (numbered s ok l each) (passes c l zero .few)) refl
+  few-points = whole (λ m. ltb 64 (length (pointsOfMoves m))) [] (movesOf l)
+      (faultless manyPoints [] (movesOf l) (numbered s ok l each) (passes c l zero .few)) refl
 
   rare-points : some (ltb 255) (countsOf (pointsOfMoves (movesOf l))) ≡ false
   unfolding oftenCounted pointsOfMoves gathered enteredAll
-  rare-points = whole (λ m. some (ltb 255) (countsOf (pointsOfMoves m))) [] (movesOf l) (faultless oftenCounted [] (movesOf l) (numbered s ok l each) (passes c l zero .rare)) refl
+  rare-points = whole (λ m. some (ltb 255) (countsOf (pointsOfMoves m))) [] (movesOf l)
+      (faultless oftenCounted [] (movesOf l) (numbered s ok l each) (passes c l zero .rare)) refl
 
   -- at most 64 points, each with a count from 1 to 255
   pub course-entries : Entries s (pointsOfMoves (movesOf l))
   unfolding pointsOfMoves overfull
   course-entries = entries-gathered s (statesOf (movesOf l))
-      (λ P mem. let w = among-map (λ m. m .state) (movesOf l) P mem in subst (IsPoint s) (sym (w .2)) (points s ok l each (w .0) (w .1))) (few-points, (rare-points, tt))
+      (λ P mem. let w = among-map (λ m. m .state) (movesOf l) P mem in subst (IsPoint s) (sym (w .2)) (points s ok l each (w .0) (w .1)))
+      (few-points, (rare-points, tt))
 
   -- the points' sheet, with their counts
   pub course-leaves : (u : Tables) → let o = courseSheet s l u in HoldsBasis s (pointsOfMoves (movesOf l)) u (o .answer .n) (o .answer .r) (o .tables)
@@ -129,6 +136,7 @@ unfolding courseOf
 course-begins c [] e = absurd (let z : _≡_ {A = ℕ} 0 1 = cc in omega arith)
 course-begins c (a ∷ l) e = go (eqb (a .1) c) e (λ z. course-begins c l z)
   where
-    go : (b : Bool) → (b || some (λ d. eqb (d .1) c) l) ≡ true → (some (λ d. eqb (d .1) c) l ≡ true → 1 ≤ length (courseOf c l)) → 1 ≤ length (cond b (a .0 ∷ courseOf c l) (courseOf c l))
+    go : (b : Bool) → (b || some (λ d. eqb (d .1) c) l) ≡ true → (some (λ d. eqb (d .1) c) l ≡ true → 1 ≤ length (courseOf c l))
+        → 1 ≤ length (cond b (a .0 ∷ courseOf c l) (courseOf c l))
     go true z rec = omega arith
     go false z rec = rec z

@@ -44,7 +44,8 @@ module _ (s : Settings) (ok : Accepted s) where
   value-map : (h : List ℕ → ℕ) (S : List (List ℕ)) → ((Q : List ℕ) → Among Q S → IsPoint s Q) → (P : List ℕ) → IsPoint s P → Among P S
       → valueAt (spaceUnder s) (pointsUnder s S) (map h S) (pt P) ≡ h P
   unfolding valueAt
-  value-map h (Q ∷ S) each P point mem = go (dec-of (point-told (spaceUnder s) (laws-under s ok) (pt P) (pt Q))) mem (λ z. value-map h S (λ R q. each R (inr q)) P point z)
+  value-map h (Q ∷ S) each P point mem = go (dec-of (point-told (spaceUnder s) (laws-under s ok) (pt P) (pt Q))) mem
+      (λ z. value-map h S (λ R q. each R (inr q)) P point z)
     where
       go : Dec (pt P ≡ pt Q) → Among P (Q ∷ S) → (Among P S → valueAt (spaceUnder s) (pointsUnder s S) (map h S) (pt P) ≡ h P)
           → valueAt (spaceUnder s) (pointsUnder s (Q ∷ S)) (map h (Q ∷ S)) (pt P) ≡ h P
@@ -85,7 +86,8 @@ module _ (s : Settings) (ok : Accepted s) where
     unfolding geneOf
     gene-only k cs h = interpolant-only (spaceUnder s) (laws-under s ok) (pointsUnder s S) distinct (after k) cs h
 
-    pub gene-value : (P : List ℕ) → Among P S → (k : ℕ) → getD (successorOf P ms) k 0 < suc (s .modulus - 1) → valueOf s S (geneOf s ms k) P ≡ getD (successorOf P ms) k 0
+    pub gene-value : (P : List ℕ) → Among P S → (k : ℕ) → getD (successorOf P ms) k 0 < suc (s .modulus - 1)
+        → valueOf s S (geneOf s ms k) P ≡ getD (successorOf P ms) k 0
     unfolding valueOf
     gene-value P mem k low =
         let p : s .modulus ≡ suc (s .modulus - 1) = omega (arith, modulus-range (s .modulus) (ok .modulus)) in
@@ -95,7 +97,8 @@ module _ (s : Settings) (ok : Accepted s) where
         ∙ mod-eq-of-lt low
 
     -- gene after gene
-    genes-value : (P : List ℕ) → Among P S → IsPoint s (successorOf P ms) → (k : ℕ) → k ≤ s .variables → map (λ cs. valueOf s S cs P) (genesOf s ms k) ≡ take k (successorOf P ms)
+    genes-value : (P : List ℕ) → Among P S → IsPoint s (successorOf P ms) → (k : ℕ) → k ≤ s .variables
+        → map (λ cs. valueOf s S cs P) (genesOf s ms k) ≡ take k (successorOf P ms)
     unfolding genesOf
     genes-value P mem point zero h = refl
     genes-value P mem point (suc k) h =

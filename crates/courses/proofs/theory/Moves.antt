@@ -19,7 +19,8 @@ unfolding courseOf
 no-course c [] t = refl
 no-course c (a ∷ l) t = go (eqb (a .1) c) t (λ z. no-course c l z)
   where
-    go : (b : Bool) → T (not (b || some (λ e. eqb (e .1) c) l)) → (T (not (some (λ e. eqb (e .1) c) l)) → courseOf c l ≡ []) → cond b (a .0 ∷ courseOf c l) (courseOf c l) ≡ []
+    go : (b : Bool) → T (not (b || some (λ e. eqb (e .1) c) l)) → (T (not (some (λ e. eqb (e .1) c) l)) → courseOf c l ≡ [])
+        → cond b (a .0 ∷ courseOf c l) (courseOf c l) ≡ []
     go true z rec = absurd z
     go false z rec = rec z
 
@@ -38,7 +39,8 @@ course-moves c j (a ∷ []) t k h = absurd (single (eqb (a .1) c) h)
     single false z = omega arith
 course-moves c j (a ∷ b ∷ l) t k h =
     let joined = eqb (a .1) (b .1) || not (some (λ e. eqb (e .1) (a .1)) (b ∷ l)) in
-    go (equal-told (a .1) (b .1)) (equal-told (a .1) c) k (and-left joined (inRuns (b ∷ l)) t) h (λ i z. course-moves c (suc j) (b ∷ l) (and-right joined (inRuns (b ∷ l)) t) i z)
+    go (equal-told (a .1) (b .1)) (equal-told (a .1) c) k (and-left joined (inRuns (b ∷ l)) t) h
+    (λ i z. course-moves c (suc j) (b ∷ l) (and-right joined (inRuns (b ∷ l)) t) i z)
   where
     C : List (List ℕ)
     C = courseOf c (b ∷ l)
@@ -70,7 +72,8 @@ moves-at j [] h a mem = absurd mem
 moves-at j (x ∷ []) h a mem = absurd mem
 moves-at j (x ∷ y ∷ l) h a mem = go (eqb (x .1) (y .1)) mem (λ z. moves-at (suc j) (y ∷ l) (omega arith) a z)
   where
-    go : (b : Bool) → Among a (cond b (move j (x .0) (y .0) ∷ movesFrom (suc j) (y ∷ l)) (movesFrom (suc j) (y ∷ l))) → (Among a (movesFrom (suc j) (y ∷ l)) → 1 ≤ a .at) → 1 ≤ a .at
+    go : (b : Bool) → Among a (cond b (move j (x .0) (y .0) ∷ movesFrom (suc j) (y ∷ l)) (movesFrom (suc j) (y ∷ l)))
+        → (Among a (movesFrom (suc j) (y ∷ l)) → 1 ≤ a .at) → 1 ≤ a .at
     go true (inl e) rec = rw e h
     go true (inr z) rec = rec z
     go false z rec = rec z
@@ -85,7 +88,8 @@ unfolding firstMove
 faultless f seen [] h e = tt
 faultless f seen (a ∷ l) h e = go (f seen a) refl e (λ z. faultless f (seen ++ (a ∷ [])) l (λ b mem. h b (inr mem)) z)
   where
-    go : (b : Bool) → f seen a ≡ b → cond b (a .at) (firstMove f (seen ++ (a ∷ [])) l) ≡ 0 → (firstMove f (seen ++ (a ∷ [])) l ≡ 0 → Faultless f (seen ++ (a ∷ [])) l)
+    go : (b : Bool) → f seen a ≡ b → cond b (a .at) (firstMove f (seen ++ (a ∷ [])) l) ≡ 0
+        → (firstMove f (seen ++ (a ∷ [])) l ≡ 0 → Faultless f (seen ++ (a ∷ [])) l)
         → (f seen a ≡ false) × Faultless f (seen ++ (a ∷ [])) l
     go true g z rec = absurd (omega (arith, h a (inl refl), z))
     go false g z rec = (g, rec z)
@@ -99,7 +103,8 @@ one-next (x ∷ seen) a e b (inl u) same = go (lists-told (x .state) (a .state))
     go (so h) (so g) q = ap (λ (m : Move). m .next) u ∙ g
     go (so h) (not-so g) q = absurd (let z : _≡_ {A = ℕ} 0 1 = cc in omega arith)
     go (not-so h) g q = absurd (h (ap (λ (m : Move). m .state) (sym u) ∙ same))
-one-next (x ∷ seen) a e b (inr mem) same = one-next seen a (neither (sameList (x .state) (a .state) && not (sameList (x .next) (a .next))) (otherNext seen a) e .1) b mem same
+one-next (x ∷ seen) a e b (inr mem) same =
+    one-next seen a (neither (sameList (x .state) (a .state) && not (sameList (x .next) (a .next))) (otherNext seen a) e .1) b mem same
 
 before-same : (seen l : List Move) → Faultless otherNext seen l → (b : Move) → Among b seen → (a : Move) → Among a l → b .state ≡ a .state → b .next ≡ a .next
 before-same seen (x ∷ l) h b mem a (inl e) same = one-next seen x (h .0) b mem (same ∙ ap (λ (m : Move). m .state) e) ∙ ap (λ (m : Move). m .next) (sym e)
@@ -116,7 +121,8 @@ pub next-found : (ms : List Move) (a : Move) → Among a ms → (b : Move) × Am
 unfolding successorOf
 next-found (x ∷ ms) a mem = go (lists-told (a .state) (x .state)) mem (λ z. next-found ms a z)
   where
-    go : {y : Bool} → Decides (a .state ≡ x .state) y → Among a (x ∷ ms) → (Among a ms → (b : Move) × Among b ms × (b .state ≡ a .state) × (successorOf (a .state) ms ≡ b .next))
+    go : {y : Bool} → Decides (a .state ≡ x .state) y → Among a (x ∷ ms)
+        → (Among a ms → (b : Move) × Among b ms × (b .state ≡ a .state) × (successorOf (a .state) ms ≡ b .next))
         → (b : Move) × Among b (x ∷ ms) × (b .state ≡ a .state) × (cond y (x .next) (successorOf (a .state) ms) ≡ b .next)
     go (so e) z rec = (x, inl refl, sym e, refl)
     go (not-so n) (inl e) rec = absurd (n (ap (λ (m : Move). m .state) e))

@@ -29,7 +29,14 @@ move-record j (x ∷ []) a mem = absurd mem
 move-record j (x ∷ y ∷ l) a mem = go (equal-told (x .1) (y .1)) mem (λ z. move-record (suc j) (y ∷ l) a z)
   where
     later : HasNext (suc j) (y ∷ l) a → HasNext j (x ∷ y ∷ l) a
-    later h = record { place = suc (h .place); number = h .number ∙ omega arith; before = omega (arith, h .before); state = h .state; next = h .next; course = h .course }
+    later h = record {
+      place = suc (h .place);
+      number = h .number ∙ omega arith;
+      before = omega (arith, h .before);
+      state = h .state;
+      next = h .next;
+      course = h .course;
+    }
 
     go : {b : Bool} → Decides (x .1 ≡ y .1) b → Among a (cond b (move j (x .0) (y .0) ∷ movesFrom (suc j) (y ∷ l)) (movesFrom (suc j) (y ∷ l)))
         → (Among a (movesFrom (suc j) (y ∷ l)) → HasNext (suc j) (y ∷ l) a) → HasNext j (x ∷ y ∷ l) a
@@ -51,7 +58,8 @@ record-move j [] i h e = absurd (omega arith)
 record-move j (x ∷ []) i h e = absurd (omega arith)
 record-move j (x ∷ y ∷ l) zero h e = go (equal-told (x .1) (y .1))
   where
-    go : {b : Bool} → Decides (x .1 ≡ y .1) b → Among (move (j + 0) (x .0) (y .0)) (cond b (move j (x .0) (y .0) ∷ movesFrom (suc j) (y ∷ l)) (movesFrom (suc j) (y ∷ l)))
+    go : {b : Bool} → Decides (x .1 ≡ y .1) b → Among (move (j + 0) (x .0) (y .0))
+        (cond b (move j (x .0) (y .0) ∷ movesFrom (suc j) (y ∷ l)) (movesFrom (suc j) (y ∷ l)))
     go (so f) = let k : j + 0 ≡ j = omega arith in inl (ap (λ (n : ℕ). move n (x .0) (y .0)) k)
     go (not-so n) = absurd (n e)
 record-move j (x ∷ y ∷ l) (suc i) h e = go (equal-told (x .1) (y .1)) (record-move (suc j) (y ∷ l) i (omega arith) e)
@@ -79,7 +87,8 @@ unfolding firstMove
 first-fault f seen [] k e = absurd (omega (arith, e))
 first-fault f seen (a ∷ l) k e = go (f seen a) refl e (λ z. first-fault f (seen ++ (a ∷ [])) l k z)
   where
-    go : (b : Bool) → f seen a ≡ b → cond b (a .at) (firstMove f (seen ++ (a ∷ [])) l) ≡ suc k → (firstMove f (seen ++ (a ∷ [])) l ≡ suc k → FirstFault f (seen ++ (a ∷ [])) l (suc k))
+    go : (b : Bool) → f seen a ≡ b → cond b (a .at) (firstMove f (seen ++ (a ∷ [])) l) ≡ suc k
+        → (firstMove f (seen ++ (a ∷ [])) l ≡ suc k → FirstFault f (seen ++ (a ∷ [])) l (suc k))
         → FirstFault f seen (a ∷ l) (suc k)
     go true g z rec = record { before = []; at = a; behind = l; is = refl; number = z; fault = ap (λ (m : List Move). f m a) (append-nil seen) ∙ g; none = tt }
     go false g z rec = let w = rec z in record {
@@ -106,14 +115,16 @@ other-next (x ∷ seen) a e = go (lists-told (x .state) (a .state)) (lists-told 
     go (not-so h) g u rec = let w = rec u in (w .0, inr (w .1), w .2, w .3)
 
 -- No 17 is given exactly where the successor is a function of the state.
-pub no-other : (seen l : List Move) → ((a b : Move) → Among a (seen ++ l) → Among b (seen ++ l) → a .state ≡ b .state → a .next ≡ b .next) → firstMove otherNext seen l ≡ 0
+pub no-other : (seen l : List Move) → ((a b : Move) → Among a (seen ++ l) → Among b (seen ++ l) → a .state ≡ b .state → a .next ≡ b .next)
+    → firstMove otherNext seen l ≡ 0
 unfolding firstMove
 no-other seen [] h = refl
 no-other seen (a ∷ l) h = go (otherNext seen a) refl (no-other (seen ++ (a ∷ [])) l (rw (append-assoc seen (a ∷ []) l) h))
   where
     go : (b : Bool) → otherNext seen a ≡ b → firstMove otherNext (seen ++ (a ∷ [])) l ≡ 0 → cond b (a .at) (firstMove otherNext (seen ++ (a ∷ [])) l) ≡ 0
     go false e rec = rec
-    go true e rec = let w = other-next seen a e in absurd (w .3 (h (w .0) a (append-in (w .0) seen (a ∷ l) (inl (w .1))) (append-in a seen (a ∷ l) (inr (inl refl))) (w .2)))
+    go true e rec = let w = other-next seen a e in
+        absurd (w .3 (h (w .0) a (append-in (w .0) seen (a ∷ l) (inl (w .1))) (append-in a seen (a ∷ l) (inr (inl refl))) (w .2)))
 
 pub one-successor : (ms : List Move) → ((a : Move) → Among a ms → 1 ≤ a .at)
     → firstMove otherNext [] ms ≡ 0 ↔ ((a b : Move) → Among a ms → Among b ms → a .state ≡ b .state → a .next ≡ b .next)

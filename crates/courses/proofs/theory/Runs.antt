@@ -46,7 +46,8 @@ module _ (f : List ℕ → List ℕ) (P : List ℕ) where
           → (cond b 0 (suc (placeIn Q (trail k))) ≤ suc k) × (Q ≡ times (suc k - cond b 0 (suc (placeIn Q (trail k)))) f P)
       go (so h) z rec = let e : suc k ≡ suc k - 0 = omega arith in (omega arith, h ∙ ap (λ (i : ℕ). times i f P) e)
       go (not-so n) (inl e) rec = absurd (n e)
-      go (not-so n) (inr z) rec = let w = rec z in let e : k - placeIn Q (trail k) ≡ suc k - suc (placeIn Q (trail k)) = omega (arith, w .0) in (omega (arith, w .0), w .1 ∙ ap (λ (i : ℕ). times i f P) e)
+      go (not-so n) (inr z) rec = let w = rec z in let e : k - placeIn Q (trail k) ≡ suc k - suc (placeIn Q (trail k)) = omega (arith, w .0) in
+          (omega (arith, w .0), w .1 ∙ ap (λ (i : ℕ). times i f P) e)
 
   -- one step that gives no state met before
   longer : (k : ℕ) → NoneBefore f P (suc k) → ¬ Among (times (suc k) f P) (trail k) → NoneBefore f P (suc (suc k))
@@ -57,7 +58,8 @@ module _ (f : List ℕ → List ℕ) (P : List ℕ) where
       go (no n) = h i j low (omega (arith, n))
 
   -- From step k on, with no state met twice so far.
-  runs : (left k : ℕ) (Q : List ℕ) (earlier : List (List ℕ)) → Q ≡ times k f P → Q ∷ earlier ≡ trail k → NoneBefore f P (suc k) → Ends f P (left + k) (runFrom f left k Q earlier)
+  runs : (left k : ℕ) (Q : List ℕ) (earlier : List (List ℕ)) → Q ≡ times k f P → Q ∷ earlier ≡ trail k → NoneBefore f P (suc k)
+      → Ends f P (left + k) (runFrom f left k Q earlier)
   unfolding runFrom times trail
   runs zero k Q earlier e t h = never (λ i j low high. h i j low (omega arith))
   runs (suc left) k Q earlier e t h = go (isAmong (f Q) (Q ∷ earlier)) refl (λ new. runs left (suc k) (f Q) (Q ∷ earlier) is (grown is t) (longer k h new))
@@ -69,20 +71,23 @@ module _ (f : List ℕ → List ℕ) (P : List ℕ) where
       grown u v = ap₂ (λ (R : List ℕ) (l : List (List ℕ)). R ∷ l) u v
 
       back : Among (f Q) (trail k) → FirstReturn f P (suc left + k) (suc k) (suc (placeIn (f Q) (trail k)))
-      back mem = let w = trail-place (f Q) k mem in let u : k - placeIn (f Q) (trail k) ≡ suc k - suc (placeIn (f Q) (trail k)) = omega (arith, w .0) in record {
-        some = omega arith;
-        within = omega (arith, w .0);
-        soon = omega arith;
-        again = sym is ∙ w .1 ∙ ap (λ (i : ℕ). times i f P) u;
-        first = h;
-      }
+      back mem = let w = trail-place (f Q) k mem in
+          let u : k - placeIn (f Q) (trail k) ≡ suc k - suc (placeIn (f Q) (trail k)) = omega (arith, w .0) in record {
+            some = omega arith;
+            within = omega (arith, w .0);
+            soon = omega arith;
+            again = sym is ∙ w .1 ∙ ap (λ (i : ℕ). times i f P) u;
+            first = h;
+          }
 
-      go : (b : Bool) → isAmong (f Q) (Q ∷ earlier) ≡ b → (¬ Among (times (suc k) f P) (trail k) → Ends f P (left + suc k) (runFrom f left (suc k) (f Q) (Q ∷ earlier)))
+      go : (b : Bool) → isAmong (f Q) (Q ∷ earlier) ≡ b
+          → (¬ Among (times (suc k) f P) (trail k) → Ends f P (left + suc k) (runFrom f left (suc k) (f Q) (Q ∷ earlier)))
           → Ends f P (suc left + k) (cond b (returnAt (suc k) (suc (placeIn (f Q) (Q ∷ earlier)))) (runFrom f left (suc k) (f Q) (Q ∷ earlier)))
       go true g rec = subst (λ (l : List (List ℕ)). Ends f P (suc left + k) (returnAt (suc k) (suc (placeIn (f Q) l)))) (sym t)
           (comes (suc k) (suc (placeIn (f Q) (trail k))) (back (subst (Among (f Q)) t (among-is (f Q) (Q ∷ earlier) (of-true g)))))
       go false g rec = subst (λ (n : ℕ). Ends f P n (runFrom f left (suc k) (f Q) (Q ∷ earlier))) (omega arith)
-          (rec (λ mem. subst T g (is-among (f Q) (Q ∷ earlier) (subst (λ (R : List ℕ). Among R (Q ∷ earlier)) (sym is) (subst (Among (times (suc k) f P)) (sym t) mem)))))
+          (rec (λ mem. subst T g (is-among (f Q) (Q ∷ earlier)
+          (subst (λ (R : List ℕ). Among R (Q ∷ earlier)) (sym is) (subst (Among (times (suc k) f P)) (sym t) mem)))))
 
   -- 'the model is run up to 256 steps and stops at the first that gives a state met before, that first state included'
   pub run-ends : Ends f P 256 (returnOf f P)

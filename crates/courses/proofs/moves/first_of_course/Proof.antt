@@ -1,9 +1,9 @@
 -- `moves::first_of_course` meets its contract: none of the first i numbers is the course, and its place among the others follows.
 use borrow.Author.Needs.{needs}
-use mathlib.Core.Path.{_≡_, refl, sym, ap, _∙_}
-use Prim.Native.Nat.{ℕ, suc, _-_, _+_, _<_, _≤_}
+use mathlib.Core.Path.{_≡_, _∙_}
+use Prim.Native.Nat.{_-_, _+_, _≤_}
 use native.Mathlib.Omega.{arith}
-use lib.ListN.{length, take, drop}
+use lib.ListN.{take, drop}
 use Rattle.courses.specs.Moves.{placeOfCourse}
 use Rattle.courses.proofs.moves.CoursePlaces.{course-start, course-hit, course-on, course-end}
 use Rattle.courses.proofs.moves.first_of_course.Statement.{statement}
@@ -28,7 +28,8 @@ returns : tie.Need-returns Inv-loop μ-loop
 returns c =
     let l = c .before .before .before in
     let s = l .before in
-    course-hit (s .args .course) (s .args .count) (s .args .numbers .now) (l .loop .i) (c .before .before .loop-test .taken) (s .pre) (c .if1 .taken) ∙ l .loop .inv .1
+    course-hit (s .args .course) (s .args .count) (s .args .numbers .now) (l .loop .i) (c .before .before .loop-test .taken) (s .pre) (c .if1 .taken)
+    ∙ l .loop .inv .1
 
 add-i : tie.Need-add-i Inv-loop μ-loop
 add-i c = search needs
@@ -39,8 +40,11 @@ loop-less c = search needs
 loop-again : tie.Need-loop-again Inv-loop μ-loop
 loop-again c =
     let l = c .before .before .before in
-    let s = l .before in
-    (omega arith, course-on (s .args .course) (s .args .count) (s .args .numbers .now) (l .loop .i) (c .before .before .loop-test .taken) (s .pre) (c .if1 .left) ∙ l .loop .inv .1)
+    let s = l .before in (
+      omega arith,
+      course-on (s .args .course) (s .args .count) (s .args .numbers .now) (l .loop .i) (c .before .before .loop-test .taken) (s .pre)
+          (c .if1 .left) ∙ l .loop .inv .1,
+    )
 
 returns-2 : tie.Need-returns-2 Inv-loop μ-loop
 returns-2 c =

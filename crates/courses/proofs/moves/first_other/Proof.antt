@@ -14,7 +14,8 @@ use Rattle.courses.proofs.moves.first_other.Statement.{statement}
 use Rattle.courses.proofs.moves.first_other.Tie as tie
 
 abbrev Inv-loop : tie.InvT-loop
-Inv-loop count records numbers i₀ i = (i ≤ count) × ((m : ℕ) (l : List Timed) → HeldIn m l records numbers → length l ≡ count → firstMove otherNext [] (movesBefore i l) ≡ 0)
+Inv-loop count records numbers i₀ i = (i ≤ count) × ((m : ℕ) (l : List Timed) → HeldIn m l records numbers → length l ≡ count
+    → firstMove otherNext [] (movesBefore i l) ≡ 0)
 
 abbrev μ-loop : tie.MeasureT-loop
 μ-loop count records numbers i₀ i = count - i

@@ -121,8 +121,11 @@ loop-less c = one-less (c .before .before .loop-test .taken)
 
 loop-again : tie.Need-loop-again Inv-loop μ-loop
 loop-again c =
-    let l = c .before .before .before in
-    (next-le (c .before .before .loop-test .taken), λ m k h e. turn-alone h e (l .loop .i) (l .loop .inv .1 m k h e) (c .before .has-next .ensures) (not-true _ (c .if1 .taken)))
+    let l = c .before .before .before in (
+      next-le (c .before .before .loop-test .taken),
+      λ m k h e. turn-alone h e (l .loop .i) (l .loop .inv .1 m k h e) (c .before .has-next .ensures)
+          (not-true _ (c .if1 .taken)),
+    )
 
 mul-from : tie.Need-mul-from Inv-loop μ-loop
 mul-from c = let h = small-bytes c in omega arith
@@ -148,8 +151,13 @@ key-requires c κs = state-eight (c .before .before .before .before)
 enter-requires : tie.Need-enter-requires Inv-loop μ-loop
 enter-requires c κs =
     let w = c .before .before .before .before .before in
-    let g = gathering (head w) in
-    ((g .holds .few, c .key .ensures), ((holds-sizes (g .holds) .0, holds-sizes (g .holds) .1, state-eight w), (once-there (omega arith) (before-at _ _) g, g .hinted)))
+    let g = gathering (head w) in (
+      (g .holds .few, c .key .ensures),
+      (
+        (holds-sizes (g .holds) .0, holds-sizes (g .holds) .1, state-eight w),
+        (once-there (omega arith) (before-at _ _) g, g .hinted),
+      ),
+    )
 
 -- The 65th point.
 too-many-requires : tie.Need-too-many-requires Inv-loop μ-loop
@@ -183,8 +191,10 @@ keep-first-requires c κs =
     let s = start (head w) in
     let g = gathering (head w) in
     let at = turn-place (full-held s) (full-many s) (head w .loop .i) g (w .before .has-next .ensures) (has w) (e .enter .ensures) in
-    let first = turn-kept (full-held s) (full-many s) (head w .loop .i) g (w .before .has-next .ensures) (has w) (e .enter .ensures) in
-    ((not-64 at (g .holds .few) (c .before .if2 .left), at, g .holds .few, lt-le (small w) (s .pre .0 .0), g .sized), (s .pre .0 .1, λ l. lt-le (first l) (s .pre .0 .0)))
+    let first = turn-kept (full-held s) (full-many s) (head w .loop .i) g (w .before .has-next .ensures) (has w) (e .enter .ensures) in (
+      (not-64 at (g .holds .few) (c .before .if2 .left), at, g .holds .few, lt-le (small w) (s .pre .0 .0), g .sized),
+      (s .pre .0 .1, λ l. lt-le (first l) (s .pre .0 .0)),
+    )
 
 refused-at-requires : tie.Need-refused-at-requires Inv-loop μ-loop
 refused-at-requires c κs =

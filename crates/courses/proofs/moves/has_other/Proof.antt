@@ -1,15 +1,15 @@
 -- `moves::has_other` meets its contract: none of the first j records stands with another successor than record i.
 use borrow.Author.Needs.{needs}
 use mathlib.Core.Path.{_≡_, refl, sym, ap, ap₂, _∙_}
-use mathlib.Core.Bool.{Bool, true, false, _&&_}
+use mathlib.Core.Bool.{true, false, _&&_}
 use mathlib.Core.List.{List}
-use Prim.Native.Nat.{ℕ, suc, _-_, _+_, _<_, _≤_}
+use Prim.Native.Nat.{ℕ, _-_, _+_, _<_, _≤_}
 use native.Mathlib.Omega.{arith}
 use lib.ListN.{length}
 use borrow.Author.Tests.{not-true, not-false}
 use Rattle.courses.specs.TimeCourse.{Timed, otherNext}
 use Rattle.courses.specs.Records.{HeldIn}
-use Rattle.courses.specs.Moves.{hasNext, moveAt, movesBefore, nextIn, otherIn}
+use Rattle.courses.specs.Moves.{hasNext, moveAt, movesBefore}
 use Rattle.courses.proofs.moves.HeldRecords.{next-known}
 use Rattle.courses.proofs.moves.OtherRecords.{next-inside, no-other-yet, other-on, other-met}
 use Rattle.courses.proofs.moves.has_other.Statement.{statement}
@@ -47,7 +47,8 @@ returns-2 c =
     let l = c .before .before .before in
     let s = l .before .before .before .before .before in
     λ m k h e. let v = l .loop .inv .2 m k h e in
-    sym (ap₂ _&&_ (v .0) (other-met h e (s .args .i) (l .loop .j) (l .loop .inv .1) (c .before .before .loop-test .taken) (v .1) (c .before .is-other .ensures) (c .if2 .taken)))
+    sym (ap₂ _&&_ (v .0) (other-met h e (s .args .i) (l .loop .j) (l .loop .inv .1) (c .before .before .loop-test .taken) (v .1)
+    (c .before .is-other .ensures) (c .if2 .taken)))
 
 add-j : tie.Need-add-j Inv-loop μ-loop
 add-j c = search needs
@@ -61,8 +62,11 @@ loop-again c =
     let s = l .before .before .before .before .before in (
       omega arith,
       l .loop .inv .1,
-      λ m k h e. let v = l .loop .inv .2 m k h e in
-          (v .0, other-on h e (s .args .i) (l .loop .j) (l .loop .inv .1) (c .before .before .loop-test .taken) (v .1) (c .before .is-other .ensures) (c .if2 .left)),
+      λ m k h e. let v = l .loop .inv .2 m k h e in (
+        v .0,
+        other-on h e (s .args .i) (l .loop .j) (l .loop .inv .1) (c .before .before .loop-test .taken) (v .1) (c .before .is-other .ensures)
+            (c .if2 .left),
+      ),
     )
 
 returns-3 : tie.Need-returns-3 Inv-loop μ-loop

@@ -1,7 +1,7 @@
 -- `moves::is_other` meets its contract.
 use borrow.Author.Needs.{needs}
 use mathlib.Core.Path.{sym, ap, _∙_}
-use mathlib.Core.Bool.{Bool, not}
+use mathlib.Core.Bool.{not}
 use borrow.Author.Tests.{not-true, not-false}
 use Rattle.courses.proofs.moves.OtherRecords.{no-next, other-state, same-states}
 use Rattle.courses.proofs.moves.is_other.Statement.{statement}

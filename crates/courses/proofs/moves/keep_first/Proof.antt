@@ -55,7 +55,8 @@ returns-2 : tie.Need-returns-2
 returns-2 c =
     let e = ne-eqb _ _ (c .before .before .if1 .left) in
     let a = c .before .before .before .before .before .args in
-    let same = ap₂ (λ (j k : ℕ). sameList (rowAt 8 j (a .records .now)) (rowAt 8 k (a .records .now))) (add-one (getD (a .firsts .now) (a .at) 0)) (add-one (a .i)) in
+    let same = ap₂ (λ (j k : ℕ). sameList (rowAt 8 j (a .records .now)) (rowAt 8 k (a .records .now))) (add-one (getD (a .firsts .now) (a .at) 0))
+    (add-one (a .i)) in
     (rw e refl, (rw e (c .same-state .ensures ∙ same), rw e refl))
 
 pub keep-first-spec : {M : Type 1} → statement M

@@ -4,7 +4,6 @@ use mathlib.Core.Path.{_≡_, refl, sym, ap, _∙_}
 use Prim.Native.Nat.{ℕ, _+_, _*_, _-_}
 use native.Mathlib.Omega.{arith}
 use lib.ListN.{take, drop}
-use lib.Dec.{eqb}
 use Rattle.residue.specs.Vector.{Below}
 use Rattle.residue.specs.Lists.{keyOf}
 use Rattle.residue.proofs.vector.Vectors.{below-take, below-drop}
@@ -57,7 +56,8 @@ returns c =
     let t = s .args .records .now in
     let bytes : Below 256 t = λ k h. c .before .before .before .before .shared-slice-known .given k .fits in
     let width : 8 * i + 8 - 8 * i ≡ 8 = omega arith in
-    sym (keys-told (take 8 (drop (8 * i) t)) t j (below-take 256 8 (drop (8 * i) t) (below-drop 256 (8 * i) t bytes)) bytes (part-long (8 * i) 8 8 t refl (omega arith)) (omega arith)
+    sym (keys-told (take 8 (drop (8 * i) t)) t j (below-take 256 8 (drop (8 * i) t) (below-drop 256 (8 * i) t bytes)) bytes
+    (part-long (8 * i) 8 8 t refl (omega arith)) (omega arith)
     (c .before .before .key .ensures ∙ ap (λ (k : ℕ). keyOf 8 (take k (drop (8 * i) t))) width) (c .key2 .ensures))
 
 pub same-state-spec : {M : Type 1} → statement M

@@ -1,6 +1,6 @@
 -- `moves::too_many` meets its contract.
 use borrow.Author.Needs.{needs}
-use mathlib.Core.Path.{sym, ap, _∙_}
+use mathlib.Core.Path.{ap, _∙_}
 use Prim.Native.Nat.{ℕ}
 use Rattle.courses.specs.Moves.{manyAnswer}
 use Rattle.courses.proofs.moves.MovesAnswers.{other-first, many-first}
@@ -13,7 +13,8 @@ first-other-requires c κs = search needs
 returns : tie.Need-returns
 returns c =
     let a = c .before .before .before .before .args in
-    λ m l h e. other-first (c .before .first-other .result) (a .i) (c .if1 .taken) ∙ ap (λ (k : ℕ). manyAnswer k (a .i)) (c .before .first-other .ensures m l h e)
+    λ m l h e. other-first (c .before .first-other .result) (a .i) (c .if1 .taken)
+    ∙ ap (λ (k : ℕ). manyAnswer k (a .i)) (c .before .first-other .ensures m l h e)
 
 refused-at-requires : tie.Need-refused-at-requires
 refused-at-requires c κs = search needs
