@@ -5,3 +5,4 @@ pub mod Model
 pub mod Runs
 pub mod Forward
 pub mod Answer
+pub mod InBytes

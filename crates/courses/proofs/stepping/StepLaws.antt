@@ -1,6 +1,6 @@
 -- A step of the model: the powers of a state's coordinates, and the values of monomials out of their table.
 use mathlib.Core.Path.{_≡_, refl, sym, _∙_, ap, ap₂, subst}
-use mathlib.Core.List.{List, [], _∷_, _++_, map, zipWith}
+use mathlib.Core.List.{List, [], _∷_, _++_, map, map-map, zipWith}
 use Prim.Native.Nat.{ℕ, zero, suc, _+_, _*_, _%_, _^_, _<_, _≤_}
 use native.Mathlib.Nat.{mod-lt, mod-eq-of-lt, pow-zero, pow-succ', mul-comm, mul-assoc, one-mul, mul-one, not-suc-le-zero}
 use native.Mathlib.Numerals.{add-one}
@@ -20,6 +20,7 @@ use Rattle.residue.proofs.bytes.Copies.{mapped}
 use Rattle.monomial.specs.Monomial.{monomialAt}
 use Rattle.monomial.specs.Columns.{columnOf}
 use Rattle.monomial.proofs.columns.Entries.{column-long}
+use Rattle.specification.proofs.Recognised.{map-take}
 use Rattle.specification.proofs.ideal.Lists.{index-of}
 use Rattle.construction.proofs.drawing.Grounds.{places-below}
 use Rattle.courses.specs.Stepping.{powersOf, factorsOf, valuesAt, stepOf}
@@ -46,13 +47,8 @@ remainders-low p f [] h i k = absurd (omega arith)
 remainders-low p f (x ∷ l) h zero k = mod-lt (f x) h
 remainders-low p f (x ∷ l) h (suc i) k = remainders-low p f l h i (omega arith)
 
-front-map : {A B : Type 0} (f : A → B) (k : ℕ) (l : List A) → take k (map f l) ≡ map f (take k l)
-front-map f zero l = refl
-front-map f (suc k) [] = refl
-front-map f (suc k) (x ∷ l) = ap (λ (r : List _). f x ∷ r) (front-map f k l)
-
 pub raised-front : (p e : ℕ) (P : List ℕ) → length P ≡ 8 → take 8 (raised p e (fill 16 P)) ≡ raised p e P
-raised-front p e P h = front-map _ 8 (fill 16 P) ∙ ap (raised p e) (take-fill 8 16 P h (omega arith))
+raised-front p e P h = sym (map-take (λ x. x ^ e % p) 8 (fill 16 P)) ∙ ap (raised p e) (take-fill 8 16 P h (omega arith))
 
 -- The table of powers.
 module _ (p : ℕ) (P : List ℕ) where
@@ -143,14 +139,10 @@ module _ (p n k : ℕ) (standard P powers : List ℕ) where
       → powers ≡ fill 2048 (inPlaces 8 (powersOf p P N)) → pointwise p (valuesAt p k n standard P) (factorsOf k n standard powers) ≡ valuesAt p (k + 1) n standard P
   unfolding valuesAt factorsOf columnOf
   values-more N long h l few low table =
-      ap (pointwise p (valuesAt p k n standard P)) (map-both (groups 8 n standard))
+      ap (pointwise p (valuesAt p k n standard P)) (map-map (λ e. getD powers (8 * e + k) 0) (λ a. getD a k 0) (groups 8 n standard))
       ∙ factors-of p (λ a. monomialAt (take k P) a % p) (λ a. getD powers (8 * getD a k 0 + k) 0) (groups 8 n standard)
       ∙ map-same _ _ (groups 8 n standard) each
     where
-      map-both : (G : List (List ℕ)) → map (λ e. getD powers (8 * e + k) 0) (map (λ a. getD a k 0) G) ≡ map (λ a. getD powers (8 * getD a k 0 + k) 0) G
-      map-both [] = refl
-      map-both (a ∷ G) = ap (λ (r : List ℕ). getD powers (8 * getD a k 0 + k) 0 ∷ r) (map-both G)
-
       exponent : (a : List ℕ) → Among a (groups 8 n standard) → getD a k 0 < N
       exponent a mem = let w = index-of (groups 8 n standard) [] a mem in
           let i : w .0 < n = omega (arith, w .1, length-groups 8 n standard) in
