@@ -3,3 +3,4 @@ pub mod Marks
 pub mod CoursesChecked
 pub mod FewRecords
 pub mod RecordsRead
+pub mod Returning
