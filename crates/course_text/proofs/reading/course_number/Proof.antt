@@ -30,13 +30,13 @@ returns : tie.Need-returns
 returns c = below-none _ _ (c .if1 .taken)
 
 returns-2 : tie.Need-returns-2
-returns-2 c = above-none _ _ (c .before .if1 .left) (c .if2 .taken)
+returns-2 c = above-none _ _ (c .before .if1 .left) (omega (arith, c .if2 .taken))
 
 cast-result : tie.Need-cast-result
 cast-result c = search needs
 
 returns-3 : tie.Need-returns-3
-returns-3 c = itself _ _ (c .before .if1 .left) (c .if2 .left)
+returns-3 c = itself _ _ (c .before .if1 .left) (omega (arith, c .if2 .left))
 
 pub course-number-spec : {M : Type 1} → statement M
 course-number-spec = tie.close (tie.spec returns returns-2 cast-result returns-3)

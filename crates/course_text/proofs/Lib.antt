@@ -1,0 +1,2 @@
+-- The lemmas of the crate course_text. Those of a module of src/ stand in the folder of its name.
+pub mod CourseGrammar
