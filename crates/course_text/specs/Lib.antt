@@ -4,3 +4,4 @@ pub mod Form
 pub mod Grammar
 pub mod Outcome
 pub mod Reading
+pub mod Running

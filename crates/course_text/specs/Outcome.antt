@@ -26,8 +26,8 @@ unfoldable pub shortFor : Tables → List ℕ → List ℕ → Bool
 shortFor t interpolants weights = tooShort t || ltb (length interpolants) 512 || ltb (length weights) 8
 
 -- what the moves decide, with their records
-abbrev pub movesCases : ℕ → List Timed → List TextCase
-movesCases c l = map (λ k. (k .0, refusalAt (k .1 .0) (k .1 .1))) (courseCases c l)
+abbrev pub recordsCases : ℕ → List Timed → List TextCase
+recordsCases c l = map (λ k. (k .0, refusalAt (k .1 .0) (k .1 .1))) (courseCases c l)
 
 -- all of them, in the order of checking: 1, 2, 3, 4, 15, 6, 9, 17, 8, 13, 18
 unfoldable pub timeCases : List ℕ → ℕ → Contents → Bool → ℕ → List TextCase
@@ -35,7 +35,7 @@ timeCases text fault e short c =
     (ltb 16384 (length text), refusalAt 1 0)
     ∷ (not (eqb fault 0), brokenAt fault)
     ∷ (headerCases (settingsBy (e .header)) short
-    ++ (entryCase 9 (firstStateOutside (e .header .modulus) (e .header .variables) (e .entries)) ∷ movesCases c (timedBy e)))
+    ++ (entryCase 9 (firstStateOutside (e .header .modulus) (e .header .variables) (e .entries)) ∷ recordsCases c (timedBy e)))
 
 -- the answer, and the lent buffers at exit
 pub record CourseOutcome : Type 0 where
@@ -73,9 +73,12 @@ courseAccepted e c t interpolants weights =
     }
 
 -- A refusal comes with its record and changes nothing.
+abbrev pub refusedCourse : Refusal → Course
+refusedCourse f = record { refusal = f .refusal; at = f .at; modulus = 0; variables = 0; order = 0; n = 0; r = 0; step = 0; back = 0 }
+
 unfoldable pub courseRefused : Refusal → Tables → List ℕ → List ℕ → CourseOutcome
 courseRefused f t interpolants weights = record {
-  answer = record { refusal = f .refusal; at = f .at; modulus = 0; variables = 0; order = 0; n = 0; r = 0; step = 0; back = 0 };
+  answer = refusedCourse f;
   tables = t;
   interpolants = interpolants;
   weights = weights;

@@ -105,7 +105,7 @@ module _ (s : Settings) (ok : Accepted s) (c : ℕ) (l : List Timed) (each : (a 
   few-points = whole (λ m. ltb 64 (length (pointsOfMoves m))) [] (movesOf l)
       (faultless manyPoints [] (movesOf l) (numbered s ok l each) (passes c l zero .few)) refl
 
-  rare-points : some (ltb 255) (countsOf (pointsOfMoves (movesOf l))) ≡ false
+  pub rare-points : some (ltb 255) (countsOf (pointsOfMoves (movesOf l))) ≡ false
   unfolding oftenCounted pointsOfMoves gathered enteredAll
   rare-points = whole (λ m. some (ltb 255) (countsOf (pointsOfMoves m))) [] (movesOf l)
       (faultless oftenCounted [] (movesOf l) (numbered s ok l each) (passes c l zero .rare)) refl
