@@ -146,7 +146,7 @@ fn refused_at(refusal: u8, i: usize) -> Gathered
 
 // Record i of the list would be the 65th point: 8, unless a state stands with another successor anywhere.
 fn too_many(count: usize, i: usize, records: &[u8], numbers: &[u8]) -> Gathered
-    requires { ⌜ (i < mostRecords) × (count ≤ mostRecords) × (count ≤ length (now numbers)) × (8 * count ≤ length (now records)) ⌝ }
+    requires { ⌜ (i < count) × (count ≤ mostRecords) × (count ≤ length (now numbers)) × (8 * count ≤ length (now records)) ⌝ }
     ensures { λ r. ⌜ ((m : ℕ) (l : List Timed) → HeldIn m l (now (records .entry)) (now (numbers .entry)) → length l ≡ count
         → r ≡ manyAnswer (firstMove otherNext [] (movesOf l)) i) ⌝ }
 {

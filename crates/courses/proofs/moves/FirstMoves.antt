@@ -65,4 +65,4 @@ never-many seen (a ∷ l) h =
     let whole : front ++ l ≡ seen ++ (a ∷ l) = append-assoc seen (a ∷ []) l in
     let all : length (pointsOfMoves (front ++ l)) ≤ 64 = omega (arith, ap (λ (s : List Move). length (pointsOfMoves s)) whole, h) in
     let few : length (pointsOfMoves front) ≤ 64 = omega (arith, all-grow (statesOf l) (pointsOfMoves front), ap length (points-on front l), all) in
-    rw (le-ltb 64 (length (pointsOfMoves front)) few) (never-many front l all)
+    ap (λ (b : Bool). cond b (a .at) (firstMove manyPoints front l)) (le-ltb 64 (length (pointsOfMoves front)) few) ∙ never-many front l all

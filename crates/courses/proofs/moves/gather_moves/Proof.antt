@@ -164,7 +164,7 @@ too-many-requires : tie.Need-too-many-requires Inv-loop μ-loop
 too-many-requires c κs =
     let w = within (entered (c .before)) in
     let s = start (head w) in
-    (lt-le (w .before .before .loop-test .taken) (s .pre .0 .0), s .pre .0 .0, room-numbers s, room-records s)
+    (w .before .before .loop-test .taken, s .pre .0 .0, room-numbers s, room-records s)
 
 same-length : tie.Need-same-length Inv-loop μ-loop
 same-length c = let e = entered (c .before .before) in e .enter .kept .1 .0 ∙ same-points (head (within e))
