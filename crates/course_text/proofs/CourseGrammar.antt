@@ -42,6 +42,18 @@ course-is : (c : ℕ) → c ≤ 99 → courseIn (pos c) ≡ c
 unfolding courseIn
 course-is c h = ap (λ (b : Bool). cond b c 0) (le-leb c 99 h)
 
+-- an entry is its levels with its number
+pub entry-split : (m : ℕ) (zs : List ℤ) (c : ℕ) → length zs ≡ suc m → numberOf m zs ≡ c → c ≢ 0 → (zs ≡ take m zs ++ (pos c ∷ [])) × (1 ≤ c) × (c ≤ 99)
+unfolding numberOf lastLevel
+entry-split m zs c l q n =
+    let k = course-of (getD zs m (pos 0)) c q n in
+    let short : length zs ≤ suc m = omega arith in
+    (sym (take-append-drop m zs) ∙ ap (λ (x : List ℤ). take m zs ++ x) (drop-cons zs m (pos 0) (omega arith) ∙ ap₂ (λ (y : ℤ) (x : List ℤ). y ∷ x) (k .0) (drop-of-length-le zs short)), k .1, k .2)
+
+pub split-number : (m : ℕ) (ls : List ℤ) (c : ℕ) → length ls ≡ m → c ≤ 99 → numberOf m (ls ++ (pos c ∷ [])) ≡ c
+unfolding numberOf lastLevel
+split-number m ls c l h = ap courseIn (getD-at ls (pos c) [] (pos 0) m l) ∙ course-is c h
+
 levels-long : {fs : List (List ℕ)} {zs : List ℤ} → AreLevels fs zs → length zs ≡ length fs
 levels-long no-levels = refl
 levels-long (levels a r) = ap suc (levels-long r)
@@ -57,7 +69,7 @@ module _ (m : ℕ) where
       let zs = ls ++ (pos c ∷ []) in
       let e : entryIn m r ≡ some zs = ap (entryIn m) q ∙ entry-grammar m fields zs .0 (i .entry) in
       let l : length ls ≡ m = omega (arith, levels-long (i .entry .each), i .entry .count, length-append ls (pos c ∷ [])) in
-      (ap (λ (o : Option (List ℤ)). numberOf m (Option·getD o [])) e ∙ ap courseIn (getD-at ls (pos c) [] (pos 0) m l) ∙ course-is c (i .most), λ z. omega (arith, z, i .least))
+      (ap (λ (o : Option (List ℤ)). numberOf m (Option·getD o [])) e ∙ split-number m ls c l (i .most), λ z. omega (arith, z, i .least))
 
   number-has : (r : Option (List (List ℕ))) (c : ℕ) → number r ≡ c → c ≢ 0 → HasNumber m r c
   unfolding entryIn numberOf lastLevel courseIn
@@ -68,12 +80,8 @@ module _ (m : ℕ) where
       go none h q = absurd (n (sym q))
       go (some zs) h q =
           let i = entry-grammar m fields zs .1 h in
-          let k = course-of (getD zs m (pos 0)) c q n in
-          let l : length zs ≡ suc m = levels-long (i .each) ∙ i .count in
-          let short : length zs ≤ suc m = omega arith in
-          let w : zs ≡ take m zs ++ (pos c ∷ []) =
-          sym (take-append-drop m zs) ∙ ap (λ (x : List ℤ). take m zs ++ x) (drop-cons zs m (pos 0) (omega arith) ∙ ap₂ (λ (y : ℤ) (x : List ℤ). y ∷ x) (k .0) (drop-of-length-le zs short)) in
-          (fields, take m zs, refl, record { entry = subst (IsEntry m fields) w i; least = k .1; most = k .2 })
+          let w = entry-split m zs c (levels-long (i .each) ∙ i .count) q n in
+          (fields, take m zs, refl, record { entry = subst (IsEntry m fields) (w .0) i; least = w .1; most = w .2 })
 
   -- the records before: one of them has a number, and the last has it
   abbrev numbers : Records → List ℕ

@@ -58,7 +58,7 @@ fault-told m before zs = go (equal-told (numberOf m zs) 0) (returns-told (number
     go (not-so n) (not-so r) = not-so (λ z. elim z [ inl e ↦ n e | inr q ↦ r q ])
 
 -- entries without a fault, those of `before` being passed
-abbrev Free : ℕ → List (Option (List ℤ)) → List (List ℤ) → Type 0
+abbrev pub Free : ℕ → List (Option (List ℤ)) → List (List ℤ) → Type 0
 Free m before E = firstAfter (courseFault m) before (map some E) ≡ 0
 
 abbrev after : List (Option (List ℤ)) → List ℤ → List (Option (List ℤ))
@@ -85,7 +85,7 @@ module _ (p m : ℕ) where
   abbrev Closed : List ℕ → ℕ → List (List ℤ) → Type 0
   Closed before c E = (d : ℕ) → Among d before → d ≢ c → (zs : List ℤ) → Among zs E → d ≢ numberOf m zs
 
-  abbrev AllCourses : List (List ℤ) → Type 0
+  abbrev pub AllCourses : List (List ℤ) → Type 0
   AllCourses E = (zs : List ℤ) → Among zs E → numberOf m zs ≢ 0
 
   -- no later record has this number
