@@ -19,7 +19,7 @@ use Rattle.specification.specs.Points.{IsPoint}
 use Rattle.specification.specs.Settings.{Accepted}
 use Rattle.specification.proofs.ideal.Lists.{among-map}
 use Rattle.specification.proofs.counted.Gathered.{Entries, entries-gathered}
-use Rattle.specification.proofs.Sheets.{holds-basis}
+use Rattle.specification.proofs.CallByCall.{holds-basis}
 use Rattle.courses.specs.TimeCourse.{Timed, inRuns, courseOf, Move, move, movesFrom, movesOf, statesOf, pointsOfMoves, firstMove, otherNext, manyPoints}
 use Rattle.courses.specs.TimeCourse.{oftenCounted, movesCases, courseCases, courseRefusal, step, times, courseReturn, courseSheet}
 use Rattle.courses.specs.Returns.{Ends}
