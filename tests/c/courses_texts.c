@@ -102,11 +102,25 @@ static void header_words(struct courses *c)
     }
 }
 
+/* What the header takes out of a number: each bit belongs to one part, whatever the others are. */
+static void parts_of_numbers(struct courses *c)
+{
+    for (uint64_t i = 0; i < 1000; i++) {
+        const uint64_t n = i < 64 ? (uint64_t)1 << i : any_number(&c->made.chance);
+        const uint64_t again = misqafur_read_refusal(n) | (uint64_t)misqafur_read_points(n) << 8 |
+                               (uint64_t)misqafur_read_modulus(n) << 16 | (uint64_t)misqafur_read_variables(n) << 24 |
+                               (uint64_t)misqafur_read_order(n) << 32 | (uint64_t)misqafur_course_elements(n) << 36 |
+                               (uint64_t)misqafur_course_step(n) << 46 | (uint64_t)misqafur_course_back(n) << 55;
+        say_course(c, "a part of a number", i, again == n && misqafur_read_record(n) == n >> 8);
+    }
+}
+
 void course_examples(struct courses *c)
 {
     try_examples(c, examples_of_form, sizeof examples_of_form / sizeof *examples_of_form);
     try_examples(c, examples_of_runs, sizeof examples_of_runs / sizeof *examples_of_runs);
     header_words(c);
+    parts_of_numbers(c);
 }
 
 /* Every number in the last column, of one to three digits and with a minus sign; and every number named, up to 1100. */
