@@ -97,8 +97,7 @@ static void header_words(struct courses *c)
     for (int i = 0; i < 5; i++) {
         const uint64_t number = run_text(c, words[i], strlen(words[i]), 7);
         say_course(c, words[i], orders[i], misqafur_read_order(number) == orders[i] && misqafur_read_modulus(number) == 5 &&
-                   misqafur_read_variables(number) == 1 && misqafur_course_elements(number) == 1 &&
-                   c->made.bytes[WEIGHTS][0] == 0);
+                   misqafur_read_variables(number) == 1 && misqafur_course_elements(number) == 1);
     }
 }
 
