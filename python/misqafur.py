@@ -1001,7 +1001,7 @@ def course_report(course, habits=()):
 
 # ---- The picture of a course
 
-_CELL, _ROW, _NARROWEST = 30, 34, 620
+_CELL, _ROW, _NARROWEST = 30, 34, 700
 
 
 def _shade(level, modulus):
@@ -1037,9 +1037,9 @@ def timeline(course):
     left, top = margin, 58 + 18 * len(said)
     below, right = top + _ROW * len(names), left + _CELL * steps
     legend = _course_legend(course, left, below + 82)
-    wide = max(right + (margin if steps > 30 else 24), left + _long(said[0], 16) + 24, *(left + _long(line) + 24 for line in said[1:]), _NARROWEST,
+    wide = max(right + (margin if steps > 30 else 24), left + _long(said[0], 16) + 24, *(left + _long(line) + 24 for line in said[1:]), left + _NARROWEST,
                left + _CELL * (course.step - course.back) + _long(_ending(course)) + 40)
-    high = below + 104
+    high = below + 104 + (24 if course.step else 0)
     picture = [f'<svg xmlns="http://www.w3.org/2000/svg" width="{wide}" height="{high}" viewBox="0 0 {wide} {high}"',
                '     font-family="sans-serif" fill="#222222">', f"<title>{_xml(said[0])}</title>", f'<rect width="{wide}" height="{high}" fill="#ffffff"/>',
                _word(left, 26, said[0], 16, "start"), *(_word(left, 46 + 18 * i, line, 12, "start") for i, line in enumerate(said[1:]))]
@@ -1084,6 +1084,9 @@ def _course_legend(course, left, y):
         x += 40 + _long(text)
     yield f'<circle cx="{x + 8}" cy="{y - 4}" r="5" fill="#2e7d32"/>'
     yield _word(x + 20, y + 1, "measured in this course; without a dot: as the model runs on", 12, "start")
+    if course.step:
+        yield f'<rect x="{left + 1}" y="{y + 11}" width="14" height="14" fill="none" stroke="#d35400" stroke-width="3"/>'
+        yield _word(left + 22, y + 23, "framed: comes again and again, for ever; the pale column is the first that comes again", 12, "start")
 
 
 # ---- The staircase
