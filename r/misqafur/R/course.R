@@ -21,7 +21,7 @@ course <- function(data, number) {
   back <- parts[[7]][2]
   step <- parts[[7]][1]
   met <- run_of(empty, parts[[6]], standard(points), named[1, ] %% parts[[1]], if (step > 0) step else most_steps)
-  trajectory <- as.data.frame(matrix(met, ncol = length(names), dimnames = list(seq_len(nrow(met)) - 1, names)), optional = TRUE)
+  trajectory <- structure(as.data.frame(met), names = names, row.names = as.character(seq_len(nrow(met)) - 1))
   model <- vapply(seq_along(names), function(g) polynomial_text(points, parts[[6]][g, ], standard(points)), "")
   structure(list(number = number, sheet = points, model = structure(model, names = names), trajectory = trajectory, step = step, back = back,
                  cycle = trajectory[step - back + seq_len(back), , drop = FALSE], measured = nrow(named),
@@ -90,18 +90,21 @@ plot.misqafur_course <- function(x, ...) {
   genes <- length(x$trajectory)
   steps <- nrow(x$trajectory)
   shades <- grDevices::colorRampPalette(c("#f3f7fb", "#1f4e79"))(x$sheet$modulus)
+  before <- graphics::par(mar = c(5, 2 + 0.6 * max(nchar(names(x$trajectory)), 3), 4, 1))
+  on.exit(graphics::par(before))
   graphics::plot.new()
   graphics::plot.window(c(-0.5, steps - 0.5), c(-0.5, genes + 0.5))
   for (g in seq_len(genes)) {
     level <- x$trajectory[[g]]
     at <- seq_len(steps) - 1
     graphics::rect(at - 0.5, genes - g, at + 0.5, genes - g + 1, col = shades[level + 1], border = "white")
-    graphics::text(at, genes - g + 0.5, level, col = ifelse(level / (x$sheet$modulus - 1) > 0.55, "white", "#222222"))
+    graphics::text(at, genes - g + 0.5, level, cex = min(1, 25 / steps), col = ifelse(level / (x$sheet$modulus - 1) > 0.55, "white", "#222222"))
   }
   if (x$step > 0) graphics::rect(x$step - x$back - 0.5, 0, x$step - 0.5, genes, border = "#d35400", lwd = 3)
   graphics::points(seq_len(min(x$measured, steps)) - 1, rep(-0.25, min(x$measured, steps)), pch = 19, col = "#2e7d32")
   graphics::axis(1, at = seq_len(steps) - 1)
   graphics::axis(2, at = genes - seq_len(genes) + 0.5, labels = names(x$trajectory), las = 1, tick = FALSE)
-  graphics::title(main = paste0("Course ", x$number, ", run forward: ", ending(x)), xlab = "time step (a dot: measured in this course)")
+  graphics::title(main = paste0("Course ", x$number, ", run forward:\n", ending(x)), font.main = 1,
+                  xlab = paste0("time step (dot: measured in this course", if (x$step > 0) "; frame: comes again for ever", ")"))
   invisible(x)
 }
