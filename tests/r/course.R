@@ -6,7 +6,7 @@ text <- function(...) charToRaw(paste0(c(...), "\n", collapse = ""))
 example <- file.path(root, "examples/course.csv")
 
 three <- course(example, 3)
-expect(three$step == 7 && three$back == 3 && three$measured == 5 && identical(three$courses, c(3L, 5L)), "the example's run")
+expect(is.na(three$unmeasured) && three$step == 7 && three$back == 3 && three$measured == 5 && identical(three$courses, c(3L, 5L)), "the example's run")
 expect(identical(three$model[["AP1"]], "LFY") && identical(names(three$model), c("FT", "LFY", "AP1")), "the example's model")
 expect(identical(unname(as.matrix(three$cycle)), rbind(c(2L, 2L, 1L), c(1L, 2L, 2L), c(2L, 1L, 2L))), "the example's cycle")
 expect(identical(three$trajectory$FT, c(0L, 1L, 2L, 2L, 2L, 1L, 2L, 2L)) && identical(row.names(three$trajectory), as.character(0:7)), "the example's states")
@@ -59,6 +59,8 @@ zero <- course(text("a,b,mod 5", "1,0,1", "0,0,2"), 1)
 expect(zero$step == 2 && zero$back == 1 && nrow(states(zero$sheet)) == 0 && identical(unname(zero$model), c("0", "0")), "no moves")
 long <- course(text("a,b,mod 17", "0,1,4", "1,1,4", "1,8,4", "8,15,4"), 4)
 expect(long$step == 0 && long$back == 0 && nrow(long$trajectory) == 257 && nrow(long$cycle) == 0, "no state within 256 steps")
+expect(zero$unmeasured == 0 && long$unmeasured == 3 && grepl("step 3 was not measured in any course: from step 4 on", capture.output(print(long))[5], fixed = TRUE),
+       "where the model goes on by itself")
 expect(grepl("run forward: no state came again within 256 steps", capture.output(print(long))[1], fixed = TRUE), "no state, printed")
 
 # Names stay as they are, also where two are the same.

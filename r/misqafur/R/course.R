@@ -5,7 +5,8 @@ most_steps <- 256
 # Runs a course from its first state by a model that fits every move of the text's courses. What comes of it is a list: the sheet of
 # the states that have a next one, the model (the polynomial of each gene's next level, by the genes' names), the trajectory (a row for
 # each step from 0, by the genes' names), the step that gives a state met before and the distance back to it, and the cycle, the states
-# that come again for ever. Where none came within 256 steps, step and back are 0 and the cycle has no rows.
+# that come again for ever. Where none came within 256 steps, step and back are 0 and the cycle has no rows. `measured` is how many
+# records the course has, and `unmeasured` the first step whose state has no next one in any course, NA if there is none.
 course <- function(data, number) {
   if (length(number) != 1 || !is.numeric(number) || is.na(number)) wrong("one course is wanted, by its number")
   bytes <- text_of(data)
@@ -25,8 +26,12 @@ course <- function(data, number) {
   model <- vapply(seq_along(names), function(g) polynomial_text(points, parts[[6]][g, ], standard(points)), "")
   structure(list(number = number, sheet = points, model = structure(model, names = names), trajectory = trajectory, step = step, back = back,
                  cycle = trajectory[step - back + seq_len(back), , drop = FALSE], measured = nrow(named),
+                 unmeasured = match(FALSE, rows_of(trajectory)[-nrow(met)] %in% rows_of(states(points))) - 1L,
                  courses = unique(records[, parts[[2]] + 1])), class = "misqafur_course")
 }
+
+# Each row of a table as one string.
+rows_of <- function(table) do.call(paste, unname(as.list(table)))
 
 # The states of a run, a row for each. The library works out every value: that of a polynomial at a state is its remainder over the
 # sheet of this state alone.
@@ -81,6 +86,9 @@ print.misqafur_course <- function(x, ...) {
               ending(x)))
   cat(paste0("  next ", names(x$model), " = ", x$model, "\n"), sep = "")
   cat(sprintf("The course has %d %s, from step 0 on; the run is\n", x$measured, if (x$measured == 1) "record" else "records"))
+  if (!is.na(x$unmeasured))
+    cat(sprintf("(what comes after the state of step %d was not measured in any course: from step %d on it is the model's, and another model\n",
+                x$unmeasured, x$unmeasured + 1L), "that fits the records may go elsewhere)\n", sep = "")
   print(x$trajectory)
   invisible(x)
 }
