@@ -1,5 +1,5 @@
-"""Time courses run forward: the points, the model and the run against their definitions, worked out here from the records; every kind
-of text; names; what is refused, at which record and in which words; reports, pictures, the command line."""
+"""Time courses run forward: the points, the model and the run against their definitions, worked out here from the records; the stored
+calls; every kind of text; names; what is refused, at which record and in which words; reports, pictures, the command line."""
 import copy
 import importlib.util
 import io
@@ -172,6 +172,38 @@ class Definitions(unittest.TestCase):
         self.assertEqual(misqafur.course(b"a,mod 5\n1,1\n", 1).sheet.order, "grevlex")
         sheet = misqafur.course(b"a,b,mod 5 weight 2 09\n1,0,1\n", 1).sheet
         self.assertEqual((sheet.modulus, sheet.names, sheet.order, sheet.weights), (5, ("a", "b"), "weight", (2, 9)))
+
+
+class Stored(unittest.TestCase):
+    @staticmethod
+    def bytes_of(words):
+        """Bytes as they are stored: hexadecimal, some of them so many times, or none."""
+        parts = [word.partition("*")[::2] for word in words.split() if word != "-"]
+        return b"".join(bytes.fromhex(part) * int(times or 1) for part, times in parts)
+
+    def calls(self):
+        """The stored calls of tests/c: a text, the course named, and the answer's parts; but those that lend too little, which Python never does."""
+        for block in (ROOT / "tests/c/data/changes/M-111.txt").read_text().split("\nend\n"):
+            lines = dict(line.partition(" ")[::2] for line in block.split("\n"))
+            if lines.get("call") == "time_course" and lines["number"] != "6 0":
+                yield self.bytes_of(lines["text"]), int(lines["course"]), tuple(map(int, lines["number"].split()))
+
+    def test_answers(self):
+        count = 0
+        for text, number, due in self.calls():
+            count += 1
+            if due[0]:
+                refusal = refusal_of(text, number)
+                self.assertEqual((refusal.number, refusal.record), due)
+                self.assertTrue(misqafur.refusal_report(text, refusal).strip().startswith(f"Refused with {due[0]}"))
+                continue
+            course = misqafur.course(text, number)
+            sheet = course.sheet
+            order = misqafur.ORDERS.index(sheet.order)
+            self.assertEqual((0, len(sheet), sheet.modulus, len(sheet.names), order, len(sheet.leads), course.step, course.back), due)
+            states, step, back = returned(sheet, course.rules, course.states[0])
+            self.assertEqual((course.states, course.step, course.back), (states, step, back))
+        self.assertGreater(count, 150)
 
 
 class Data(unittest.TestCase):
