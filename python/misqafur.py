@@ -743,7 +743,7 @@ class Course:
         """The first step whose state has no next one in any course of the text, so that what follows is the model's alone; None if
         there is none."""
         points = set(self.sheet.states)
-        return next((k for k, state in enumerate(self.states[:-1]) if state not in points), None)
+        return next((k for k, state in enumerate(self.states) if state not in points), None)
 
     def __repr__(self):
         return f"<course {self.number} of {', '.join(self.names)} modulo {self.sheet.modulus}, {_ending(self)}>"

@@ -297,6 +297,7 @@ class Refused(unittest.TestCase):
                 (written("a,b,mod 61", [((i % 61, i // 61), 1) for i in range(66)]), 1, 8, 66, "Record 66 brings the 65th different state that has a next one"),
                 (b"a,mod 5\n" + b"0,1\n" * 257, 1, 13, 257, "Record 257 is the 256th of its state that has a next one"),
                 (one, 2, 18, 0, "The text has the course 1, and 2 was to be run"), (one + b"0,0,9\n", -1, 18, 0, "The text has the courses 1, 9, and -1 was to be run"),
+                (one, 257, 18, 0, "The text has the course 1, and 257 was to be run"),
                 (one, 2**64 + 1, 18, 0, f"The text has the course 1, and {2**64 + 1} was to be run"), (b"a,mod 5", 1, 18, 0, "The text has no course, and 1 was to be run")):
             with self.subTest(said):
                 refusal = refusal_of(text, number)

@@ -67,6 +67,8 @@ expect(grepl("run forward: no state came again within 256 steps", capture.output
 odd <- course(text("\"a,\"\"b\",,\"c\nd\",mod 5", "0,1,2,1", "1,1,2,1"), 1)
 expect(identical(names(odd$trajectory), c("a,\"b", "", "c\nd")) && identical(odd$sheet$genes, names(odd$trajectory)), "odd names")
 expect(identical(names(course(text("a,a,mod 5", "0,1,1"), 1)$model), c("a", "a")), "one name for two genes")
+frame <- structure(data.frame(0:1, 1, 2, 1), names = c("a,\"b", "", "c\nd", "mod 5"))
+expect(identical(course(frame, 1), odd), "odd names of a data frame")
 expect(identical(course(text("a,b,mod 5 weight 2 09", "0,1,007"), 7)$sheet$weights, c(a = 2L, b = 9L)), "weights")
 
 # Refused: the number, the record, and in which words.
@@ -78,7 +80,9 @@ two <- text("a,\"mod 5\",mod 5", "1,0,1", "2,0,1", "-4,0,2", "2,1,2")
 expect(all(refused(course(two, 1)) == c(17, 4)), "two successors")
 expect(endsWith(said(course(two, 1)), "Record 4 has the state of record 2 (a 1, mod 5 0), which is followed by a 2, mod 5 0 there, and here by a 2, mod 5 1"),
        "two successors are not said")
-for (number in c(4, 0, -1, 3.5, 100, 1e20)) {
+last <- text("a,mod 5", "1,1", "1,2", "2,2", "1,3", "3,3")
+expect(all(refused(course(last, 1)) == c(17, 5)) && grepl("has the state of record 3 (a 1)", said(course(last, 1)), fixed = TRUE), "a state that ends a course")
+for (number in c(4, 0, -1, 3.5, 100, 259, 1e20)) {
   expect(all(refused(course(example, number)) == c(18, 0)), paste("course", number))
   expect(said(course(example, number)) == paste0("refused with 18: the time course to be run is not in the text. The text has the courses 3, 5, and ", format(number), " was to be run"),
          paste("course", number, "is not said"))
