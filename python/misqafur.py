@@ -994,7 +994,7 @@ def course_report(course, habits=()):
     lines += ["", "The model: each gene's next level as a polynomial of the levels now (it gives every next record",
               "of every course in the text):"]
     lines += [_wrapped(f"next {name} = {rule}", "    ") for name, rule in zip(names, course.rules)]
-    lines += ["", _wrapped(f"The run from the first state of course {course.number}, which has {_counted(course.measured, 'record')}: {_ending(course)}.", "")]
+    lines += ["", f"Course {course.number} has {_counted(course.measured, 'record')}. Run forward from the first, {_ending(course)}."]
     lines += [_wrapped(said, "  ! ") for said in _beyond(course)]
     return "\n".join(lines + _states_met(course))
 

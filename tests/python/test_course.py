@@ -401,7 +401,7 @@ class Reports(unittest.TestCase):
         status, said = self.said(EXAMPLE, "-", "--course", "3", "--svg", picture)
         self.assertEqual(status, 0)
         for part in ("Course 3 of 3 genes (FT, LFY, AP1), levels modulo 3, order grlex", "The text has the courses 3, 5, and in them 7 records with a next one, "
-                     "at 7 different states.", "next AP1 = LFY", "first state of course 3, which has 5 records: it repeats every 3 steps from step 4.",
+                     "at 7 different states.", "next AP1 = LFY", "Course 3 has 5 records. Run forward from the first, it repeats every 3 steps from step 4.",
                      "step FT LFY AP1 0 0 0 0 measured 1 1 0 0 measured", "4 2 2 1 measured 5 1 2 2 6 2 1 2 7 2 2 1 as at step 4"):
             self.assertIn(part, said)
         self.assertNotIn("!", said)
@@ -423,7 +423,7 @@ class Reports(unittest.TestCase):
             state = (state[1], (state[1] + 7 * state[0]) % 17)
         status, said = self.said(written("a,b,mod 17", records), "-", "--course", "1")
         self.assertEqual(status, 0)
-        self.assertIn("which has 4 records: no state came again within 256 steps.", said)
+        self.assertIn("Course 1 has 4 records. Run forward from the first, no state came again within 256 steps.", said)
         self.assertNotIn("as at step", said)
 
     def test_refused(self):
