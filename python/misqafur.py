@@ -48,7 +48,8 @@ INTERPOLANTS, MOST_STEPS, MOST_COURSE = 512, 256, 99
 REFUSALS = {
     1: ("the text is longer than 16,384 bytes", "Leave out states, or shorten the gene names."),
     2: ("the text breaks the rules, or a record's field count differs from the header's",
-        "The header is the gene names and `mod P` (as `g1,g2,mod 5`); each further record a level for each gene and a value."),
+        "The header is the gene names and `mod P` (as `g1,g2,mod 5`); each further record a level for each gene and a value, "
+        "or in time courses a course number."),
     3: ("the modulus is not one of the 18 primes from 2 to 61, or not 2 where a sheet is drawn up packed",
         "Take 2, 3, 5, 7, 11, 13, 17, 19, 23, 29, 31, 37, 41, 43, 47, 53, 59 or 61."),
     4: ("the number of genes is not 1 to 8", "Choose at most 8 genes."),
@@ -711,6 +712,7 @@ class Course:
         self.number, self.sheet, self.rules, self.step, self.back = number, sheet, rules, step, back
         self.courses, self.measured = list(courses), courses[number]
         self.states = [first]
+        # The library answers where the run ends; the states on the way are the rules' values, each at the one before.
         for _ in range(step or MOST_STEPS):
             self.states.append(tuple(rule(self.states[-1]) for rule in rules))
 

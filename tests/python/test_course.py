@@ -73,7 +73,7 @@ class Definitions(unittest.TestCase):
         sheet, found = course.sheet, moves(modulus, records)
         points = dict.fromkeys(state for _, state, _ in found)
         after = {state: then for _, state, then in found}
-        drawn = misqafur.Sheet(modulus, sheet.names, sheet.order, weights=sheet.weights or None).draw_up(sorted((s for _, s, _ in found), key=list(points).index))
+        drawn = misqafur.Sheet(modulus, sheet.names, sheet.order, weights=sheet.weights or None).draw_up([state for _, state, _ in found])
         drawn.cancellations = None
         self.assertEqual(kept(sheet), kept(drawn))
         self.assertEqual(list(exact.faults(sheet)), [])
@@ -292,13 +292,16 @@ class Refused(unittest.TestCase):
                 (one + b"1,0\n", 1, 2, 4, "Record 4 has 2 fields, the header 3"),
                 (b"a,mod 4\n1,1\n", 1, 3, 1, ""), (b"a,b,mod 5 weight 1 0\n1,1,1\n", 1, 15, 1, "The weight is 0 of b"),
                 (one + b"5,0,99\n", 1, 9, 4, "Record 4, field 1 (a): 5 is not from -4 to 4"),
-                (one + b"-4,0,2\n2,1,2\n", 1, 17, 4, "Record 4 has the state of record 2 (a 1, b 0), which is followed by a 2, b 0 there, and here by a 2, b 1"),
+                (one + b"-4,0,2\n2,1,2\n", 1, 17, 4,
+                 "Record 4 has the state of record 2 (a 1, b 0), which is followed by a 2, b 0 there, and here by a 2, b 1"),
                 (one + b"1,0,1\n3,3,1\n", 1, 17, 4, "Record 4 has the state of record 2 (a 1, b 0), which is followed by a 2, b 0 there, and here by a 3, b 3"),
                 (written("a,b,mod 61", [((i % 61, i // 61), 1) for i in range(66)]), 1, 8, 66, "Record 66 brings the 65th different state that has a next one"),
                 (b"a,mod 5\n" + b"0,1\n" * 257, 1, 13, 257, "Record 257 is the 256th of its state that has a next one"),
-                (one, 2, 18, 0, "The text has the course 1, and 2 was to be run"), (one + b"0,0,9\n", -1, 18, 0, "The text has the courses 1, 9, and -1 was to be run"),
+                (one, 2, 18, 0, "The text has the course 1, and 2 was to be run"),
+                (one + b"0,0,9\n", -1, 18, 0, "The text has the courses 1, 9, and -1 was to be run"),
                 (one, 257, 18, 0, "The text has the course 1, and 257 was to be run"),
-                (one, 2**64 + 1, 18, 0, f"The text has the course 1, and {2**64 + 1} was to be run"), (b"a,mod 5", 1, 18, 0, "The text has no course, and 1 was to be run")):
+                (one, 2**64 + 1, 18, 0, f"The text has the course 1, and {2**64 + 1} was to be run"),
+                (b"a,mod 5", 1, 18, 0, "The text has no course, and 1 was to be run")):
             with self.subTest(said):
                 refusal = refusal_of(text, number)
                 self.assertEqual((refusal.number, refusal.record, refusal.more or ""), (due, record, said))
@@ -400,8 +403,8 @@ class Reports(unittest.TestCase):
         picture = self.folder.name + "/a.svg"
         status, said = self.said(EXAMPLE, "-", "--course", "3", "--svg", picture)
         self.assertEqual(status, 0)
-        for part in ("Course 3 of 3 genes (FT, LFY, AP1), levels modulo 3, order grlex", "The text has the courses 3, 5, and in them 7 records with a next one, "
-                     "at 7 different states.", "next AP1 = LFY", "Course 3 has 5 records. Run forward from the first, it repeats every 3 steps from step 4.",
+        for part in ("Course 3 of 3 genes (FT, LFY, AP1), levels modulo 3, order grlex",
+                     "The text has the courses 3, 5, and in them 7 records with a next one, at 7 different states.", "next AP1 = LFY", "Course 3 has 5 records. Run forward from the first, it repeats every 3 steps from step 4.",
                      "step FT LFY AP1 0 0 0 0 measured 1 1 0 0 measured", "4 2 2 1 measured 5 1 2 2 6 2 1 2 7 2 2 1 as at step 4"):
             self.assertIn(part, said)
         self.assertNotIn("!", said)

@@ -59,8 +59,8 @@ zero <- course(text("a,b,mod 5", "1,0,1", "0,0,2"), 1)
 expect(zero$step == 2 && zero$back == 1 && nrow(states(zero$sheet)) == 0 && identical(unname(zero$model), c("0", "0")), "no moves")
 long <- course(text("a,b,mod 17", "0,1,4", "1,1,4", "1,8,4", "8,15,4"), 4)
 expect(long$step == 0 && long$back == 0 && nrow(long$trajectory) == 257 && nrow(long$cycle) == 0, "no state within 256 steps")
-expect(zero$unmeasured == 0 && long$unmeasured == 3 && grepl("step 3 was not measured in any course: from step 4 on", capture.output(print(long))[5], fixed = TRUE),
-       "where the model goes on by itself")
+expect(zero$unmeasured == 0 && long$unmeasured == 3, "where the model goes on by itself")
+expect(grepl("step 3 was not measured in any course: from step 4 on", capture.output(print(long))[5], fixed = TRUE), "where it goes on, printed")
 expect(grepl("run forward: no state came again within 256 steps", capture.output(print(long))[1], fixed = TRUE), "no state, printed")
 
 # Names stay as they are, also where two are the same.
@@ -72,7 +72,8 @@ expect(identical(course(frame, 1), odd), "odd names of a data frame")
 expect(identical(course(text("a,b,mod 5 weight 2 09", "0,1,007"), 7)$sheet$weights, c(a = 2L, b = 9L)), "weights")
 
 # Refused: the number, the record, and in which words.
-expect(all(refused(course(text("a,mod 5", "1,7", "0,100"), 7)) == c(2, 3)) && all(refused(course(text("a,mod 5", "1,7", "0,8", "1,7"), 7)) == c(2, 4)), "faults of form")
+expect(all(refused(course(text("a,mod 5", "1,7", "0,100"), 7)) == c(2, 3)), "a course number out of range")
+expect(all(refused(course(text("a,mod 5", "1,7", "0,8", "1,7"), 7)) == c(2, 4)), "a course that comes back")
 expect(all(refused(course(text("a,mod 5", "1,7", "5,7"), 7)) == c(9, 3)) && all(refused(course(text("a,mod 4", "1,7"), 7)) == c(3, 1)), "levels and modulus")
 expect(all(refused(course(text("a,mod 5", rep("0,1", 257)), 1)) == c(13, 257)), "256 replicates")
 expect(refused(course(data.frame(a = c(0, 0.5), "mod 5" = 1, check.names = FALSE), 1))[1] == 2, "a level that is none")
@@ -84,8 +85,8 @@ last <- text("a,mod 5", "1,1", "1,2", "2,2", "1,3", "3,3")
 expect(all(refused(course(last, 1)) == c(17, 5)) && grepl("has the state of record 3 (a 1)", said(course(last, 1)), fixed = TRUE), "a state that ends a course")
 for (number in c(4, 0, -1, 3.5, 100, 259, 1e20)) {
   expect(all(refused(course(example, number)) == c(18, 0)), paste("course", number))
-  expect(said(course(example, number)) == paste0("refused with 18: the time course to be run is not in the text. The text has the courses 3, 5, and ", format(number), " was to be run"),
-         paste("course", number, "is not said"))
+  due <- paste0("refused with 18: the time course to be run is not in the text. The text has the courses 3, 5, and ", format(number), " was to be run")
+  expect(said(course(example, number)) == due, paste("course", number, "is not said"))
 }
 expect(endsWith(said(course(text("a,mod 5"), 1)), "The text has no course, and 1 was to be run"), "a header alone")
 for (number in list("3", NA, NULL, c(3, 5), TRUE)) expect(said(course(example, number)) == "one course is wanted, by its number", "a number that is none")
