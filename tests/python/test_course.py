@@ -404,7 +404,8 @@ class Reports(unittest.TestCase):
         status, said = self.said(EXAMPLE, "-", "--course", "3", "--svg", picture)
         self.assertEqual(status, 0)
         for part in ("Course 3 of 3 genes (FT, LFY, AP1), levels modulo 3, order grlex",
-                     "The text has the courses 3, 5, and in them 7 records with a next one, at 7 different states.", "next AP1 = LFY", "Course 3 has 5 records. Run forward from the first, it repeats every 3 steps from step 4.",
+                     "The text has the courses 3, 5, and in them 7 records with a next one, at 7 different states.",
+                     "next AP1 = LFY", "Course 3 has 5 records. Run forward from the first, it repeats every 3 steps from step 4.",
                      "step FT LFY AP1 0 0 0 0 measured 1 1 0 0 measured", "4 2 2 1 measured 5 1 2 2 6 2 1 2 7 2 2 1 as at step 4"):
             self.assertIn(part, said)
         self.assertNotIn("!", said)
