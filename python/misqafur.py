@@ -658,8 +658,8 @@ def _text_of(data):
     if isinstance(data, str):
         raise TypeError("a text is wanted as bytes, as open(FILE, 'rb').read() gives it, or as pathlib.Path(FILE): of a str it cannot be told "
                         "whether it is a file's name or its content")
-    if hasattr(data, "read") or isinstance(data, os.PathLike):
-        text = data.read() if hasattr(data, "read") else pathlib.Path(data).read_bytes()
+    if hasattr(type(data), "read") or isinstance(data, os.PathLike):
+        text = data.read() if hasattr(type(data), "read") else pathlib.Path(data).read_bytes()
         if not isinstance(text, bytes):
             raise TypeError("a file has to be opened in binary mode, as open(FILE, 'rb')")
         return text
@@ -1023,8 +1023,8 @@ def _level_cell(x, y, level, modulus, again):
 
 
 def _long(text, size=12):
-    """How wide a text is at most, about: letters of other scripts are as wide as high."""
-    return round(sum(0.62 if ord(letter) < 0x1100 else 1.05 for letter in text) * size) + 1
+    """How wide a text is at most, about: capitals are wider than other letters, and those of some scripts as wide as high."""
+    return round(sum(1.05 if ord(letter) >= 0x1100 else 0.82 if letter.isupper() else 0.64 for letter in text) * size) + 1
 
 
 def timeline(course):
@@ -1035,7 +1035,7 @@ def timeline(course):
     said = [f"Course {course.number}, run forward: {_ending(course)}",
             f"Levels 0 to {course.sheet.modulus - 1} of {_counted(len(names), 'gene')}. The model fits all {sum(course.sheet.counts)} measured moves of "
             f"{_counted(len(course.courses), 'course')}.", *(line for words in _beyond(course) for line in textwrap.wrap(words, 96))]
-    margin = max(map(_long, [*names, "time step"])) + 24
+    margin = max(_long(name, 13) for name in [*names, "time step"]) + 16
     left, top = margin, 58 + 18 * len(said)
     below, right = top + _ROW * len(names), left + _CELL * steps
     legend = _course_legend(course, left, below + 82)

@@ -257,6 +257,7 @@ class Data(unittest.TestCase):
         self.assertEqual(pandas.DataFrame(misqafur.course(frame, 3).trajectory).iloc[5].to_dict(), {"FT": 1, "LFY": 2, "AP1": 2})
         with self.assertRaises(TypeError):
             misqafur.course(frame.mask(frame == 1), 3)
+        self.assertEqual(misqafur.course(frame.rename(columns={"FT": "read", "LFY": "columns"}), 3).names, ("read", "columns", "AP1"))
 
     def test_names(self):
         for names in (["gène", "p27-kip"], ["a b", ""], ["a<b>", '"&']):
