@@ -185,9 +185,8 @@ static void long_runs(struct courses *c, uint64_t order)
                 state[i - 1] = (uint8_t)(state[i - 1] + 1);
             next[0] = (uint8_t)((state[0] + 1) % 23);
             next[1] = (uint8_t)(2 * state[1] % 23);
-            memcpy(next + 2, state + 3, (size_t)m - 2);
-            if (m > 2)
-                next[m - 1] = 0;
+            for (int k = 2; k + 1 < m; k++)
+                next[k] = state[k + 1];
             put_timed(&c->times, state, 40 + i);
             if (i <= m)
                 put_timed(&c->times, next, 40 + i);
