@@ -18,7 +18,7 @@ use Rattle.notation.specs.Forms.{Header, entryOf}
 use Rattle.notation.specs.FormGrammar.{AreLevels, no-levels, levels, IsEntry}
 use Rattle.notation.proofs.Grammar.LevelForm.{entry-grammar}
 use Rattle.csv.specs.reading.Text.{further, firstAfter, headerIn, entryIn, entriesIn}
-use Rattle.csv.specs.reading.Records.{lastLevel}
+use Rattle.csv.specs.reading.Text.{lastLevel}
 use Rattle.csv.specs.reading.Faults.{FirstAt}
 use Rattle.csv.proofs.reading.FirstFault.{first-at}
 use Rattle.csv.proofs.reading.FormFaults.{Records, under, under-read, under-found}

@@ -2,3 +2,4 @@
 pub mod NumbersTogether
 pub mod CourseGrammar
 pub mod SaidCourses
+pub mod PassedCourse

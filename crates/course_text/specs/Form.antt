@@ -10,7 +10,7 @@ use lib.Dec.{eqb, leb}
 use Rattle.residue.specs.Lists as Lists
 use Rattle.notation.specs.Forms.{Header}
 use Rattle.csv.specs.reading.Text.{further, firstFault, firstAfter, entriesIn, entryPoint, isOutside}
-use Rattle.csv.specs.reading.Records.{lastLevel}
+use Rattle.csv.specs.reading.Text.{lastLevel}
 use Rattle.courses.specs.TimeCourse.{Timed}
 
 -- the course number that a level is, so that 7, 07 and 007 are course 7; 0 where it is none

@@ -10,7 +10,8 @@ use lib.ListN.{length, getD, set, drop, replicate, length-drop, length-append, d
 use lib.Dec.{eqb}
 use Rattle.notation.specs.Fields.{Part, part, faulty, recordsFrom, recordsOf}
 use Rattle.csv.specs.reading.Text.{refusalAt}
-use Rattle.csv.specs.reading.Records.{entryPart, entriesAt, lastLevel, ends, refuses, checked}
+use Rattle.csv.specs.reading.Records.{entryPart, entriesAt, ends, refuses, checked}
+use Rattle.csv.specs.reading.Text.{lastLevel}
 use Rattle.csv.specs.declared.reading.records.Entries.the-variants as N
 use Rattle.csv.proofs.reading.records.EntriesChecked.{entry-shorter, entries-more, entries-none, of-ends, of-refuses}
 use Rattle.csv.proofs.reading.entries.OneMore.{map-snoc}

@@ -13,7 +13,8 @@ use Rattle.residue.proofs.Replaced.{put-place, part-long, table-more}
 use Rattle.specification.specs.Levels.{inRange}
 use Rattle.notation.specs.Fields.{field, broken, Part}
 use Rattle.csv.specs.reading.Text.{firstFault, isOutside, entryPoint}
-use Rattle.csv.specs.reading.Records.{levelField, lastLevel, entryPart, entriesAt, countedEntries}
+use Rattle.csv.specs.reading.Records.{levelField, entryPart, entriesAt, countedEntries}
+use Rattle.csv.specs.reading.Text.{lastLevel}
 use Rattle.csv.specs.reading.Points.{levelIn, behindLevel, levelsIn, levelsAt, PointAs}
 use Rattle.csv.specs.declared.reading.entries.Point.{Point}
 use Rattle.csv.specs.declared.reading.records.Entries.the-variants as N

@@ -21,7 +21,7 @@ use Rattle.course_text.specs.Outcome.{timedBy, recordsCases, refusedCour
 use Rattle.course_text.specs.Running.{RunOutcome, withoutWeights, runCases, runOutcome}
 
 -- the first of the cases of records, as a refusal
-first-mapped : (l : List (Bool × (ℕ × ℕ))) → let f = firstOf (0, 0) l in
+pub first-mapped : (l : List (Bool × (ℕ × ℕ))) → let f = firstOf (0, 0) l in
     firstOf notRefused (map (λ k. (k .0, refusalAt (k .1 .0) (k .1 .1))) l) ≡ refusalAt (f .0) (f .1)
 unfolding firstOf
 first-mapped [] = refl

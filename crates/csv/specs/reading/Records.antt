@@ -4,12 +4,12 @@ use mathlib.Core.Bool.{Bool, true, false}
 use mathlib.Core.List.{List, [], _∷_, map}
 use mathlib.Core.Option.{Option, some, none, Option·map}
 use Prim.Native.Nat.{ℕ, suc, _+_, _≤_}
-use lib.IntN.{ℤ, pos}
-use lib.ListN.{length, getD, drop}
+use lib.IntN.{ℤ}
+use lib.ListN.{length, drop}
 use Rattle.notation.specs.Digits.{decimalNumber}
 use Rattle.notation.specs.Fields.{Field, field, broken, unquoted, quoted, fieldOf, Part, part, faulty, kept, recordOf, recordsOf}
 use Rattle.notation.specs.Forms.{levelOf, entryOf, Header, headerOf}
-use Rattle.csv.specs.reading.Text.{refusalAt, notRefused, brokenAt, entryIn}
+use Rattle.csv.specs.reading.Text.{refusalAt, notRefused, brokenAt, entryIn, lastLevel}
 use Rattle.notation.specs.Said.{withSign}
 use Rattle.csv.specs.declared.reading.Refusal.{Refusal}
 use Rattle.csv.specs.declared.reading.records.LevelAt.{LevelAt}
@@ -110,10 +110,6 @@ pub record HeaderRead (text weights : List ℕ) (r : HeaderAt) : Type 0 where
   pub said : headerSaid text weights r ≡ headerPart text
   pub number : headerRefusal r ≡ partRefusal 1 (headerPart text)
   pub within : HeaderWithin (length text) r
-
--- the last level of an entry, behind m others: its value, or what another text has in the value's place
-unfoldable pub lastLevel : ℕ → List ℤ → ℤ
-lastLevel m levels = getD levels m (pos 0)
 
 -- An entry ends behind its last level, or is refused with its number and record.
 pub data Checked : Type 0 where

@@ -12,7 +12,8 @@ use Rattle.notation.specs.Fields.{field, broken, Part, part, faulty, kept, with
 use Rattle.notation.specs.Forms.{entryOf}
 use Rattle.csv.specs.reading.Text.{refusalAt, brokenAt, entryIn}
 use Rattle.csv.specs.declared.reading.Refusal.{Refusal}
-use Rattle.csv.specs.reading.Records.{levelField, reads, entryPart, entriesAt, lastLevel, ends, refuses, checked, countedEntries}
+use Rattle.csv.specs.reading.Records.{levelField, reads, entryPart, entriesAt, ends, refuses, checked, countedEntries}
+use Rattle.csv.specs.reading.Text.{lastLevel}
 use Rattle.csv.specs.declared.reading.records.Entries.the-variants as N
 use Rattle.csv.proofs.reading.records.EntryLevels.{entry-broken, entry-more, entry-long, entry-last, entry-short}
 use Rattle.notation.proofs.fields.EnoughTurns.{Behind, shorter, stopped, record-left, records-unroll}
