@@ -1,5 +1,6 @@
 /* The benchmark: the archive against plain C on the same inputs, in one process. With --smoke it
  * only compares results, on fewer inputs; it fails where results differ, never on a time. */
+#include "course_ratios.h"
 #include "leaving_ratios.h"
 #include "medians.h"
 #include "operations.h"
@@ -137,7 +138,7 @@ static int smoke_run(void)
     static const uint64_t odd[] = {1, 2, 3, 7, 8, 33, 63, 64};
     const size_t count = sizeof odd / sizeof *odd;
     return report(for_all_inputs(odd, count, compare) + packed_compare() + for_all_inputs(odd, count, weight_compare) +
-                  for_all_inputs(odd, count, leaving_compare));
+                  for_all_inputs(odd, count, leaving_compare) + for_all_inputs(odd, count, course_compare));
 }
 
 /* The numbers of points that are measured. */
@@ -161,6 +162,15 @@ static int leaving_run(void)
     return differing;
 }
 
+static int course_run(void)
+{
+    printf("\n%-11s %3s %3s  %-8s %3s %10s %10s %6s %5s %10s %10s %6s\n", "time course", "p", "m", "order", "n", "course us",
+           "parts us", "ratio", "steps", "step us", "plain us", "ratio");
+    int differing = for_all_inputs(points, POINTS, course_measure);
+    course_medians();
+    return differing;
+}
+
 static int full_run(void)
 {
     printf("%-10s %3s %3s  %-8s %3s %4s %7s %10s %10s %6s %10s %6s\n", "operation", "p", "m", "order", "n", "r", "cancels",
@@ -170,7 +180,8 @@ static int full_run(void)
     print_lines();
     differing += packed_measure();
     differing += weight_run();
-    return report(differing + leaving_run());
+    differing += leaving_run();
+    return report(differing + course_run());
 }
 
 int main(int count, char **words)
@@ -185,6 +196,8 @@ int main(int count, char **words)
         return report(weight_run());
     if (strcmp(mode, "--leaving") == 0)
         return report(leaving_run());
+    if (strcmp(mode, "--courses") == 0)
+        return report(course_run());
     if (strcmp(mode, "--singular") == 0) {
         singular_begin();
         return for_all_inputs(most, 1, singular);

@@ -1,6 +1,6 @@
 /* An example host: pots one after another into a sheet, two of them in the same state; one was mislabelled and is
- * withdrawn. Then an interpolant, a wiring list and a remainder; an interpolant by weight, where x2 is used last; and the
- * sheet without x1, whose probe is unreliable.
+ * withdrawn. Then an interpolant, a wiring list and a remainder; an interpolant by weight, where x2 is used last; the
+ * sheet without x1, whose probe is unreliable; and a time course run forward.
  * Build: cc host.c $(pkg-config --cflags --libs misqafur) -o host */
 #include <misqafur.h>
 
@@ -9,6 +9,7 @@
 #define VARIABLES 2
 
 static struct misqafur_sheet sheet, left;
+static struct misqafur_course course;
 
 /* Says what became of a point. The counts of the points are as many as the pots. */
 static void say(uint32_t refusal, const char *done, int x1, int x2)
@@ -116,6 +117,25 @@ static uint32_t without_first(void)
     return 0;
 }
 
+/* Course 7 run forward: after 0, 0 and 1, 2 came 2, 1, and course 8 says that then 0, 0 follows. */
+static uint32_t run_course(void)
+{
+    static const char text[] = "x1,x2,mod 5 grlex\n0,0,7\n1,2,7\n2,1,7\n2,1,8\n0,0,8\n";
+    uint64_t record;
+    const uint32_t refusal = misqafur_course_run(&course, (const uint8_t *)text, sizeof text - 1, 7, &record);
+    if (refusal != 0) {
+        fprintf(stderr, "host: record %u\n", (unsigned)record);
+        return refusal;
+    }
+    sheet = course.sheet;
+    for (uint32_t k = 0; k < sheet.variables; k++) {
+        printf("next x%u ", k + 1);
+        print_combination(course.interpolants + 64 * k);
+    }
+    printf("step %u is a state met %u steps before\n", course.step, course.back);
+    return 0;
+}
+
 int main(void)
 {
     uint32_t refusal = misqafur_sheet_init(&sheet, 5, VARIABLES, MISQAFUR_GRLEX, 0);
@@ -137,6 +157,8 @@ int main(void)
         refusal = by_weight();
     if (refusal == 0)
         refusal = without_first();
+    if (refusal == 0)
+        refusal = run_course();
     if (refusal != 0)
         fprintf(stderr, "host: %s\n", misqafur_refusal_text(refusal));
     return refusal != 0;

@@ -3,9 +3,10 @@
  *
  * From up to 64 points whose coordinates are residues modulo a prime p, the library works out the
  * standard monomials and the reduced Groebner basis of the ideal of all polynomials that vanish at
- * the points; and over them interpolants, remainders and wiring lists.
+ * the points; and over them interpolants, remainders and wiring lists. From records of states over time it makes the model
+ * that takes each state to its successor, and runs it forward.
  *
- * Settings, in every call but the reader, any 64-bit numbers:
+ * Settings, in every call but the two that read a text, any 64-bit numbers:
  *   modulus    p, one of 2 3 5 7 11 13 17 19 23 29 31 37 41 43 47 53 59 61
  *   variables  m, 1 to 8
  *   order      0 lex, 1 grlex, 2 grevlex, 3 by weight; in the first three x1 is the greatest variable, xm the smallest
@@ -42,11 +43,12 @@
  * all. No byte that a call may write may be lent to it twice; buffers that are only read may overlap.
  *
  * Refusals. A call that succeeds answers refusal 0 with its numbers. Otherwise it answers the first
- * of these that holds, in this order, but that 15 and then 16 are looked for directly after 5, and 8 for points
- * directly before 13; and no lent byte has changed. The number comes alone, all else in the answer being 0; only the
- * reader adds the record at fault:
+ * of these that holds, in this order, but that 15 and then 16 are looked for directly after 5, 17 directly after 9, and 8
+ * for points directly before 13; and no lent byte has changed. The number comes alone, all else in the answer being 0; only
+ * the two calls that read a text add the record at fault:
  *    1  the text is longer than 16,384 bytes
- *    2  the text breaks the rules, or a record's field count differs from the header's
+ *    2  the text breaks the rules, or a record's field count differs from the header's; in a time course also: a course
+ *       number is not 1 to 99, or returns after another
  *    3  the modulus is not one of the 18, or in misqafur_draw_up_packed not 2
  *    4  the number of variables is not 1 to 8
  *    5  the order is not 0, 1, 2 or 3
@@ -64,6 +66,8 @@
  *   15  with order 3 a variable's weight is not 1 to 99, or a byte of the weights behind the m-th is not 0; with
  *       another order the weights are not 0
  *   16  the variable that is to be left out is not 1 to m, or m is 1
+ *   17  in a time course, a state stands with two different successors (compared by residues)
+ *   18  the time course that is to be run is not in the text
  * Beside each call stand the refusals that it can answer, in the order in which they are looked for.
  *
  * Calls use no heap, open no files, keep nothing between them and share nothing: any number of
@@ -111,9 +115,9 @@
  * first of the version's three. The second goes up with each further call. */
 #define MISQAFUR_ABI 3
 #define MISQAFUR_VERSION_MAJOR 3
-#define MISQAFUR_VERSION_MINOR 1
+#define MISQAFUR_VERSION_MINOR 2
 #define MISQAFUR_VERSION_PATCH 0
-#define MISQAFUR_VERSION "3.1.0"
+#define MISQAFUR_VERSION "3.2.0"
 #define MISQAFUR_VERSION_NUMBER \
     (10000 * MISQAFUR_VERSION_MAJOR + 100 * MISQAFUR_VERSION_MINOR + MISQAFUR_VERSION_PATCH)
 
@@ -123,6 +127,7 @@
 #define MISQAFUR_COEFFICIENTS_SIZE 28736
 #define MISQAFUR_COUNTS_SIZE 64
 #define MISQAFUR_RESIDUES_SIZE 64 /* an interpolant, a remainder, the values read from a text */
+#define MISQAFUR_INTERPOLANTS_SIZE 512 /* those of a time course: 64 residues for each of 8 variables */
 #define MISQAFUR_WIRING_SIZE 8
 #define MISQAFUR_WEIGHTS_SIZE 8
 #define MISQAFUR_LEVELS_SIZE 512 /* what misqafur_pack_levels asks for: 8 levels for each of 64 points */
@@ -133,6 +138,8 @@
 #define MISQAFUR_MAX_WEIGHT 99
 #define MISQAFUR_MAX_TERMS 256
 #define MISQAFUR_MAX_TEXT 16384
+#define MISQAFUR_MAX_COURSE 99
+#define MISQAFUR_MAX_STEPS 256
 
 #define MISQAFUR_LEX 0
 #define MISQAFUR_GRLEX 1
@@ -160,7 +167,9 @@ enum misqafur_refusals {
     MISQAFUR_REFUSED_REPLICATES = 13,
     MISQAFUR_REFUSED_OTHER_VALUE = 14,
     MISQAFUR_REFUSED_WEIGHT = 15,
-    MISQAFUR_REFUSED_LEFT_OUT = 16
+    MISQAFUR_REFUSED_LEFT_OUT = 16,
+    MISQAFUR_REFUSED_SUCCESSOR = 17,
+    MISQAFUR_REFUSED_COURSE = 18
 };
 
 /* An answer is to be looked at: compilers that know how warn where it is not. */
@@ -348,6 +357,39 @@ uint64_t misqafur_read_text(const uint8_t *text, size_t text_length, uint8_t *st
                             uint8_t *values, size_t values_length, uint8_t *counts, size_t counts_length,
                             uint8_t *weights, size_t weights_length);
 
+/* Runs a time course forward: makes a model of the courses in a text, and runs it from the first state of the course that
+ * is named. The text has the form of misqafur_read_text's, but that the last column holds, in place of a value and in its
+ * form, a course number from 1 to 99: 7, 07 and 007 are course 7. Consecutive records of one number are consecutive times:
+ * each but the last of its course has the next record as its successor. Courses come in any order of their numbers, and
+ * none returns after another.
+ * Each state that has a successor becomes a point, in the order of its first record that has one, and its count is the
+ * number of its records that have one; wherever a state has a successor it has the same. A course of one record, or the
+ * last record of a course, adds no point. The model is one interpolant for each variable, the combination of standard
+ * monomials that takes the variable's residue in the successor at each point. It is defined at every state, also at one
+ * that is no point, and takes the state of each record to that of its successor: applied k times to the first state of a
+ * course, any course, it gives record k+1 of that course, if it has one, for k up to 256.
+ * The run begins with the first state of the course named, as step 0, and ends with the first step, 256 at most, that gives
+ * a state met before. From there it repeats for ever: the last `back` states are its cycle.
+ * Reads: the text, the course's number, any 64-bit number; of the other buffers their lengths alone.
+ * Writes: the five tables of the points' basis with these counts, to their sizes; 512 bytes of interpolants, that of xk from
+ * byte 64(k-1) on, a residue for each standard monomial in table order, then zeros; 8 bytes of weights, as
+ * misqafur_read_text does.
+ * Answers n, r and the settings (misqafur_read_points, misqafur_course_elements, misqafur_read_modulus, _variables, _order),
+ * the step that ended the run and the distance back to the earlier visit (misqafur_course_step, misqafur_course_back), or 0
+ * and 0 where no state came again within 256 steps.
+ * A refusal comes with the record at fault, the header being 1 (misqafur_read_record); for 8, 13 and 17 it is the point's
+ * own, not its successor's.
+ * Refusals: 1 (record 0), 2 (the earliest such record), 3, 4 and 15 (record 1), 6 (record 0; a buffer below 512, 512, 3,592,
+ * 28,736, 64, 512 or 8 bytes), 9 (the earliest record with such a level; of a course number it is 2), 17 (the earliest
+ * record whose state stood with another successor before), 8 (the record that brings the 65th distinct point), 13 (the
+ * earliest that is the 256th of a point), 18 (record 0; no record has the number named). Each is looked for over the whole
+ * text before the next. */
+uint64_t misqafur_time_course(const uint8_t *text, size_t text_length, uint64_t course,
+                              uint8_t *states, size_t states_length, uint8_t *standard, size_t standard_length,
+                              uint8_t *leads, size_t leads_length, uint8_t *coefficients, size_t coefficients_length,
+                              uint8_t *counts, size_t counts_length, uint8_t *interpolants, size_t interpolants_length,
+                              uint8_t *weights, size_t weights_length);
+
 /* What compilers that know how are told of the calls above: the answer is to be looked at, and a call reads or
  * writes as many bytes of a buffer as its length says, at most. The numbers are the arguments' places. */
 #if defined(__GNUC__)
@@ -381,6 +423,8 @@ MISQAFUR_TOLD(misqafur_leave_out, MISQAFUR_LENT_TABLES(read_only, 7) MISQAFUR_LE
 MISQAFUR_TOLD(misqafur_read_text,
               MISQAFUR_LENT(read_only, 1) MISQAFUR_LENT(write_only, 3) MISQAFUR_LENT(write_only, 5)
                   MISQAFUR_LENT(write_only, 7) MISQAFUR_LENT(write_only, 9));
+MISQAFUR_TOLD(misqafur_time_course, MISQAFUR_LENT(read_only, 1) MISQAFUR_LENT_TABLES(write_only, 4)
+                                        MISQAFUR_LENT(write_only, 14) MISQAFUR_LENT(write_only, 16));
 #undef MISQAFUR_TOLD
 #undef MISQAFUR_LENT_TABLES
 #undef MISQAFUR_LENT
@@ -402,7 +446,7 @@ static uint32_t (*const misqafur_linked)(void) MISQAFUR_KEPT = MISQAFUR_ABI_CALL
 #pragma GCC diagnostic pop
 #endif
 
-/* The version of the library that the host is linked with, or has loaded: 30100 for 3.1.0. */
+/* The version of the library that the host is linked with, or has loaded: 30200 for 3.2.0. */
 static inline uint32_t misqafur_version(void)
 {
     return MISQAFUR_ABI_CALL(MISQAFUR_ABI)();
@@ -449,7 +493,7 @@ static inline uint8_t misqafur_weight(int weight)
 }
 
 /* Packs weights, one for each variable, x1's first, as the number that the calls take; of those that misqafur_read_text
- * leaves all 8. Too few or too many are refused with 15 by the calls: a weight that is missing counts as 0, one behind the
+ * and misqafur_time_course leave all 8. Too few or too many are refused with 15 by the calls: a weight that is missing counts as 0, one behind the
  * m-th has to be 0, and of more than 8 none is read, every byte of the number being 255 then. */
 static inline uint64_t misqafur_pack_weights(const uint8_t *weights, size_t count)
 {
@@ -471,7 +515,7 @@ static inline uint64_t misqafur_weights_without(uint64_t weights, uint64_t varia
     return (weights & before) | (weights >> 8 & ~before);
 }
 
-/* The refusal in the answer of any call but the reader; 0 for none. */
+/* The refusal in the answer of any call but those that read a text; 0 for none. */
 static inline uint32_t misqafur_refusal(uint64_t answer)
 {
     return (uint32_t)(answer & 255u);
@@ -501,19 +545,19 @@ static inline uint32_t misqafur_wiring_count(uint32_t answer)
     return answer >> 8;
 }
 
-/* The refusal in the reader's answer; 0 for none. */
+/* The refusal in the answer of misqafur_read_text and misqafur_time_course; 0 for none. */
 static inline uint32_t misqafur_read_refusal(uint64_t answer)
 {
     return (uint32_t)(answer & 255u);
 }
 
-/* After a refusal of the reader: the record at fault. */
+/* After a refusal of either: the record at fault. */
 static inline uint64_t misqafur_read_record(uint64_t answer)
 {
     return answer >> 8;
 }
 
-/* After a text that was taken: n and the settings. */
+/* After a text that either has taken: n and the settings. */
 static inline uint32_t misqafur_read_points(uint64_t answer)
 {
     return (uint32_t)((answer >> 8) & 255u);
@@ -531,7 +575,24 @@ static inline uint32_t misqafur_read_variables(uint64_t answer)
 
 static inline uint32_t misqafur_read_order(uint64_t answer)
 {
-    return (uint32_t)((answer >> 32) & 255u);
+    return (uint32_t)((answer >> 32) & 15u);
+}
+
+/* After a text that misqafur_time_course has taken: r, the step that ended the run and the distance back to the earlier
+ * visit; 0 and 0 where no state came again within 256 steps. */
+static inline uint32_t misqafur_course_elements(uint64_t answer)
+{
+    return (uint32_t)((answer >> 36) & 1023u);
+}
+
+static inline uint32_t misqafur_course_step(uint64_t answer)
+{
+    return (uint32_t)((answer >> 46) & 511u);
+}
+
+static inline uint32_t misqafur_course_back(uint64_t answer)
+{
+    return (uint32_t)(answer >> 55);
 }
 
 /* What a refusal says, as a sentence for the people at the desk, to whom a point is a state and a variable a gene.
@@ -573,6 +634,10 @@ static inline const char *misqafur_refusal_text(uint32_t refusal)
         return "a weight is wrong: by weight each gene has one from 1 to 99, in any other order none has";
     case MISQAFUR_REFUSED_LEFT_OUT:
         return "the gene to be left out is none of the sheet's, or the only one that it has";
+    case MISQAFUR_REFUSED_SUCCESSOR:
+        return "a state is followed by two different states";
+    case MISQAFUR_REFUSED_COURSE:
+        return "the time course to be run is not in the text";
     default:
         return "no refusal has this number";
     }
@@ -717,6 +782,37 @@ static inline MISQAFUR_ANSWER uint32_t misqafur_sheet_leave_out(const struct mis
         to->weights = misqafur_weights_without(from->weights, variable);
     }
     return misqafur_sheet_keep(to, answer);
+}
+
+/* A time course run forward: the sheet of its points, the model, and how the run ended. */
+struct misqafur_course {
+    struct misqafur_sheet sheet;
+    uint8_t interpolants[MISQAFUR_INTERPOLANTS_SIZE];
+    uint32_t step, back;
+};
+
+/* Runs the course of this number forward, and keeps all that comes of it, whatever was there before; the weights of the text
+ * go to the sheet's, packed. Writes the record at fault to record, where it is refused; then all else is as it was. */
+static inline MISQAFUR_ANSWER uint32_t misqafur_course_run(struct misqafur_course *to, const uint8_t *text,
+                                                           size_t text_length, uint64_t number, uint64_t *record)
+{
+    uint8_t weights[MISQAFUR_WEIGHTS_SIZE];
+    struct misqafur_sheet *const sheet = &to->sheet;
+    const uint64_t answer = misqafur_time_course(text, text_length, number, MISQAFUR_SHEET_TABLES(sheet), to->interpolants,
+                                                 sizeof to->interpolants, weights, sizeof weights);
+    if (misqafur_read_refusal(answer) != 0) {
+        *record = misqafur_read_record(answer);
+        return misqafur_read_refusal(answer);
+    }
+    sheet->modulus = misqafur_read_modulus(answer);
+    sheet->variables = misqafur_read_variables(answer);
+    sheet->order = misqafur_read_order(answer);
+    sheet->weights = misqafur_pack_weights(weights, sizeof weights);
+    sheet->n = misqafur_read_points(answer);
+    sheet->r = misqafur_course_elements(answer);
+    to->step = misqafur_course_step(answer);
+    to->back = misqafur_course_back(answer);
+    return MISQAFUR_TAKEN;
 }
 
 #ifdef __cplusplus

@@ -11,8 +11,11 @@
     print(sheet.without("g1").states)                      # [(0,), (2,), (1,)]: a sheet of its own, of the genes that are left
 
     sheet, values = misqafur.read(open("states.csv", "rb").read())
+    course = misqafur.course(open("course.csv", "rb").read(), 3)   # a time course, run forward from its first state
+    print(course.model, course.trajectory, course.cycle)
 
-On the command line `python3 -m misqafur report FILE.csv` prints a sheet for people, and `python3 -m misqafur --help` the rest.
+On the command line `python3 -m misqafur report FILE.csv` prints a sheet for people, `python3 -m misqafur course FILE.csv --course 3` a time
+course run forward, and `python3 -m misqafur --help` the rest.
 States, values and exponents may be lists, numpy arrays or data frames. Where states come with names (a data frame, a Series, a
 dict), the names decide which level is whose, in whatever order they stand; names that are not the sheet's genes are an error.
 A call that the library refuses raises Refusal and changes nothing. The library is looked for by the variable MISQAFUR_LIBRARY,
@@ -34,17 +37,19 @@ import sys
 import textwrap
 from xml.sax.saxutils import escape
 
-__version__ = "3.1.0"
+__version__ = "3.2.0"
 ABI = 3
 ORDERS = ("lex", "grlex", "grevlex", "weight")
 TABLES = {"states": 512, "standard": 512, "leads": 3592, "coefficients": 28736, "counts": 64}
 RESIDUES, WIRING, MOST_GENES, MOST_WEIGHT = 64, 8, 8, 99
+INTERPOLANTS, MOST_STEPS, MOST_COURSE = 512, 256, 99
 
 # The header's sentences, and for a person what to do.
 REFUSALS = {
     1: ("the text is longer than 16,384 bytes", "Leave out states, or shorten the gene names."),
     2: ("the text breaks the rules, or a record's field count differs from the header's",
-        "The header is the gene names and `mod P` (as `g1,g2,mod 5`); each further record a level for each gene and a value."),
+        "The header is the gene names and `mod P` (as `g1,g2,mod 5`); each further record a level for each gene and a value, "
+        "or in time courses a course number."),
     3: ("the modulus is not one of the 18 primes from 2 to 61, or not 2 where a sheet is drawn up packed",
         "Take 2, 3, 5, 7, 11, 13, 17, 19, 23, 29, 31, 37, 41, 43, 47, 53, 59 or 61."),
     4: ("the number of genes is not 1 to 8", "Choose at most 8 genes."),
@@ -68,6 +73,10 @@ REFUSALS = {
          "Give each gene a weight from 1 to 99; a gene with a large weight is used last."),
     16: ("the gene to be left out is none of the sheet's, or the only one that it has",
          "Name one of the sheet's genes; the last one stays."),
+    17: ("a state is followed by two different states",
+         "A model gives each state one next state: correct a level, leave one of the two records out, or add a gene that tells the two states "
+         "apart. States are compared modulo p: modulo 5, -1 and 4 are the same."),
+    18: ("the time course to be run is not in the text", "Name one of the text's courses."),
 }
 
 # What a wiring list says of the target.
@@ -104,6 +113,7 @@ _CALLS = {
     "wiring": (ctypes.c_uint32, _SHEET + _BUFFER * 2),
     "leave_out": (ctypes.c_uint32, _SHEET + [ctypes.c_uint64] + _BUFFER * len(TABLES)),
     "read_text": (ctypes.c_uint64, _BUFFER * 5),
+    "time_course": (ctypes.c_uint64, _BUFFER + [ctypes.c_uint64] + _BUFFER * len(TABLES) + _BUFFER * 2),
     f"abi_{ABI}": (ctypes.c_uint32, []),
 }
 
@@ -156,7 +166,7 @@ def _call(name, *arguments):
     answer = getattr(_library(), "misqafur_" + name)(*words)
     refusal = answer & 255
     if refusal:
-        raise Refusal(refusal, answer >> 8 if name == "read_text" else None)
+        raise Refusal(refusal, answer >> 8 if name in ("read_text", "time_course") else None)
     return answer >> 8
 
 
@@ -641,19 +651,139 @@ def _said(field):
     return field.decode("utf-8", "backslashreplace")
 
 
-def read(text):
-    """The sheet and the values of a text, as bytes: gene names, `mod P` and an order, by weight with its weights, in its header, states
-    below.
+def _text_of(data):
+    """A text as bytes: as it is, of a file, or of a table with names, whose last column is named `mod P` as a header's last field is."""
+    if isinstance(data, (bytes, bytearray, memoryview)):
+        return bytes(data)
+    if isinstance(data, str):
+        raise TypeError("a text is wanted as bytes, as open(FILE, 'rb').read() gives it, or as pathlib.Path(FILE): of a str it cannot be told "
+                        "whether it is a file's name or its content")
+    if hasattr(type(data), "read") or isinstance(data, os.PathLike):
+        text = data.read() if hasattr(type(data), "read") else pathlib.Path(data).read_bytes()
+        if not isinstance(text, bytes):
+            raise TypeError("a file has to be opened in binary mode, as open(FILE, 'rb')")
+        return text
+    if not (isinstance(data, collections.abc.Mapping) or _is_frame(data) or _fields(data)):
+        raise TypeError(f"a text is wanted as bytes, a file, or a table whose columns have names, and not a {type(data).__name__}")
+    labels = list(data if isinstance(data, collections.abc.Mapping) else data.columns if _is_frame(data) else _fields(data))
+    if not all(isinstance(label, str) for label in labels):
+        raise ValueError(f"the columns need names, the genes' and last `mod P`, and they have {_quoted(labels)}")
+    rows = _states(data, labels)
+    lines = [",".join('"' + label.replace('"', '""') + '"' if re.search('[,"\r\n]', label) else label for label in labels)]
+    lines += [",".join(str(_integer(level)) for level in row) for row in rows]
+    return ("\n".join(lines) + "\n").encode()
 
+
+def _sheet_of_text(text, answer, weights):
+    """A sheet without states, by a text's header and what the library answered of it."""
+    modulus, genes, order = answer >> 8 & 255, answer >> 16 & 255, answer >> 24 & 15
+    names = [_said(field).removeprefix("\ufeff") for field in _records(text)[0][:-1]]
+    return Sheet(modulus, names, ORDERS[order], weights=weights[:genes] if ORDERS[order] == "weight" else None)
+
+
+def read(data):
+    """The sheet and the values of a text: gene names, `mod P` and an order, by weight with its weights, in its header, states below.
+
+    A text is bytes, a file opened in binary mode or its pathlib.Path, or a table whose columns have names, the last one `mod P`.
     A value belongs to a state of the sheet; records that repeat a state, with the same value, are its replicates.
     """
+    text = _text_of(data)
     states, values, counts, weights = ((ctypes.c_uint8 * size)() for size in (TABLES["states"], RESIDUES, TABLES["counts"], MOST_GENES))
-    answer = _call("read_text", bytes(text), states, values, counts, weights)
-    n, modulus, genes, order = (answer >> shift & 255 for shift in (0, 8, 16, 24))
-    names = [_said(field).removeprefix("\ufeff") for field in _records(text)[0][:-1]]
-    sheet = Sheet(modulus, names, ORDERS[order], weights=weights[:genes] if ORDERS[order] == "weight" else None)
-    sheet.draw_up([states[8 * i:8 * i + genes] for i in range(n) for _ in range(counts[i])])
+    answer = _call("read_text", text, states, values, counts, weights)
+    sheet, n = _sheet_of_text(text, answer, weights), answer & 255
+    sheet.draw_up([states[8 * i:8 * i + len(sheet.names)] for i in range(n) for _ in range(counts[i])])
     return sheet, list(values[:n])
+
+
+# ---- Time courses
+
+class Course:
+    """A time course that the library has run forward, from its first state, by a model that fits every move of a text's courses.
+
+    `sheet` is that of the points, the states that have a next one, counted as often as they have; `rules` has for each gene, in the
+    genes' order, the polynomial of its next level, and `model` has them by the genes' names. `states` are those that the run meets:
+    state 0 is the course's first record, and state k the model applied k times; `trajectory` has the same levels by the genes' names.
+    The run ends at `step`, the first that gives a state met before, `back` steps earlier, and `cycle` has the states from then on,
+    which come again for ever; where none came within 256 steps `step` and `back` are 0 and `cycle` is empty. `measured` is how many
+    records the course has: the model gives them all, as far as the run goes. `courses` are the numbers of the text's courses.
+    """
+
+    def __init__(self, number, sheet, rules, step, back, courses, first):
+        self.number, self.sheet, self.rules, self.step, self.back = number, sheet, rules, step, back
+        self.courses, self.measured = list(courses), courses[number]
+        self.states = [first]
+        # The library answers where the run ends; the states on the way are the rules' values, each at the one before.
+        for _ in range(step or MOST_STEPS):
+            self.states.append(tuple(rule(self.states[-1]) for rule in rules))
+
+    @property
+    def names(self):
+        return self.sheet.names
+
+    def _by_name(self, columns):
+        if len(set(self.names)) < len(self.names):
+            raise ValueError(f"names cannot tell the genes: they are {_quoted(self.names)}. `rules` and `states` have them by place")
+        return dict(zip(self.names, columns))
+
+    @property
+    def model(self):
+        """The polynomial of each gene's next level, by the genes' names."""
+        return self._by_name(self.rules)
+
+    @property
+    def trajectory(self):
+        """The levels of each gene, step by step, by the genes' names: columns, as a data frame takes them."""
+        return self._by_name(map(list, zip(*self.states)))
+
+    @property
+    def cycle(self):
+        """The states that come again for ever, from the first of them that the run meets."""
+        return self.states[self.step - self.back:self.step]
+
+    @property
+    def unmeasured(self):
+        """The first step whose state has no next one in any course of the text, so that what follows is the model's alone; None if
+        there is none."""
+        points = set(self.sheet.states)
+        return next((k for k, state in enumerate(self.states) if state not in points), None)
+
+    def __repr__(self):
+        return f"<course {self.number} of {', '.join(self.names)} modulo {self.sheet.modulus}, {_ending(self)}>"
+
+
+def _ending(course):
+    """How a run ends, in plain words."""
+    start = course.step - course.back
+    if not course.step:
+        return f"no state came again within {MOST_STEPS} steps"
+    return f"it stays as it is from step {start}" if course.back == 1 else f"it repeats every {course.back} steps from step {start}"
+
+
+def _courses_of(text):
+    """The numbers of an accepted text's courses in their order, with the levels of each record."""
+    courses = {}
+    for *levels, number in _records(text)[1:]:
+        courses.setdefault(int(number), []).append([int(level) for level in levels])
+    return courses
+
+
+def course(data, number):
+    """Runs a time course forward: a text as `read` takes it, whose last column has course numbers from 1 to 99 in place of values, and
+    the number of the course whose first state the run begins with. Consecutive records of one number are consecutive times. What
+    comes of it is a Course."""
+    text = _text_of(data)
+    tables = {name: (ctypes.c_uint8 * size)() for name, size in TABLES.items()}
+    interpolants, weights = ((ctypes.c_uint8 * size)() for size in (INTERPOLANTS, MOST_GENES))
+    try:
+        answer = _call("time_course", text, _number(number), *tables.values(), interpolants, weights)
+    except Refusal as refusal:
+        raise Refusal(refusal.number, refusal.record, " ".join(_course_hints(text, refusal, number)).removesuffix(".") or None) from None
+    sheet = _sheet_of_text(text, answer, weights)
+    sheet._tables, sheet._n, sheet._r = tables, answer & 255, answer >> 28 & 1023
+    rules = [sheet._combination(interpolants[RESIDUES * k:RESIDUES * (k + 1)]) for k in range(len(sheet.names))]
+    courses, number = _courses_of(text), _number(number)
+    first = tuple(level % sheet.modulus for level in courses[number][0])
+    return Course(number, sheet, rules, answer >> 38 & 511, answer >> 47 & 511, {each: len(records) for each, records in courses.items()}, first)
 
 
 # ---- Reports
@@ -681,8 +811,8 @@ def _habits(text):
         yield "There is a blank line at its end: delete it."
 
 
-def _record_hints(text, refusal):
-    """What is wrong with the record at fault, where it can be seen."""
+def _record_hints(text, refusal, last="value"):
+    """What is wrong with the record at fault, where it can be seen; the last column has values, or course numbers."""
     records, number = _records(text), refusal.record
     if not number or number > len(records):
         return
@@ -697,23 +827,73 @@ def _record_hints(text, refusal):
     elif refusal.number == 2 and len(fields) != len(header):
         yield f"Record {number} has {len(fields)} field{'s' * (len(fields) != 1)}, the header {len(header)}."
     elif refusal.number == 2:
-        for field in fields:
+        for place, field in enumerate(fields):
             if not re.fullmatch(rb"-?\d{1,3}", field):
-                yield f"Record {number}: `{_said(field)[:60]}` is no level: an optional minus sign and one to three digits, no blank, no point."
+                wrong = "course number" if last != "value" and place == len(fields) - 1 else "level"
+                yield f"Record {number}: `{_said(field)[:60]}` is no {wrong}: an optional minus sign and one to three digits, no blank, no point."
     if refusal.number == 15:
         yield f"The weight is 0 of {', '.join(_said(name) or 'a gene without a name' for name, weight in zip(header, weights) if weight == 0)}."
     modulus = re.match(rb"mod (\d+)", header[-1])
     p = int(modulus.group(1)) if modulus else 0
     if refusal.number == 9:
         for place, field in enumerate(fields):
-            if abs(int(field)) >= p:
+            if abs(int(field)) >= p and (last == "value" or place < len(fields) - 1):
                 whose = "the value" if place == len(fields) - 1 else _said(header[place]) or "without a name"
                 yield f"Record {number}, field {place + 1} ({whose}): {_said(field)} is not from {1 - p} to {p - 1}."
-    if refusal.number in (13, 14):
+    if refusal.number in (13, 14) and last == "value":
         residues = [[int(field) % p for field in record[:-1]] for record in records[1:number]]
         first = residues.index(residues[-1]) + 2
         values = f", with the value {_said(fields[-1])} in place of {_said(records[first - 1][-1])}" if refusal.number == 14 else ""
         yield f"Record {number} repeats the state of record {first}{values}."
+
+
+def _number_hints(records, number):
+    """What is wrong with the course number of a record that is well formed but for that."""
+    fields, numbers = records[number - 1], [int(record[-1]) for record in records[1:number]]
+    if not 1 <= numbers[-1] <= MOST_COURSE:
+        yield f"Record {number}: the course number {_said(fields[-1])} is not from 1 to {MOST_COURSE}."
+    elif numbers[-1] in numbers[:-1]:
+        yield (f"Record {number}: course {numbers[-1]} comes back after course {numbers[-2]}. The records of a course stand together, in the order of "
+               "time: put them together, or give the later ones a number of their own.")
+
+
+def _move_hints(header, records, p, number):
+    """Of a record that has a next one: the earlier record of the same state that is followed by another."""
+    residues = [[int(level) % p for level in levels] for *levels, _ in records]
+    followed = [int(now[-1]) == int(then[-1]) for now, then in zip(records, records[1:])] + [False]
+    at = number - 2
+    for i in range(at):
+        if followed[i] and residues[i] == residues[at] and residues[i + 1] != residues[at + 1]:
+            state, other, here = (_by_names(header, residues[j]) for j in (at, i + 1, at + 1))
+            yield f"Record {number} has the state of record {i + 2} ({state}), which is followed by {other} there, and here by {here}."
+            return
+
+
+def _course_hints(text, refusal, course):
+    """What is wrong with a text of time courses, where it can be seen, or with the course that was named."""
+    if refusal.number == 1:
+        return
+    hints = list(_record_hints(text, refusal, "course number"))
+    yield from hints
+    header, *records = _records(text)
+    if refusal.number == 2 and not hints and 1 < (refusal.record or 0) <= len(records) + 1:
+        yield from _number_hints([header, *records], refusal.record)
+    if refusal.number == 17:
+        yield from _move_hints([_said(name) for name in header[:-1]], records, int(header[-1].split()[1]), refusal.record)
+    if refusal.number in (8, 13):
+        yield (f"Record {refusal.record} is the 256th of its state that has a next one." if refusal.number == 13 else
+               f"Record {refusal.record} brings the 65th different state that has a next one.")
+    if refusal.number == 18:
+        yield f"The text has {_courses_said(_courses_of(text))}, and {course} was to be run."
+
+
+def _courses_said(numbers):
+    return f"the course{'s' * (len(numbers) > 1)} {', '.join(map(str, numbers))}" if numbers else "no course"
+
+
+def _by_names(names, state):
+    """A state as people say it."""
+    return ", ".join(f"{name} {level}" for name, level in zip(names, state))
 
 
 def _wrapped(text, first="  "):
@@ -730,7 +910,8 @@ def _counted(number, word):
 def refusal_report(text, refusal):
     """What was refused, what it means and what to do."""
     where = f", record {refusal.record}" if refusal.record else ""
-    hints = [*_habits(text), *_record_hints(text, refusal)] if refusal.number != 1 else []
+    seen = [f"{refusal.more}."] if refusal.more else _record_hints(text, refusal)
+    hints = [*_habits(text), *seen] if refusal.number != 1 else []
     if refusal.number != 2 or not hints:
         hints.append(REFUSALS[refusal.number][1])
     told = "" if not refusal.record else " (Record 1 is the header.)"
@@ -776,6 +957,138 @@ def report(sheet, values, habits=()):
     lines += [_wrapped(str(polynomial), f"    {i:{width}}. ") for i, polynomial in enumerate(sheet.basis, 1)]
     lines += ["", "Standard monomials, one for each state:", _wrapped(standard, "    ")]
     return "\n".join(lines)
+
+
+def _states_met(course):
+    """The part of a course's report that has a line for each step."""
+    names = shown_names(course.names)
+    widths = [max(len(name), 2) for name in names]
+    lines = ["    step  " + "  ".join(f"{name:>{width}}" for name, width in zip(names, widths))]
+    for k, state in enumerate(course.states):
+        levels = "  ".join(f"{level:{width}}" for level, width in zip(state, widths))
+        lines.append(f"    {k:4}  {levels}  {_step_said(course, k)}".rstrip())
+    return lines
+
+
+def _step_said(course, k):
+    """What there is to say of a step: that its state was measured, or came before."""
+    measured, again = k < course.measured, course.step and k == course.step
+    return ", ".join(["measured"] * measured + [f"as at step {k - course.back}"] * again)
+
+
+def _beyond(course):
+    """From which step on the run is the model's alone, in words; nothing if it is nowhere."""
+    if course.unmeasured is None:
+        return []
+    where = f"What comes after the state of step {course.unmeasured} was not measured in any course"
+    return [f"{where}: from step {course.unmeasured + 1} on the run is the model's, and another model that fits the records may go elsewhere."]
+
+
+def course_report(course, habits=()):
+    """A time course run forward, for a person to read."""
+    names, sheet = shown_names(course.names), course.sheet
+    lines = [_wrapped(f"Course {course.number} of {_counted(len(names), 'gene')} ({', '.join(names)}), levels modulo {sheet.modulus}, "
+                      f"order {sheet._order_said(names)}")]
+    lines += [_wrapped(f"{name} is {own!r}") for name, own in zip(names, course.names) if name != own]
+    lines += [_wrapped(f"The text has {_courses_said(course.courses)}, and in them {_counted(sum(sheet.counts), 'record')} with a next one, at "
+                       f"{_counted(len(sheet), 'different state')}.")]
+    lines += [_wrapped(habit, "  ! ") for habit in habits]
+    lines += ["", "The model: each gene's next level as a polynomial of the levels now (it gives every next record",
+              "of every course in the text):"]
+    lines += [_wrapped(f"next {name} = {rule}", "    ") for name, rule in zip(names, course.rules)]
+    lines += ["", f"Course {course.number} has {_counted(course.measured, 'record')}. Run forward from the first, {_ending(course)}."]
+    lines += [_wrapped(said, "  ! ") for said in _beyond(course)]
+    return "\n".join(lines + _states_met(course))
+
+
+# ---- The picture of a course
+
+_CELL, _ROW, _NARROWEST = 30, 34, 700
+
+
+def _shade(level, modulus):
+    """A level's colour, from almost white for 0 to dark blue for the highest, and that of a number written on it."""
+    part = level / (modulus - 1)
+    low, high = (0xf3, 0xf7, 0xfb), (0x1f, 0x4e, 0x79)
+    colour = "".join(f"{round(a + (b - a) * part):02x}" for a, b in zip(low, high))
+    return f"#{colour}", "#ffffff" if part > 0.55 else "#222222"
+
+
+def _level_cell(x, y, level, modulus, again):
+    """A level written and shaded; of a state that came before it is pale."""
+    colour, ink = _shade(level, modulus)
+    pale, ink = (' fill-opacity="0.35"', "#222222") if again else ("", ink)
+    yield f'<rect class="level" x="{x}" y="{y}" width="{_CELL}" height="{_ROW}" fill="{colour}" stroke="#ffffff"{pale}/>'
+    yield _word(x + _CELL // 2, y + _ROW // 2 + 5, str(level), 13, more=f' fill="{ink}"')
+
+
+def _long(text, size=12):
+    """How wide a text is at most, about: capitals are wider than other letters, and those of some scripts as wide as high."""
+    return round(sum(1.05 if ord(letter) >= 0x1100 else 0.82 if letter.isupper() else 0.64 for letter in text) * size) + 1
+
+
+def timeline(course):
+    """An SVG picture of a course that was run forward: a row for each gene, a column for each step, its level written and shaded;
+    below them what was measured; and a frame around the states that come again for ever. Each step takes as much width as any other,
+    so that the picture grows with the run, up to 257 columns; the genes' names stand at both ends where it is long."""
+    names, steps = [name or "(no name)" for name in course.names], len(course.states)
+    said = [f"Course {course.number}, run forward: {_ending(course)}",
+            f"Levels 0 to {course.sheet.modulus - 1} of {_counted(len(names), 'gene')}. The model fits all {sum(course.sheet.counts)} measured moves of "
+            f"{_counted(len(course.courses), 'course')}.", *(line for words in _beyond(course) for line in textwrap.wrap(words, 96))]
+    margin = max(_long(name, 13) for name in [*names, "time step"]) + 16
+    left, top = margin, 58 + 18 * len(said)
+    below, right = top + _ROW * len(names), left + _CELL * steps
+    legend = _course_legend(course, left, below + 82)
+    wide = max(right + (margin if steps > 30 else 24), left + _long(said[0], 16) + 24, *(left + _long(line) + 24 for line in said[1:]), left + _NARROWEST,
+               left + _CELL * (course.step - course.back) + _long(_ending(course)) + 40)
+    high = below + 104 + (24 if course.step else 0)
+    picture = [f'<svg xmlns="http://www.w3.org/2000/svg" width="{wide}" height="{high}" viewBox="0 0 {wide} {high}"',
+               '     font-family="sans-serif" fill="#222222">', f"<title>{_xml(said[0])}</title>", f'<rect width="{wide}" height="{high}" fill="#ffffff"/>',
+               _word(left, 26, said[0], 16, "start"), *(_word(left, 46 + 18 * i, line, 12, "start") for i, line in enumerate(said[1:]))]
+    for x, anchor in ((left - 10, "end"), (right + 10, "start"))[:1 + (steps > 30)]:
+        picture += [_word(x, top + _ROW * g + _ROW // 2 + 5, name, 13, anchor) for g, name in enumerate(names)]
+    for k, state in enumerate(course.states):
+        for g, level in enumerate(state):
+            picture += _level_cell(left + _CELL * k, top + _ROW * g, level, course.sheet.modulus, course.step and k == course.step)
+    picture += _course_steps(course, left, below)
+    picture += _cycle_frame(course, left, top, below)
+    return "\n".join([*picture, *legend, "</svg>"]) + "\n"
+
+
+def _course_steps(course, left, below):
+    """Below the levels: the number of each step, and whether its state was measured."""
+    yield _word(left - 10, below + 18, "time step", 12, "end")
+    yield _word(left - 10, below + 38, "measured", 12, "end")
+    for k in range(len(course.states)):
+        x = left + _CELL * k + _CELL // 2
+        yield _word(x, below + 18, str(k))
+        if k < course.measured:
+            yield f'<circle class="measured" cx="{x}" cy="{below + 34}" r="5" fill="#2e7d32"/>'
+    if course.step:
+        yield _word(left + _CELL * course.step + _CELL // 2, below + 56, f"= step {course.step - course.back}", 11)
+
+
+def _cycle_frame(course, left, top, below):
+    """The frame around the states that come again, and what that means."""
+    if course.step:
+        x, width = left + _CELL * (course.step - course.back), _CELL * course.back
+        yield (f'<rect class="cycle" x="{x}" y="{top - 2}" width="{width}" height="{below - top + 4}" fill="none" stroke="#d35400" '
+               'stroke-width="3"/>')
+        yield _word(x, top - 8, _ending(course).removeprefix("it "), 12, "start", ' fill="#a84300" font-weight="bold"')
+
+
+def _course_legend(course, left, y):
+    """What the shades, the dots and the frame say."""
+    highest, x = course.sheet.modulus - 1, left
+    for level, text in ((0, "level 0"), (highest, f"level {highest}, the highest")):
+        yield f'<rect x="{x}" y="{y - 12}" width="16" height="16" fill="{_shade(level, highest + 1)[0]}" stroke="#999999"/>'
+        yield _word(x + 22, y + 1, text, 12, "start")
+        x += 40 + _long(text)
+    yield f'<circle cx="{x + 8}" cy="{y - 4}" r="5" fill="#2e7d32"/>'
+    yield _word(x + 20, y + 1, "measured in this course; without a dot: as the model runs on", 12, "start")
+    if course.step:
+        yield f'<rect x="{left + 1}" y="{y + 11}" width="14" height="14" fill="none" stroke="#d35400" stroke-width="3"/>'
+        yield _word(left + 22, y + 23, "framed: comes again and again, for ever; the pale column is the first that comes again", 12, "start")
 
 
 # ---- The staircase
@@ -918,6 +1231,21 @@ def _report_texts(words):
     return refused
 
 
+def _course_text(words):
+    """The command `course`. Answers how many texts were refused."""
+    (name, text), = _texts(words.files, False)
+    refused = 0
+    try:
+        run = course(text, words.course)
+        said = course_report(run, [*_habits(text)])
+        if words.svg:
+            pathlib.Path(words.svg).write_text(timeline(run), encoding="utf-8")
+    except Refusal as refusal:
+        refused, said = 1, refusal_report(text, refusal)
+    print(f"== {name}\n{said}\n")
+    return refused
+
+
 def main(arguments=None):
     parser = argparse.ArgumentParser(prog="python3 -m misqafur", description="Model sheets of gene states modulo a small prime, for people.")
     commands = parser.add_subparsers(dest="command", required=True)
@@ -928,6 +1256,10 @@ def main(arguments=None):
     told.add_argument("--without", metavar="GENE", help="leave a gene out whose probe is unreliable, by name or number")
     told.add_argument("--many", action="store_true", help="a file holds many texts, divided by blank lines")
     told.add_argument("--progress", action="store_true", help="say how far many texts have come, also where standard error is no terminal")
+    run = commands.add_parser("course", help="run a time course forward by a model of the text's courses; status 1 if the text was refused")
+    run.add_argument("files", nargs=1, metavar="FILE.csv", help="a text: gene names and `mod P`, then states and course numbers (- for standard input)")
+    run.add_argument("--course", required=True, type=int, metavar="NUMBER", help="the course from whose first state the model is run")
+    run.add_argument("--svg", metavar="OUT.svg", help="draw the levels over time, and what comes again")
     script = commands.add_parser("export", help="print the basis of a text as a script for an algebra package")
     script.add_argument("syntax", choices=[name for name in SYNTAXES if name != "plain"])
     script.add_argument("files", nargs=1, metavar="FILE.csv")
@@ -936,6 +1268,8 @@ def main(arguments=None):
     try:
         if words.command == "report":
             return 1 if _report_texts(words) else 0
+        if words.command == "course":
+            return 1 if _course_text(words) else 0
         (name, text), = _texts(words.files, False)
         print(read(text)[0].export(words.syntax), end="")
     except Refusal as refusal:

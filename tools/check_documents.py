@@ -49,6 +49,7 @@ NOTES = {
     "docs/changes/M-108.md": "876c4f539434b89c",
     "docs/changes/M-109.md": "ecc1fcc14764251f",
     "docs/changes/M-110.md": "fd5c75e3115ca256",
+    "docs/changes/M-111.md": "1a0103299564292c",
 }
 
 

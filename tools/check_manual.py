@@ -20,7 +20,7 @@ def differences():
     header = (ROOT / "include/misqafur.h").read_text(encoding="utf-8")
     program, library = plain("misqafur.1"), plain("misqafur.3")
     call = "misqafur_abi_" + re.search(r"^#define MISQAFUR_ABI (\d+)$", header, re.M).group(1)
-    names = re.findall(r"^uint\d+_t (misqafur_\w+)\(", header, re.M) + re.findall(r"\b(misqafur_sheet_\w+)\(", header)
+    names = re.findall(r"^uint\d+_t (misqafur_\w+)\(", header, re.M) + re.findall(r"\b(misqafur_(?:sheet|course)_\w+)\(", header)
     for name in sorted(set(names + ["misqafur_refusal_text", "misqafur_level", "misqafur_version", call]) - {"misqafur_sheet_keep"}):
         if not re.search(rf"\b{name}\b", library):
             yield f"misqafur(3) does not name {name}"

@@ -130,6 +130,8 @@ def with_counts(block):
     said = words(block)
     if said["call"] == ["read_text"]:
         return reading_with_counts(block)
+    if said["call"] == ["time_course"]:  # counts of records that have a successor, from M-111 on
+        return block
     block = [line + " 64" if line.startswith("lengths") and len(said["lengths"]) == 4 else line for line in block]
     left = counts_left(block) if said["call"] != ["run"] else run_left(block, None)[3] + [FILLING] * (int(words(block)["lengths"][4]) - 64)
     return [" ".join(line.split()[:5] + ["%016x" % fnv(bytes(left))]) if line.startswith("tables") else line for line in block]

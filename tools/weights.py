@@ -67,6 +67,10 @@ def due(block):
     said = words(block)
     if said["call"] == ["read_text"]:
         return reading_due(block)
+    if said["call"] == ["time_course"]:
+        number = said["number"][0]
+        assert number in FORM or (number if number in BY_SETTINGS else "0") == str(told(text_of(said))[0]), block
+        return block
     p, m, order, packed = (numbers(said, "settings") + [0])[:4]
     refusal = settings_refusal([2] if said["call"] == ["draw_up_packed"] else PRIMES, p, m, order, packed.to_bytes(SIZE, "little"))
     if said["call"] == ["run"] or not refusal:

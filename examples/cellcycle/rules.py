@@ -1,5 +1,5 @@
 #!/usr/bin/env python3
-"""The data set of this folder, made from published rules: states.csv and CycA.csv. With --check the stored files are compared.
+"""The data set of this folder, made from published rules: states.csv, CycA.csv and courses.csv. With --check the stored files are compared.
 
 The rules are those of A. Faure, A. Naldi, C. Chaouiya and D. Thieffry, "Dynamical analysis of a generic Boolean model for the
 control of the mammalian cell cycle", Bioinformatics 22(14), 2006, e124-e131, Table 1: ten genes, on or off.
@@ -43,15 +43,30 @@ def step(state):
     return {name: int(after[name]) for name in TARGETS}
 
 
+def courses():
+    """Time courses of the network that show what follows on each state: from the first state that none has shown yet, until a state
+    comes that one has shown."""
+    shown, found = set(), []
+    for state in states():
+        if tuple(state.values()) not in shown:
+            found.append([tuple(state.values())])
+            while found[-1][-1] not in shown:
+                shown.add(found[-1][-1])
+                after = step(dict(zip(GENES, found[-1][-1])))
+                found[-1].append(tuple(after[gene] for gene in GENES))
+    return found
+
+
 def texts():
-    """Each file of the data set: all states with all next levels, and a text for one target."""
+    """Each file of the data set: all states with all next levels, a text for one target, and a text of time courses."""
     table = [",".join([*GENES, *(f"next.{name}" for name in TARGETS)])]
     text = [",".join([*GENES, "mod 2"])]
     for state in states():
         after = step(state)
         table.append(",".join(str(level) for level in [*state.values(), *after.values()]))
         text.append(",".join(str(level) for level in [*state.values(), after["CycA"]]))
-    return {"states.csv": "\n".join(table) + "\n", "CycA.csv": "\n".join(text) + "\n"}
+    course = [text[0], *(",".join(map(str, [*state, number])) for number, states_met in enumerate(courses(), 1) for state in states_met)]
+    return {name: "\n".join(lines) + "\n" for name, lines in (("states.csv", table), ("CycA.csv", text), ("courses.csv", course))}
 
 
 def settled():

@@ -15,12 +15,13 @@ enum kind {
     WIRING,
     LEAVE_OUT,
     READ_TEXT,
+    TIME_COURSE,
     KINDS
 };
 
 extern const char *const kind_names[KINDS];
 
-/* The ten calls of one implementation. */
+/* The eleven calls of one implementation. */
 struct calls {
     __typeof__(misqafur_add_point) *add_point;
     __typeof__(misqafur_withdraw_point) *withdraw_point;
@@ -32,6 +33,7 @@ struct calls {
     __typeof__(misqafur_wiring) *wiring;
     __typeof__(misqafur_leave_out) *leave_out;
     __typeof__(misqafur_read_text) *read_text;
+    __typeof__(misqafur_time_course) *time_course;
 };
 
 extern const struct calls archive, reference;
@@ -45,7 +47,7 @@ enum buffer {
     COUNTS,    /* also those that are read from a text */
     GIVEN,     /* levels, values, coefficients of terms, or text */
     EXPONENTS, /* of terms */
-    OUT,       /* interpolant, remainder, wiring list, or the values read */
+    OUT,       /* interpolant, remainder, wiring list, the values read, or a course's interpolants */
     WEIGHTS,   /* those that are read from a text */
     NEW_STATES, /* the tables without a variable, in the order of the others */
     NEW_STANDARD,
@@ -59,7 +61,7 @@ enum buffer {
 #define TABLES 5
 
 /* The refusals are numbered from 1 on and below this. */
-#define REFUSALS 17
+#define REFUSALS 19
 
 /* Bit k of a kind's entry: the call can answer refusal k. */
 extern const uint32_t possible_refusals[KINDS];
@@ -76,6 +78,7 @@ struct call {
     enum kind kind;
     uint64_t modulus, variables, order, weights, n, r;
     uint64_t variable; /* that is to be left out */
+    uint64_t course;   /* that is to be run forward */
     struct bytes buffer[BUFFERS];
 };
 
@@ -83,6 +86,12 @@ struct call {
 static inline int draws_up(enum kind kind)
 {
     return kind == DRAW_UP || kind == DRAW_UP_PACKED;
+}
+
+/* Whether a call of this kind is handed a text, and answers with its settings or the record at fault. */
+static inline int reads_text(enum kind kind)
+{
+    return kind == READ_TEXT || kind == TIME_COURSE;
 }
 
 /* Has the call performed on its buffers, and gives the number returned. */

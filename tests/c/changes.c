@@ -32,11 +32,12 @@ static int tables_hold(const struct call *call, enum buffer first, const uint64_
     return 1;
 }
 
-/* The buffers that the reader fills. */
 static int answers_hold(const struct call *call, const struct block *b)
 {
-    for (int i = 0; i < READ; i++)
-        if (hash(&call->buffer[read_buffers[i]]) != b->answers[i])
+    enum buffer which[READ];
+    const size_t due = answer_buffers(call->kind, which);
+    for (size_t i = 0; i < due; i++)
+        if (hash(&call->buffer[which[i]]) != b->answers[i])
             return 0;
     return 1;
 }
@@ -47,11 +48,9 @@ static int call_holds(struct guard *guard, const struct block *b, uint64_t choic
     performing = "a block of a change request";
     if (!number_holds(b, perform(&archive, &lent)) || !guard_intact(guard))
         return 0;
-    if (b->call.kind == READ_TEXT ? !answers_hold(&lent, b) : !tables_hold(&lent, STATES, b->tables))
+    if (!answers_hold(&lent, b) || (b->call.kind != READ_TEXT && !tables_hold(&lent, STATES, b->tables)))
         return 0;
     if (b->call.kind == LEAVE_OUT && !tables_hold(&lent, NEW_STATES, b->resulted))
-        return 0;
-    if (b->call.kind != READ_TEXT && buffer_size(b->call.kind, OUT) > 0 && hash(&lent.buffer[OUT]) != b->answers[0])
         return 0;
     for (int i = GIVEN; i <= EXPONENTS; i++)
         if (hash(&lent.buffer[i]) != hash(&b->call.buffer[i]))

@@ -120,14 +120,22 @@ static void read_segments(struct block *b, const char *rest)
     lend(b, GIVEN, (long)length);
 }
 
-const enum buffer read_buffers[READ] = {STATES, OUT, COUNTS, WEIGHTS};
+size_t answer_buffers(enum kind kind, enum buffer which[READ])
+{
+    static const enum buffer read[] = {STATES, OUT, COUNTS, WEIGHTS}, run[] = {OUT, WEIGHTS};
+    if (kind == READ_TEXT) {
+        memcpy(which, read, sizeof read);
+        return sizeof read / sizeof *read;
+    }
+    memcpy(which, run, sizeof run);
+    return kind == TIME_COURSE ? 2 : buffer_size(kind, OUT) > 0;
+}
 
 /* The answer buffers. */
 static void read_lent(struct block *b, const char *rest)
 {
-    static const enum buffer answer[1] = {OUT};
-    const size_t due = b->call.kind == READ_TEXT ? READ : 1;
-    const enum buffer *which = due == READ ? read_buffers : answer;
+    enum buffer which[READ];
+    const size_t due = answer_buffers(b->call.kind, which);
     long lengths[READ];
     if (numbers(rest, lengths, READ) != due) {
         b->known = 0;
@@ -211,6 +219,8 @@ void block_take(struct block *b, const char *word, const char *rest)
         read_given(b, EXPONENTS, rest);
     else if (strcmp(word, "gene") == 0)
         b->known &= sscanf(rest, "%" SCNu64, &c->variable) == 1;
+    else if (strcmp(word, "course") == 0)
+        b->known &= sscanf(rest, "%" SCNu64, &c->course) == 1;
     else if (strcmp(word, "results") == 0)
         read_results(b, rest);
     else if (strcmp(word, "text") == 0)

@@ -6,6 +6,7 @@
  *   poke T AT BYTE                   levels, values, coefficients or exponents K v..
  *   gene G: the variable to be left out
  *   results A B C D E: the lengths of the tables without it, filled with 170
+ *   course C: that is to be run forward
  *   text SEG..: hexadecimal, HH*COUNT for a run of one byte, - for none
  *   buffers L..: the answer buffers in the order of the arguments, filled with 170
  *   number .. and shown .. are for the reader of the file
@@ -21,9 +22,9 @@
 #define STEPS 1024
 #define STEP_LEVELS 16
 
-/* The reader's answer buffers, in the order of its arguments. */
+/* The answer buffers of a call of this kind, in the order of its arguments, READ at most; gives how many. */
 #define READ 4
-extern const enum buffer read_buffers[READ];
+size_t answer_buffers(enum kind kind, enum buffer which[READ]);
 
 /* One call of a run. */
 struct step {

@@ -16,11 +16,8 @@ static void make_exact(struct made *made, enum kind kind, uint64_t seed)
 {
     memset(made, 0, sizeof *made);
     made->chance.state = seed;
-    if (kind == READ_TEXT)
-        make_text(made);
-    else
-        make_call(made, kind);
-    if (kind != READ_TEXT && once_in(&made->chance, 2))
+    make_any(made, kind);
+    if (!reads_text(kind) && once_in(&made->chance, 2))
         damage(made);
     for (int i = 0; i < BUFFERS; i++) {
         size_t size = buffer_size(kind, (enum buffer)i);

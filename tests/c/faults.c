@@ -15,7 +15,7 @@ int has_fault(uint32_t faults, int refusal)
 /* In the order of checking, which is not that of the numbers. */
 int first_fault(uint32_t faults)
 {
-    static const int order[] = {1, 2, 3, 4, 5, 15, 16, 6, 7, 8, 9, 10, 12, FULL, 13, 14};
+    static const int order[] = {1, 2, 3, 4, 5, 15, 16, 6, 7, 8, 9, 17, 10, 12, FULL, 13, 14, 18};
     for (size_t i = 0; i < sizeof order / sizeof *order; i++)
         if (has_fault(faults, order[i]))
             return order[i];
@@ -31,8 +31,8 @@ int refusal_of(int fault)
  * greatest count. Drawing up and texts claim no n. */
 static int possible(enum kind kind, uint32_t faults)
 {
-    int fills = kind == ADD_POINT || draws_up(kind) || kind == READ_TEXT;
-    int claims = !draws_up(kind) && kind != READ_TEXT;
+    int fills = kind == ADD_POINT || draws_up(kind) || reads_text(kind);
+    int claims = !draws_up(kind) && !reads_text(kind);
     uint32_t all = possible_refusals[kind] & ~(claims ? 0u : 1u << 8);
     if (has_fault(faults, FULL) && has_fault(faults, 13) && kind == ADD_POINT)
         return 0;
@@ -44,8 +44,8 @@ static int faults_hold(struct guard *guard, struct made *made, enum kind kind, u
     char name[64];
     uint64_t due, number;
     snprintf(name, sizeof name, "%s, faults %x (hex), variant %u", kind_names[kind], faults, variant);
-    if (kind == READ_TEXT) {
-        due = make_faulty_text(made, faults, variant);
+    if (reads_text(kind)) {
+        due = (kind == READ_TEXT ? make_faulty_text : make_faulty_course)(made, faults, variant);
     } else {
         make_faulty_call(made, kind, faults, variant);
         due = (uint64_t)refusal_of(first_fault(faults));

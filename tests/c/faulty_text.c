@@ -1,5 +1,5 @@
 /* Texts with a set of faults: points modulo 11 in two variables, and whatever is wrong beside. */
-#include "made.h"
+#include "faulty_text.h"
 
 #include <stdio.h>
 #include <string.h>
@@ -17,19 +17,18 @@ struct told {
     uint64_t at[FAULTS];
 };
 
-/* Puts a word at the text's end. */
-static void put(struct made *made, const char *word)
+void put_word(struct made *made, const char *word)
 {
     struct bytes *text = &made->call.buffer[GIVEN];
     memcpy(text->at + text->length, word, strlen(word));
     text->length += strlen(word);
 }
 
-static void put_number(struct made *made, int number)
+void put_number(struct made *made, int number)
 {
     char word[16];
     snprintf(word, sizeof word, "%d", number);
-    put(made, word);
+    put_word(made, word);
 }
 
 /* As fault 4 none or too many; with many records fewer of these, so that the text is not too long. */
@@ -46,27 +45,26 @@ static void put_weights(struct made *made, int m, uint32_t faults, uint32_t vari
 {
     static const char *const weights[4] = {" 1", " 99", " 07", " 30"}, *const none[2] = {" 0", " 00"};
     const int wrong = has_fault(faults, 15) ? (int)variant % (m < 1 ? 1 : m) : m;
-    put(made, " weight");
+    put_word(made, " weight");
     for (int k = 0; k < m; k++)
-        put(made, k == wrong ? none[variant / 2 % 2] : weights[(k + (int)variant) % 4]);
+        put_word(made, k == wrong ? none[variant / 2 % 2] : weights[(k + (int)variant) % 4]);
 }
 
-static void put_header(struct made *made, int m, uint32_t faults, uint32_t variant)
+void put_faulty_header(struct made *made, int m, uint32_t faults, uint32_t variant)
 {
     static const int moduli[8] = {67, 1, 0, 9, 256 + 11, 256, 999, 62};
     static const char *const orders[4] = {"", " lex", " grlex", " grevlex"};
     for (int k = 0; k < m; k++)
-        put(made, "g,");
-    put(made, "mod ");
+        put_word(made, "g,");
+    put_word(made, "mod ");
     put_number(made, has_fault(faults, 3) ? moduli[variant % 8] : 11);
     if (has_fault(faults, 15) || variant % 5 == 4)
         put_weights(made, m, faults, variant);
     else
-        put(made, orders[variant % 4]);
+        put_word(made, orders[variant % 4]);
 }
 
-/* A level of point i of a grid, in replicates the negative one of the same residue. */
-static int level_of(int i, int k, int negative)
+int grid_level(int i, int k, int negative)
 {
     int level = k == 0 ? i % 11 : k == 1 ? i / 11 : 0;
     return negative && level > 0 ? level - 11 : level;
@@ -78,14 +76,13 @@ static void put_record(struct made *made, int i, int value, int m, uint32_t vari
     static const int bad_levels[4] = {11, -11, 256, -999};
     int bad = bad_levels[variant / 2 % 4], in_value = variant % 2 == 1 || m == 0;
     for (int k = 0; k < m; k++) {
-        put_number(made, outside && !in_value && k == 0 ? bad : level_of(i, k, negative));
-        put(made, ",");
+        put_number(made, outside && !in_value && k == 0 ? bad : grid_level(i, k, negative));
+        put_word(made, ",");
     }
     put_number(made, outside && in_value ? bad : value);
 }
 
-/* What breaks the rules at the end of a record or of the header; the last of these is a blank record behind it. */
-static const char *const breaks[] = {"x", "0000", "+", "\"", "\r1", " ", ",1", ",", "-", "\n"};
+const char *const breaks[10] = {"x", "0000", "+", "\"", "\r1", " ", ",1", ",", "-", "\n"};
 
 /* One record more, of point i, and the end of it. */
 static void put_next(struct made *made, struct told *told, int i, int value, int m, uint32_t faults, uint32_t variant)
@@ -94,8 +91,8 @@ static void put_next(struct made *made, struct told *told, int i, int value, int
     int broken = has_fault(faults, 2) && told->records + 1 == (int)variant * 5 % (RECORDS + 1);
     put_record(made, i, value, m, variant, outside, again);
     if (broken)
-        put(made, breaks[variant % 10]);
-    put(made, variant % 3 == 0 ? "\r\n" : "\n");
+        put_word(made, breaks[variant % 10]);
+    put_word(made, variant % 3 == 0 ? "\r\n" : "\n");
     told->records++;
     told->distinct += !again;
     told->replicates += i == REPLICATED;
@@ -123,11 +120,20 @@ static void put_part(struct made *made, struct told *told, int part, int m, uint
             put_next(made, told, i, i % 11, m, faults, variant);
 }
 
-/* Long enough to be refused with 1. */
-static void put_too_much(struct made *made)
+void lend_faulty(struct made *made, enum kind kind, uint32_t faults, uint32_t variant)
+{
+    made->call = (struct call){.kind = kind};
+    made->call.buffer[GIVEN] = (struct bytes){made->bytes[GIVEN], 0};
+    for (int i = 0; i < BUFFERS; i++)
+        if (buffer_size(kind, (enum buffer)i) > 0)
+            memset(made->bytes[i], 170, buffer_size(kind, (enum buffer)i) + 8);
+    set_faulty_sizes(made, faults, variant);
+}
+
+void put_too_much(struct made *made)
 {
     while (made->call.buffer[GIVEN].length <= MISQAFUR_MAX_TEXT)
-        put(made, "n");
+        put_word(made, "n");
 }
 
 uint64_t make_faulty_text(struct made *made, uint32_t faults, uint32_t variant)
@@ -137,17 +143,11 @@ uint64_t make_faulty_text(struct made *made, uint32_t faults, uint32_t variant)
     const char *how = breaks[variant % 10];
     struct told told = {.at = {[2] = (uint64_t)broken + (*how == '\n' ? 2 : 1), [3] = 1, [4] = 1, [15] = 1,
                                [9] = (uint64_t)(variant % RECORDS) + 2}};
-    made->call = (struct call){.kind = READ_TEXT};
-    made->call.buffer[GIVEN] = (struct bytes){made->bytes[GIVEN], 0};
-    memset(made->bytes[STATES], 170, MISQAFUR_STATES_SIZE + 8);
-    memset(made->bytes[OUT], 170, MISQAFUR_RESIDUES_SIZE + 8);
-    memset(made->bytes[COUNTS], 170, MISQAFUR_COUNTS_SIZE + 8);
-    memset(made->bytes[WEIGHTS], 170, MISQAFUR_WEIGHTS_SIZE + 8);
-    set_faulty_sizes(made, faults, variant);
-    put_header(made, m, faults, variant);
+    lend_faulty(made, READ_TEXT, faults, variant);
+    put_faulty_header(made, m, faults, variant);
     if (has_fault(faults, 2) && broken == 0)
-        put(made, how);
-    put(made, variant % 3 == 0 ? "\r\n" : "\n");
+        put_word(made, how);
+    put_word(made, variant % 3 == 0 ? "\r\n" : "\n");
     for (int i = 0; i < RECORDS; i++)
         put_next(made, &told, i, i, m, faults, variant);
     for (int part = 0; part < 3; part++)

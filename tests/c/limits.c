@@ -18,11 +18,13 @@ static void make_good(struct made *made, enum kind kind)
     static const char text[] = "g1,mod 5 weight 7\n1,2\n";
     memset(made, 0, sizeof *made);
     made->chance.state = 7;
-    make_call(made, kind == READ_TEXT ? INTERPOLATE : kind);
+    make_call(made, reads_text(kind) ? INTERPOLATE : kind);
     made->call.kind = kind;
-    if (kind == READ_TEXT) {
+    if (reads_text(kind)) {
         memcpy(made->bytes[GIVEN], text, sizeof text - 1);
         made->call.buffer[GIVEN].length = sizeof text - 1;
+        made->call.course = 2;
+        lend(made, OUT, buffer_size(kind, OUT));
         lend(made, WEIGHTS, MISQAFUR_WEIGHTS_SIZE);
     }
 }
@@ -117,6 +119,7 @@ struct score long_buffers(const struct options *options)
     long_call(&score, zeros, REMAINDER, 2, FOUR_GIB + 16, 0, 7);
     long_call(&score, zeros, REMAINDER, FOUR_GIB / 8, FOUR_GIB, 0, 8);
     long_call(&score, zeros, READ_TEXT, FOUR_GIB + 14, 0, 0, 1);
+    long_call(&score, zeros, TIME_COURSE, FOUR_GIB + 14, 0, 0, 1);
     munmap(zeros, length);
     return score;
 }
@@ -169,10 +172,7 @@ struct score stack_depth(const struct options *options)
         enum kind kind = (enum kind)(i % KINDS);
         memset(made, 0, sizeof *made);
         made->chance.state = options->seed + (uint64_t)i;
-        if (kind == READ_TEXT)
-            make_text(made);
-        else
-            make_call(made, kind);
+        make_any(made, kind);
         size_t depth = depth_of(&made->call);
         deepest[kind] = depth > deepest[kind] ? depth : deepest[kind];
     }

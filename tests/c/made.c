@@ -79,6 +79,16 @@ static void random_settings(struct made *made)
     random_order(c, &made->call);
 }
 
+void make_any(struct made *made, enum kind kind)
+{
+    if (kind == READ_TEXT)
+        make_text(made);
+    else if (kind == TIME_COURSE)
+        make_course(made);
+    else
+        make_call(made, kind);
+}
+
 void lend(struct made *made, enum buffer which, size_t length)
 {
     made->call.buffer[which] = (struct bytes){made->bytes[which], length};

@@ -1,10 +1,10 @@
-/* Random texts for the reader. */
-#include "made.h"
+/* Random texts for the reader, and what they share with those of time courses. */
+#include "made_text.h"
 
 #include <stdio.h>
 #include <string.h>
 
-static void put(struct made *made, const char *bytes, size_t length)
+void put_bytes(struct made *made, const char *bytes, size_t length)
 {
     struct bytes *text = &made->call.buffer[GIVEN];
     if (text->length + length > ROOM - 600)
@@ -13,15 +13,14 @@ static void put(struct made *made, const char *bytes, size_t length)
     text->length += length;
 }
 
-/* A field, now and then in quotes. */
-static void put_field(struct made *made, const char *content)
+void put_field(struct made *made, const char *content)
 {
     int quoted = once_in(&made->chance, 8);
     if (quoted)
-        put(made, "\"", 1);
-    put(made, content, strlen(content));
+        put_bytes(made, "\"", 1);
+    put_bytes(made, content, strlen(content));
     if (quoted)
-        put(made, "\"", 1);
+        put_bytes(made, "\"", 1);
 }
 
 static void put_name(struct made *made)
@@ -29,15 +28,15 @@ static void put_name(struct made *made)
     static const char *const names[] = {"g1",          "",           "\"a\"\"b\"",   "\"a,b\"",
                                         "\"x\r\ny\"", "\"\"\"\"", "\xef\xbb\xbf", "long name"};
     const char *name = names[below(&made->chance, sizeof names / sizeof *names)];
-    put(made, name, strlen(name));
-    put(made, ",", 1);
+    put_bytes(made, name, strlen(name));
+    put_bytes(made, ",", 1);
 }
 
-static void put_break(struct made *made)
+void put_break(struct made *made)
 {
     if (once_in(&made->chance, 2))
-        put(made, "\r", 1);
-    put(made, "\n", 1);
+        put_bytes(made, "\r", 1);
+    put_bytes(made, "\n", 1);
 }
 
 /* A name so long that the text comes near the limit, and past it. */
@@ -45,8 +44,8 @@ static void put_long_name(struct made *made)
 {
     size_t length = MISQAFUR_MAX_TEXT - below(&made->chance, 400);
     for (size_t i = 0; i < length; i++)
-        put(made, "n", 1);
-    put(made, ",", 1);
+        put_bytes(made, "n", 1);
+    put_bytes(made, ",", 1);
 }
 
 /* ` weight` and a weight for each name, of one digit or two; now and then one is 0, or there are others than names. */
@@ -59,7 +58,7 @@ static void weigh(struct chance *c, size_t m, char *word, size_t room)
                                    k == none ? 0 : (int)(packed >> 8 * (k % 8) & 255));
 }
 
-static void put_header(struct made *made, size_t m, int p)
+void put_header(struct made *made, size_t m, int p)
 {
     static const char *const words[] = {"", " lex", " grlex", " grevlex"};
     struct chance *c = &made->chance;
@@ -79,8 +78,7 @@ static void put_header(struct made *made, size_t m, int p)
     put_field(made, content);
 }
 
-/* A level with this residue; once in so many times one out of range. */
-static void put_level(struct made *made, int p, uint8_t residue, uint64_t times)
+void put_level(struct made *made, int p, uint8_t residue, uint64_t times)
 {
     struct chance *c = &made->chance;
     char content[16];
@@ -99,8 +97,7 @@ static size_t random_records(struct chance *c)
     return below(c, 12);
 }
 
-/* Changes, inserts or removes one byte. */
-static void mistype(struct made *made)
+void mistype(struct made *made)
 {
     static const char bytes[] = ",\"\r\n-0123456789 modlexgrvwiht+\0\xff";
     struct chance *c = &made->chance;
@@ -127,7 +124,7 @@ static void put_record(struct made *made, size_t m, int p, const uint8_t *point,
     put_break(made);
     for (size_t k = 0; k < m; k++) {
         put_level(made, p, point == NULL ? (uint8_t)below(&made->chance, (uint64_t)p) : k < 8 ? point[k] : 0, times);
-        put(made, ",", 1);
+        put_bytes(made, ",", 1);
     }
     put_level(made, p, value, times);
 }
@@ -155,25 +152,26 @@ static void put_records(struct made *made, size_t m, int p, size_t records)
         put_record(made, m, p, NULL, (uint8_t)below(c, (uint64_t)p), outside);
 }
 
+void lend_for_text(struct made *made, enum kind kind)
+{
+    struct chance *c = &made->chance;
+    made->call = (struct call){.kind = kind};
+    made->call.buffer[GIVEN] = (struct bytes){made->bytes[GIVEN], 0};
+    for (int i = 0; i < BUFFERS; i++) {
+        size_t size = buffer_size(kind, (enum buffer)i);
+        if (size == 0)
+            continue;
+        memset(made->bytes[i], 170, size + 200);
+        lend(made, (enum buffer)i, once_in(c, 40) ? below(c, size) : size + below(c, 200));
+    }
+}
+
 void make_text(struct made *made)
 {
     struct chance *c = &made->chance;
     int p = primes[below(c, 18)];
     size_t m = once_in(c, 30) ? below(c, 12) : 1 + below(c, 8);
-    made->call = (struct call){.kind = READ_TEXT};
-    made->call.buffer[GIVEN] = (struct bytes){made->bytes[GIVEN], 0};
-    memset(made->bytes[STATES], 170, 800);
-    memset(made->bytes[OUT], 170, 400);
-    memset(made->bytes[COUNTS], 170, 400);
-    memset(made->bytes[WEIGHTS], 170, 400);
-    size_t states = once_in(c, 40) ? below(c, 512) : 512 + below(c, 200);
-    size_t values = once_in(c, 40) ? below(c, 64) : 64 + below(c, 200);
-    made->call.buffer[STATES] = (struct bytes){made->bytes[STATES], states};
-    size_t counts = once_in(c, 40) ? below(c, 64) : 64 + below(c, 200);
-    size_t weights = once_in(c, 40) ? below(c, 8) : 8 + below(c, 200);
-    made->call.buffer[OUT] = (struct bytes){made->bytes[OUT], values};
-    made->call.buffer[COUNTS] = (struct bytes){made->bytes[COUNTS], counts};
-    made->call.buffer[WEIGHTS] = (struct bytes){made->bytes[WEIGHTS], weights};
+    lend_for_text(made, READ_TEXT);
     put_header(made, m, p);
     put_records(made, m, p, random_records(c));
     if (once_in(c, 2))

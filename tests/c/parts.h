@@ -45,5 +45,6 @@ struct score packed_drawing(const struct options *options);
 struct score replicates(const struct options *options);
 struct score weights(const struct options *options);
 struct score leaving(const struct options *options);
+struct score courses(const struct options *options);
 
 #endif

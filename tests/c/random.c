@@ -29,13 +29,10 @@ static int random_case(struct guard *guard, struct guard *other, struct made *ma
     memset(made->bytes[GIVEN], 0, ROOM);
     memset(made->bytes[EXPONENTS], 0, ROOM);
     made->chance.state = seed * 1000003 + (uint64_t)kind * 0x10000000000 + index;
-    if (kind == READ_TEXT) {
-        make_text(made);
-    } else {
-        make_call(made, kind);
+    make_any(made, kind);
+    if (!reads_text(kind))
         for (int i = once_in(&made->chance, 2) ? 0 : 1 + (int)below(&made->chance, 3); i > 0; i--)
             damage(made);
-    }
     snprintf(name, sizeof name, "%s, seed %" PRIu64 ", case %" PRIu64, kind_names[kind], seed, index);
     uint64_t choice = any_number(&made->chance);
     return agrees(guard, &made->call, choice, name, number) &&

@@ -16,6 +16,7 @@ __typeof__(misqafur_remainder) reference_remainder;
 __typeof__(misqafur_wiring) reference_wiring;
 __typeof__(misqafur_leave_out) reference_leave_out;
 __typeof__(misqafur_read_text) reference_read_text;
+__typeof__(misqafur_time_course) reference_time_course;
 
 /* What the files of the reference share. */
 

@@ -249,11 +249,19 @@ static uint64_t expected_reading(const char *result)
     abort();
 }
 
-/* The stored line gives the number; the reference gives the residues, the counts and the weights. */
+/* The stored line gives the number; the reference gives the residues, the counts and the weights. As courses, in which the values
+ * are numbers, the text is refused alike where the reader refuses its length, its header or a record's form before any number. */
 static int text_holds(struct guard *guard, const struct call *call, uint64_t expected, uint64_t choice)
 {
-    uint64_t number;
-    return agrees(guard, call, choice, "fuzz.txt", &number) && number == expected;
+    static uint8_t bytes[BUFFERS][ROOM];
+    struct call course = {.kind = TIME_COURSE, .course = 1};
+    uint64_t number, run;
+    for (int i = 0; i < BUFFERS; i++)
+        course.buffer[i] = (struct bytes){bytes[i], buffer_size(TIME_COURSE, (enum buffer)i)};
+    course.buffer[GIVEN] = call->buffer[GIVEN];
+    if (!agrees(guard, call, choice, "fuzz.txt", &number) || !agrees(guard, &course, choice, "fuzz.txt as courses", &run))
+        return 0;
+    return number == expected && ((run & 255) == 2 || (number & 255) == 0 || (number & 255) > 6 || run == number);
 }
 
 struct score stored_texts(const struct options *options)

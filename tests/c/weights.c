@@ -120,11 +120,12 @@ static void every_pair(struct weighed *w)
             say(w, "a pair of weights", (uint64_t)(1000 * first + second), grid_holds(&w->made, first, second));
 }
 
-/* A text whose header has so many names and then this; with no record behind it. */
+/* A text whose header has so many names and then this; with no record behind it. In both calls that read one: where the reader takes
+ * it, no course is in it. */
 static uint64_t header_read(struct weighed *w, int names, const char *last)
 {
     struct made *made = &w->made;
-    uint64_t number = 0;
+    uint64_t number = 0, course = 0;
     int length = 0;
     made->call = (struct call){.kind = READ_TEXT};
     for (int i = 0; i < BUFFERS; i++)
@@ -133,7 +134,15 @@ static uint64_t header_read(struct weighed *w, int names, const char *last)
         length += sprintf((char *)made->bytes[GIVEN] + length, "g%d,", k);
     length += sprintf((char *)made->bytes[GIVEN] + length, "mod 5 weight%s", last);
     lend(made, GIVEN, (size_t)length);
-    return agrees(w->one, &made->call, (uint64_t)length, last, &number) ? number : UINT64_MAX;
+    if (!agrees(w->one, &made->call, (uint64_t)length, last, &number))
+        return UINT64_MAX;
+    made->call.kind = TIME_COURSE;
+    for (int i = 0; i < BUFFERS; i++)
+        if (i != GIVEN)
+            lend(made, (enum buffer)i, buffer_size(TIME_COURSE, (enum buffer)i));
+    if (!agrees(w->one, &made->call, (uint64_t)length, last, &course) || course != ((number & 255) == 0 ? 18 : number))
+        return UINT64_MAX;
+    return number;
 }
 
 /* One weight of every number of digits up to three, and every number of weights beside every number of names. */

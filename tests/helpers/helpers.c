@@ -1,13 +1,13 @@
 /* The header's helpers over whole sheets against the plain calls: the same random call is made both ways on equal sheets,
  * and refusal, counts and every byte have to be equal afterwards; and after a refusal every byte as it was before. Leaving a
- * variable out is in leaving.h.
+ * variable out is in leaving.h, running a time course in courses.h.
  * usage: helpers CALLS [SEED] */
-#include "leaving.h"
+#include "courses.h"
 
 #include <stdio.h>
 #include <stdlib.h>
 
-enum kind { ADD, WITHDRAW, DRAW_UP, PACKED, CHECK, INTERPOLATE, REMAINDER, WIRING, KINDS, INIT = KINDS, LEAVE_OUT, HELPERS };
+enum kind { ADD, WITHDRAW, DRAW_UP, PACKED, CHECK, INTERPOLATE, REMAINDER, WIRING, KINDS, INIT = KINDS, LEAVE_OUT, COURSE, HELPERS };
 
 /* What a call is handed beside the sheet, and what it answers. */
 struct terms {
@@ -177,19 +177,19 @@ static void texts(void)
 {
     for (uint32_t a = 0; a < 256; a++)
         for (uint32_t b = 0; b < a; b++)
-            expect((strcmp(misqafur_refusal_text(a), misqafur_refusal_text(b)) == 0) == (b > MISQAFUR_REFUSED_LEFT_OUT),
+            expect((strcmp(misqafur_refusal_text(a), misqafur_refusal_text(b)) == 0) == (b > MISQAFUR_REFUSED_COURSE),
                    "the sentences of refusals", (long)a);
 }
 
 /* With enough calls, each helper was taken and refused in the ways that it can be. */
 static void all_seen(void)
 {
-    static const int due[HELPERS][7] = {{0, 15, 7, 9, 10, 13},   {0, 15, 7, 9, 10, 12}, {0, 15, 7, 8, 9, 13},
+    static const int due[HELPERS][11] = {{0, 15, 7, 9, 10, 13},   {0, 15, 7, 9, 10, 12}, {0, 15, 7, 8, 9, 13},
                                         {0, 3, 15, 7, 8, 9, 13}, {0, 15, 10},           {0, 15, 6, 7, 9, 10},
                                         {0, 15, 6, 7, 8, 9, 10}, {0, 15, 6, 7, 9, 10},  {0, 3, 4, 5, 15},
-                                        {0, 15, 16, 6, 8, 10, 13}};
+                                        {0, 15, 16, 6, 8, 10, 13}, {0, 2, 3, 15, 9, 17, 8, 13, 18}};
     for (int kind = 0; kind < HELPERS; kind++)
-        for (int i = 0; i < 7; i++)
+        for (int i = 0; i < 11; i++)
             expect(seen[kind][due[kind][i]] > 0, "an answer that never came", 10 * kind + due[kind][i]);
 }
 
@@ -203,6 +203,8 @@ int main(int count, char **words)
             begin(i, &sheet);
         try_call(i, &sheet);
         seen[LEAVE_OUT][try_leaving(i, &sheet) & 31]++;
+        if (i % 4 == 0)
+            seen[COURSE][try_course(i) & 31]++;
     }
     texts();
     expect(misqafur_version() == MISQAFUR_VERSION_NUMBER, "the version", 0);

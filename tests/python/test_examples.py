@@ -1,4 +1,5 @@
-"""The cell cycle example: the data set is what the published rules give, and the rules come back as their own polynomials."""
+"""The cell cycle example: the data set is what the published rules give, the rules come back as their own polynomials, and time courses
+run forward as the rules do."""
 import itertools
 import pathlib
 import subprocess
@@ -42,6 +43,19 @@ class CellCycle(unittest.TestCase):
             values = {s: rules.step(dict(zip(rules.GENES, s)))[target] for s in states}
             due = [k + 1 for k in range(len(rules.GENES)) if any(values[s] != values[s[:k] + (1 - s[k],) + s[k + 1:]] for s in states)]
             self.assertEqual(sheet.wiring(values.values()), due)
+
+    def test_forward(self):
+        self.assertEqual(self.said(str(FOLDER / "forward.py")), (FOLDER / "forward.expected").read_text())
+
+    def test_courses(self):
+        """From every course the run is that of the rules, and it reaches the cycle of seven states."""
+        text, found = (FOLDER / "courses.csv").read_bytes(), rules.courses()
+        self.assertEqual({state for states in found for state in states[:-1]}, {tuple(state.values()) for state in rules.states()})
+        for number, states in enumerate(found, 1):
+            course = misqafur.course(text, number)
+            self.assertEqual((course.states[0], course.measured, course.back, len(course.sheet), course.unmeasured), (states[0], len(states), 7, 64, None))
+            for state, after in zip(course.states, course.states[1:]):
+                self.assertEqual(dict(zip(rules.GENES, after)), {gene: rules.step(dict(zip(rules.GENES, state)))[gene] for gene in rules.GENES})
 
     def test_report(self):
         self.assertIn("6 genes (E2F, CycA, Cdc20, Cdh1, UbcH10, CycB)", self.said("-m", "misqafur", "report", str(FOLDER / "CycA.csv")))

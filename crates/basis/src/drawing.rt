@@ -26,10 +26,10 @@ ghost use Rattle.specification.specs.Levels.{inRange};
 ghost use Rattle.specification.specs.Counted.{pointsOf, countsOf, gathered, overfull};
 ghost use Rattle.specification.specs.Tables.{pointsIn, fiveTables, tooShort, statesTable};
 ghost use Rattle.specification.specs.Adding.{ended, drawEnded, costing, cancellationsUnder, pointsOffered, drawOutcome, drawPackedOutcome, holdingBoth};
-ghost use Rattle.construction.specs.Drawing.{RowsLong, PointsGiven, pivotBytes, pivotRowsUnder};
+ghost use Rattle.construction.specs.Drawing.{RowsLong, PointsGiven, Solves, pivotBytes, pivotRowsUnder};
 
 // The basis of the n points of a table, with the counts in `times`, written to lent tables over lent pivot rows, and the answer that says so.
-pub(crate) fn draw_points(
+pub fn draw_points(
     settings: Settings,
     n: usize,
     points: &[u8],
@@ -52,6 +52,7 @@ pub(crate) fn draw_points(
         (fiveTables (now (states .entry)) (now (standard .entry)) (now (leads .entry)) (now (coefficients .entry)) (now (counts .entry)))) ⌝ }
     ensures { λ _. ⌜ pivotBytes (now (rows .exit)) (now (pivots .exit))
         ≡ pivotRowsUnder settings (pointsIn settings n (now (points .entry))) (now (rows .entry)) (now (pivots .entry)) ⌝ }
+    ensures { λ _. ⌜ Solves settings (pointsIn settings n (now (points .entry))) (now (rows .exit)) (now (pivots .exit)) ⌝ }
 {
     bytes::copy(points, states);
     bytes::copy(times, counts);

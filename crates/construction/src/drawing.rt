@@ -22,7 +22,7 @@ ghost use Rattle.residue.specs.Sizes.{standardSize, leadsSize, coefficientsSize
 ghost use Rattle.monomial.specs.Rank.{stepsOf};
 ghost use Rattle.specification.specs.Tables.{orderUnder, pointsIn};
 ghost use Rattle.specification.specs.Adding.{cancellationsUnder};
-ghost use Rattle.construction.specs.Drawing.{RowsLong, PointsGiven, Tabled, DrawnUp, pivotBytes, pivotRowsUnder};
+ghost use Rattle.construction.specs.Drawing.{RowsLong, PointsGiven, DrawnUp, pivotBytes, pivotRowsUnder};
 
 // How many rows a basis has, and how many cancellations drawing it up took.
 pub struct Counts {
@@ -109,8 +109,8 @@ pub fn draw_anew(
     requires { ⌜ PointsGiven settings n (now points) ⌝ }
     requires { ⌜ (length (now standard) ≡ standardSize) × ((length (now leads) ≡ leadsSize) × (length (now coefficients) ≡ coefficientsSize)) ⌝ }
     requires { ⌜ RowsLong (now rows) (now pivots) ⌝ }
-    ensures { λ d. ⌜ Tabled settings (pointsIn settings n (now (points .entry))) (d .r)
-        (now (standard .exit)) (now (leads .exit)) (now (coefficients .exit)) ⌝ }
+    ensures { λ d. ⌜ DrawnUp settings (pointsIn settings n (now (points .entry))) (d .r) (now (standard .exit)) (now (leads .exit))
+        (now (coefficients .exit)) (now (rows .exit)) (now (pivots .exit)) ⌝ }
     ensures { λ d. ⌜ d .cancellations ≡ cancellationsUnder settings (pointsIn settings n (now (points .entry))) ⌝ }
     ensures { λ _. ⌜ pivotBytes (now (rows .exit)) (now (pivots .exit))
         ≡ pivotRowsUnder settings (pointsIn settings n (now (points .entry))) (now (rows .entry)) (now (pivots .entry)) ⌝ }

@@ -1,7 +1,7 @@
 // The text reader.
-mod entries;
+pub mod entries;
 mod gathering;
-mod records;
+pub mod records;
 
 use points::weights::right_weights;
 use residue::sizes;
@@ -51,7 +51,7 @@ fn short_buffers(states: usize, values: usize, counts: usize, weights: usize) ->
 }
 
 // What the settings decide, and whether a lent buffer is too short.
-fn settings_refusal(settings: Settings, short: bool) -> Refusal
+pub fn settings_refusal(settings: Settings, short: bool) -> Refusal
     ensures { λ r. ⌜ r ≡ firstOf notRefused (headerCases settings short) ⌝ }
 {
     if !residue::level::is_modulus(settings.modulus) {

@@ -26,7 +26,7 @@ use Rattle.misqafur.specs.Packing.{packed, packedRead}
 use Rattle.misqafur.specs.Unpacking.{refusalFrom, pointsFrom, faultFrom, modulusFrom, variablesFrom, orderFrom}
 
 -- the parts of an answer that is not refused, each within a byte
-settings-back : (n p m o : ℕ) → n ≤ 255 → p ≤ 255 → m ≤ 255 → o ≤ 255 → let k = packed (0 ∷ n ∷ p ∷ m ∷ o ∷ []) in
+settings-back : (n p m o : ℕ) → n ≤ 255 → p ≤ 255 → m ≤ 255 → o ≤ 15 → let k = packed (0 ∷ n ∷ p ∷ m ∷ o ∷ []) in
     (refusalFrom k ≡ 0) × (pointsFrom k ≡ n) × (modulusFrom k ≡ p) × (variablesFrom k ≡ m) × (orderFrom k ≡ o)
 unfolding refusalFrom pointsFrom modulusFrom variablesFrom orderFrom
 settings-back n p m o a b c d = (omega arith, omega arith, omega arith, omega arith, omega arith)

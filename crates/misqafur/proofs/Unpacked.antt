@@ -80,7 +80,7 @@ module _ (c : Call) (a : Answer) (number : numberOf c ≡ a .refusal) (parts : e
       (ap refusalFrom e ∙ b .0, ap pointsFrom e ∙ b .1, ap elementsFrom e ∙ b .2)
 
 -- n and r of a basis
-few-held : {s : Settings} {L : Counted} {lent : Tables} {n r : ℕ} {t : Tables} → HoldsBasis s L lent n r t → (n ≤ 64) × (r ≤ 449)
+pub few-held : {s : Settings} {L : Counted} {lent : Tables} {n r : ℕ} {t : Tables} → HoldsBasis s L lent n r t → (n ≤ 64) × (r ≤ 449)
 few-held h = (omega (arith, h .count, h .few-points), omega (arith, h .rows, h .few-rows))
 
 -- what the answer of an outcome is read as

@@ -1,7 +1,7 @@
 -- What C sees of a call: one number that holds the refusal and the counts, and the lent bytes. A call that answers a refusal alone answers it as it is.
 use mathlib.Core.Bool.{cond}
 use mathlib.Core.List.{List, [], _∷_}
-use Prim.Native.Nat.{ℕ, _+_, _*_}
+use Prim.Native.Nat.{ℕ, _+_, _*_, _≤_}
 use lib.Dec.{eqb}
 use Rattle.residue.specs.Words.{bytesOf}
 use Rattle.specification.specs.declared.settings.Settings.{Settings}
@@ -13,6 +13,8 @@ use Rattle.specification.specs.Adding.{Outcome, DrawOutcome}
 use Rattle.specification.specs.Solving.{Listed}
 use Rattle.csv.specs.declared.reading.Read.{Read}
 use Rattle.csv.specs.reading.Text.{TextOutcome}
+use Rattle.course_text.specs.declared.running.Course.{Course}
+use Rattle.course_text.specs.Outcome.{CourseOutcome}
 
 -- Numbers in one, each 256 times higher than the one before it.
 abbrev pub packed : List ℕ → ℕ
@@ -38,6 +40,23 @@ packedWired w = packed (w .refusal ∷ w .count ∷ [])
 -- refused: refusal + 256 record; else 256 n + 65536 modulus + 2^24 variables + 2^32 order
 abbrev pub packedRead : Read → ℕ
 packedRead r = cond (eqb (r .refusal) 0) (packed (0 ∷ r .n ∷ r .modulus ∷ r .variables ∷ r .order ∷ [])) (packed (r .refusal ∷ r .at ∷ []))
+
+-- refused: refusal + 256 record; else 256 n + 65536 modulus + 2^24 variables + 2^32 order + 2^36 r + 2^46 step + 2^55 back
+abbrev pub packedCourse : Course → ℕ
+packedCourse c =
+    cond (eqb (c .refusal) 0)
+    (packed (0 ∷ c .n ∷ c .modulus ∷ c .variables ∷ (c .order + 16 * (c .r + 1024 * (c .step + 512 * c .back))) ∷ []))
+    (packed (c .refusal ∷ c .at ∷ []))
+
+-- its parts fit the places that they have there
+pub record CourseFits (c : Course) : Type 0 where
+  pub n : c .n ≤ 255
+  pub modulus : c .modulus ≤ 255
+  pub variables : c .variables ≤ 255
+  pub order : c .order ≤ 15
+  pub r : c .r ≤ 1023
+  pub step : c .step ≤ 511
+  pub back : c .back ≤ 511
 
 -- Adding, withdrawing and drawing up, packed or not: the number, and the lent tables at exit.
 pub record Left : Type 0 where
@@ -77,3 +96,16 @@ leftReading a states values counts weights = record { number = a; states = state
 
 unfoldable pub packedReading : TextOutcome → LeftReading
 packedReading o = record { number = packedRead (o .answer); states = o .states; values = o .values; counts = o .counts; weights = o .weights }
+
+-- Running a time course forward: the number, and the lent buffers at exit.
+pub record LeftCourse : Type 0 where
+  pub number : ℕ
+  pub tables : Tables
+  pub interpolants : List ℕ
+  pub weights : List ℕ
+
+abbrev pub leftCourse : ℕ → Tables → List ℕ → List ℕ → LeftCourse
+leftCourse a tables interpolants weights = record { number = a; tables = tables; interpolants = interpolants; weights = weights }
+
+unfoldable pub packedRun : CourseOutcome → LeftCourse
+packedRun o = leftCourse (packedCourse (o .answer)) (o .tables) (o .interpolants) (o .weights)

@@ -43,9 +43,21 @@ modulusFrom a = a / 65536 % 256
 unfoldable pub variablesFrom : ℕ → ℕ
 variablesFrom a = a / 16777216 % 256
 
--- misqafur_read_order: (answer >> 32) & 255
+-- misqafur_read_order: (answer >> 32) & 15
 unfoldable pub orderFrom : ℕ → ℕ
-orderFrom a = a / 4294967296 % 256
+orderFrom a = a / 4294967296 % 16
+
+-- misqafur_course_elements: (answer >> 36) & 1023
+unfoldable pub courseElementsFrom : ℕ → ℕ
+courseElementsFrom a = a / 68719476736 % 1024
+
+-- misqafur_course_step: (answer >> 46) & 511
+unfoldable pub stepFrom : ℕ → ℕ
+stepFrom a = a / 70368744177664 % 512
+
+-- misqafur_course_back: answer >> 55
+unfoldable pub backFrom : ℕ → ℕ
+backFrom a = a / 36028797018963968
 
 -- The number that the export of a call returns, as the exports' contracts have it; and the parts of its answer beside the refusal, as C takes them out.
 unfoldable pub returned : Call → ℕ

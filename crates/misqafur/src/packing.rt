@@ -1,4 +1,5 @@
 // What C hands over and gets back in one number: the weights of the settings, and the parts of an answer.
+use course_text::running::Course;
 use csv::reading::Read;
 use specification::answers::Answer;
 use specification::answers::Drawn;
@@ -6,6 +7,7 @@ use specification::answers::Wired;
 use specification::settings::Settings;
 ghost use mathlib.Core.Path.{_≡_};
 ghost use Rattle.misqafur.specs.Packing.{settingsGiven, packedAnswer, packedDrawn, packedWired, packedRead};
+ghost use Rattle.misqafur.specs.Packing.{packedCourse, CourseFits};
 
 // The settings as they are handed over: the weight of x_k is byte k-1 of one number, which has therefore no length that could be wrong.
 pub fn settings_given(modulus: u64, variables: u64, order: u64, weights: u64) -> Settings
@@ -56,4 +58,20 @@ pub fn pack_read(r: Read) -> u64
         + 65536 * r.modulus as u64
         + 16777216 * r.variables as u64
         + 4294967296 * r.order as u64
+}
+
+pub fn pack_course(c: Course) -> u64
+    requires { ⌜ CourseFits c ⌝ }
+    ensures { λ k. ⌜ k ≡ packedCourse c ⌝ }
+{
+    if c.refusal != 0 {
+        return c.refusal as u64 + 256 * c.at as u64;
+    }
+    256 * c.n as u64
+        + 65536 * c.modulus as u64
+        + 16777216 * c.variables as u64
+        + 4294967296 * c.order as u64
+        + 68719476736 * c.r as u64
+        + 70368744177664 * c.step as u64
+        + 36028797018963968 * c.back as u64
 }

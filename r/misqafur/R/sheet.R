@@ -148,18 +148,45 @@ basis <- function(sheet) {
   }, "")
 }
 
+# A text as bytes: of a file, a connection or raw bytes; or of a data frame, whose last column is named `mod P` as a header's last
+# field is. What is no whole number there is written as NA, which the library refuses with 2 at its record.
+text_of <- function(data) {
+  if (!is.data.frame(data)) return(readBin(data, "raw", 1e6))
+  header <- paste0("\"", gsub("\"", "\"\"", enc2utf8(names(data)), fixed = TRUE), "\"", collapse = ",")
+  charToRaw(paste0(c(header, do.call(paste, c(unname(lapply(data, whole)), sep = ","))), "\n", collapse = ""))
+}
+
+# A text that is well formed as a string, without a byte-order mark.
+string_of <- function(bytes) sub("^\ufeff", "", enc2utf8(iconv(rawToChar(bytes[bytes != 0]), "UTF-8", "UTF-8", sub = "byte")))
+
+# Its fields, one after another: the first of them, or all.
+fields_of <- function(bytes, count = -1L) {
+  scan(text = string_of(bytes), what = "", sep = ",", quote = "\"", n = count, quiet = TRUE, encoding = "UTF-8")
+}
+
+# The fields of its header. A line that ends within quotes has no count.
+header_of <- function(bytes) {
+  lines <- textConnection(string_of(bytes), encoding = "UTF-8")
+  on.exit(close(lines))
+  counts <- utils::count.fields(lines, sep = ",", quote = "\"", comment.char = "")
+  fields_of(bytes, counts[!is.na(counts)][1])
+}
+
+# A sheet without states, by what the library answers of a text's header: modulus, genes, order and weights.
+text_sheet <- function(parts, names) {
+  order <- orders[parts[[3]] + 1]
+  sheet(parts[[1]], names, order, if (order == "weight") as.vector(parts[[4]]))
+}
+
 # The sheet and the values of a text: gene names, `mod P` and an order in its header, states and values below. Records that repeat a
 # state are its replicates; there is one value for each state.
 read_sheet <- function(file) {
-  bytes <- readBin(file, "raw", 1e6)
+  bytes <- text_of(file)
   answer <- .Call(C_read_text, bytes)
   parts <- taken(answer, if (answer[[1]] != 0) answer[[2]][[1]])
-  text <- enc2utf8(iconv(rawToChar(bytes[bytes != 0]), "UTF-8", "UTF-8", sub = "byte"))
-  names <- scan(text = sub("^\ufeff", "", text), what = "", sep = ",", quote = "\"", n = parts[[2]], quiet = TRUE, encoding = "UTF-8")
-  pots <- parts[[4]][rep(seq_len(nrow(parts[[4]])), as.vector(parts[[6]])), , drop = FALSE]
-  order <- orders[parts[[3]] + 1]
-  empty <- sheet(parts[[1]], names, order, if (order == "weight") as.vector(parts[[7]]))
-  list(sheet = draw_up(empty, pots), values = as.vector(parts[[5]]))
+  empty <- text_sheet(parts, fields_of(bytes, parts[[2]]))
+  pots <- parts[[5]][rep(seq_len(nrow(parts[[5]])), as.vector(parts[[7]])), , drop = FALSE]
+  list(sheet = draw_up(empty, pots), values = as.vector(parts[[6]]))
 }
 
 # The version of the library inside, which is the package's.

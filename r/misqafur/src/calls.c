@@ -55,10 +55,16 @@ static SEXP answered(uint32_t refusal, SEXP answer)
     return both;
 }
 
+static SEXP raw_of(const struct misqafur_sheet *sheet)
+{
+    SEXP raw = allocVector(RAWSXP, (R_xlen_t)sizeof *sheet);
+    memcpy(RAW(raw), sheet, sizeof *sheet);
+    return raw;
+}
+
 static SEXP answered_sheet(uint32_t refusal, const struct misqafur_sheet *sheet)
 {
-    SEXP raw = PROTECT(allocVector(RAWSXP, (R_xlen_t)sizeof *sheet)), both;
-    memcpy(RAW(raw), sheet, sizeof *sheet);
+    SEXP raw = PROTECT(raw_of(sheet)), both;
     both = answered(refusal, raw);
     UNPROTECT(1);
     return both;
@@ -185,8 +191,16 @@ static SEXP tables(SEXP raw)
     return both;
 }
 
-/* A text as a raw vector: the record of a refusal; or modulus, genes, order, states (row after row), values, counts and
- * weights. */
+/* The settings of a text that was taken, as the first parts of an answer: modulus, genes, order and weights. */
+static void put_settings(SEXP parts, uint64_t modulus, uint64_t variables, uint64_t order, const uint8_t *weights)
+{
+    SET_VECTOR_ELT(parts, 0, ScalarInteger((int)modulus));
+    SET_VECTOR_ELT(parts, 1, ScalarInteger((int)variables));
+    SET_VECTOR_ELT(parts, 2, ScalarInteger((int)order));
+    SET_VECTOR_ELT(parts, 3, matrix_of(weights, variables, 1, 1));
+}
+
+/* A text as a raw vector: the record of a refusal; or its settings, states (row after row), values and counts. */
 static SEXP read_text(SEXP text)
 {
     uint8_t points[MISQAFUR_STATES_SIZE], values[MISQAFUR_RESIDUES_SIZE], counts[MISQAFUR_COUNTS_SIZE];
@@ -198,13 +212,37 @@ static SEXP read_text(SEXP text)
     if (refusal != 0) {
         SET_VECTOR_ELT(parts, 0, ScalarReal((double)misqafur_read_record(answer)));
     } else {
-        SET_VECTOR_ELT(parts, 0, ScalarInteger((int)misqafur_read_modulus(answer)));
-        SET_VECTOR_ELT(parts, 1, ScalarInteger((int)misqafur_read_variables(answer)));
-        SET_VECTOR_ELT(parts, 2, ScalarInteger((int)misqafur_read_order(answer)));
-        SET_VECTOR_ELT(parts, 3, matrix_of(points, n, 8, misqafur_read_variables(answer)));
-        SET_VECTOR_ELT(parts, 4, matrix_of(values, n, 1, 1));
-        SET_VECTOR_ELT(parts, 5, matrix_of(counts, n, 1, 1));
-        SET_VECTOR_ELT(parts, 6, matrix_of(weights, misqafur_read_variables(answer), 1, 1));
+        put_settings(parts, misqafur_read_modulus(answer), misqafur_read_variables(answer), misqafur_read_order(answer), weights);
+        SET_VECTOR_ELT(parts, 4, matrix_of(points, n, 8, misqafur_read_variables(answer)));
+        SET_VECTOR_ELT(parts, 5, matrix_of(values, n, 1, 1));
+        SET_VECTOR_ELT(parts, 6, matrix_of(counts, n, 1, 1));
+    }
+    both = answered(refusal, parts);
+    UNPROTECT(1);
+    return both;
+}
+
+/* The same of a text of time courses, one of which is run forward: settings, the sheet of the points, the genes' interpolants
+ * (a row for each), and the step that ended the run with the distance back. */
+static SEXP time_course(SEXP text, SEXP number)
+{
+    struct misqafur_course course; /* after a refusal it holds nothing */
+    uint64_t record = 0;
+    const uint32_t refusal = misqafur_course_run(&course, RAW(text), (size_t)XLENGTH(text), setting(number), &record);
+    SEXP parts = PROTECT(allocVector(VECSXP, 7)), both;
+    if (refusal != 0) {
+        SET_VECTOR_ELT(parts, 0, ScalarReal((double)record));
+    } else {
+        const struct misqafur_sheet *sheet = &course.sheet;
+        uint8_t weights[MISQAFUR_WEIGHTS_SIZE];
+        for (int k = 0; k < MISQAFUR_WEIGHTS_SIZE; k++)
+            weights[k] = (uint8_t)(sheet->weights >> 8 * k);
+        put_settings(parts, sheet->modulus, sheet->variables, sheet->order, weights);
+        SET_VECTOR_ELT(parts, 4, raw_of(sheet));
+        SET_VECTOR_ELT(parts, 5, matrix_of(course.interpolants, sheet->variables, 64, sheet->n));
+        SET_VECTOR_ELT(parts, 6, allocVector(INTSXP, 2));
+        INTEGER(VECTOR_ELT(parts, 6))[0] = (int)course.step;
+        INTEGER(VECTOR_ELT(parts, 6))[1] = (int)course.back;
     }
     both = answered(refusal, parts);
     UNPROTECT(1);
@@ -229,7 +267,7 @@ static const R_CallMethodDef calls[] = {
     CALL("check", check, 1),         CALL("interpolate", interpolate, 2),
     CALL("remainder", remainder_of, 3), CALL("wiring", wiring, 2),
     CALL("tables", tables, 1),       CALL("read_text", read_text, 1),
-    CALL("refusal_text", refusal_text, 1), CALL("version", version, 0), {NULL, NULL, 0}};
+    CALL("time_course", time_course, 2), CALL("refusal_text", refusal_text, 1), CALL("version", version, 0), {NULL, NULL, 0}};
 
 void R_init_misqafur(DllInfo *library);
 void R_init_misqafur(DllInfo *library)

@@ -83,7 +83,7 @@ unfolding formFault
 no-fault none d t h = absurd (omega arith)
 no-fault (some x) d t h = fault-step false (firstFault isNone (entriesIn (x .variables) t)) h .1
 
-all-some : {A : Type 0} (l : List (Option (List A))) → firstFault isNone l ≡ 0 → l ≡ map some (map (λ e. Option·getD e []) l)
+pub all-some : {A : Type 0} (l : List (Option (List A))) → firstFault isNone l ≡ 0 → l ≡ map some (map (λ e. Option·getD e []) l)
 unfolding firstFault isNone
 all-some [] h = refl
 all-some (none ∷ l) h = absurd (omega arith)

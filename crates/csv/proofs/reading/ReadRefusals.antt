@@ -24,7 +24,7 @@ use Rattle.csv.specs.reading.Text.{headerIn, formFault, Contents, Valued
 use Rattle.csv.specs.reading.Text.{tooMany, tooOften, otherValue, notRefused}
 use Rattle.csv.specs.reading.Text.{settingsBy, shortBuffers, headerCases, pointsCases, entriesCases, readCases}
 use Rattle.csv.specs.reading.Text.{TextOutcome, textAccepted, textRefused, textDecided, readOutcome}
-use Rattle.csv.specs.reading.Faults.{FirstAt, Says, FaultAt, empty, no-header, no-entry, TextFault}
+use Rattle.csv.specs.reading.Faults.{FirstAt, Says, Wrong, FaultAt, empty, no-header, no-entry, TextFault}
 use Rattle.csv.specs.reading.Causes.{OutOfRange, TooMany, TooOften, OtherValue, WeightZero, causeNumber, causes, AtEntry, HoldsAt, ReadRefusals}
 use Rattle.csv.specs.reading.Causes.{Cause, length-of-text, form, modulus, variables, weights, buffers, range, points, replicates, values}
 use Rattle.csv.proofs.reading.FirstFault.{first-at, first-alone}
@@ -66,7 +66,7 @@ variables-told m = go (leb 1 m) refl (leb m 8) refl
     go false e b f = so (inl (leb-false 1 m e))
 
 -- a record is counted from 1
-fault-some : {t : List (Option (List (List ℕ)))} {k : ℕ} → FaultAt t k → k ≢ 0
+fault-some : {t : List (Option (List (List ℕ)))} {k : ℕ} → FaultAt Wrong t k → k ≢ 0
 fault-some empty e = omega arith
 fault-some (no-header n) e = omega arith
 fault-some (no-entry g f) e = omega arith
@@ -95,11 +95,11 @@ module _ (text : List ℕ) (s v c w : ℕ) where
   unfolding HoldsAt
   form-told =
       tells X (some-told fault) (λ n. go fault refl n)
-      (λ k x. let f = text-faults text k .0 x in let q = fault-read f in (λ z. fault-some f (sym q ∙ z), sym q))
+      (λ k x. let f = text-faults Wrong text k .0 x in let q = fault-read f in (λ z. fault-some f (sym q ∙ z), sym q))
     where
-      go : (k : ℕ) → fault ≡ k → fault ≢ 0 → TextFault text fault
+      go : (k : ℕ) → fault ≡ k → fault ≢ 0 → TextFault Wrong text fault
       go zero q n = absurd (n q)
-      go (suc k) q n = subst (TextFault text) (sym q) (text-faults text (suc k) .1 (form-faults t k .1 q))
+      go (suc k) q n = subst (TextFault Wrong text) (sym q) (text-faults Wrong text (suc k) .1 (form-faults t k .1 q))
 
   -- where the form is right
   module _ (fine : fault ≡ 0) where

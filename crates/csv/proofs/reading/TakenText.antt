@@ -26,7 +26,7 @@ use Rattle.specification.specs.Refusal.{firstOf}
 use Rattle.csv.specs.reading.Text.{headerIn, formFault, Contents, Valued, valuedPoints, firstAfter}
 use Rattle.csv.specs.reading.Text.{tooMany, tooOften, firstValue, firstValues, otherValue}
 use Rattle.csv.specs.reading.Text.{notRefused, shortBuffers, readCases, textAccepted, textRefused, textDecided, readOutcome}
-use Rattle.csv.specs.reading.Faults.{Says}
+use Rattle.csv.specs.reading.Faults.{Says, Wrong}
 use Rattle.csv.specs.reading.Causes.{TooMany, TooOften, OtherValue, Cause, form, points, replicates, values, AtEntry, HoldsAt}
 use Rattle.csv.specs.reading.Taken.{Taken, ReadTaken}
 use Rattle.csv.proofs.reading.HeaderWeights.{header-eight}
@@ -120,7 +120,7 @@ module _ (text s v k w : List ℕ) (taken : readOutcome text s v k w .answer .re
 
   fine : formFault (headerIn t) t ≡ 0
   unfolding HoldsAt
-  fine = no-place (formFault (headerIn t) t) (λ j q. free form (suc j) (text-faults text (suc j) .1 (form-faults t j .1 q)))
+  fine = no-place (formFault (headerIn t) t) (λ j q. free form (suc j) (text-faults Wrong text (suc j) .1 (form-faults t j .1 q)))
 
   says : Says text (e .header) (e .entries)
   says = says-found text fine

@@ -15,7 +15,7 @@ use Rattle.specification.specs.Levels.{noRepeat}
 use Rattle.specification.specs.Counted.{pointsOf, timesIn}
 use Rattle.notation.specs.Forms.{Header}
 use Rattle.csv.specs.reading.Text.{Valued, valuedPoint, readOutcome}
-use Rattle.csv.specs.reading.Faults.{FirstAt, Says, TextFault}
+use Rattle.csv.specs.reading.Faults.{FirstAt, Says, Wrong, TextFault}
 
 -- a level or the value of an entry is not between -(p-1) and p-1
 abbrev pub OutOfRange : ℕ → List (List ℤ) → List ℤ → Type 0
@@ -87,7 +87,7 @@ WeightZero h = (h .order ≡ 3) × ((k : ℕ) × (k < h .variables) × (getD (h 
 -- A cause holds of a text and of the lengths of the buffers for states, values, counts and weights, at a record; record 0 is none.
 unfoldable pub HoldsAt : List ℕ → (states values counts weights : ℕ) → Cause → ℕ → Type 0
 HoldsAt text s v c w length-of-text at = (16384 < length text) × (at ≡ 0)
-HoldsAt text s v c w form at = TextFault text at
+HoldsAt text s v c w form at = TextFault Wrong text at
 HoldsAt text s v c w modulus at = (h : Header) × (E : List (List ℤ)) × Says text h E × (¬ Among (h .modulus) primes) × (at ≡ 1)
 HoldsAt text s v c w variables at = (h : Header) × (E : List (List ℤ)) × Says text h E × ((h .variables < 1) ⊎ (8 < h .variables)) × (at ≡ 1)
 HoldsAt text s v c w weights at = (h : Header) × (E : List (List ℤ)) × Says text h E × WeightZero h × (at ≡ 1)

@@ -41,19 +41,20 @@ pub record Says (text : List ℕ) (h : Header) (E : List (List ℤ)) : Type 0 wh
 abbrev pub Wrong : ℕ → List (Option (List (List ℕ))) → Option (List (List ℕ)) → Type 0
 Wrong m before r = (fields : List (List ℕ)) (zs : List ℤ) → r ≡ some fields → ¬ IsEntry m fields zs
 
--- the record, from 1, at which records fail: there is none, the first is no header, or it is the first behind the header that has the wrong form
-pub data FaultAt : List (Option (List (List ℕ))) → ℕ → Type 0 where
-  empty : FaultAt [] 1
+-- the record, from 1, at which records fail: there is none, the first is no header, or it is the first behind the header that has the wrong form, by those
+-- before it; what that is, W says for a header of m names
+pub data FaultAt (W : ℕ → List (Option (List (List ℕ))) → Option (List (List ℕ)) → Type 0) : List (Option (List (List ℕ))) → ℕ → Type 0 where
+  empty : FaultAt W [] 1
   no-header : {r : Option (List (List ℕ))} {t : List (Option (List (List ℕ)))}
-      → ((fields : List (List ℕ)) (h : Header) → r ≡ some fields → ¬ IsHeader fields h) → FaultAt (r ∷ t) 1
+      → ((fields : List (List ℕ)) (h : Header) → r ≡ some fields → ¬ IsHeader fields h) → FaultAt W (r ∷ t) 1
   no-entry : {fields : List (List ℕ)} {h : Header} {t : List (Option (List (List ℕ)))} {k : ℕ}
-      → IsHeader fields h → FirstAt (Wrong (h .variables)) t k → FaultAt (some fields ∷ t) (suc (suc k))
+      → IsHeader fields h → FirstAt (W (h .variables)) t k → FaultAt W (some fields ∷ t) (suc (suc k))
 
 -- the record at which a text fails
-pub data TextFault (text : List ℕ) (k : ℕ) : Type 0 where
-  of-records : (rs : List (List (List ℕ))) → IsText text rs → FaultAt (map some rs) k → TextFault text k
-  of-broken : (rs : List (List (List ℕ))) → BreaksAfter text rs → FaultAt (map some rs ++ (none ∷ [])) k → TextFault text k
+pub data TextFault (W : ℕ → List (Option (List (List ℕ))) → Option (List (List ℕ)) → Type 0) (text : List ℕ) (k : ℕ) : Type 0 where
+  of-records : (rs : List (List (List ℕ))) → IsText text rs → FaultAt W (map some rs) k → TextFault W text k
+  of-broken : (rs : List (List (List ℕ))) → BreaksAfter text rs → FaultAt W (map some rs ++ (none ∷ [])) k → TextFault W text k
 
 -- the computed record of refusal 2 is the one at which records fail
 abbrev pub FormFaults : Type 0
-FormFaults = (t : List (Option (List (List ℕ)))) (k : ℕ) → FaultAt t (suc k) ↔ (formFault (headerIn t) t ≡ suc k)
+FormFaults = (t : List (Option (List (List ℕ)))) (k : ℕ) → FaultAt Wrong t (suc k) ↔ (formFault (headerIn t) t ≡ suc k)

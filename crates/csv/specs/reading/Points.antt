@@ -5,7 +5,7 @@ use mathlib.Core.List.{List, [], _++_, map}
 use mathlib.Core.Option.{Option·getD}
 use Prim.Native.Nat.{ℕ, _*_, _-_, _^_, _≤_}
 use lib.IntN.{ℤ, pos}
-use lib.ListN.{length, drop}
+use lib.ListN.{length, take, drop}
 use lib.Dec.{eqb}
 use Rattle.residue.specs.Sizes.{countsSize}
 use Rattle.residue.specs.Level.{residueOf}
@@ -19,9 +19,10 @@ use Rattle.notation.specs.Fields.{Field, field, broken, Part, part, faulty}
 use Rattle.specification.specs.Refusal.{firstOf}
 use Rattle.csv.specs.reading.Text.{Contents, Valued, TextOutcome, entryValue, valuedPoint, firstValues, textAccepted, textDecided}
 use Rattle.csv.specs.reading.Text.{notRefused, shortBuffers, headerCases, entriesCases}
-use Rattle.csv.specs.reading.Records.{entriesAt}
+use Rattle.csv.specs.reading.Records.{entryPart, entriesAt}
 use Rattle.csv.specs.declared.reading.Refusal.{Refusal}
 use Rattle.csv.specs.declared.reading.entries.Placed.{Placed}
+use Rattle.csv.specs.declared.reading.entries.Point.{Point}
 use Rattle.csv.specs.declared.reading.entries.Filled.{Filled}
 use Rattle.csv.specs.declared.reading.gathering.Gathered.{Gathered}
 
@@ -50,7 +51,14 @@ unfoldable pub behindEntry : Part (List ℤ) → List ℕ
 behindEntry (part levels rest) = rest
 behindEntry faulty = []
 
--- whether all of them are in range, the value, and the number that the point's bytes in the row spell, with zeros behind them up to 8 digits
+-- whether the m levels of the point are in range, the number that its bytes in the row spell, with zeros behind them up to 8 digits, and the last column behind it
+pub record PointAs (p m : ℕ) (text : List ℕ) (e : Part (List ℤ)) (r : Point) (row : List ℕ) : Type 0 where
+  pub inside : r .inside ≡ inRange p (take m (levelsIn e))
+  pub key : r .key ≡ keyOf m row * 2 ^ (8 * (8 - m))
+  pub last : entryPart 0 (drop (r .next) text) ≡ part (drop m (levelsIn e)) (behindEntry e)
+  pub within : r .next ≤ length text
+
+-- whether all levels are in range, the value, and the key of the point
 pub record FilledAs (p m : ℕ) (text : List ℕ) (e : Part (List ℤ)) (r : Filled) (row : List ℕ) : Type 0 where
   pub inside : r .inside ≡ inRange p (levelsIn e)
   pub value : r .value ≡ entryValue p m (levelsIn e)

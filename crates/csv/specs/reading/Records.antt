@@ -9,7 +9,7 @@ use lib.ListN.{length, drop}
 use Rattle.notation.specs.Digits.{decimalNumber}
 use Rattle.notation.specs.Fields.{Field, field, broken, unquoted, quoted, fieldOf, Part, part, faulty, kept, recordOf, recordsOf}
 use Rattle.notation.specs.Forms.{levelOf, entryOf, Header, headerOf}
-use Rattle.csv.specs.reading.Text.{refusalAt, notRefused, brokenAt, entryIn}
+use Rattle.csv.specs.reading.Text.{refusalAt, notRefused, brokenAt, entryIn, lastLevel}
 use Rattle.notation.specs.Said.{withSign}
 use Rattle.csv.specs.declared.reading.Refusal.{Refusal}
 use Rattle.csv.specs.declared.reading.records.LevelAt.{LevelAt}
@@ -111,26 +111,26 @@ pub record HeaderRead (text weights : List ℕ) (r : HeaderAt) : Type 0 where
   pub number : headerRefusal r ≡ partRefusal 1 (headerPart text)
   pub within : HeaderWithin (length text) r
 
--- An entry ends, or is refused with its number and record.
+-- An entry ends behind its last level, or is refused with its number and record.
 pub data Checked : Type 0 where
-  ends : (rest : List ℕ) → Checked
+  ends : (last : ℤ) (rest : List ℕ) → Checked
   refuses : (r : Refusal) → Checked
 
-unfoldable pub checked : ℕ → Part (List ℤ) → Checked
-checked at (part levels rest) = ends rest
-checked at faulty = refuses (brokenAt at)
+unfoldable pub checked : ℕ → ℕ → Part (List ℤ) → Checked
+checked at m (part levels rest) = ends (lastLevel m levels) rest
+checked at m faulty = refuses (brokenAt at)
 
 unfoldable pub entrySaid : List ℕ → Entry → Checked
-entrySaid text (E.Ends next) = ends (drop next text)
+entrySaid text (E.Ends negative size next) = ends (withSign negative size) (drop next text)
 entrySaid text (E.Refused refusal at) = refuses (refusalAt refusal at)
 
 abbrev pub EntryWithin : ℕ → Entry → Type 0
-EntryWithin n (E.Ends next) = next ≤ n
+EntryWithin n (E.Ends negative size next) = next ≤ n
 EntryWithin n (E.Refused refusal at) = Unit {0}
 
 -- `check_entry` at a place, for an entry of m levels and a value whose record has this number
 pub record EntryRead (text : List ℕ) (at m «record» : ℕ) (r : Entry) : Type 0 where
-  pub said : entrySaid text r ≡ checked «record» (entryPart m (drop at text))
+  pub said : entrySaid text r ≡ checked «record» m (entryPart m (drop at text))
   pub within : EntryWithin (length text) r
 
 abbrev pub entriesRefused : Refusal → Entries

@@ -3,7 +3,7 @@ use mathlib.Core.Bool.{Bool, true, false, not, cond, _&&_, _||_}
 use mathlib.Core.List.{List, [], _∷_, _++_, map}
 use mathlib.Core.Option.{Option, some, none, Option·getD}
 use Prim.Native.Nat.{ℕ, suc}
-use lib.IntN.{ℤ}
+use lib.IntN.{ℤ, pos}
 use lib.ListN.{length, getD, take, drop}
 use lib.Dec.{eqb, leb, ltb}
 use Rattle.residue.specs.Sizes.{statesSize, countsSize}
@@ -69,6 +69,10 @@ contentsOf h records = record { header = h; entries = map (λ e. Option·getD e 
 -- of an entry: the point, the value, and whether a level or the value is out of range
 unfoldable pub entryPoint : ℕ → ℕ → List ℤ → List ℕ
 entryPoint p m l = residues p (take m l)
+
+-- the last level of an entry, behind m others: its value, or what another text has in the value's place
+unfoldable pub lastLevel : ℕ → List ℤ → ℤ
+lastLevel m levels = getD levels m (pos 0)
 
 unfoldable pub entryValue : ℕ → ℕ → List ℤ → ℕ
 entryValue p m l = getD (residues p l) m 0

@@ -13,7 +13,7 @@ ghost use Rattle.notation.specs.Fields.{broken, faulty};
 ghost use Rattle.notation.specs.Said.{withSign};
 ghost use Rattle.csv.specs.reading.Text.{entryPoint};
 ghost use Rattle.csv.specs.reading.Records.{levelField, entryPart};
-ghost use Rattle.csv.specs.reading.Points.{PlacedAs, levelsIn, FilledAs};
+ghost use Rattle.csv.specs.reading.Points.{PlacedAs, levelsIn, PointAs, FilledAs};
 
 // The residue of a level by its sign and size. A size that fits no signed byte is out of range like any other.
 fn residue_of(p: u8, negative: bool, size: u16) -> Level
@@ -79,18 +79,17 @@ fn both(a: bool, b: bool) -> bool
     false
 }
 
-pub struct Filled {
+pub struct Point {
     pub inside: bool,
-    pub value: u8,
     pub key: u64,
     pub next: usize,
 }
 
-// The point and the value of the entry at `at`, and the key of the point in 8 bytes, which end in zeros.
-pub fn fill_entry(text: &[u8], at: usize, p: u8, variables: usize, row: &mut [u8]) -> Filled
+// The point of the entry at `at`, with its key in 8 bytes, which end in zeros, and where the last column begins.
+pub fn fill_point(text: &[u8], at: usize, p: u8, variables: usize, row: &mut [u8]) -> Point
     requires { ⌜ (at ≤ length (now text)) × (variables ≤ length (now row)) × (1 ≤ variables) × (variables ≤ 8) × (p ≤ 128) ⌝ }
     requires { ⌜ (entryPart variables (drop at (now text)) ≡ faulty → ⊥) ⌝ }
-    ensures { λ r. ⌜ FilledAs p variables (now (text .entry)) (entryPart variables (drop at (now (text .entry)))) r (now (row .exit)) ⌝
+    ensures { λ r. ⌜ PointAs p variables (now (text .entry)) (entryPart variables (drop at (now (text .entry)))) r (now (row .exit)) ⌝
         ∗ ⌜ now (row .exit) ≡ over (entryPoint p variables (levelsIn (entryPart variables (drop at (now (text .entry)))))) (now (row .entry)) ⌝ }
 {
     let mut from = at;
@@ -103,13 +102,35 @@ pub fn fill_entry(text: &[u8], at: usize, p: u8, variables: usize, row: &mut [u8
         inside = both(inside, level.inside);
         from = level.next;
     }
-    let last = residue_at(text, from, p);
     let zeros = 64 - 8 * variables;
     let spelled = key << zeros;
-    Filled {
-        inside: both(inside, last.inside),
-        value: last.residue,
+    Point {
+        inside,
         key: spelled,
+        next: from,
+    }
+}
+
+pub struct Filled {
+    pub inside: bool,
+    pub value: u8,
+    pub key: u64,
+    pub next: usize,
+}
+
+// The point and the value of the entry at `at`, and the key of the point.
+pub fn fill_entry(text: &[u8], at: usize, p: u8, variables: usize, row: &mut [u8]) -> Filled
+    requires { ⌜ (at ≤ length (now text)) × (variables ≤ length (now row)) × (1 ≤ variables) × (variables ≤ 8) × (p ≤ 128) ⌝ }
+    requires { ⌜ (entryPart variables (drop at (now text)) ≡ faulty → ⊥) ⌝ }
+    ensures { λ r. ⌜ FilledAs p variables (now (text .entry)) (entryPart variables (drop at (now (text .entry)))) r (now (row .exit)) ⌝
+        ∗ ⌜ now (row .exit) ≡ over (entryPoint p variables (levelsIn (entryPart variables (drop at (now (text .entry)))))) (now (row .entry)) ⌝ }
+{
+    let point = fill_point(text, at, p, variables, row);
+    let last = residue_at(text, point.next, p);
+    Filled {
+        inside: both(point.inside, last.inside),
+        value: last.residue,
+        key: point.key,
         next: last.next,
     }
 }

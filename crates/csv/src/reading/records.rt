@@ -117,13 +117,21 @@ pub fn read_header(text: &[u8], weights: &mut [u8]) -> HeaderAt
     }
 }
 
+// An entry ends, its last column holding a level of this sign and size.
 pub enum Entry {
-    Ends(usize),
-    Refused { refusal: u8, at: usize },
+    Ends {
+        negative: bool,
+        size: u16,
+        next: usize,
+    },
+    Refused {
+        refusal: u8,
+        at: usize,
+    },
 }
 
-// Whether the record at `at`, whose number is `record`, is an entry of so many variables, and where it ends.
-fn check_entry(text: &[u8], at: usize, variables: usize, record: usize) -> Entry
+// Whether the record at `at`, whose number is `record`, is an entry of so many variables, the level in its last column, and where it ends.
+pub fn check_entry(text: &[u8], at: usize, variables: usize, record: usize) -> Entry
     requires { ⌜ at ≤ length (now text) ⌝ }
     ensures { λ r. ⌜ EntryRead (now (text .entry)) at variables «record» r ⌝ }
 {
@@ -131,8 +139,8 @@ fn check_entry(text: &[u8], at: usize, variables: usize, record: usize) -> Entry
     let mut left = variables;
     loop {
         let LevelAt::Level {
-            negative: _,
-            size: _,
+            negative,
+            size,
             more,
             next,
         } = level_at(text, from)
@@ -149,7 +157,11 @@ fn check_entry(text: &[u8], at: usize, variables: usize, record: usize) -> Entry
                     at: record,
                 };
             }
-            return Entry::Ends(next);
+            return Entry::Ends {
+                negative,
+                size,
+                next,
+            };
         }
         if !more {
             return Entry::Refused {
@@ -179,7 +191,11 @@ pub fn check_entries(text: &[u8], at: usize, variables: usize) -> Entries
             Entry::Refused { refusal, at } => {
                 return Entries::Refused { refusal, at };
             }
-            Entry::Ends(next) => {
+            Entry::Ends {
+                negative: _,
+                size: _,
+                next,
+            } => {
                 from = next;
                 n += 1;
             }

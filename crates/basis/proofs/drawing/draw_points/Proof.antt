@@ -95,7 +95,7 @@ cast-t28 : tie.Need-cast-t28
 cast-t28 c = omega (arith, o (drawing c) .pre .0 .most)
 
 cast-t29 : tie.Need-cast-t29
-cast-t29 c = let d = drawing (c .before) in omega (arith, d .draw-anew .ensures .0 .row-count, few-drawn (o d .pre .0))
+cast-t29 c = let d = drawing (c .before) in omega (arith, d .draw-anew .ensures .0 .tabled .row-count, few-drawn (o d .pre .0))
 
 cast-t30 : tie.Need-cast-t30
 cast-t30 c = let d = counted c in omega (arith, d .draw-anew .ensures .1 .0, few-cost (o d .pre .0))
@@ -130,9 +130,9 @@ returns c =
     let k = copied d in (
       ap₂ (λ (k : ℕ) (w : Outcome). costing k w) (e .1 .0)
           (both-written (s .args .settings) (S d) (s .args .times .now) (tables s) (s .args .n) (d .draw-anew .result .r) _ (standard d) (leads d) (coefficients d) _ (sym (given-count (s .pre .0)))
-          (points-in (k .before) .copy .ensures ∙ ap (λ (t : List ℕ). over t (s .args .states .now)) (s .pre .0 .table)) (e .0)
+          (points-in (k .before) .copy .ensures ∙ ap (λ (t : List ℕ). over t (s .args .states .now)) (s .pre .0 .table)) (e .0 .tabled)
           (k .copy2 .ensures ∙ ap (λ (t : List ℕ). over t (s .args .counts .now)) (sym (fill-exact 64 (s .args .times .now) (s .pre .1 .0))))),
-      e .1 .1,
+      (e .1 .1, e .0 .pivot-rows),
     )
 
 pub draw-points-spec : {M : Type 1} → statement M

@@ -136,7 +136,7 @@ returns-2 c =
       ap uncosted (d .draw-points .ensures .0)
           ∙ left-done (a .settings) (a .n) (a .place) (a .points .now) (s .pre .0 .0) (s .pre .0 .1) left _ (o .take-out .ensures) (tables s) _
           (taken (d .before) .take-out2 .ensures) (omega (arith, large s .counts, s .pre .0 .0 .most)) (one o) (recounted (a .n) (a .r) (tables s) (a .place) (count s - 1)),
-      d .draw-points .ensures .1
+      d .draw-points .ensures .1 .0
           ∙ left-rows (a .settings) (a .n) (a .place) (a .points .now) (s .pre .0 .0) (s .pre .0 .1) left _ (o .take-out .ensures) (count s) (one o) (a .rows .now) (a .pivots .now)
           (pivotBytes (a .rows .now) (a .pivots .now)),
     )

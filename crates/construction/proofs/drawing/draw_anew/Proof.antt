@@ -59,7 +59,7 @@ same-length-5 : tie.Need-same-length-5
 same-length-5 c = drawing c .draw .kept .1 .1 .1 .1 .1 .1 .1 .0
 
 returns : tie.Need-returns
-returns c = let e = drawing c .draw .ensures in (e .0 .tabled, (e .1 .0, e .1 .1))
+returns c = let e = drawing c .draw .ensures in e
 
 pub draw-anew-spec : {M : Type 1} → statement M
 draw-anew-spec =

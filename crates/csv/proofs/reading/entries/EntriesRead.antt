@@ -96,15 +96,18 @@ module _ {m n : ℕ} {t : List ℕ} (S : List (List ℤ)) {from i : ℕ} (g : Re
     pub one-more : take (i + 1) S ≡ take i S ++ (next ∷ [])
     one-more = ap (λ (k : ℕ). take k S) (add-one i) ∙ take-suc S i [] (omega (arith, g .count))
 
-    pub read-on : {p : ℕ} {r : Filled} {row : List ℕ} → FilledAs p m t (entryPart m (drop from t)) r row → ReadOn m n t S (r .next) (i + 1)
+    pub goes-on : (to : ℕ) → to ≤ length t → drop to t ≡ behindEntry (entryPart m (drop from t)) → ReadOn m n t S to (i + 1)
     unfolding behindEntry
-    read-on f = record {
+    goes-on to w e = record {
       bound = omega arith;
-      within = f .within;
-      left = ap (entriesAt m) (f .rest ∙ ap behindEntry (read .1)) ∙ read .2 ∙ ap (λ (j : ℕ). map some (drop j S)) (sym (add-one i));
+      within = w;
+      left = ap (entriesAt m) (e ∙ ap behindEntry (read .1)) ∙ read .2 ∙ ap (λ (j : ℕ). map some (drop j S)) (sym (add-one i));
       count = g .count;
       long = g .long;
     }
+
+    pub read-on : {p : ℕ} {r : Filled} {row : List ℕ} → FilledAs p m t (entryPart m (drop from t)) r row → ReadOn m n t S (r .next) (i + 1)
+    read-on {p} {r} f = goes-on (r .next) (f .within) (f .rest)
 
   pub all-read : n ≤ i → take i S ≡ S
   all-read h = take-all i S (omega (arith, g .count))

@@ -17,8 +17,9 @@ use Rattle.specification.proofs.agreement.Points.{length-residues}
 use Rattle.notation.specs.Fields.{Field, field, broken, Part, part, faulty, withFirst}
 use Rattle.csv.specs.reading.Text.{entryPoint, entryValue}
 use Rattle.csv.specs.reading.Records.{levelField, entryPart}
-use Rattle.csv.specs.reading.Points.{levelIn, behindLevel, PlacedAs, levelsIn, behindEntry, FilledAs}
+use Rattle.csv.specs.reading.Points.{levelIn, behindLevel, PlacedAs, levelsIn, behindEntry, PointAs, FilledAs}
 use Rattle.csv.specs.declared.reading.entries.Placed.{Placed}
+use Rattle.csv.specs.declared.reading.entries.Point.{Point}
 use Rattle.csv.proofs.reading.records.EntryLevels.{entry-broken, entry-more, entry-long, entry-last, entry-short}
 use Rattle.csv.proofs.reading.entries.OneMore.{residues-snoc, range-snoc, over-snoc}
 
@@ -148,19 +149,8 @@ module _ (p m : ℕ) (t : List ℕ) where
         let k : m - j ≡ suc (m - (j + 1)) = omega arith in
         entry-next (m - (j + 1)) (drop from t) (drop j (levelsIn e)) (behindEntry e) (ap (λ (i : ℕ). entryPart i (drop from t)) (sym k) ∙ s .left)
 
-    last : m ≤ j → Last (levelField (drop from t)) (drop m (levelsIn e)) (behindEntry e)
-    last h =
-        let b = s .bound in
-        let k : m - j ≡ 0 = omega arith in
-        let i : j ≡ m = omega arith in
-        entry-end (drop from t) (drop m (levelsIn e)) (behindEntry e)
-        (ap (λ (i : ℕ). entryPart i (drop from t)) (sym k) ∙ s .left ∙ ap (λ (i : ℕ). part (drop i (levelsIn e)) (behindEntry e)) i)
-
     pub level-there : j < m → levelField (drop from t) ≡ broken → ⊥
     level-there h = next h .read
-
-    pub value-there : m ≤ j → levelField (drop from t) ≡ broken → ⊥
-    value-there h = last h .read
 
     module _ (r : Placed) (f : PlacedAs p t (levelField (drop from t)) r) (b : Bool) (g : b ≡ (inside && r .inside)) where
       pub step : j < m → m ≤ length old → r .residue < 256 → SoFar p m t e old (set row j (r .residue)) (r .next) b (256 * key + r .residue) (j + 1)
@@ -179,20 +169,39 @@ module _ (p m : ℕ) (t : List ℕ) where
             kept = length-set row j (r .residue) ∙ s .kept;
           }
 
-      pub done : m ≤ j → m ≤ 8
-          → FilledAs p m t e (record { inside = b; value = r .residue; key = (key * 2 ^ (64 - 8 * m)) % 18446744073709551616; next = r .next }) row × (row ≡ over (entryPoint p m (levelsIn e)) old)
-      unfolding entryPoint
-      done h few =
-          let i : j ≡ m = let b = s .bound in omega arith in
-          let n = last h in
-          let z = levelIn (levelField (drop from t)) in (
-            record {
-              inside = g ∙ range-all p m (levelsIn e) z (n .only) inside (r .inside) (s .ranged ∙ ap (λ (k : ℕ). inRange p (take k (levelsIn e))) i) (f .inside);
-              value = f .residue ∙ value-last p m (levelsIn e) z (n .only);
-              key =
-                  key-moved m few (subst (λ (k : ℕ). key < 2 ^ (8 * k)) i (s .small)) ∙ ap (λ (x : ℕ). x * 2 ^ (8 * (8 - m))) (s .spelled ∙ ap (λ (k : ℕ). keyOf k row) i);
-              rest = f .rest ∙ n .then;
-              within = f .within;
-            },
-            s .written ∙ ap (λ (k : ℕ). over (residues p (take k (levelsIn e))) old) i,
-          )
+    -- the point is written, and the value is what is left
+    pub point-done : m ≤ j → m ≤ 8
+        → PointAs p m t e (record { inside = inside; key = (key * 2 ^ (64 - 8 * m)) % 18446744073709551616; next = from }) row
+        × (row ≡ over (entryPoint p m (levelsIn e)) old)
+    unfolding entryPoint
+    point-done h few =
+        let i : j ≡ m = let b = s .bound in omega arith in
+        let k : m - j ≡ 0 = let b = s .bound in omega arith in (
+          record {
+            inside = s .ranged ∙ ap (λ (k : ℕ). inRange p (take k (levelsIn e))) i;
+            key =
+                key-moved m few (subst (λ (k : ℕ). key < 2 ^ (8 * k)) i (s .small)) ∙ ap (λ (x : ℕ). x * 2 ^ (8 * (8 - m))) (s .spelled ∙ ap (λ (k : ℕ). keyOf k row) i);
+            last =
+                ap (λ (i : ℕ). entryPart i (drop from t)) (sym k) ∙ s .left ∙ ap (λ (i : ℕ). part (drop i (levelsIn e)) (behindEntry e)) i;
+            within = s .within;
+          },
+          s .written ∙ ap (λ (k : ℕ). over (residues p (take k (levelsIn e))) old) i,
+        )
+
+  -- the last column behind the point
+  module _ (e : Part (List ℤ)) (row : List ℕ) (q : Point) (f : PointAs p m t e q row) where
+    pub last-column : Last (levelField (drop (q .next) t)) (drop m (levelsIn e)) (behindEntry e)
+    last-column = entry-end (drop (q .next) t) (drop m (levelsIn e)) (behindEntry e) (f .last)
+
+    pub value-done : (r : Placed) → PlacedAs p t (levelField (drop (q .next) t)) r → (b : Bool) → b ≡ (q .inside && r .inside)
+        → FilledAs p m t e (record { inside = b; value = r .residue; key = q .key; next = r .next }) row
+    value-done r g b h =
+        let n = last-column in
+        let z = levelIn (levelField (drop (q .next) t)) in
+        record {
+          inside = h ∙ range-all p m (levelsIn e) z (n .only) (q .inside) (r .inside) (f .inside) (g .inside);
+          value = g .residue ∙ value-last p m (levelsIn e) z (n .only);
+          key = f .key;
+          rest = g .rest ∙ n .then;
+          within = g .within;
+        }

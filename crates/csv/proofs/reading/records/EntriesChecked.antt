@@ -13,19 +13,20 @@ use Rattle.notation.specs.Forms.{entryOf}
 use Rattle.csv.specs.reading.Text.{refusalAt, brokenAt, entryIn}
 use Rattle.csv.specs.declared.reading.Refusal.{Refusal}
 use Rattle.csv.specs.reading.Records.{levelField, reads, entryPart, entriesAt, ends, refuses, checked, countedEntries}
+use Rattle.csv.specs.reading.Text.{lastLevel}
 use Rattle.csv.specs.declared.reading.records.Entries.the-variants as N
 use Rattle.csv.proofs.reading.records.EntryLevels.{entry-broken, entry-more, entry-long, entry-last, entry-short}
 use Rattle.notation.proofs.fields.EnoughTurns.{Behind, shorter, stopped, record-left, records-unroll}
 
-with-checked : (at : ℕ) (z : ℤ) (p : Part (List ℤ)) → checked at (withFirst z p) ≡ checked at p
-unfolding withFirst checked
-with-checked at z (part zs rest) = refl
-with-checked at z faulty = refl
+with-checked : (at k : ℕ) (z : ℤ) (p : Part (List ℤ)) → checked at (suc k) (withFirst z p) ≡ checked at k p
+unfolding withFirst checked lastLevel
+with-checked at k z (part zs rest) = refl
+with-checked at k z faulty = refl
 
 module _ (at : ℕ) (l : List ℕ) (k : ℕ) where
-  pub check-broken : levelField l ≡ broken → refuses (brokenAt at) ≡ checked at (entryPart k l)
+  pub check-broken : levelField l ≡ broken → refuses (brokenAt at) ≡ checked at k (entryPart k l)
   unfolding checked
-  check-broken e = ap (checked at) (sym (entry-broken l k e))
+  check-broken e = ap (checked at k) (sym (entry-broken l k e))
 
   module _ (z : ℤ) (rest : List ℕ) (more : Bool) (e : field z more rest ≡ levelField l) where
     going : more ≡ true → levelField l ≡ field z true rest
@@ -34,26 +35,27 @@ module _ (at : ℕ) (l : List ℕ) (k : ℕ) where
     ending : more ≡ false → levelField l ≡ field z false rest
     ending h = sym e ∙ ap (λ (b : Bool). field z b rest) h
 
-    pub check-long : k ≡ 0 → more ≡ true → refuses (brokenAt at) ≡ checked at (entryPart k l)
+    pub check-long : k ≡ 0 → more ≡ true → refuses (brokenAt at) ≡ checked at k (entryPart k l)
     unfolding checked
-    check-long n h = ap (checked at) (sym (entry-long l z rest (going h)) ∙ ap (λ (j : ℕ). entryPart j l) (sym n))
+    check-long n h = ap (checked at k) (sym (entry-long l z rest (going h)) ∙ ap (λ (j : ℕ). entryPart j l) (sym n))
 
-    pub check-last : k ≡ 0 → more ≡ false → ends rest ≡ checked at (entryPart k l)
-    unfolding checked
-    check-last n h = ap (checked at) (sym (entry-last l z rest (ending h)) ∙ ap (λ (j : ℕ). entryPart j l) (sym n))
+    pub check-last : k ≡ 0 → more ≡ false → ends z rest ≡ checked at k (entryPart k l)
+    unfolding checked lastLevel
+    check-last n h = ap (checked at 0) (sym (entry-last l z rest (ending h))) ∙ ap (λ (j : ℕ). checked at j (entryPart j l)) (sym n)
 
     module _ (n : k ≡ 0 → ⊥) where
       one : suc (k - 1) ≡ k
       one = omega (arith, n)
 
-      pub check-short : more ≡ false → refuses (brokenAt at) ≡ checked at (entryPart k l)
+      pub check-short : more ≡ false → refuses (brokenAt at) ≡ checked at k (entryPart k l)
       unfolding checked
-      check-short h = ap (checked at) (sym (entry-short l z rest (ending h) (k - 1)) ∙ ap (λ (j : ℕ). entryPart j l) one)
+      check-short h = ap (checked at k) (sym (entry-short l z rest (ending h) (k - 1)) ∙ ap (λ (j : ℕ). entryPart j l) one)
 
-      pub check-more : more ≡ true → checked at (entryPart (k - 1) rest) ≡ checked at (entryPart k l)
+      pub check-more : more ≡ true → checked at (k - 1) (entryPart (k - 1) rest) ≡ checked at k (entryPart k l)
       check-more h =
-          sym (with-checked at z (entryPart (k - 1) rest))
-          ∙ ap (checked at) (sym (entry-more l z rest (going h) (k - 1)) ∙ ap (λ (j : ℕ). entryPart j l) one)
+          sym (with-checked at (k - 1) z (entryPart (k - 1) rest))
+          ∙ ap (checked at (suc (k - 1))) (sym (entry-more l z rest (going h) (k - 1)))
+          ∙ ap (λ (j : ℕ). checked at j (entryPart j l)) one
 
 -- an entry that was read leaves fewer bytes, if there were any
 kept-left : {n : ℕ} (o : Option (List ℤ)) (rest : List ℕ) → length rest ≤ n - 1 → Behind n (kept o rest)
@@ -108,15 +110,16 @@ module _ (m : ℕ) (l : List ℕ) (h : 0 < length l) where
   entries-none e = let f = first-none m (recordOf l) e in (f .0, ap (map (entryIn m)) (records-unroll l h) ∙ f .1)
 
 -- what an entry that was checked says of the entries
-of-ends : (at : ℕ) (rest : List ℕ) (p : Part (List ℤ)) → ends rest ≡ checked at p → (zs : List ℤ) × (p ≡ part zs rest)
+pub of-ends : (at m : ℕ) (last : ℤ) (rest : List ℕ) (p : Part (List ℤ)) → ends last rest ≡ checked at m p
+    → (zs : List ℤ) × (p ≡ part zs rest) × (last ≡ lastLevel m zs)
 unfolding checked
-of-ends at rest (part zs r) e = let q : r ≡ rest = cc in (zs, ap (part zs) q)
-of-ends at rest faulty e = let z : _≡_ {A = ℕ} 0 1 = cc in absurd (omega arith)
+of-ends at m last rest (part zs r) e = let q : r ≡ rest = cc in (zs, ap (part zs) q, cc)
+of-ends at m last rest faulty e = let z : _≡_ {A = ℕ} 0 1 = cc in absurd (omega arith)
 
-of-refuses : (at k b : ℕ) (p : Part (List ℤ)) → refuses (refusalAt k b) ≡ checked at p → (p ≡ faulty) × ((k ≡ 2) × (b ≡ at))
+pub of-refuses : (at m k b : ℕ) (p : Part (List ℤ)) → refuses (refusalAt k b) ≡ checked at m p → (p ≡ faulty) × ((k ≡ 2) × (b ≡ at))
 unfolding checked
-of-refuses at k b (part zs r) e = let z : _≡_ {A = ℕ} 0 1 = cc in absurd (omega arith)
-of-refuses at k b faulty e =
+of-refuses at m k b (part zs r) e = let z : _≡_ {A = ℕ} 0 1 = cc in absurd (omega arith)
+of-refuses at m k b faulty e =
     let r : refusalAt k b ≡ brokenAt at = cc in
     (refl, (ap (λ (x : Refusal). x .refusal) r, ap (λ (x : Refusal). x .at) r))
 
@@ -124,20 +127,20 @@ module _ (t : List ℕ) (m from n : ℕ) (h : from < length t) where
   some-left : 0 < length (drop from t)
   some-left = omega (arith, length-drop from t)
 
-  pub next-entry : (next at : ℕ) → next ≤ length t → ends (drop next t) ≡ checked at (entryPart m (drop from t))
+  pub next-entry : (last : ℤ) (next at : ℕ) → next ≤ length t → ends last (drop next t) ≡ checked at m (entryPart m (drop from t))
       → (from < next) × (countedEntries (n + 1) (entriesAt m (drop next t)) ≡ countedEntries n (entriesAt m (drop from t)))
   unfolding countedEntries
-  next-entry next at w e =
-      let p = of-ends at (drop next t) (entryPart m (drop from t)) e in
+  next-entry last next at w e =
+      let p = of-ends at m last (drop next t) (entryPart m (drop from t)) e in
       let k = entry-shorter m (drop from t) some-left (p .0) (drop next t) (p .1) in (
         omega (arith, length-drop from t, length-drop next t),
         ap (λ (j : ℕ). countedEntries j (entriesAt m (drop next t))) (add-one n) ∙ ap (countedEntries n) (sym (entries-more m (drop from t) some-left (p .0) (drop next t) (p .1))),
       )
 
-  pub no-entry : (k b : ℕ) → refuses (refusalAt k b) ≡ checked (n + 2) (entryPart m (drop from t)) → N.Refused k b ≡ countedEntries n (entriesAt m (drop from t))
+  pub no-entry : (k b : ℕ) → refuses (refusalAt k b) ≡ checked (n + 2) m (entryPart m (drop from t)) → N.Refused k b ≡ countedEntries n (entriesAt m (drop from t))
   unfolding countedEntries
   no-entry k b e =
-      let p = of-refuses (n + 2) k b (entryPart m (drop from t)) e in
+      let p = of-refuses (n + 2) m k b (entryPart m (drop from t)) e in
       ap₂ N.Refused (p .1 .0) (p .1 .1) ∙ ap (countedEntries n) (sym (entries-none m (drop from t) some-left (p .0) .1))
 
 pub no-more : (t : List ℕ) (m from n : ℕ) → length t ≤ from → N.Count n ≡ countedEntries n (entriesAt m (drop from t))

@@ -13,7 +13,7 @@ use Rattle.points.proofs.gathering.Gathering.{holds-sizes}
 use Rattle.csv.specs.reading.Text.{firstFault, isOutside}
 use Rattle.csv.specs.reading.Points.{levelsAt}
 use Rattle.csv.proofs.reading.entries.EntriesRead.{ReadOn, begun, entry-there, read-on}
-use Rattle.csv.proofs.reading.entries.EntriesInside.{inside-on, outside-here, all-inside}
+use Rattle.csv.proofs.reading.entries.EntriesInside.{inside-on, outside-here, all-inside, range-said}
 use Rattle.csv.proofs.reading.gathering.SmallPlaces.{lt-le, next-le, one-less, fits-64}
 use Rattle.csv.proofs.reading.gathering.EntriesGathered.{Gathering, once-there, values-long}
 use Rattle.csv.proofs.reading.gathering.AllGathered.{first, outside-refused, keyed, Turned, none-turned, going, turned-full, full-turn, place-below, next-turn, all-gathered, places-within}
@@ -93,7 +93,7 @@ none-outside : (w : W) → firstFault (isOutside (start (turn (read w)) .args .p
 none-outside w =
     let f = read w in
     let l = turn f in
-    inside-on _ (entries l) (l .loop .inv .0) (taken f) (l .loop .inv .2) (f .fill-entry .ensures .0) (not-false _ (w .if1 .left))
+    inside-on _ (entries l) (l .loop .inv .0) (taken f) (l .loop .inv .2) (f .fill-entry .result .inside) (range-said (entries l) (l .loop .inv .0) (taken f) (f .fill-entry .ensures .0)) (not-false _ (w .if1 .left))
 
 -- what is gathered before it is entered
 gathering : (c : tie.Else2 Inv-loop μ-loop)
@@ -144,7 +144,7 @@ returns : tie.Need-returns Inv-loop μ-loop
 returns c =
     let f = looked (c .before .before) in
     let l = turn f in
-    outside-refused _ _ (entries l) (omega arith) (outside-here _ (entries l) (l .loop .inv .0) (taken f) (l .loop .inv .2) (f .fill-entry .ensures .0) (not-true _ (c .before .if1 .taken)))
+    outside-refused _ _ (entries l) (omega arith) (outside-here _ (entries l) (l .loop .inv .0) (taken f) (l .loop .inv .2) (f .fill-entry .result .inside) (range-said (entries l) (l .loop .inv .0) (taken f) (f .fill-entry .ensures .0)) (not-true _ (c .before .if1 .taken)))
     _ (c .refused-at .ensures) _ _ _
 
 -- Behind the 65th point.

@@ -33,17 +33,17 @@ K = tie.After-known-told2 Inv-loop μ-loop
 abbrev turn : K → L
 turn c = c .before .before .before .before .before
 
-within : (c : K) → c .before .next .given .0 .0 ≤ length (text (start (turn c)))
+within : (c : K) → c .before .next .given .0 .1 .1 .0 ≤ length (text (start (turn c)))
 within c = subst (EntryWithin (length (text (start (turn c))))) (c .before .next .given .1) (c .before .before .before .check-entry .ensures .within)
 
 -- an entry was passed
 passed : (c : K)
-    → (turn c .loop .from < c .before .next .given .0 .0)
-    × (countedEntries (turn c .loop .n + 1) (entriesAt (start (turn c) .args .variables) (drop (c .before .next .given .0 .0) (text (start (turn c)))))
+    → (turn c .loop .from < c .before .next .given .0 .1 .1 .0)
+    × (countedEntries (turn c .loop .n + 1) (entriesAt (start (turn c) .args .variables) (drop (c .before .next .given .0 .1 .1 .0) (text (start (turn c)))))
     ≡ countedEntries (turn c .loop .n) (entriesAt (start (turn c) .args .variables) (drop (turn c .loop .from) (text (start (turn c))))))
 unfolding entrySaid
 passed c =
-    next-entry (text (start (turn c))) (start (turn c) .args .variables) (turn c .loop .from) (turn c .loop .n) (c .before .before .before .before .loop-test .taken) (c .before .next .given .0 .0) (turn c .loop .n + 2)
+    next-entry (text (start (turn c))) (start (turn c) .args .variables) (turn c .loop .from) (turn c .loop .n) (c .before .before .before .before .loop-test .taken) _ (c .before .next .given .0 .1 .1 .0) (turn c .loop .n + 2)
     (within c) (ap (entrySaid (text (start (turn c)))) (sym (c .before .next .given .1)) ∙ c .before .before .before .check-entry .ensures .said)
 
 loop-holds : tie.Need-loop-holds Inv-loop μ-loop

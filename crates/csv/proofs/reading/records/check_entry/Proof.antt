@@ -15,7 +15,7 @@ use Rattle.csv.proofs.reading.records.check_entry.Tie as tie
 
 abbrev Inv-loop : tie.InvT-loop
 Inv-loop text at variables «record» from₀ left₀ from left =
-    (from ≤ length text) × (checked «record» (entryPart left (drop from text)) ≡ checked «record» (entryPart variables (drop at text)))
+    (from ≤ length text) × (checked «record» left (entryPart left (drop from text)) ≡ checked «record» variables (entryPart variables (drop at text)))
 
 abbrev μ-loop : tie.MeasureT-loop
 μ-loop text at variables «record» from₀ left₀ from left = left
@@ -38,13 +38,13 @@ turn c = c .before .before .before .before
 
 -- the level that was read, and where the text goes on
 said : (c : K)
-    → field (withSign (c .before .more .given .0 .0) (c .before .more .given .0 .1 .0)) (c .before .more .given .0 .1 .1 .0) (drop (c .before .more .given .0 .1 .1 .1 .0) (text (start (turn c))))
+    → field (withSign (c .before .negative .given .0 .0) (c .before .negative .given .0 .1 .0)) (c .before .negative .given .0 .1 .1 .0) (drop (c .before .negative .given .0 .1 .1 .1 .0) (text (start (turn c))))
     ≡ levelField (drop (turn c .loop .from) (text (start (turn c))))
 unfolding levelAtSaid
-said c = ap (levelAtSaid (text (start (turn c)))) (sym (c .before .more .given .1)) ∙ c .before .before .before .level-at .ensures .said
+said c = ap (levelAtSaid (text (start (turn c)))) (sym (c .before .negative .given .1)) ∙ c .before .before .before .level-at .ensures .said
 
-within : (c : K) → c .before .more .given .0 .1 .1 .1 .0 ≤ length (text (start (turn c)))
-within c = subst (LevelWithin (length (text (start (turn c))))) (c .before .more .given .1) (c .before .before .before .level-at .ensures .within)
+within : (c : K) → c .before .negative .given .0 .1 .1 .1 .0 ≤ length (text (start (turn c)))
+within c = subst (LevelWithin (length (text (start (turn c))))) (c .before .negative .given .1) (c .before .before .before .level-at .ensures .within)
 
 loop-holds : tie.Need-loop-holds Inv-loop μ-loop
 loop-holds c = (omega arith, refl)
@@ -52,8 +52,8 @@ loop-holds c = (omega arith, refl)
 level-at-requires : tie.Need-level-at-requires Inv-loop μ-loop
 level-at-requires c κs = c .loop .inv .0
 
-enum-known-more : tie.Need-enum-known-more Inv-loop μ-loop
-enum-known-more c = search needs
+enum-known-negative : tie.Need-enum-known-negative Inv-loop μ-loop
+enum-known-negative c = search needs
 
 enum-told : tie.Need-enum-told Inv-loop μ-loop
 enum-told c = search needs
@@ -115,7 +115,7 @@ check-entry-spec =
     μ-loop
     loop-holds
     level-at-requires
-    enum-known-more
+    enum-known-negative
     enum-told
     returns
     returns-2

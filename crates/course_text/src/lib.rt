@@ -1,0 +1,3 @@
+// The text of a time course: its records, and the call that runs a course forward.
+pub mod reading;
+pub mod running;

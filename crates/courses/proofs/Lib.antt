@@ -1,0 +1,3 @@
+-- The proofs of the crate courses.
+pub mod theory
+pub mod Examples

@@ -1,0 +1,2 @@
+-- Lemmas for the model of a time course.
+pub mod ModelLaws

@@ -1,0 +1,2 @@
+-- Lemmas for the run of the model.
+pub mod RunLaws

@@ -1,0 +1,2 @@
+-- Lemmas for the step of the model.
+pub mod StepLaws
