@@ -27,8 +27,8 @@ abbrev pub ReturnsAfter : ℕ → List (Option (List (List ℕ))) → ℕ → Ty
 ReturnsAfter m before c = ((r : Option (List (List ℕ))) × Among r before × HasNumber m r c)
     × ¬ ((b : List (Option (List (List ℕ)))) × (r : Option (List (List ℕ))) × (before ≡ b ++ (r ∷ [])) × HasNumber m r c)
 
--- 'Course numbers outside the range or returning after another count as faults of form': a record has the wrong form, by those before it, unless it has a course
--- number that does not return.
+-- 'Course numbers outside the range or returning after another count as faults of form': a record has the wrong form, by those before it,
+-- unless it has a course number that does not return.
 abbrev pub WrongCourse : ℕ → List (Option (List (List ℕ))) → Option (List (List ℕ)) → Type 0
 WrongCourse m before r = (c : ℕ) → HasNumber m r c → ReturnsAfter m before c
 

@@ -1,5 +1,5 @@
--- What is decided of records, and what is written of them, as the code does it. No public promise names these: they serve the contracts of the functions that run
--- a course.
+-- What is decided of records, and what is written of them, as the code does it. No public promise names these: they serve the contracts of
+-- the functions that run a course.
 use mathlib.Core.Path.{_≡_}
 use mathlib.Core.Bool.{Bool}
 use mathlib.Core.List.{List, [], _∷_, _++_}
@@ -24,7 +24,8 @@ use Rattle.course_text.specs.Outcome.{CourseOutcome, timedBy, recordsCas
 use Rattle.course_text.specs.declared.running.Course.{Course}
 use Rattle.course_text.specs.declared.running.Decided.{Decided}
 
--- `decide`: the refusal of the records with its own record; or 0, the points with their counts and a record for each, and the place of the course's first record
+-- `decide`: the refusal of the records with its own record; or 0, the points with their counts and a record for each, and the place of the
+-- course's first record
 pub record DecidedAs (c : ℕ) (l : List Timed) (records : List ℕ) (d : Decided) (points counts firsts : List ℕ) : Type 0 where
   pub answer : (d .refusal, d .at) ≡ courseRefusal c l
   pub tabled : d .refusal ≡ 0 → TabledAs (pointsOfMoves (movesOf l)) (d .n) points counts

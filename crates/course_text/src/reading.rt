@@ -121,8 +121,8 @@ fn read_record(text: &[u8], at: usize, p: u8, variables: usize, row: &mut [u8]) 
     }
 }
 
-// The states and the course numbers of the records from `at` on, so many, into two tables of zeros; 0, or the place, from 1, of the first record that has a level
-// out of range.
+// The states and the course numbers of the records from `at` on, so many, into two tables of zeros; 0, or the place, from 1, of the first
+// record that has a level out of range.
 pub fn read_records(
     text: &[u8],
     at: usize,
