@@ -1,5 +1,7 @@
 // Holds drawing up, adding, interpolants, wiring lists and remainders to stored cases (tools/basis_cases.py): what Singular and Macaulay2 computed for lists of
 // points, and lists that are refused. The cases are those of standard input, or where it has none those of the file `cases`.
+#![tactic(auto)]
+
 mod answered;
 mod buffers;
 mod counts;

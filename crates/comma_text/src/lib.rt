@@ -1,2 +1,4 @@
 // Comma-separated text: the reader.
+#![tactic(auto)]
+
 pub mod reading;

@@ -1,5 +1,7 @@
 // Runs every stored text through the text reader, and holds the answer and the lent buffers to what is stored with it (tools/text_cases.py). The texts are
 // those of standard input, or where none of them passes those of the file `texts`.
+#![tactic(auto)]
+
 use comma_text::reading;
 use comma_text::reading::Read;
 use libc::{STDIN_FILENO, STDOUT_FILENO};

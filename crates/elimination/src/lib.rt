@@ -1,3 +1,5 @@
 // Elimination over working rows of residues.
+#![tactic(auto)]
+
 pub mod reducing;
 pub mod rows;

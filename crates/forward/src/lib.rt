@@ -1,2 +1,4 @@
 // The call that runs a time course forward.
+#![tactic(auto)]
+
 pub mod running;

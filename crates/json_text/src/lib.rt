@@ -1,4 +1,6 @@
 // Lists of small numbers as canonical JSON (RFC 8785), written and read.
+#![tactic(auto)]
+
 mod document_parts;
 pub mod document_text;
 pub mod documents;

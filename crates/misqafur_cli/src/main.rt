@@ -1,5 +1,7 @@
 // Reads a text from standard input and prints its refusal, or its basis, interpolant and wiring list. One byte more than the longest text is read, so that a
 // longer one is told. Where reading fails, nothing is printed.
+#![tactic(auto)]
+
 mod input;
 mod output;
 mod retry;
