@@ -140,6 +140,7 @@ pub bits_among : (k w b : ℕ) → Among b (bits_of k w) → b < 2
 unfolding bits_of
 bits_among (suc k) w b (inl e) = rw e (small w)
 bits_among (suc k) w b (inr mem) = bits_among k (w / 2) b mem
+bits_among zero w b x' = elim x' [ ]
 
 -- a word of k bits has the bit 0 behind them
 pub bits_longer : (k w : ℕ) → w < 2 ^ k → bits_of (suc k) w ≡ bits_of k w ++ (0 ∷ [])
@@ -151,6 +152,7 @@ bits_longer (suc k) w h = ap (λ (r : List ℕ). w % 2 ∷ r) (bits_longer k (w 
 pub word_zero : (l : List ℕ) → word_of l ≡ 0 → (b : ℕ) → Among b l → b % 2 ≡ 0
 word_zero (c ∷ l) e b (inl z) = rw z (sym (word_odd c l) ∙ ap (λ (n : ℕ). n % 2) e)
 word_zero (c ∷ l) e b (inr mem) = word_zero l (sym (word_half c l) ∙ ap (λ (n : ℕ). n / 2) e) b mem
+word_zero [] e b x'' = elim x'' [ ]
 
 pub zero_word : (l : List ℕ) → ((b : ℕ) → Among b l → b % 2 ≡ 0) → word_of l ≡ 0
 unfolding word_of

@@ -11,6 +11,7 @@ module _ {A : Type 0} (f : A → Bool) where
   pub each_of : (l : List A) → T (every f l) → (a : A) → Among a l → T (f a)
   each_of (b ∷ l) t a (inl e) = subst (λ (z : A). T (f z)) (sym e) (and_left (f b) (every f l) t)
   each_of (b ∷ l) t a (inr q) = each_of l (and_right (f b) (every f l) t) a q
+  each_of [] t a x'' = elim x'' [ ]
 
   pub of_each : (l : List A) → ((a : A) → Among a l → T (f a)) → T (every f l)
   of_each [] h = tt
@@ -22,14 +23,17 @@ module _ {A : Type 0} (f : A → Bool) where
       go : (c : Bool) → f b ≡ c → T (c || some f l) → (T (some f l) → (a : A) × (Among a l × T (f a))) → (a : A) × (Among a (b ∷ l) × T (f a))
       go true e t k = (b, (inl refl, subst T (sym e) tt))
       go false e t k = let w = k t in (w.0, (inr w.1.0, w.1.1))
+  one_of [] t = elim t [ ]
 
   pub of_one : (l : List A) (a : A) → Among a l → T (f a) → T (some f l)
   of_one (b ∷ l) a (inl e) t = first (f b) (subst (λ (z : A). T (f z)) e t)
     where
       first : (c : Bool) → T c → T (c || some f l)
       first true h = tt
+      first false h = elim h [ ]
   of_one (b ∷ l) a (inr q) t = later (f b) (of_one l a q t)
     where
       later : (c : Bool) → T (some f l) → T (c || some f l)
       later true h = tt
       later false h = h
+  of_one [] a x'' t = elim x'' [ ]

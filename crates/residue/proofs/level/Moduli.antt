@@ -37,6 +37,7 @@ each f (q ∷ qs) = f q && each f qs
 pub each_at : (f : ℕ → Bool) (qs : List ℕ) → T (each f qs) → (p : ℕ) → Among p qs → T (f p)
 each_at f (q ∷ qs) t p (inl e) = subst (λ (m : ℕ). T (f m)) (sym e) (and_left (f q) (each f qs) t)
 each_at f (q ∷ qs) t p (inr m) = each_at f qs (and_right (f q) (each f qs) t) p m
+each_at f [] t p x'' = elim x'' [ ]
 
 pub among : (qs : List ℕ) (p : ℕ) → is_one_of qs p ≡ true → Among p qs
 unfolding is_one_of
@@ -51,6 +52,7 @@ among (q ∷ qs) p h = pick (eqb p q) refl (among qs p)
 pub place : (qs : List ℕ) (p : ℕ) → Among p qs → (i : ℕ) × ((i < length qs) × (get_or qs i 0 ≡ p))
 place (q ∷ qs) p (inl e) = (0, (omega arith, sym e))
 place (q ∷ qs) p (inr m) = let w = place qs p m in (suc w.0, (omega arith, w.1.1))
+place [] p x' = elim x' [ ]
 
 -- a fact of each modulus
 pub of_modulus : (f : ℕ → Bool) → T (each f primes) → (p : ℕ) → is_modulus p ≡ true → T (f p)
