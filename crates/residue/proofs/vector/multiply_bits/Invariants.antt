@@ -1,0 +1,15 @@
+-- `vector::multiply_bits` meets its contract. The loop has written the entries before i, each as the definition has it.
+use mathlib.Core.Path.{◌≡◌, ap, ◌∙◌}
+use mathlib.Core.List.{List}
+use Prim.Native.Nat.{ℕ, ◌*◌, ◌-◌, ◌%◌, ◌<◌, ◌≤◌}
+use native.Mathlib.Omega.{arith}
+use lib.ListN.{length, get_or}
+use Rattle.residue.proofs.vector.Filled.{filled, filled_none, kept_length, own, filled_more, filled_all}
+use Rattle.residue.proofs.vector.Vectors.{pointwise_length, pointwise_at}
+use Rattle.residue.proofs.vector.multiply_bits.Given as goal
+
+abbrev pub entry : ℕ → List ℕ → List ℕ → ℕ → ℕ
+entry p dst src i = (get_or dst i 0 * get_or src i 0) % p
+
+abbrev pub invariant-loop-i : goal.invariant-loop-i
+invariant-loop-i l = (l.i ≤ length l.initial.dst) × (l.dst ≡ filled (entry l.p l.initial.dst l.src) l.i l.initial.dst)
