@@ -195,12 +195,12 @@ module _ (q n found : ℕ) (v : ℕ → ℕ → ℕ) (rows pivots : List ℕ) (P
             let a = P.pivot t k in
             apart (get_or pivots t 0)
             then less (d found) (combination v found coefficients (get_or pivots t 0)) (combination v found d (get_or pivots t 0)) (z t k) (W.values (get_or pivots t 0) a) (own (get_or pivots t 0) a)
-            (rw (old_pivot t k) at (h t (omega arith))))
+            (subst (λ (i : ℕ). Mod (suc q) (combination v (suc found) d i) 0) (old_pivot t k) (h t (omega arith))))
 
         last : Mod (suc q) (d found) 0
         last =
             nothing (d found) (combination v found coefficients at) (combination v found d at) c inverse (W.values at inside) (own at inside)
-            (rw new_pivot at (h found (omega arith)))
+            (subst (λ (i : ℕ). Mod (suc q) (combination v (suc found) d i) 0) new_pivot (h found (omega arith)))
             (flip (apart at) then combination_zero v {c = reduced} found others at)
 
     pub next_pivot : PivotRows q n (suc found) v rows' pivots'

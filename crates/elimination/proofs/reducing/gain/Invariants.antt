@@ -1,0 +1,19 @@
+-- `reducing::gain` meets its contract. The loop has written the entries before i, each as the definition has it.
+use mathlib.Core.Path.{◌≡◌, ap, ◌∙◌}
+use mathlib.Core.List.{List}
+use Prim.Native.Nat.{ℕ, ◌+◌, ◌-◌, ◌%◌, ◌≤◌}
+use native.Mathlib.Omega.{arith}
+use lib.ListN.{length, get_or}
+use Rattle.residue.proofs.vector.Filled.{filled, filled_none, kept_length, own, filled_more, filled_part}
+use Rattle.residue.proofs.vector.Vectors.{add_scaled_length}
+use Rattle.elimination.proofs.reducing.Multiples.{added_at, added_none}
+use Rattle.elimination.proofs.reducing.gain.Given as goal
+
+abbrev pub entry : ℕ → List ℕ → List ℕ → ℕ → ℕ
+entry p dst row i = (get_or dst i 0 + get_or row i 0) % p
+
+abbrev pub invariant-loop-i : goal.invariant-loop-i
+invariant-loop-i l = (l.i ≤ l.width) × (l.dst ≡ filled (entry l.p l.initial.dst l.row) l.i l.initial.dst)
+
+abbrev pub decreases-loop-i : goal.decreases-loop-i
+decreases-loop-i l = l.width - l.i

@@ -1,0 +1,34 @@
+-- `rows::put_multiples` meets its contract. The first k multiples are in the block, the next is at hand, and the first of the three that it is one of.
+use mathlib.Core.Path.{◌≡◌, refl, sym, ap, ap₂, subst, ◌∙◌}
+use mathlib.Core.Logic.{⊎_elim}
+use mathlib.Core.List.{List, ◌++◌}
+use Prim.Native.Nat.{ℕ, ◌+◌, ◌*◌, ◌-◌, ◌%◌, ◌<◌, ◌≤◌}
+use native.Mathlib.Decide.{dec_lt}
+use native.Mathlib.Nat.{not-suc-le-zero}
+use native.Mathlib.Omega.{arith}
+use lib.ListN.{length, get_or, take, drop}
+use Rattle.residue.specs.Vector.{Below, add_scaled, scaled}
+use Rattle.elimination.specs.Elimination.{factors}
+use Rattle.residue.proofs.vector.Vectors.{scaled_length, scaled_below, scaled_one}
+use Rattle.residue.proofs.Layouts.{over_all}
+use Rattle.residue.proofs.Replaced.{replaced_length, replaced_before, replaced_here, part_long}
+use Rattle.elimination.proofs.reducing.Multiples.{next_factor, scaled_sum, block_is}
+use Rattle.elimination.proofs.rows.put_multiples.Given as goal
+
+abbrev pub multiple : ℕ → List ℕ → ℕ → List ℕ
+multiple p row k = scaled p (get_or factors k 0) row
+
+pub record Filling (p : ℕ) (row block first last : List ℕ) (k : ℕ) : Type 0 where
+  pub most : k ≤ 9
+  pub size : length block ≡ 1152
+  pub first_long : length first ≡ 128
+  pub last_long : length last ≡ 128
+  pub last_is : k < 9 → last ≡ multiple p row k
+  pub first_is : (k % 3 ≡ 0 → ⊥) → first ≡ multiple p row (k - k % 3)
+  pub put : (j i : ℕ) → j < k → i < 128 → get_or block (128 * j + i) 0 ≡ get_or (multiple p row j) i 0
+
+abbrev pub invariant-loop-k : goal.invariant-loop-k
+invariant-loop-k l = Filling l.p l.row l.block l.first l.last l.k
+
+abbrev pub decreases-loop-k : goal.decreases-loop-k
+decreases-loop-k l = 9 - l.k
