@@ -12,6 +12,7 @@ module _ {A : Type 0} (c : A → A → Ordering) where
   pub below_member : (x : A) (l : List A) → Precedes c x l → (z : A) → Among z l → c x z ≡ Ordering.lt
   below_member x (y ∷ ys) u z (inl e) = rw e u.0
   below_member x (y ∷ ys) u z (inr m) = below_member x ys u.1 z m
+  below_member x [] u z x3 = elim x3 [ ]
 
   pub member_below : (x : A) (l : List A) → ((z : A) → Among z l → c x z ≡ Ordering.lt) → Precedes c x l
   member_below x [] h = tt

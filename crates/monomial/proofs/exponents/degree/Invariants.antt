@@ -1,0 +1,15 @@
+-- `exponents::degree` meets its contract: what is summed and the degree of what is left make the degree.
+use mathlib.Core.Path.{◌≡◌, ap}
+use Prim.Native.Nat.{◌+◌, ◌*◌, ◌-◌, ◌≤◌}
+use native.Mathlib.Omega.{arith}
+use lib.ListN.{drop, drop_of_length-le}
+use Rattle.monomial.specs.Monomial.{degree}
+use Rattle.monomial.proofs.Loops.{degree_turn}
+use borrow.Author.Rules.{rules}
+use Rattle.monomial.proofs.exponents.degree.Given as goal
+
+abbrev pub invariant-loop-i : goal.invariant-loop-i
+invariant-loop-i l = (l.i ≤ 8) × (l.sum ≤ 255 * l.i) × (l.sum + degree (drop l.i l.a) ≡ degree l.a)
+
+abbrev pub decreases-loop-i : goal.decreases-loop-i
+decreases-loop-i l = 8 - l.i
