@@ -92,6 +92,7 @@ under_each : (p m : ℕ) (orders : List ℕ) (S standard leads rows : List (List
 unfolding each_tested
 under_each p m (o ∷ orders) S standard leads rows t order (inl e) = rw e (of_test (settings_of p m o) S standard leads rows (and_left (tested (settings_of p m o) S standard leads rows) _ t))
 under_each p m (o ∷ orders) S standard leads rows t order (inr q) = under_each p m orders S standard leads rows (and_right (tested (settings_of p m o) S standard leads rows) _ t) order q
+under_each p m [] S standard leads rows t order x'' = elim x'' [ ]
 
 -- zeros are fresh tables
 blank : (k : ℕ) → T (begins (fill k []) (replicate k 0))
@@ -181,6 +182,7 @@ all = (under_each 5 2 (1 ∷ []) A _ _ _ tt, (under_each 5 2 (0 ∷ []) A _ _ _ 
 pub each_of : (l : List Example) → All l → (e : Example) → Among e l → Holds e
 each_of (a ∷ l) h e (inl q) = subst Holds (sym q) h.0
 each_of (a ∷ l) h e (inr q) = each_of l h.1 e q
+each_of [] h e x'' = elim x'' [ ]
 
 pub every_example : (e : Example) → Among e examples → Holds e
 every_example = each_of examples all

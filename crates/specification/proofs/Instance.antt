@@ -42,8 +42,8 @@ residues_prop : (p : ℕ) (l : List ℕ) → IsProp (Residues p l)
 residues_prop p [] = Unit-prop
 residues_prop p (c ∷ l) = ×_prop (T_prop (ltb c p)) (residues_prop p l)
 
-pub point_path : {p m : ℕ} {P Q : Point p m} → P.0 ≡ Q.0 → P ≡ Q
-point_path {p} {m} e = Σ_prop_path (λ (l : List ℕ). ×_prop (ℕ_set (length l) m) (residues_prop p l)) e
+pub point_path : (p : ℕ) {m : ℕ} {P Q : Point p m} → P.0 ≡ Q.0 → P ≡ Q
+point_path p {m} e = Σ_prop_path (λ (l : List ℕ). ×_prop (ℕ_set (length l) m) (residues_prop p l)) e
 
 -- two lists of residues that differ, differ at an index
 differ_at : (p : ℕ) (a b : List ℕ) → length a ≡ length b → Residues p a → Residues p b → a ≢ b → (k : ℕ) × (k < length a) × ¬ Mod p (get_or a k 0) (get_or b k 0)
@@ -80,8 +80,8 @@ module _ (q m : ℕ) (order : Order) where
     step = λ {a} {b} h ne. multiple a b (step a.0 b.0 (a.1 ∙ sym b.1) h (λ e. ne (monomial_path e)));
     between = λ {k} {a} {b} hk h g. elim (gap k a.0 b.0 (a.1 ∙ sym b.1) h g) [ inl e ↦ inl (monomial_path e) | inr e ↦ inr (monomial_path e) ];
     point_self = λ P. is_true (same_list P.0 P.0) (same_self P.0);
-    point_eq = λ {P} {Q} e. point_path (same_is P.0 Q.0 (subst T (sym e) tt));
-    differ = λ P Q ne. away P Q (differ_at (suc q) P.0 Q.0 (P.1.0 ∙ sym Q.1.0) P.1.1 Q.1.1 (λ e. ne (point_path e)));
+    point_eq = λ {P} {Q} e. point_path (suc q) (same_is P.0 Q.0 (subst T (sym e) tt));
+    differ = λ P Q ne. away P Q (differ_at (suc q) P.0 Q.0 (P.1.0 ∙ sym Q.1.0) P.1.1 Q.1.1 (λ e. ne (point_path (suc q) e)));
   }
     where
       away : (P Q : Point (suc q) m) → (k : ℕ) × (k < length P.0) × ¬ Mod (suc q) (get_or P.0 k 0) (get_or Q.0 k 0) → (k : ℕ) × (k < m) × ¬ Mod (suc q) (get_or P.0 k 0) (get_or Q.0 k 0)
@@ -114,4 +114,4 @@ unfolding point_of
 coordinates_of q m l e r = ap (reduced q) (fill_exact m l e) ∙ residues_reduced q l r
 
 pub point_of_lem : (q m : ℕ) (P : Point (suc q) m) → point_of q m P.0 ≡ P
-point_of_lem q m P = point_path (coordinates_of q m P.0 P.1.0 P.1.1)
+point_of_lem q m P = point_path (suc q) (coordinates_of q m P.0 P.1.0 P.1.1)

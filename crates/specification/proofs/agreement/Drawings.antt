@@ -84,6 +84,8 @@ module _ (s : Settings) (ok : Accepted s) where
       cond_so (point_told (space_under s) laws_under (pt P) (pt Q)) (ap (λ (a : List ℕ × ℤ). pt a.0) e) _ _ ∙ sym (ap (λ (a : List ℕ × ℤ). residue_or0 (residue_of s.modulus a.1)) e)
   value_told (Q ∷ K) d (x ∷ v) P y (inr q) =
       cond_not (point_told (space_under s) laws_under (pt P) (pt Q)) (λ e. d.0 (pt P) (among_under K P (point_of_lem K v P y q)) (sym e)) _ _ ∙ value_told K d.1 v P y q
+  value_told [] d v P y x'' = elim x'' [ ]
+  value_told (Q ∷ K) d [] P y x4 = elim x4 [ ]
 
   -- as many standard monomials as points
   pub standard_count : (K : List (List ℕ)) → Distinct (space_under s) (points_under s K) → length (standard_under s K) ≡ length K
@@ -98,6 +100,7 @@ module _ (s : Settings) (ok : Accepted s) where
     where
       bound : (r n m : ℕ) → 1 ≤ m → r + n ≤ 1 + n * m → r ≤ 1 + n * (m - 1)
       bound r n (suc m) a c = let d : suc m - 1 ≡ m = omega arith in rw d (omega (arith, mul-suc n m))
+      bound r n Prim.Native.Nat.zero a c = elim a [ ]
 
   pub few_rows : (K : List (List ℕ)) → Points s K → row_count s K ≤ 449
   few_rows K h = bound (row_count s K) (length K) s.variables h.few ok.few (most_rows_lem K h)

@@ -21,34 +21,45 @@ pub point_of_lem : {A : Type 0} (K : List (List ℕ)) (v : List A) (P : List ℕ
 unfolding zip zip_with
 point_of_lem {A} (Q ∷ K) (x ∷ v) P y (inl e) = inl (ap (λ (a : List ℕ × A). a.0) e)
 point_of_lem (Q ∷ K) (x ∷ v) P y (inr q) = inr (point_of_lem K v P y q)
+point_of_lem {A = A} [] v P y x' = elim x' [ ]
+point_of_lem {A = A} (Q ∷ K) [] P y x3 = elim x3 [ ]
 
 pub value_of : {A : Type 0} (K : List (List ℕ)) (v : List A) (P : List ℕ) (y : A) → Among (P, y) (zip K v) → Among y v
 unfolding zip zip_with
 value_of {A} (Q ∷ K) (x ∷ v) P y (inl e) = inl (ap (λ (a : List ℕ × A). a.1) e)
 value_of (Q ∷ K) (x ∷ v) P y (inr q) = inr (value_of K v P y q)
+value_of {A = A} [] v P y x' = elim x' [ ]
+value_of {A = A} (Q ∷ K) [] P y x3 = elim x3 [ ]
 
 pub value_there : {A : Type 0} (K : List (List ℕ)) (v : List A) → length v ≡ length K → (P : List ℕ) → Among P K → (y : A) × Among (P, y) (zip K v)
 unfolding zip zip_with
 value_there (Q ∷ K) [] e P q = absurd (omega arith)
 value_there (Q ∷ K) (x ∷ v) e P (inl f) = (x, inl (ap (λ (R : List ℕ). (R, x)) f))
 value_there (Q ∷ K) (x ∷ v) e P (inr q) = let t = value_there K v (suc_inj e) P q in (t.0, inr t.1)
+value_there {A = A} [] v e P q = elim q [ ]
 
 -- a residue is that of a level
 pub level_there : (p : ℕ) (K : List (List ℕ)) (v : List ℤ) (P : List ℕ) (x : ℕ) → Among (P, x) (zip K (residues p v)) → (y : ℤ) × Among (P, y) (zip K v) × (x ≡ residue_or0 (residue_of p y))
 unfolding zip zip_with residues
 level_there p (Q ∷ K) (y ∷ v) P x (inl e) = (y, inl (ap (λ (a : List ℕ × ℕ). (a.0, y)) e), ap (λ (a : List ℕ × ℕ). a.1) e)
 level_there p (Q ∷ K) (y ∷ v) P x (inr q) = let t = level_there p K v P x q in (t.0, inr t.1, t.2)
+level_there p [] v P x x3 = elim x3 [ ]
+level_there p (Q ∷ K) [] P x x6 = elim x6 [ ]
 
 pub residue_there : (p : ℕ) (K : List (List ℕ)) (v : List ℤ) (P : List ℕ) (y : ℤ) → Among (P, y) (zip K v) → Among (P, residue_or0 (residue_of p y)) (zip K (residues p v))
 unfolding zip zip_with residues
 residue_there p (Q ∷ K) (x ∷ v) P y (inl e) = inl (ap (λ (a : List ℕ × ℤ). (a.0, residue_or0 (residue_of p a.1))) e)
 residue_there p (Q ∷ K) (x ∷ v) P y (inr q) = inr (residue_there p K v P y q)
+residue_there p [] v P y x' = elim x' [ ]
+residue_there p (Q ∷ K) [] P y x3 = elim x3 [ ]
 
 -- they are in range where each point's value is
 range_of : (p : ℕ) (K : List (List ℕ)) (v : List ℤ) → T (in_range p v) → (P : List ℕ) (y : ℤ) → Among (P, y) (zip K v) → T (is_residue (residue_of p y))
 unfolding in_range zip zip_with
 range_of p (Q ∷ K) (x ∷ v) t P y (inl e) = rw (ap (λ (a : List ℕ × ℤ). a.1) e) (and_left (is_residue (residue_of p x)) (in_range p v) t)
 range_of p (Q ∷ K) (x ∷ v) t P y (inr q) = range_of p K v (and_right (is_residue (residue_of p x)) (in_range p v) t) P y q
+range_of p [] v t P y x'' = elim x'' [ ]
+range_of p (Q ∷ K) [] t P y x5 = elim x5 [ ]
 
 of_range : (p : ℕ) (K : List (List ℕ)) (v : List ℤ) → length v ≡ length K → ((P : List ℕ) (y : ℤ) → Among (P, y) (zip K v) → T (is_residue (residue_of p y))) → T (in_range p v)
 unfolding in_range zip zip_with

@@ -101,15 +101,15 @@ module _ (D : Space) (L : Laws D) (S : List D.Pt) (d : Distinct D S) where
       go (eq e) = e
       go (gt u) = absurd (h.least b k.after k.undivided u)
 
-  examines_one : (c : Mono) (f g e : Found D) → Examines D S g c f → Examines D S e c f → g ≡ e
-  examines_one c f g e (done h p) (done k r) = sym p ∙ r
-  examines_one c f g e (done h p) (more b k r) = absurd (h b k.after k.undivided)
-  examines_one c f g e (more b h p) (done k r) = absurd (k b h.after h.undivided)
-  examines_one c f g e (more b h p) (more a k r) =
-      examines_one b (examined D S b f) g e p (subst (λ (z : Mono). Examines D S e z (examined D S z f)) (follows_one f.leads c a b k h) r)
+  examines_one : (g e : Found D) (c : Mono) (f : Found D) → Examines D S g c f → Examines D S e c f → g ≡ e
+  examines_one g e c f (done h p) (done k r) = sym p ∙ r
+  examines_one g e c f (done h p) (more b k r) = absurd (h b k.after k.undivided)
+  examines_one g e c f (more b h p) (done k r) = absurd (k b h.after h.undivided)
+  examines_one g e c f (more b h p) (more a k r) =
+      examines_one g e b (examined D S b f) p (subst (λ (z : Mono). Examines D S e z (examined D S z f)) (follows_one f.leads c a b k h) r)
 
   pub examination_only : (g : Found D) → Examination D S g → g ≡ examined_all D S
-  examination_only g h = examines_one one (examined D S one (found D [] [] [] 0)) g (examined_all D S) h examination
+  examination_only g h = examines_one g (examined_all D S) one (examined D S one (found D [] [] [] 0)) h examination
 
   pub cancellations_only : (g : Found D) → Examination D S g → g.cancellations ≡ cancellations_of D S
   cancellations_only g h = ap (λ (f : Found D). f.cancellations) (examination_only g h)

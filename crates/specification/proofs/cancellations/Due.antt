@@ -29,10 +29,12 @@ module _ (D : Space) where
   map_in : {A B : Type 0} (f : A → B) (l : List A) (a : A) → Among a l → Among (f a) (map f l)
   map_in f (b ∷ l) a (inl e) = inl (rw e)
   map_in f (b ∷ l) a (inr mem) = inr (map_in f l a mem)
+  map_in {A = A} {B = B} f [] a x'' = elim x'' [ ]
 
   in_left : {A : Type 0} (l r : List A) (a : A) → Among a l → Among a (l ++ r)
   in_left (b ∷ l) r a (inl e) = inl e
   in_left (b ∷ l) r a (inr mem) = inr (in_left l r a mem)
+  in_left {A = A} [] r a x'' = elim x'' [ ]
 
   in_right : {A : Type 0} (l r : List A) (a : A) → Among a r → Among a (l ++ r)
   in_right [] r a mem = mem

@@ -40,6 +40,7 @@ module _ (D : Space) where
   left_zero (σ ∷ r) φ t τ (inl e) =
       rw e (left_keeps r (lost q σ φ) σ.point t.1.0 (lin (scale q (scale (φ σ.point) t.0)) 0 (φ σ.point) (omega arith)))
   left_zero (σ ∷ r) φ t τ (inr mem) = left_zero r (lost q σ φ) t.1.1 τ mem
+  left_zero [] φ t τ x'' = elim x'' [ ]
 
   pub triangular_snoc : (r : List (Sense Pt)) (σ : Sense Pt) → Triangular r → σ.value σ.point ≈ 1 → ((τ : Sense Pt) → Among τ r → σ.value τ.point ≈ 0)
       → Triangular (r ++ (σ ∷ []))

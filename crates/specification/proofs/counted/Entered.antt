@@ -165,6 +165,7 @@ module _ (P : List ℕ) where
     where
       go : (b : Bool) → T b → cond {A = Counted} b (cond (eqb (1 - 1) 0) [] ((P, 1 - 1) ∷ [])) ((P, 1) ∷ []) ≡ []
       go true t = refl
+      go false t = elim t [ ]
   lowered_entered (q ∷ L) h = go (same_list P q.0) refl (lowered_entered L (and_right (leb 1 q.1) (every (leb 1) (counts_of L)) h))
     where
       some_at : eqb q.1 0 ≡ false

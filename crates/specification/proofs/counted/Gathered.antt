@@ -155,6 +155,7 @@ module _ (P : List ℕ) where
       go true e m f = leb-true 1 q.1 (true_of _ (and_left (leb 1 q.1) (every (leb 1) (counts_of L)) h))
       go false e (inl z) f = absurd (subst T e (rw z (same_self q.0)))
       go false e (inr z) f = f z
+  count_some [] h m = elim m [ ]
 
   pub some_count : (L : Counted) → 1 ≤ count_of P L → Among P (points_of L)
   unfolding count_of

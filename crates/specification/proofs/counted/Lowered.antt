@@ -27,6 +27,7 @@ module _ (P : List ℕ) where
       go true false m f = m
       go false c (inl e) f = inl e
       go false c (inr z) f = inr (f z)
+  left_of [] Q m = elim m [ ]
 
   left_once : (L : Counted) → T (no_repeat (points_of L)) → T (no_repeat (points_of (lowered P L)))
   unfolding lowered

@@ -56,6 +56,7 @@ module _ (D : Space) (L : Laws D) where
       go (eq u) z f = inr z
       go (gt u) (inl e) f = inr (inl e)
       go (gt u) (inr z) f = elim (f z) [ inl w ↦ inl w | inr w ↦ inr (inr w) ]
+  slot_members α k [] cs c (inr x'') = elim x'' [ ]
 
 module _ (D : Space) where
   open D use {q, Mono}

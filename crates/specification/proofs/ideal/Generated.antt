@@ -64,6 +64,7 @@ module _ (D : Space) where
       alone : (a : Mono) → coefficient D (multiple D c vs g) a ≡ coefficient D (combination D (((c, vs) ∷ []) ∷ []) (g ∷ fs)) a
       alone a = omega (arith, pair_append (multiple D c vs g ++ []) [] (hit D a), pair_append (multiple D c vs g) [] (hit D a))
   generated_multiple c vs (g ∷ fs) f (inr mem) = let t = generated_multiple c vs fs f mem in ([] ∷ t.0, t.1)
+  generated_multiple c vs [] f x' = elim x' [ ]
 
   pub generated_same : (fs : List (Polynomial D)) (f g : Polynomial D) → ((a : Mono) → coefficient D g a ≈ coefficient D f a) → Generated D fs f → Generated D fs g
   generated_same fs f g e (hs, u) = (hs, λ a. e a then u a)

@@ -24,6 +24,7 @@ use Rattle.specification.proofs.ideal.Basis.{basis_is, remainder_fits}
 among_zeros : (k c : ℕ) → Among c (replicate k 0) → c ≡ 0
 among_zeros (suc k) c (inl e) = e
 among_zeros (suc k) c (inr mem) = among_zeros k c mem
+among_zeros Prim.Native.Nat.zero c x' = elim x' [ ]
 
 module _ (D : Space) (L : Laws D) (S : List D.Pt) (standard leads : List D.Mono) (rows : List (List ℕ)) (b : IsBasis D S standard leads rows) where
   open D use {q, Mono, Pt, val}

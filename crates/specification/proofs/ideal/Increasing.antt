@@ -59,6 +59,7 @@ module _ (D : Space) (L : Laws D) where
       go (so h) (inr u) f = f u
       go (not_so h) (inl e) f = inl e
       go (not_so h) (inr u) f = inr (f u)
+  without_in a [] b mem ne = elim mem [ ]
 
   pub without_of : (a : Mono) (l : List Mono) (b : Mono) → Among b (without D a l) → Among b l × (a ≢ b)
   unfolding without
@@ -68,6 +69,7 @@ module _ (D : Space) (L : Laws D) where
       go (so h) u f = (inr (f u).0, (f u).1)
       go (not_so h) (inl e) f = (inl e, λ v. h (v ∙ e))
       go (not_so h) (inr u) f = (inr (f u).0, (f u).1)
+  without_of a [] b mem = elim mem [ ]
 
   pub without_increasing : (a : Mono) (l : List Mono) → Increasing cmp l → Increasing cmp (without D a l)
   unfolding without
@@ -95,6 +97,7 @@ module _ (D : Space) (L : Laws D) where
       go (so h) u f = omega (arith, without_length_le a l)
       go (not_so h) (inl e) f = absurd (h e)
       go (not_so h) (inr u) f = omega (arith, f u)
+  without_length a [] mem = elim mem [ ]
 
   pub divided_told : (l : List Mono) (a : Mono) → Decides ((b : Mono) × Among b l × Divides D b a) (divided D l a)
   unfolding divided

@@ -17,19 +17,23 @@ get_d_among (a ∷ l) (suc i) d h = inr (get_d_among l i d (omega arith))
 pub index_of : {A : Type 0} (l : List A) (d a : A) → Among a l → (i : ℕ) × (i < length l) × (get_or l i d ≡ a)
 index_of (b ∷ l) d a (inl e) = (0, omega arith, sym e)
 index_of (b ∷ l) d a (inr mem) = let t = index_of l d a mem in (suc t.0, omega (arith, t.1), t.2)
+index_of {A = A} [] d a x' = elim x' [ ]
 
 pub among_map : {A B : Type 0} (f : A → B) (l : List A) (b : B) → Among b (map f l) → (a : A) × Among a l × (b ≡ f a)
 among_map f (a ∷ l) b (inl e) = (a, inl refl, e)
 among_map f (a ∷ l) b (inr mem) = let t = among_map f l b mem in (t.0, inr t.1, t.2)
+among_map {A = A} {B = B} f [] b x' = elim x' [ ]
 
 pub map_among : {A B : Type 0} (f : A → B) (l : List A) (a : A) → Among a l → Among (f a) (map f l)
 map_among f (b ∷ l) a (inl e) = inl (ap f e)
 map_among f (b ∷ l) a (inr mem) = inr (map_among f l a mem)
+map_among {A = A} {B = B} f [] a x' = elim x' [ ]
 
 pub snoc_of : {A : Type 0} (l : List A) (c b : A) → Among b (l ++ (c ∷ [])) → Among b l ⊎ (b ≡ c)
 snoc_of [] c b (inl e) = inr e
 snoc_of (a ∷ l) c b (inl e) = inl (inl e)
 snoc_of (a ∷ l) c b (inr mem) = elim (snoc_of l c b mem) [ inl z ↦ inl (inr z) | inr e ↦ inr e ]
+snoc_of {A = A} [] c b (inr mem) = elim mem [ ]
 
 pub snoc_in : {A : Type 0} (l : List A) (c b : A) → Among b l ⊎ (b ≡ c) → Among b (l ++ (c ∷ []))
 snoc_in [] c b (inl mem) = absurd mem

@@ -96,6 +96,7 @@ module _ (D : Space) (L : Laws D) where
   pub comb_hit : (c : Mono → ℕ) (l : List Mono) (a : Mono) → Increasing cmp l → Among a l → comb D c l (hit D a) ≈ c a
   comb_hit c (b ∷ l) a i (inl e) = rw (hit_same D L e) (lin (comb_miss c l a (λ d m u. less_ne D L (below_member cmp b l i.0 d m) (sym e ∙ u)) plus of (ap c (sym e))) 0 0 (omega arith))
   comb_hit c (b ∷ l) a i (inr m) = rw (hit_other D L (λ u. less_ne D L (below_member cmp b l i.0 a m) (sym u))) (lin (comb_hit c l a i.1 m) 0 0 (omega arith))
+  comb_hit c [] a i x'' = elim x'' [ ]
 
   -- a polynomial's terms collected
   pub collect : (l : List Mono) → Increasing cmp l → (f : Polynomial D) → Over D l f → (φ : Mono → ℕ) → comb D (coefficient D f) l φ ≈ pair D f φ

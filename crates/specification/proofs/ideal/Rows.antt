@@ -40,6 +40,7 @@ module _ (D : Space) (L : Laws D) where
   monomials_over : (f : Polynomial D) → Over D (monomials f) f
   monomials_over (u ∷ f) t (inl e) = inserted_adds cmp order u.1 (monomials f) t.1 (inl (ap (λ (z : ℕ × Mono). z.1) e))
   monomials_over (u ∷ f) t (inr mem) = inserted_adds cmp order u.1 (monomials f) t.1 (inr (monomials_over f t mem))
+  monomials_over [] t x' = elim x' [ ]
 
   -- A polynomial has no coefficient, or it has a greatest monomial.
   pub greatest : (f : Polynomial D) → ((a : Mono) → coefficient D f a ≈ 0) ⊎ ((a : Mono) × Greatest D f a)
@@ -79,6 +80,8 @@ module _ (D : Space) (L : Laws D) where
         go : (l : List Mono) (rs : List (List ℕ)) → Rows D S standard l rs → ((a : Mono) → Among a l → Among a leads) → Among g (row_polynomials D standard l rs) → (a : Mono) × RowOf g a
         go (a ∷ l) (cs ∷ rs) r up (inl e) = (a, record { lead = up a (inl refl); coefficients = cs; row = r.0; is = e })
         go (a ∷ l) (cs ∷ rs) r up (inr z) = go l rs r.1 (λ c w. up c (inr w)) z
+        go [] rs r up x3 = elim x3 [ ]
+        go (a ∷ l) [] r up _ = elim r [ ]
 
     pub has_row : (a : Mono) → Among a leads → (g : Polynomial D) × Among g (row_polynomials D standard leads rows) × RowOf g a
     has_row a lead = go leads rows b.rows_are lead
@@ -87,6 +90,7 @@ module _ (D : Space) (L : Laws D) where
         go (c ∷ l) [] r mem = absurd r
         go (c ∷ l) (cs ∷ rs) r (inl e) = ((1, c) ∷ terms D cs standard, inl refl, rw e (record { lead = rw (← e) lead; coefficients = cs; row = r.0; is = refl }))
         go (c ∷ l) (cs ∷ rs) r (inr mem) = let t = go l rs r.1 mem in (t.0, inr t.1, t.2)
+        go [] rs r mem = elim mem [ ]
 
     -- no lead divides another
     pub leads_minimal : (a c : Mono) → Among a leads → Among c leads → Divides D a c → a ≡ c

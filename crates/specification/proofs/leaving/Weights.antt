@@ -17,6 +17,7 @@ unfolding weighs_first
 zero_behind zero [] t = tt
 zero_behind zero (x ∷ w) t = keep (eqb x 0) _ _ (zero_behind zero w) t
 zero_behind (suc m) (x ∷ w) t = keep (leb 1 x) _ _ (keep (leb x 99) _ _ (zero_behind m w)) t
+zero_behind (suc m) [] t = elim t [ ]
 
 pub zeros_fewer : (k : ℕ) (w : List ℕ) → T (weighs_first 0 w) → T (weighs_first 0 (removed_at k w ++ (0 ∷ [])))
 unfolding weighs_first removed_at
@@ -30,3 +31,6 @@ unfolding weighs_first removed_at
 weights_fewer m zero (x ∷ w) l t = zero_behind m w (and_right (leb x 99) _ (and_right (leb 1 x) _ t))
 weights_fewer zero (suc k) (x ∷ w) l t = absurd (omega arith)
 weights_fewer (suc m) (suc k) (x ∷ w) l t = keep (leb 1 x) _ _ (keep (leb x 99) _ _ (weights_fewer m k w (omega arith))) t
+weights_fewer m zero [] l t = elim t [ ]
+weights_fewer zero (suc k) [] l t = elim l [ ]
+weights_fewer (suc m) (suc k) [] l t = elim t [ ]

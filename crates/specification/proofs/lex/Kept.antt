@@ -39,6 +39,7 @@ module _ {m : ℕ} where
       go (so h) (inr z) f = inr (f z)
       go (not_so n) (inl e) f = absurd (n (subst (λ (c : Monomial (suc m)). Free c) e refl))
       go (not_so n) (inr z) f = f z
+  kept_in [] a mem = elim mem [ ]
 
   pub kept_of : (l : List (Monomial (suc m))) (a : Monomial m) → Among a (kept l) → Among (with0 a) l
   unfolding kept

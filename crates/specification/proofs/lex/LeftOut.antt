@@ -62,7 +62,7 @@ module _ (p m : ℕ) (v w : List ℕ) (ok : Accepted (lex_under p (suc m) v)) (o
 
   -- a point without its first coordinate
   meet : (P : List ℕ) → Among P S → shadow (p - 1) m (pt P) ≡ pt' (removed_at 0 P)
-  meet P mem = point_path (ap (drop 1) (point_same (lex_under p (suc m) v) ok.few P (h.points P mem)) ∙ sym (first_out P)
+  meet P mem = point_path (suc (p - 1)) (ap (drop 1) (point_same (lex_under p (suc m) v) ok.few P (h.points P mem)) ∙ sym (first_out P)
       ∙ sym (point_same (lex_under p m w) ok'.few (removed_at 0 P) (h'.points (removed_at 0 P) ((members (removed_at 0 P)).1 (P, mem, refl)))))
 
   down : (X : Point (suc (p - 1)) (suc m)) → Among X (map pt S) → Among (shadow (p - 1) m X) (map pt' S')

@@ -46,6 +46,7 @@ use Rattle.specification.proofs.needed.Occurring.{needed_occurs}
 kept : (f : ℕ → ℕ) (l : List ℕ) → map f l ≡ l → (a : ℕ) → Among a l → f a ≡ a
 kept f (b ∷ l) e a (inl u) = let h : f b ≡ b = cc in rw u h
 kept f (b ∷ l) e a (inr q) = let t : map f l ≡ l = cc in kept f l t a q
+kept f [] e a x'' = elim x'' [ ]
 
 module _ (s : Settings) (n r : ℕ) (t : Tables) (values : List ℤ) (buffer : List ℕ) where
   -- the points, their values, and these as a function

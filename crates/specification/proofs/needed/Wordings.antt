@@ -67,6 +67,7 @@ module _ (q m : ℕ) where
         go (so h) z f = (Q, inl refl, h, refl)
         go (not_so n) (inl e) f = absurd (n (λ j ne. ap (λ (R : Pt). get_or R.0 j 0) e))
         go (not_so n) (inr z) f = let w = f z in (w.0, inr w.1, w.2, w.3)
+    line_point [] P mem = elim mem [ ]
 
     -- Either it has the value of every point, or some point is in a pair.
     line_search : (S R : List Pt) → ((P : Pt) → Among P R → Among P S) → ((P : Pt) → Among P R → Mod (suc q) (on_line S P) (φ P)) ⊎ Pair (suc q) m S φ k
@@ -76,7 +77,7 @@ module _ (q m : ℕ) where
         pair : ¬ Mod (suc q) (on_line S P) (φ P) → Pair (suc q) m S φ k
         pair n = let w = line_point S P (sub P (inl refl)) in
             let far : ¬ Mod (suc q) (φ P) (φ w.0) = λ h. n (of w.3 then reduce (suc q) (φ w.0) then flip h) in
-            (P, w.0, sub P (inl refl), w.1, alike_apart k P.0 w.0.0 (same_long P w.0) w.2 (λ e. far (of (ap φ (point_path e)))), far)
+            (P, w.0, sub P (inl refl), w.1, alike_apart k P.0 w.0.0 (same_long P w.0) w.2 (λ e. far (of (ap φ (point_path (suc q) e)))), far)
 
         go : Dec (Mod (suc q) (on_line S P) (φ P)) → ((Q : Pt) → Among Q R → Mod (suc q) (on_line S Q) (φ Q)) ⊎ Pair (suc q) m S φ k
             → ((Q : Pt) → Among Q (P ∷ R) → Mod (suc q) (on_line S Q) (φ Q)) ⊎ Pair (suc q) m S φ k
