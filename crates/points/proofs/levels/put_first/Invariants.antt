@@ -1,0 +1,25 @@
+-- `levels::put_first` meets its contract. The loop has written what is before i.
+use mathlib.Core.Path.{◌≡◌, refl, ap, ◌∙◌}
+use mathlib.Core.Logic.{inl, inr}
+use mathlib.Core.List.{List}
+use Prim.Native.Nat.{ℕ, ◌-◌, ◌≤◌}
+use native.Mathlib.Omega.{arith}
+use lib.IntN.{ℤ, pos}
+use lib.ListN.{length, get_or, take}
+use Rattle.residue.specs.Level.{residue_of}
+use Rattle.residue.specs.Layout.{fill, length_fill}
+use Rattle.residue.proofs.vector.Filled.{filled, filled_none, kept_length, filled_more, filled_all}
+use Rattle.specification.specs.Levels.{residue_or0, residues}
+use Rattle.points.proofs.levels.LevelLists.{handed}
+use Rattle.points.proofs.levels.PointTables.{first_there, first_past}
+use Rattle.points.proofs.levels.put_first.Given as goal
+
+-- what is to stand at k
+abbrev pub entry : ℕ → ℕ → List ℤ → ℕ → ℕ
+entry p m levels k = get_or (fill 8 (residues p (take m levels))) k 0
+
+abbrev pub invariant-loop-i : goal.invariant-loop-i
+invariant-loop-i l = (l.i ≤ 8) × (l.to ≡ filled (entry l.p l.m l.levels) l.i l.initial.to)
+
+abbrev pub decreases-loop-i : goal.decreases-loop-i
+decreases-loop-i l = 8 - l.i
