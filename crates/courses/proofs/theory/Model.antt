@@ -52,6 +52,7 @@ module _ (s : Settings) (ok : Accepted s) where
       go (yes e) z rec = cond_so (point_told (space_under s) (laws_under s ok) (pt P) (pt Q)) e _ _ ∙ ap h (sym (same_point P Q point (each Q (inl refl)) e))
       go (no n) (inl e) rec = absurd (n (ap pt e))
       go (no n) (inr z) rec = cond_not (point_told (space_under s) (laws_under s ok) (pt P) (pt Q)) n _ _ ∙ rec z
+  value_map h [] each P point mem = elim mem [ ]
 
   module _ (ms : List Move) (each : (a : Move) → Among a ms → IsPoint s a.state) where
     abbrev S : List (List ℕ)

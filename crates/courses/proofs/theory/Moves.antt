@@ -105,16 +105,19 @@ one_next (x ∷ seen) a e b (inl u) same = go (lists_told x.state a.state) (list
     go (not_so h) g q = absurd (h (ap (λ (m : Move). m.state) (sym u) ∙ same))
 one_next (x ∷ seen) a e b (inr mem) same =
     one_next seen a (neither (same_list x.state a.state && not (same_list x.next a.next)) (other_next seen a) e).1 b mem same
+one_next [] a e b x3 same = elim x3 [ ]
 
 before_same : (seen l : List Move) → Faultless other_next seen l → (b : Move) → Among b seen → (a : Move) → Among a l → b.state ≡ a.state → b.next ≡ a.next
 before_same seen (x ∷ l) h b mem a (inl e) same = one_next seen x h.0 b mem (same ∙ ap (λ (m : Move). m.state) e) ∙ ap (λ (m : Move). m.next) (sym e)
 before_same seen (x ∷ l) h b mem a (inr q) same = before_same (seen ++ (x ∷ [])) l h.1 b (snoc_in seen x b (inl mem)) a q same
+before_same seen [] h b mem a x4 same = elim x4 [ ]
 
 pub same_next : (seen l : List Move) → Faultless other_next seen l → (a b : Move) → Among a l → Among b l → a.state ≡ b.state → a.next ≡ b.next
 same_next seen (x ∷ l) h a b (inl e) (inl f) same = ap (λ (m : Move). m.next) (e ∙ sym f)
 same_next seen (x ∷ l) h a b (inl e) (inr q) same = before_same (seen ++ (x ∷ [])) l h.1 a (snoc_in seen x a (inr e)) b q same
 same_next seen (x ∷ l) h a b (inr p) (inl f) same = sym (before_same (seen ++ (x ∷ [])) l h.1 b (snoc_in seen x b (inr f)) a p (sym same))
 same_next seen (x ∷ l) h a b (inr p) (inr q) same = same_next (seen ++ (x ∷ [])) l h.1 a b p q same
+same_next seen [] h a b x4 _ same = elim x4 [ ]
 
 -- the successor that is found is a move's
 pub next_found : (ms : List Move) (a : Move) → Among a ms → (b : Move) × Among b ms × (b.state ≡ a.state) × (successor_of a.state ms ≡ b.next)
@@ -127,6 +130,7 @@ next_found (x ∷ ms) a mem = go (lists_told a.state x.state) mem (λ z. next_fo
     go (so e) z rec = (x, inl refl, sym e, refl)
     go (not_so n) (inl e) rec = absurd (n (ap (λ (m : Move). m.state) e))
     go (not_so n) (inr z) rec = let w = rec z in (w.0, inr w.1, w.2, w.3)
+next_found [] a mem = elim mem [ ]
 
 pub next_is : (ms : List Move) → Faultless other_next [] ms → (a : Move) → Among a ms → successor_of a.state ms ≡ a.next
 next_is ms h a mem = let w = next_found ms a mem in w.3 ∙ same_next [] ms h w.0 a w.1 mem w.2

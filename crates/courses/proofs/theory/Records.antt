@@ -1,5 +1,5 @@
 -- M-111: moves are records with the next one; what refusals 17, 8 and 13 say of records.
-use mathlib.Core.Path.{◌≡◌, refl, sym, ◌∙◌, ap}
+use mathlib.Core.Path.{◌≡◌, refl, sym, ◌∙◌, ap, subst}
 use mathlib.Core.Bool.{Bool, true, false, not, cond, ◌&&◌, ◌||◌}
 use mathlib.Core.Logic.{inl, inr, ◌↔◌}
 use mathlib.Core.List.{List, [], ◌∷◌, ◌++◌, append-nil, append_assoc}
@@ -69,8 +69,8 @@ record_move j (x ∷ y ∷ l) (suc i) h e = go (equal_told x.1 y.1) (record_move
 
     go : {b : Bool} → Decides (x.1 ≡ y.1) b → Among (a (suc j + i)) (moves_from (suc j) (y ∷ l))
         → Among (a (j + suc i)) (cond b (move j x.0 y.0 ∷ moves_from (suc j) (y ∷ l)) (moves_from (suc j) (y ∷ l)))
-    go (so f) z = let k : j + suc i ≡ suc j + i = omega arith in rw k (inr z)
-    go (not_so n) z = let k : j + suc i ≡ suc j + i = omega arith in rw k z
+    go (so f) z = let k : j + suc i ≡ suc j + i = omega arith in inr (subst (λ (n : ℕ). Among (a n) (moves_from (suc j) (y ∷ l))) (sym k) z)
+    go (not_so n) z = let k : j + suc i ≡ suc j + i = omega arith in subst (λ (n : ℕ). Among (a n) (moves_from (suc j) (y ∷ l))) (sym k) z
 
 -- The record of a refusal is that of the first move that has the fault: none before it has.
 pub record FirstFault (f : List Move → Move → Bool) (seen l : List Move) (k : ℕ) : Type 0 where

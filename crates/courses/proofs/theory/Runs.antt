@@ -48,6 +48,7 @@ module _ (f : List ℕ → List ℕ) (P : List ℕ) where
       go (not_so n) (inl e) rec = absurd (n e)
       go (not_so n) (inr z) rec = let w = rec z in let e : k - place_in Q (trail k) ≡ suc k - suc (place_in Q (trail k)) = omega (arith, w.0) in
           (omega (arith, w.0), w.1 ∙ ap (λ (i : ℕ). times i f P) e)
+  trail_place Q zero (inr x'') = elim x'' [ ]
 
   -- one step that gives no state met before
   longer : (k : ℕ) → NoneBefore f P (suc k) → ¬ Among (times (suc k) f P) (trail k) → NoneBefore f P (suc (suc k))

@@ -1,0 +1,18 @@
+-- `moves::too_many` meets its contract.
+use borrow.Author.Rules.{rules}
+use mathlib.Core.Path.{ap, ◌∙◌}
+use Prim.Native.Nat.{ℕ}
+use Rattle.courses.specs.Moves.{many_answer}
+use Rattle.courses.proofs.moves.MovesAnswers.{other_first, many_first}
+use Rattle.courses.proofs.moves.too_many.Goals as goal
+
+pub returns-then-other-ne0 : goal.returns-then-other-ne0
+returns-then-other-ne0 c = let a = c.args in
+    λ m l h e. other_first c.first_other-other.result a.i c.if-other-ne0.true
+    ∙ ap (λ (k : ℕ). many_answer k a.i) (c.first_other-other.ensures m l h e)
+
+pub returns : goal.returns
+returns c = let a = c.args in
+    λ m l h e.
+    c.refused_at.ensures ∙ many_first c.first_other-other.result a.i c.if-other-ne0.false
+    ∙ ap (λ (k : ℕ). many_answer k a.i) (c.first_other-other.ensures m l h e)
