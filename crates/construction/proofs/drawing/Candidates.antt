@@ -19,10 +19,8 @@ use Rattle.monomial.specs.Order.{Order, LightOrder}
 use Rattle.monomial.specs.Rank.{rank_of, variable_rank}
 use Rattle.monomial.specs.Increasing.{Increasing}
 use Rattle.monomial.specs.declared.candidate.LeastRank.{LeastRank}
-use Rattle.monomial.specs.declared.candidate.LeastRank.TheVariants as LeastRank
 use Rattle.monomial.specs.declared.candidate.Parents.{Parents}
 use Rattle.monomial.specs.declared.candidate.Candidate.{Candidate}
-use Rattle.monomial.specs.declared.candidate.Candidate.TheVariants as Candidate
 use Rattle.monomial.specs.Candidate.{least_of, products_passed, parents_of, occurring_in, is_whole, Searched, search_ends, at_least, next_from, next_of}
 use Rattle.monomial.proofs.Algebra.Products.{degree_times_variable}
 use Rattle.monomial.proofs.candidate.Products.{remaining, remaining_most, Product, least_of_lem, least_nothing, passed_length, passed_is, passed_not, Last, passed_fewer, least_last}

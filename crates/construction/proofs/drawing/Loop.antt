@@ -14,7 +14,6 @@ use Rattle.elimination.proofs.reducing.Eliminated.{cancellations_most}
 use Rattle.monomial.specs.Monomial.{times_variable}
 use Rattle.monomial.specs.Order.{Order}
 use Rattle.monomial.specs.declared.candidate.Candidate.{Candidate}
-use Rattle.monomial.specs.declared.candidate.Candidate.TheVariants as Candidate
 use Rattle.monomial.specs.Rank.{steps_of}
 use Rattle.monomial.specs.Columns.{column_of}
 use Rattle.monomial.specs.Candidate.{search_ends, next_of}
