@@ -99,3 +99,4 @@ pub all_inside : (p : ℕ) (S : List (List ℤ)) → first_fault (is_outside p) 
 unfolding first_fault is_outside
 all_inside p (z ∷ S) h zs (inl e) = subst (λ (y : List ℤ). T (in_range p y)) (sym e) (of_true (not-false (in_range p z) (fault_step (not (in_range p z)) (first_fault (is_outside p) S) h).0))
 all_inside p (z ∷ S) h zs (inr q) = all_inside p S (fault_step (not (in_range p z)) (first_fault (is_outside p) S) h).1 zs q
+all_inside p [] h zs x'' = elim x'' [ ]

@@ -53,6 +53,7 @@ removed P (A ∷ R) (inl e) = (R, omega arith, λ Q q. elim q [ inl z ↦ inl (z
 removed P (A ∷ R) (inr q) =
     let (K, l, f) = removed P R q in
     (A ∷ K, omega (arith, l), λ Q w. elim w [ inl z ↦ inr (inl z) | inr z ↦ elim (f Q z) [ inl y ↦ inl y | inr y ↦ inr (inr y) ] ])
+removed P [] x' = elim x' [ ]
 
 few : (S R : List (List ℕ)) → T (no_repeat S) → ((Q : List ℕ) → Among Q S → Among Q R) → length S ≤ length R
 unfolding no_repeat
@@ -91,6 +92,7 @@ count_there (x ∷ L) t q (inr w) = go (same_list q.0 x.0) refl (count_there L (
         absurd (again (is_among x.0 (points_of L)) (is_among_lem x.0 (points_of L) z)
         (and_left (not (is_among x.0 (points_of L))) (no_repeat (points_of L)) t))
     go false e r = r
+count_there [] t q x'' = elim x'' [ ]
 
 there_count : (P : List ℕ) (L : Counted) → Among P (points_of L) → Among (count_of P L) (counts_of L)
 unfolding count_of
@@ -101,6 +103,7 @@ there_count P (x ∷ L) w = go (same_list P x.0) refl w (λ y. there_count P L y
     go true e w r = inl refl
     go false e (inl z) r = absurd (subst T e (rw z (same_self x.0)))
     go false e (inr y) r = inr (r y)
+there_count P [] w = elim w [ ]
 
 -- 13
 pub often_told : (b : List Valued) (q : Valued) → Decides (TooOften b q) (too_often b q)

@@ -74,6 +74,7 @@ module _ (a t : List ℕ) (e : length a ≡ 8) where
 split_of : {A : Type 0} (l : List A) (a : A) → Among a l → (b : List A) × (c : List A) × (l ≡ b ++ (a ∷ c))
 split_of (x ∷ l) a (inl e) = ([], l, ap (λ (y : _). y ∷ l) (sym e))
 split_of (x ∷ l) a (inr w) = let (b, c, e) = split_of l a w in (x ∷ b, c, ap (λ (y : List _). x ∷ y) e)
+split_of {A = A} [] a x' = elim x' [ ]
 
 value_behind : (P : List ℕ) (v w : ℕ) (b c : List Valued) → first_value P w (b ++ ((P, v) ∷ c)) ≡ first_value P v b
 unfolding first_value
