@@ -61,6 +61,7 @@ module _ (q m : ℕ) where
   among_lists : (X : List (Point (suc q) m)) (Q : Point (suc q) m) → Among Q (map (point_of q m) (map (λ (R : Point (suc q) m). R.0) X)) → Among Q.0 (map (λ (R : Point (suc q) m). R.0) X)
   among_lists (R ∷ X) Q (inl e) = inl (ap (λ (Z : Point (suc q) m). Z.0) (e ∙ point_of_lem q m R))
   among_lists (R ∷ X) Q (inr mem) = inr (among_lists X Q mem)
+  among_lists [] Q x' = elim x' [ ]
 
 -- every number of a table of small numbers is small, beyond its end as well
 table_small : (b w N : ℕ) (K : List (List ℕ)) → 0 < b → ((r : List ℕ) → Among r K → Below b r) → (i : ℕ) → get_or (fill N (in_places w K)) i 0 < b

@@ -13,7 +13,7 @@ use Rattle.residue.specs.Layout.{fill}
 use Rattle.residue.proofs.Congruence.{rfl, of, ◌then◌, ◌plus◌, ◌times◌, scale, reduce, negative}
 use Rattle.residue.proofs.Layouts.{fill_twice}
 use Rattle.monomial.specs.Monomial.{monomial_at}
-use Rattle.monomial.specs.Order.{Order, cmp}
+use Rattle.monomial.specs.Order.{Order}
 use Rattle.monomial.specs.Insert.{inserted_at, place_of}
 use Rattle.monomial.proofs.Padding.{value_fill}
 use Rattle.monomial.proofs.insert.Tables.{place_bound}

@@ -19,7 +19,7 @@ use Rattle.specification.specs.Extension.{slot, minus, extended, first, grow}
 use Rattle.specification.specs.BasisOf.{basis_of, standard_of, leads_of, row_of, rows_of}
 use Rattle.specification.proofs.ideal.Laws.{Laws, zero_told}
 use Rattle.specification.proofs.ideal.Lists.{get_d_among, index_of}
-use Rattle.specification.proofs.ideal.Newton.{at, error}
+use Rattle.specification.proofs.ideal.Newton.{error}
 use Rattle.specification.proofs.ideal.Staircase.{Holds}
 use Rattle.specification.proofs.ideal.ZeroSet.{zeros}
 use Rattle.specification.proofs.ideal.Columns.{slot_length, slot_value, slot_members, minus_length, minus_small, minus_value}

@@ -33,7 +33,7 @@ use Rattle.specification.proofs.ideal.Increasing.{divided_told}
 use Rattle.specification.proofs.ideal.Leads.{Divided, extended_of, extended_length_le}
 use Rattle.specification.proofs.ideal.Basis.{staircase, row_is}
 use Rattle.growth.specs.Growing.{row_value_at, corrected_row, corrected_rows, Grown, grown, put_with_row, product_put, products_put, others_of, rows_left, others_corrected, standard_grown, grown_by, reduced_row}
-use Rattle.growth.proofs.KeptRows.{kept, grow_at, row_grown}
+use Rattle.growth.proofs.KeptRows.{grow_at, row_grown}
 use Rattle.growth.proofs.Growth.{product_passed, product_put_lem, grown_by_lem}
 use Rattle.growth.proofs.Insertion.{inserted_at_lem, without_at, divided_map}
 use Rattle.growth.proofs.Corrections.{values_at, inverse_at, row_value_filled, corrected_is}

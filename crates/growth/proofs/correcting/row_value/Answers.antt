@@ -1,0 +1,19 @@
+-- `correcting::row_value` meets its contract.
+use mathlib.Core.Path.{ap₂, ◌∙◌}
+use Prim.Native.Nat.{ℕ, ◌+◌, ◌%◌}
+use native.Mathlib.Nat.{mod-lt, mod-add-mod, add-mod-mod}
+use native.Mathlib.Omega.{arith}
+use Rattle.residue.specs.Vector.{dot_of}
+use Rattle.monomial.specs.Monomial.{monomial_at}
+use Rattle.growth.specs.Growing.{row_value_at}
+use Rattle.growth.proofs.correcting.row_value.Goals as goal
+
+pub add-requires : goal.add-requires
+add-requires c = let s = c in record { p_bound = s.requires.le_p.1; x_lt_p = (rw c.value.ensures (mod-lt _ (omega arith)), rw c.dot.ensures (mod-lt _ (omega arith))) }
+
+pub returns : goal.returns
+unfolding row_value_at
+returns c = let s = c in
+    c.add.ensures ∙ ap₂ (λ (x y : ℕ). (x + y) % s.args.p) c.value.ensures c.dot.ensures
+    ∙ mod-add-mod (monomial_at s.args.point.now s.args.lead.now) s.args.p (dot_of s.args.coefficients.now s.args.values.now % s.args.p)
+    ∙ add-mod-mod (monomial_at s.args.point.now s.args.lead.now) (dot_of s.args.coefficients.now s.args.values.now) s.args.p
