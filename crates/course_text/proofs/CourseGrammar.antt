@@ -104,6 +104,7 @@ module _ (m : ℕ) where
     unfolding numbers_of
     has_one (s ∷ before) r (inl e) h = inl (sym (has_number r c h).0 ∙ ap number e)
     has_one (s ∷ before) r (inr q) h = inr (has_one before r q h)
+    has_one [] r x'' h = elim x'' [ ]
 
     last_has : (before : Records) → latest (numbers before) ≡ c → (b : Records) × (r : Option (List (List ℕ))) × (before ≡ b ++ (r ∷ [])) × HasNumber m r c
     unfolding numbers_of latest

@@ -27,6 +27,7 @@ record_of c (a ∷ l) (inr q) = let w = record_of c l q in (w.0, inr w.1, w.2)
 split_at : (l : List Timed) (a : Timed) → Among a l → (d : List ℕ) × (e : List ℕ) × (numbers l ≡ d ++ (a.1 ∷ e))
 split_at (b ∷ l) a (inl q) = ([], numbers l, ap (λ (x : Timed). x.1 ∷ numbers l) (sym q))
 split_at (b ∷ l) a (inr q) = let w = split_at l a q in (b.1 ∷ w.0, w.1, ap (λ (x : List ℕ). b.1 ∷ x) w.2)
+split_at [] a x' = elim x' [ ]
 
 -- the first of two records: the next is of its course, or none behind it is
 abbrev gone : ℕ → List Timed → Bool
@@ -49,6 +50,7 @@ two_first a b l h t = and_both (eqb a.1 b.1 || gone a.1 (b ∷ l)) (in_runs (b �
     among : (l : List Timed) (e : Timed) → Among e l → Among e.1 (numbers l)
     among (b ∷ l) e (inl q) = inl (ap (λ (x : Timed). x.1) q)
     among (b ∷ l) e (inr q) = inr (among l e q)
+    among [] e x' = elim x' [ ]
 
     go : {x : Bool} → Decides (a.1 ≡ b.1) x → T (x || gone a.1 (b ∷ l))
     go (so e) = tt

@@ -100,6 +100,7 @@ module _ (p m : ℕ) where
   among_timed : (E : List (List ℤ)) (zs : List ℤ) → Among zs E → Among (timed_of p m zs) (map (timed_of p m) E)
   among_timed (y ∷ E) zs (inl q) = inl (ap (timed_of p m) q)
   among_timed (y ∷ E) zs (inr q) = inr (among_timed E zs q)
+  among_timed [] zs x' = elim x' [ ]
 
   is_gone : (c : ℕ) (E : List (List ℤ)) → ((zs : List ℤ) → Among zs E → c ≢ number_of m zs) → T (gone c E)
   unfolding timed_of

@@ -3,8 +3,7 @@ use borrow.Author.Rules.{rules}
 use mathlib.Core.Path.{◌≡◌, sym, ap, ap₂}
 use mathlib.Core.Bool.{Bool, true, false, not, ◌&&◌, ◌||◌}
 use borrow.Author.Tests.{eq-eqb, ne_eqb}
-use Rattle.course_text.proofs.reading.wrong_number.Statement.{statement}
-use Rattle.course_text.proofs.reading.wrong_number.Tie as tie
+use Rattle.course_text.proofs.reading.wrong_number.Goals as goal
 
 -- the three cases of the test
 none : (a b : Bool) → a ≡ true → true ≡ (a || b)
@@ -16,17 +15,11 @@ unmarked a x b e f = sym (ap₂ (λ (y z : Bool). y || (not z && b)) e f)
 marked : (a x b : Bool) → a ≡ false → x ≡ false → b ≡ (a || (not x && b))
 marked a x b e f = sym (ap₂ (λ (y z : Bool). y || (not z && b)) e f)
 
-returns : tie.Need-returns
-returns c = none _ _ (eq-eqb _ _ c.if1.true)
+pub returns-then-number-eq0 : goal.returns-then-number-eq0
+returns-then-number-eq0 c = none _ _ (eq-eqb _ _ c.if-number-eq0.true)
 
-shared-slice-read-if2 : tie.Need-shared-slice-read-if2
-shared-slice-read-if2 c = search rules
+pub returns-then-marks-number-eq0 : goal.returns-then-marks-number-eq0
+returns-then-marks-number-eq0 c = unmarked _ _ _ (ne_eqb _ _ c.if-number-eq0.false) (eq-eqb _ _ c.if-marks-number-eq0.true)
 
-returns-2 : tie.Need-returns-2
-returns-2 c = unmarked _ _ _ (ne_eqb _ _ c.before.before.if1.false) (eq-eqb _ _ c.if2.true)
-
-returns-3 : tie.Need-returns-3
-returns-3 c = marked _ _ _ (ne_eqb _ _ c.before.before.if1.false) (ne_eqb _ _ c.if2.false)
-
-pub wrong-number-spec : {M : Type 1} → statement M
-wrong-number-spec = tie.close (tie.spec returns shared-slice-read-if2 returns-2 returns-3)
+pub returns : goal.returns
+returns c = marked _ _ _ (ne_eqb _ _ c.if-number-eq0.false) (ne_eqb _ _ c.if-marks-number-eq0.false)

@@ -9,8 +9,7 @@ use borrow.Author.Tests.{le-leb, lt-leb}
 use Rattle.notation.specs.Forms.{negative}
 use Rattle.notation.specs.Said.{with_sign}
 use Rattle.course_text.specs.Form.{course_in}
-use Rattle.course_text.proofs.reading.course_number.Statement.{statement}
-use Rattle.course_text.proofs.reading.course_number.Tie as tie
+use Rattle.course_text.proofs.reading.course_number.Goals as goal
 
 below_none : (b : Bool) (k : ℕ) → b ≡ true → 0 ≡ course_in (with_sign b k)
 unfolding course_in with_sign negative
@@ -26,17 +25,11 @@ itself : (b : Bool) (k : ℕ) → b ≡ false → k ≤ 99 → k ≡ course_in (
 unfolding course_in with_sign
 itself b k e h = sym (ap (λ (x : Bool). course_in (with_sign x k)) e ∙ ap (λ (x : Bool). cond x k 0) (le-leb k 99 h))
 
-returns : tie.Need-returns
-returns c = below_none _ _ c.if1.true
+pub returns-then-negative : goal.returns-then-negative
+returns-then-negative c = below_none _ _ c.if-negative.true
 
-returns-2 : tie.Need-returns-2
-returns-2 c = above_none _ _ c.before.if1.false (omega (arith, c.if2.true))
+pub returns-then-size-gt99 : goal.returns-then-size-gt99
+returns-then-size-gt99 c = above_none _ _ c.if-negative.false (omega (arith, c.if-size-gt99.true))
 
-cast-result : tie.Need-overflow-cast-result
-cast-result c = search rules
-
-returns-3 : tie.Need-returns-3
-returns-3 c = itself _ _ c.before.if1.false (omega (arith, c.if2.false))
-
-pub course-number-spec : {M : Type 1} → statement M
-course-number-spec = tie.close (tie.spec returns returns-2 cast-result returns-3)
+pub returns : goal.returns
+returns c = itself _ _ c.if-negative.false (omega (arith, c.if-size-gt99.false))

@@ -1,0 +1,91 @@
+-- `reading::check_courses` meets its contract. What the records from `from` on say, behind those that were passed, is what all say.
+use borrow.Author.Rules.{rules}
+use mathlib.Core.Path.{◌≡◌, refl, sym, ap, ◌∙◌, subst}
+use mathlib.Core.List.{List}
+use Prim.Native.Nat.{ℕ, ◌+◌, ◌-◌, ◌<◌, ◌≤◌}
+use native.Mathlib.Omega.{arith}
+use lib.IntN.{ℤ}
+use lib.ListN.{length, drop}
+use Rattle.notation.specs.Said.{with_sign}
+use Rattle.comma_text.specs.reading.Records.{entry_part, entry_said, EntryWithin, ends, checked}
+use Rattle.course_text.proofs.reading.CoursesChecked.{CheckedOn, none_checked, all_checked, no_record, passes, number_small, wrong_here, checked_more}
+use Rattle.course_text.proofs.reading.check_courses.Goals as goal
+use Rattle.course_text.proofs.reading.check_courses.Goals.{After-course_number-number, At-loop-from, Start}
+
+abbrev start : At-loop-from → Start
+start l = (goal.at.At-loop-from l).Start
+
+abbrev text : At-loop-from → List ℕ
+text l = (start l).args.text.now
+
+abbrev turn : After-course_number-number → At-loop-from
+turn c = (goal.at.After-course_number-number c).At-loop-from
+
+module _ (c : After-course_number-number) where
+  abbrev last : ℤ
+  last = with_sign c.in-Ends.negative c.in-Ends.size
+
+  abbrev next : ℕ
+  next = c.in-Ends.next
+
+  within : next ≤ length (text (turn c))
+  within = subst (EntryWithin (length (text (turn c)))) c.in-Ends.is c.check_entry.ensures.within
+
+  said : ends last (drop next (text (turn c)))
+      ≡ checked ((turn c).loop-from.n + 2) (start (turn c)).args.variables (entry_part (start (turn c)).args.variables (drop (turn c).loop-from.from (text (turn c))))
+  unfolding entry_said
+  said = ap (entry_said (text (turn c))) (sym c.in-Ends.is) ∙ c.check_entry.ensures.said
+
+  taken : (turn c).loop-from.from < length (text (turn c))
+  taken = c.loop-from-test.true
+
+  small : c.course_number-number.result < 100
+  small = number_small (turn c).loop-from.invariant taken last next within said c.course_number-number.result c.course_number-number.ensures _ refl
+
+  further : (turn c).loop-from.from < next
+  further = passes (turn c).loop-from.invariant taken last next within said c.course_number-number.result c.course_number-number.ensures _ refl
+
+pub loop-from-init : goal.loop-from-init
+loop-from-init c = none_checked _ _ _ c.requires.0
+
+pub overflow_add-n : goal.overflow_add-n
+overflow_add-n c = omega (arith, c.loop-from.invariant.few, c.loop-from.invariant.within)
+
+pub check_entry-requires : goal.check_entry-requires
+check_entry-requires c = c.loop-from.invariant.within
+
+pub returns-in-Refused : goal.returns-in-Refused
+unfolding entry_said
+returns-in-Refused c = let l = c in
+    no_record l.loop-from.invariant c.loop-from-test.true _ _
+    (ap (entry_said (text (goal.at.returns-in-Refused l).At-loop-from)) (sym c.in-Refused.is) ∙ c.check_entry.ensures.said)
+
+pub slice_bounds-wrong_number-end : goal.slice_bounds-wrong_number-end
+slice_bounds-wrong_number-end c = sym c.loop-from.invariant.marked.long
+
+pub wrong_number-requires : goal.wrong_number-requires
+wrong_number-requires c = (small (goal.at.wrong_number-requires c).After-course_number-number, c.loop-from.invariant.marked.long)
+
+pub overflow_add-result : goal.overflow_add-result
+overflow_add-result c = let l = turn (goal.at.overflow_add-result c).After-course_number-number in omega (arith, l.loop-from.invariant.few, l.loop-from.invariant.within)
+
+pub returns-then-wrong_number : goal.returns-then-wrong_number
+returns-then-wrong_number c = let k = c in wrong_here (turn (goal.at.returns-then-wrong_number k).After-course_number-number).loop-from.invariant (taken (goal.at.returns-then-wrong_number k).After-course_number-number) (last (goal.at.returns-then-wrong_number k).After-course_number-number) (next (goal.at.returns-then-wrong_number k).After-course_number-number) (within (goal.at.returns-then-wrong_number k).After-course_number-number) (said (goal.at.returns-then-wrong_number k).After-course_number-number) _ k.course_number-number.ensures _ c.wrong_number.ensures c.if-wrong_number.true
+
+pub overflow_cast-marks : goal.overflow_cast-marks
+overflow_cast-marks c = omega (arith, small (goal.at.overflow_cast-marks c).After-course_number-number)
+
+pub bounds-marks-number : goal.bounds-marks-number
+bounds-marks-number c = omega (arith, small (goal.at.bounds-marks-number c).After-course_number-number)
+
+pub overflow_add-n-in-Ends : goal.overflow_add-n-in-Ends
+overflow_add-n-in-Ends c = let l = turn (goal.at.overflow_add-n-in-Ends c).After-course_number-number in omega (arith, l.loop-from.invariant.few, l.loop-from.invariant.within)
+
+pub loop-from-smaller : goal.loop-from-smaller
+loop-from-smaller c = let k = c in omega (arith, further (goal.at.loop-from-smaller k).After-course_number-number, taken (goal.at.loop-from-smaller k).After-course_number-number)
+
+pub loop-from-preserved : goal.loop-from-preserved
+loop-from-preserved c = let k = c in checked_more (turn (goal.at.loop-from-preserved k).After-course_number-number).loop-from.invariant (taken (goal.at.loop-from-preserved k).After-course_number-number) (last (goal.at.loop-from-preserved k).After-course_number-number) (next (goal.at.loop-from-preserved k).After-course_number-number) (within (goal.at.loop-from-preserved k).After-course_number-number) (said (goal.at.loop-from-preserved k).After-course_number-number) _ k.course_number-number.ensures _ c.wrong_number.ensures c.if-wrong_number.false
+
+pub returns : goal.returns
+returns c = all_checked c.loop-from.invariant c.loop-from-test.false
