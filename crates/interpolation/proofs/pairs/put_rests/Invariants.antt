@@ -1,0 +1,16 @@
+-- `pairs::put_rests` meets its contract: the keys of the first i points have been put.
+use mathlib.Core.Path.{◌≡◌, refl, ap, subst, ◌∙◌}
+use mathlib.Core.List.{List}
+use Prim.Native.Nat.{ℕ, ◌+◌, ◌*◌, ◌-◌, ◌≤◌}
+use native.Mathlib.Omega.{arith}
+use lib.ListN.{length, take, drop, length-set}
+use Rattle.residue.proofs.Replaced.{part_long}
+use Rattle.interpolation.specs.Pairs.{rest_of, Rests}
+use Rattle.interpolation.proofs.Chains.{weight, rests_more}
+use Rattle.interpolation.proofs.pairs.put_rests.Given as goal
+
+abbrev pub invariant-loop-i : goal.invariant-loop-i
+invariant-loop-i l = (l.i ≤ l.n) × ((length l.rests ≡ length l.initial.rests) × Rests l.k l.i l.points l.rests)
+
+abbrev pub decreases-loop-i : goal.decreases-loop-i
+decreases-loop-i l = l.n - l.i
