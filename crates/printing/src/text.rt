@@ -11,8 +11,8 @@ ghost use Rattle.writing.specs.Appending.{Put};
 ghost use Rattle.printing.specs.Text.{lines_of, printed, print_outcome, Within};
 
 use crate::lines::{print_basis, put_refusal};
-use construction::drawing::draw;
 use comma_text::reading::read_text;
+use construction::drawing::draw;
 use interpolation::pairs::put_names;
 use interpolation::solving::solve;
 use residue::{bytes, sizes};
