@@ -1,0 +1,18 @@
+-- `adding::add_state` meets its contract.
+use mathlib.Core.Path.{ap, ◌∙◌}
+use Prim.Native.Nat.{ℕ, ◌+◌, ◌*◌, ◌-◌}
+use native.Mathlib.Omega.{arith}
+use native.Mathlib.Nat.{add-sub_cancel_left}
+use borrow.Author.Rules.{rules}
+use Rattle.residue.specs.Layout.{with_place}
+use Rattle.residue.proofs.Layouts.{over_all}
+use Rattle.residue.proofs.Replaced.{put_place}
+use Rattle.addition.proofs.adding.add_state.Goals as goal
+
+pub returns : goal.returns
+returns c = let d = c in
+    let f = d in
+    let s = f in
+    let n : ℕ = s.args.n in
+    put_place 8 n (8 * n + 8 - 8 * n) s.args.point.now f.copy.new.to (add-sub_cancel_left (8 * n) 8) d.copy-2.ensures
+    ∙ ap (with_place 8 n s.args.point.now) (f.copy.ensures ∙ over_all s.args.points.now s.args.states.now (omega (arith, s.requires)))
