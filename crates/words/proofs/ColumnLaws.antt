@@ -7,14 +7,14 @@ use Prim.Native.Nat.{ℕ, zero, suc, ◌+◌, ◌*◌, ◌/◌, ◌%◌, ◌^◌
 use native.Mathlib.Nat.{mod-lt, zero-lt-suc, mod-mod}
 use native.Mathlib.Omega.{arith}
 use lib.ListN.{length, length-map}
-use lib.Bits.{bit_and, bit_xor, xor_step, and_step}
+use lib.Bits.{bit_and, bit_xor}
 use lib.Count.{count_trailing_zeros, under}
 use Rattle.residue.specs.Congruence.{Mod}
 use Rattle.residue.specs.Lists.{Among}
-use Rattle.residue.proofs.Congruence.{rfl, of, flip, reduce, ◌then◌, ◌plus◌, ◌times◌}
+use Rattle.residue.proofs.Congruence.{of, reduce, ◌then◌, ◌plus◌, ◌times◌}
 use Rattle.specification.proofs.ideal.Lists.{among_map, map_among}
 use Rattle.residue.specs.Words.{bit_of, word_of, column_of}
-use Rattle.residue.proofs.BitLaws.{word_half, word_odd, word_lt, xor_odd, xor_half, and_odd, and_half, bit_first, bit_next, bit_word, word_zero, zero_word}
+use Rattle.residue.proofs.BitLaws.{word_half, word_odd, word_lt, xor_odd, xor_half, and_odd, and_half, bit_first, bit_next, word_zero, zero_word}
 pub use Rattle.residue.proofs.BitLaws.{halves}
 
 module _ {A : Type 0} where

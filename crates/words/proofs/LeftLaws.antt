@@ -71,6 +71,7 @@ pivot_of (suc k) places columns polynomials v mem = elim (snoc_of (pivots_in k p
   | inl z ↦ let t = pivot_of k places columns polynomials v z in (t.0, omega (arith, t.1), t.2)
   | inr e ↦ (k, omega arith, ap (λ (u : PivotWords). u.place) e)
 ]
+pivot_of zero places columns polynomials v mem = elim mem [ ]
 
 -- The turns: `left` are the bits still to come of own & pivots, and the others have been taken away.
 module _ (own pivots : ℕ) (row_of columns polynomials : List ℕ) where

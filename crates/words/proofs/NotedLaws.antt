@@ -21,6 +21,7 @@ variable_byte k h = let t = below_at (λ k. eqb (ones (2 ^ k)) 1 && eqb (count_t
   where
     true_is : (b : Bool) → T b → b ≡ true
     true_is true h = refl
+    true_is false h = elim h [ ]
 
 told : (t u : Bool) → T (cond t u true) → t ≡ true → T u
 told true u v e = v

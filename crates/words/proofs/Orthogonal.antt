@@ -43,6 +43,7 @@ zero_from own (u ∷ r) w o a h v (inl e) = rw e (keeps own u.place r (lose own 
     then lin (h u (inl refl) plus (rfl {x = bit_of u.place own} times o u (inl refl))) 0 (bit_of u.place own) (omega arith))
 zero_from own (u ∷ r) w o a h v (inr mem) = zero_from own r (lose own u w) (λ z k. o z (inr k)) a.1
     (λ z k. lose_bit own z.place u w then lin (h z (inr k) plus (rfl {x = bit_of u.place own} times (a.0 z k).1)) 0 0 (omega arith)) v mem
+zero_from own [] w o a h v x4 = elim x4 [ ]
 
 -- what is left of a column is 0 at the pivots' places
 pub rest_zero : (own : ℕ) (pivots : List PivotWords) → Orthogonal pivots → (v : PivotWords) → Among v pivots → Mod 2 (bit_of v.place (rest_of own pivots).column) 0

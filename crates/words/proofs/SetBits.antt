@@ -135,3 +135,4 @@ loses_toggle o o' (u ∷ r) v w (inl e) a z y h =
     y_at = ap (λ (p : PivotWords). bit_of p.place o') (sym e) ∙ y
 loses_toggle o o' (u ∷ r) v w (inr mem) a z y h =
     ap (loses o' r) (lose_same o o' u w (h u.place (λ q. a.0 v mem (sym q)))) ∙ loses_toggle o o' r v (lose o u w) mem a.1 z y h
+loses_toggle o o' [] v w x5 a z y h = elim x5 [ ]
