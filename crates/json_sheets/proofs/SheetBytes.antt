@@ -34,11 +34,13 @@ every_of f (a ∷ l) h = rw (h a (inl refl)) (every_of f l (λ b w. h b (inr w))
 pub every_at : {A : Type 0} (f : A → Bool) (l : List A) → every f l ≡ true → (a : A) → Among a l → f a ≡ true
 every_at f (b ∷ l) e a (inl q) = ap f q ∙ (both {a = f b} {b = every f l} e).0
 every_at f (b ∷ l) e a (inr w) = every_at f l (both {a = f b} {b = every f l} e).1 a w
+every_at {A = A} f [] e a x'' = elim x'' [ ]
 
 -- a member's place
 place_of : (c : ℕ) (l : List ℕ) → Among c l → (i : ℕ) × (c ≡ get_or l i 0)
 place_of c (x ∷ l) (inl e) = (0, e)
 place_of c (x ∷ l) (inr w) = let p = place_of c l w in (suc p.0, p.1)
+place_of c [] x' = elim x' [ ]
 
 -- each number of each list is below a bound
 abbrev pub EachBelow : ℕ → List (List ℕ) → Type 0
