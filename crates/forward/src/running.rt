@@ -13,10 +13,10 @@ ghost use Rattle.forward.specs.Outcome.{refused_course, course_ended, course_out
 ghost use Rattle.forward.specs.Running.{DecidedAs, CourseWritten, run_ended, run_outcome};
 
 use basis::drawing::draw_points;
-use course_text::reading::{check_courses, read_records};
-use courses::moves::{first_of_course, gather_moves};
 use comma_text::reading::records::{Entries, HeaderAt, read_header};
 use comma_text::reading::settings_refusal;
+use course_text::reading::{check_courses, read_records};
+use courses::moves::{first_of_course, gather_moves};
 use recognition::settings::too_short;
 use residue::{bytes, sizes};
 use specification::settings::Settings;

@@ -42,6 +42,7 @@ none_faulty : {A : Type 0} (f : A → Bool) (l : List A) → first_fault f l ≡
 unfolding first_fault
 none_faulty f (b ∷ l) h a (inl e) = subst (λ (x : _). f x ≡ false) (sym e) (fault_step (f b) (first_fault f l) h).0
 none_faulty f (b ∷ l) h a (inr q) = none_faulty f l (fault_step (f b) (first_fault f l) h).1 a q
+none_faulty {A = A} f [] h a x'' = elim x'' [ ]
 
 -- the entries of a text of right form
 pub entries_all : (m n : ℕ) (l : List ℕ) → counted_entries 0 (entries_at m l) ≡ Count n → AllLong (suc m) (levels_at m l) × (length (levels_at m l) ≡ n)
