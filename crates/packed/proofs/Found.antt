@@ -43,6 +43,7 @@ module _ (D : Space) where
         go (so e) u ih = refl
         go (not_so n) (inl e) ih = absurd (n e)
         go (not_so n) (inr u) ih = ap suc (ih u)
+    index_snoc a b [] mem = elim mem [ ]
 
     index_last : (a : Mono) (l : List Mono) → ¬ Among a l → index_in D a (l ++ (a ∷ [])) ≡ length l
     unfolding index_in

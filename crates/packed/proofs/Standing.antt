@@ -81,6 +81,7 @@ module _ (D : Space) (S : List D.Pt) where
         go (so e) u ih = (omega arith, sym e)
         go (not_so n) (inl e) ih = absurd (n e)
         go (not_so n) (inr u) ih = let t = ih u in (omega (arith, t.0), t.1)
+    index_at a d [] mem = elim mem [ ]
 
     module _ (B : Boolean D) where
       open D use {m}

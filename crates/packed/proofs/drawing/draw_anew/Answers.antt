@@ -1,0 +1,59 @@
+-- `drawing::draw_anew` meets its contract: the tables are cleared, and the walk is that of the order.
+use mathlib.Core.Path.{◌≡◌, ap, ◌∙◌}
+use mathlib.Core.List.{List}
+use mathlib.Core.Logic.{◌≢◌}
+use Prim.Native.Nat.{ℕ, ◌≤◌}
+use native.Mathlib.Omega.{arith}
+use lib.ListN.{replicate}
+use Rattle.residue.specs.Sizes.{standard_size, leads_size, coefficients_size}
+use borrow.Author.Rules.{rules}
+use Rattle.packed.proofs.drawing.draw_anew.Reads as reads
+use Rattle.packed.proofs.drawing.draw_anew.Lts as lts
+use Rattle.packed.proofs.drawing.draw_grevlex.Reads as draw-grevlex-reads
+use Rattle.packed.proofs.drawing.draw_grlex.Reads as draw-grlex-reads
+use Rattle.packed.proofs.drawing.draw_lex.Reads as draw-lex-reads
+use Rattle.packed.proofs.drawing.draw_weighted.Reads as draw-weighted-reads
+use Rattle.residue.proofs.bytes.clear.Reads as clear_reads
+use Rattle.packed.proofs.drawing.draw_anew.Goals as goal
+use Rattle.packed.proofs.drawing.draw_anew.Goals.{After-clear-3, Start}
+
+-- the tables are cleared
+abbrev start : After-clear-3 → Start
+start k = (goal.at.After-clear-3 k).Start
+
+cleared : {t : List ℕ} {k n : ℕ} → k ≡ n → t ≡ replicate k 0 → t ≡ replicate n 0
+cleared l e = e ∙ ap (λ (k : ℕ). replicate k 0) l
+
+all_cleared : (k : After-clear-3)
+    → (k.clear.new.to ≡ replicate standard_size 0)
+    × ((k.clear-2.new.to ≡ replicate leads_size 0) × (k.clear-3.new.to ≡ replicate coefficients_size 0))
+all_cleared k = (
+  cleared (start k).requires.standard_len.0 k.clear.ensures,
+  (cleared (start k).requires.standard_len.1.0 k.clear-2.ensures, cleared (start k).requires.standard_len.1.1 k.clear-3.ensures),
+)
+
+last_order : (o : ℕ) → o ≤ 3 → o ≢ 0 → o ≢ 1 → o ≢ 2 → o ≡ 3
+last_order o h x y z = omega (arith, h, x, y, z)
+
+pub draw_lex-requires : goal.draw_lex-requires
+draw_lex-requires c = let k = c in record { points_given = ((start (goal.at.draw_lex-requires k).After-clear-3).requires.points_given.0, ((start (goal.at.draw_lex-requires k).After-clear-3).requires.points_given.1, c.if-settings-eq0.true)); standard_value = all_cleared (goal.at.draw_lex-requires k).After-clear-3 }
+
+pub draw_grlex-requires : goal.draw_grlex-requires
+draw_grlex-requires c = let k = c in record { points_given = ((start (goal.at.draw_grlex-requires k).After-clear-3).requires.points_given.0, ((start (goal.at.draw_grlex-requires k).After-clear-3).requires.points_given.1, c.if-settings-eq1.true)); standard_value = all_cleared (goal.at.draw_grlex-requires k).After-clear-3 }
+
+pub draw_grevlex-requires : goal.draw_grevlex-requires
+draw_grevlex-requires c = let k = c in record { points_given = ((start (goal.at.draw_grevlex-requires k).After-clear-3).requires.points_given.0, ((start (goal.at.draw_grevlex-requires k).After-clear-3).requires.points_given.1, c.if-settings-eq2.true)); standard_value = all_cleared (goal.at.draw_grevlex-requires k).After-clear-3 }
+
+pub draw_weighted-requires : goal.draw_weighted-requires
+draw_weighted-requires c = let k = c in record {
+  points_given = (
+    (start (goal.at.draw_weighted-requires k).After-clear-3).requires.points_given.0,
+    (
+      (start (goal.at.draw_weighted-requires k).After-clear-3).requires.points_given.1,
+      last_order (start (goal.at.draw_weighted-requires k).After-clear-3).args.settings.order (start (goal.at.draw_weighted-requires k).After-clear-3).requires.points_given.0.settings.order
+          c.if-settings-eq0.false c.if-settings-eq1.false
+          c.if-settings-eq2.false,
+    ),
+  );
+  standard_value = all_cleared (goal.at.draw_weighted-requires k).After-clear-3;
+}

@@ -1,0 +1,11 @@
+-- `drawing::draw_lex` meets its contract: the constant tables are those of lex.
+use Rattle.packed.proofs.SequenceTables.{lex_under_lem}
+use borrow.Author.Rules.{rules}
+use Rattle.packed.proofs.drawing.draw_lex.Reads as reads
+use Rattle.packed.proofs.drawing.draw_lex.Lts as lts
+use Rattle.packed.proofs.drawing.walk.Reads as walk-reads
+use Rattle.packed.proofs.drawing.draw_lex.Goals as goal
+
+pub walk-requires : goal.walk-requires
+walk-requires c = let s = c in
+    let t = lex_under_lem s.args.settings.order s.args.settings.weights s.args.settings.variables s.requires.points_given.1.1 s.requires.points_given.0.settings.few in record { points_given = (s.requires.points_given.0, s.requires.points_given.1.0); sequence = t.0; squares = t.1; standard_value = s.requires.standard_value }
