@@ -4,8 +4,10 @@
 
 use comma_text::reading;
 use comma_text::reading::Read;
-use libc::{STDIN_FILENO, STDOUT_FILENO};
 use residue::bytes;
+use std::fs::File;
+use std::io;
+use std::rt::Files;
 
 // Numbers stored in two or three bytes, the lowest first.
 fn word(low: u8, high: u8) -> u16 {
@@ -47,27 +49,34 @@ fn holds(buffer: &[u8], front: &[u8], behind: &[u8]) -> bool {
     bytes::same(&buffer[n..], behind)
 }
 
-// The next n bytes of the file.
-fn read_front(fd: i32, buffer: &mut [u8], n: usize) {
+// The next n bytes. Where fewer are left, what is missing stays as it was, and the case is held to that.
+fn read_front<R: io::Read>(input: &mut R, buffer: &mut [u8], n: usize) {
     if n <= buffer.len() {
-        io::read_full(fd, &mut buffer[..n]);
+        let _ = input.read_exact(&mut buffer[..n]);
     }
 }
 
 // An accepted text leaves n points, values and counts, and the weights, zeros behind them, and nothing beyond the sizes.
-fn filled(fd: i32, n: u8, states: &[u8], values: &[u8], counts: &[u8], weights: &[u8]) -> bool {
+fn filled<R: io::Read>(
+    input: &mut R,
+    n: u8,
+    states: &[u8],
+    values: &[u8],
+    counts: &[u8],
+    weights: &[u8],
+) -> bool {
     let count = n as usize;
     if 64 < count {
         return false;
     }
     let mut points = [0u8; 512];
-    read_front(fd, &mut points, 8 * count);
+    read_front(input, &mut points, 8 * count);
     let mut residues = [0u8; 64];
-    read_front(fd, &mut residues, count);
+    read_front(input, &mut residues, count);
     let mut times = [0u8; 64];
-    read_front(fd, &mut times, count);
+    read_front(input, &mut times, count);
     let mut eight = [0u8; 8];
-    read_front(fd, &mut eight, 8);
+    read_front(input, &mut eight, 8);
     if !holds(states, &points, &[170u8; 8]) {
         return false;
     }
@@ -154,7 +163,7 @@ fn read_parts(
 }
 
 // One text, lent buffers of these lengths, and what must be answered and left: 1 where it passed, 2 where it did not.
-fn run_text(fd: i32, length: usize, lent: Lent, want: Read) -> u8 {
+fn run_text<R: io::Read>(input: &mut R, length: usize, lent: Lent, want: Read) -> u8 {
     let mut text = [0u8; 70000];
     let mut states = [170u8; 520];
     let mut values = [170u8; 70];
@@ -162,7 +171,7 @@ fn run_text(fd: i32, length: usize, lent: Lent, want: Read) -> u8 {
     let mut weights = [170u8; 12];
     let refusal = want.refusal;
     let n = want.n;
-    read_front(fd, &mut text, length);
+    read_front(input, &mut text, length);
     let got = read_parts(
         &text,
         length,
@@ -176,7 +185,7 @@ fn run_text(fd: i32, length: usize, lent: Lent, want: Read) -> u8 {
         return 2;
     }
     if refusal == 0 {
-        if filled(fd, n, &states, &values, &counts, &weights) {
+        if filled(input, n, &states, &values, &counts, &weights) {
             return 1;
         }
         return 2;
@@ -188,10 +197,9 @@ fn run_text(fd: i32, length: usize, lent: Lent, want: Read) -> u8 {
 }
 
 // The next case, or 0 where there is none left.
-fn run_case(fd: i32) -> u8 {
+fn run_case<R: io::Read>(input: &mut R) -> u8 {
     let mut head = [0u8; 16];
-    let got = io::read_full(fd, &mut head);
-    if got < 16 {
+    if input.read_exact(&mut head).is_err() {
         return 0;
     }
     let length = size(head[0], head[1], head[2]);
@@ -209,51 +217,46 @@ fn run_case(fd: i32) -> u8 {
         order: head[14],
         n: head[15],
     };
-    run_text(fd, length, lent, want)
+    run_text(input, length, lent, want)
 }
 
 // A case that does not pass is printed by its place.
-fn tell(i: u64) {
-    io::write_all(STDOUT_FILENO, b"failed ");
-    io::print_decimal(STDOUT_FILENO, i);
-    io::write_all(STDOUT_FILENO, b"\n");
+fn tell(rt: &impl Print, i: u64) -> io::Result<()> {
+    println!(rt; "failed {i}")
 }
 
 // All cases, and how many passed. A proved loop has to end, so it counts its turns.
-fn run_all(fd: i32) -> u64 {
+fn run_all<R: io::Read>(rt: &impl Print, input: &mut R) -> io::Result<u64> {
     let mut passed: u64 = 0;
     for i in 0..65536u64 {
-        let verdict = run_case(fd);
+        let verdict = run_case(input);
         if verdict == 0 {
-            return passed;
+            return Ok(passed);
         }
         if verdict == 1 {
             passed += 1;
         } else {
-            tell(i);
+            tell(rt, i)?;
         }
     }
-    passed
+    Ok(passed)
 }
 
 // The cases of the file `texts`.
-fn run_file() -> u64 {
-    let path = b"texts";
-    let fd = os::open_read(path);
-    if fd < 0 {
-        os::fail(path);
-        return 0;
+fn run_file(rt: &(impl Files + Print + Eprint)) -> io::Result<u64> {
+    match File::open(rt, "texts") {
+        Ok(mut file) => run_all(rt, &mut file),
+        Err(error) => {
+            eprintln!(rt; "texts: {error}")?;
+            Ok(0)
+        }
     }
-    let passed = run_all(fd);
-    libc::close(fd);
-    passed
 }
 
-fn main() {
-    let mut passed = run_all(STDIN_FILENO);
+fn main(rt: HostRuntime) -> io::Result<()> {
+    let mut passed = run_all(&rt, &mut rt.stdin())?;
     if passed == 0 {
-        passed = run_file();
+        passed = run_file(&rt)?;
     }
-    io::print_decimal(STDOUT_FILENO, passed);
-    io::write_all(STDOUT_FILENO, b" passed\n");
+    println!(rt; "{passed} passed")
 }
