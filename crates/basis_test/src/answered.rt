@@ -3,10 +3,12 @@ use crate::buffers;
 use crate::stored::Head;
 use queries::remainders::remainder;
 use queries::values::{interpolate, wiring};
+use residue::bytes;
+use std::io;
 
 // The interpolant: the next bytes of the case.
-pub fn interpolated(
-    fd: i32,
+pub fn interpolated<R: io::Read>(
+    input: &mut R,
     head: Head,
     states: &[u8],
     standard: &[u8],
@@ -16,7 +18,7 @@ pub fn interpolated(
     values: &[i8],
 ) -> bool {
     let mut want = [0u8; 64];
-    buffers::read_front(fd, &mut want, head.n as usize);
+    buffers::read_front(input, &mut want, head.n as usize);
     let mut out = [170u8; 72];
     let settings = head.settings;
     let refusal = interpolate(
@@ -95,18 +97,18 @@ fn lists(
     if got.refusal != 0 {
         return false;
     }
-    if !check::same(buffers::back(&out, 8), &[170u8; 8]) {
+    if !bytes::same(buffers::back(&out, 8), &[170u8; 8]) {
         return false;
     }
     if !names(got.count, &out, variables) {
         return false;
     }
-    check::same(variables, &[0u8; 8])
+    bytes::same(variables, &[0u8; 8])
 }
 
 // The wiring list: the next bytes say which variables it has.
-pub fn wired(
-    fd: i32,
+pub fn wired<R: io::Read>(
+    input: &mut R,
     head: Head,
     states: &[u8],
     standard: &[u8],
@@ -116,7 +118,7 @@ pub fn wired(
     values: &[i8],
 ) -> bool {
     let mut variables = [0u8; 8];
-    buffers::read_front(fd, &mut variables, 8);
+    buffers::read_front(input, &mut variables, 8);
     lists(
         head,
         states,
@@ -130,8 +132,8 @@ pub fn wired(
 }
 
 // A polynomial's remainder: the next bytes.
-pub fn reduced(
-    fd: i32,
+pub fn reduced<R: io::Read>(
+    input: &mut R,
     head: Head,
     states: &[u8; 512],
     standard: &[u8; 512],
@@ -139,14 +141,14 @@ pub fn reduced(
     coefficients: &[u8; 28736],
     times: &[u8; 64],
 ) -> bool {
-    let count = buffers::read_byte(fd) as usize;
+    let count = buffers::read_byte(input) as usize;
     let size = 8 * count;
     let mut terms = [0i8; 256];
-    buffers::read_levels(fd, &mut terms, count);
+    buffers::read_levels(input, &mut terms, count);
     let mut exponents = [0u8; 2048];
-    buffers::read_front(fd, &mut exponents, size);
+    buffers::read_front(input, &mut exponents, size);
     let mut want = [0u8; 64];
-    buffers::read_front(fd, &mut want, head.n as usize);
+    buffers::read_front(input, &mut want, head.n as usize);
     let mut out = [170u8; 72];
     let settings = head.settings;
     let refusal = remainder(

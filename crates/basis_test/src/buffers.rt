@@ -1,5 +1,6 @@
 // Parts and contents of buffers. A part that is too long is the whole buffer, so that no caller has to prove a bound.
-use residue::level;
+use residue::{bytes, level};
+use std::io;
 
 pub fn front(s: &[u8], n: usize) -> &[u8] {
     if n <= s.len() { &s[..n] } else { s }
@@ -30,36 +31,35 @@ fn put_signed(from: &[u8], levels: &mut [i8]) {
     }
 }
 
-// The next bytes of a file: whether there are as many.
-pub fn read_all(fd: i32, buffer: &mut [u8]) -> bool {
-    let got = io::read_full(fd, buffer);
-    got == buffer.len()
+// The next bytes: whether there are as many.
+pub fn read_all<R: io::Read>(input: &mut R, buffer: &mut [u8]) -> bool {
+    input.read_exact(buffer).is_ok()
 }
 
-// The next n bytes.
-pub fn read_front(fd: i32, buffer: &mut [u8], n: usize) {
-    io::read_full(fd, front_mut(buffer, n));
+// The next n bytes. Where fewer are left, what is missing stays as it was, and the case is held to that.
+pub fn read_front<R: io::Read>(input: &mut R, buffer: &mut [u8], n: usize) {
+    let _ = input.read_exact(front_mut(buffer, n));
 }
 
 // The next n bytes as levels, at most 512.
-pub fn read_levels(fd: i32, levels: &mut [i8], n: usize) {
+pub fn read_levels<R: io::Read>(input: &mut R, levels: &mut [i8], n: usize) {
     let mut read = [0u8; 512];
-    read_front(fd, &mut read, n);
+    read_front(input, &mut read, n);
     put_signed(front(&read, n), levels);
 }
 
-pub fn read_byte(fd: i32) -> u8 {
+pub fn read_byte<R: io::Read>(input: &mut R) -> u8 {
     let mut byte = [0u8; 1];
-    io::read_full(fd, &mut byte);
+    read_front(input, &mut byte, 1);
     byte[0]
 }
 
 // Whether a buffer begins with these bytes, and the guard of 8 bytes behind them is still 170.
 pub fn holds(buffer: &[u8], want: &[u8]) -> bool {
-    if !check::same(front(buffer, want.len()), want) {
+    if !bytes::same(front(buffer, want.len()), want) {
         return false;
     }
-    check::same(back(buffer, want.len()), &[170u8; 8])
+    bytes::same(back(buffer, want.len()), &[170u8; 8])
 }
 
 // Whether byte n of a buffer, counted from 1, is this one.

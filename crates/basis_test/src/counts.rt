@@ -1,5 +1,5 @@
 // How many trials of each part passed, and how many did not.
-use libc::STDOUT_FILENO;
+use std::io;
 
 // The parts and their sum; the failures of each stand 8 places on.
 pub const DRAWN: usize = 0;
@@ -19,7 +19,7 @@ const SUM: usize = 6;
 // The counts stay far below 2^64, and wrapping asks for no proof of it.
 fn bump(counts: &mut [u64; 16], at: usize) {
     if at < 16 {
-        counts[at] = std::num::wrapping_add_u64(counts[at], 1);
+        counts[at] = counts[at].wrapping_add(1);
     }
 }
 
@@ -28,7 +28,7 @@ pub fn count(counts: &mut [u64; 16], part: usize, passed: bool) {
         bump(counts, part);
         bump(counts, SUM);
     } else {
-        bump(counts, std::num::wrapping_add_usize(part, 8));
+        bump(counts, part.wrapping_add(8));
         bump(counts, SUM + 8);
     }
 }
@@ -47,32 +47,29 @@ pub fn is_empty(counts: &[u64; 16]) -> bool {
 }
 
 // Names a case by its place where one of its trials has failed.
-pub fn tell(counts: &[u64; 16], before: u64, place: u64) {
-    if failures(counts) != before {
-        io::write_all(STDOUT_FILENO, b"failed at ");
-        io::print_decimal(STDOUT_FILENO, place);
-        io::write_all(STDOUT_FILENO, b"\n");
+pub fn tell(rt: &impl Print, counts: &[u64; 16], before: u64, place: u64) -> io::Result<()> {
+    if failures(counts) == before {
+        return Ok(());
     }
+    println!(rt; "failed at {place}")
 }
 
 // The line of a part.
-fn print(counts: &[u64; 16], part: usize, name: &[u8]) {
-    if part < 8 {
-        io::write_all(STDOUT_FILENO, name);
-        io::write_all(STDOUT_FILENO, b": ");
-        io::print_decimal(STDOUT_FILENO, counts[part]);
-        io::write_all(STDOUT_FILENO, b" passed, ");
-        io::print_decimal(STDOUT_FILENO, counts[part + 8]);
-        io::write_all(STDOUT_FILENO, b" failed\n");
+fn print(rt: &impl Print, counts: &[u64; 16], part: usize, name: &str) -> io::Result<()> {
+    if 8 <= part {
+        return Ok(());
     }
+    let passed = counts[part];
+    let failed = counts[part + 8];
+    println!(rt; "{name}: {passed} passed, {failed} failed")
 }
 
-pub fn print_all(counts: &[u64; 16]) {
-    print(counts, DRAWN, b"bases drawn up");
-    print(counts, ADDED, b"last points added");
-    print(counts, INTERPOLATED, b"interpolants");
-    print(counts, WIRED, b"wiring lists");
-    print(counts, REDUCED, b"remainders");
-    print(counts, REFUSED, b"lists refused");
-    print(counts, SUM, b"sum");
+pub fn print_all(rt: &impl Print, counts: &[u64; 16]) -> io::Result<()> {
+    print(rt, counts, DRAWN, "bases drawn up")?;
+    print(rt, counts, ADDED, "last points added")?;
+    print(rt, counts, INTERPOLATED, "interpolants")?;
+    print(rt, counts, WIRED, "wiring lists")?;
+    print(rt, counts, REDUCED, "remainders")?;
+    print(rt, counts, REFUSED, "lists refused")?;
+    print(rt, counts, SUM, "sum")
 }

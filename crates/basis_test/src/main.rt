@@ -8,24 +8,23 @@ mod counts;
 mod stored;
 mod written;
 
-use libc::STDIN_FILENO;
+use std::fs::File;
+use std::io;
+use std::rt::Files;
 
-fn run_file(counts: &mut [u64; 16]) {
-    let path = b"cases";
-    let fd = os::open_read(path);
-    if fd < 0 {
-        os::fail(path);
-        return;
+// The cases of the file `cases`.
+fn run_file(rt: &(impl Files + Print + Eprint), counts: &mut [u64; 16]) -> io::Result<()> {
+    match File::open(rt, "cases") {
+        Ok(mut file) => stored::run(rt, &mut file, counts),
+        Err(error) => eprintln!(rt; "cases: {error}"),
     }
-    stored::run(fd, counts);
-    libc::close(fd);
 }
 
-fn main() {
+fn main(rt: HostRuntime) -> io::Result<()> {
     let mut counts = [0u64; 16];
-    stored::run(STDIN_FILENO, &mut counts);
+    stored::run(&rt, &mut rt.stdin(), &mut counts)?;
     if counts::is_empty(&counts) {
-        run_file(&mut counts);
+        run_file(&rt, &mut counts)?;
     }
-    counts::print_all(&counts);
+    counts::print_all(&rt, &counts)
 }

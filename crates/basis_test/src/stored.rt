@@ -1,9 +1,10 @@
 // The stored cases, one after the other.
 use crate::{answered, buffers, counts, written};
 use specification::settings::Settings;
+use std::io;
 
 // The head of a case: settings, the refusal due, counts, and how many bytes of it follow.
-#[derive(Drop)]
+#[derive(Clone, Copy)]
 pub struct Head {
     pub more: bool,
     pub settings: Settings,
@@ -31,9 +32,9 @@ fn wide_word(low: u8, high: u8) -> u64 {
 }
 
 // The stored cases have no weights.
-fn read_head(fd: i32) -> Head {
+fn read_head<R: io::Read>(input: &mut R) -> Head {
     let mut head = [0u8; 20];
-    let got = buffers::read_all(fd, &mut head);
+    let got = buffers::read_all(input, &mut head);
     let settings = Settings {
         modulus: wide_word(head[0], head[1]),
         variables: wide(head[2]),
@@ -75,8 +76,8 @@ fn try_points(
 }
 
 // The calls that answer; the answers due follow in the file.
-fn try_answers(
-    fd: i32,
+fn try_answers<R: io::Read>(
+    input: &mut R,
     head: Head,
     all_values: &[i8; 64],
     states: &[u8; 512],
@@ -88,7 +89,7 @@ fn try_answers(
 ) {
     let values = buffers::signed_front(all_values, head.n as usize);
     let interpolated = answered::interpolated(
-        fd,
+        input,
         head,
         states,
         standard,
@@ -99,7 +100,7 @@ fn try_answers(
     );
     counts::count(counts, counts::INTERPOLATED, interpolated);
     let wired = answered::wired(
-        fd,
+        input,
         head,
         states,
         standard,
@@ -109,26 +110,26 @@ fn try_answers(
         values,
     );
     counts::count(counts, counts::WIRED, wired);
-    let first = answered::reduced(fd, head, states, standard, leads, coefficients, times);
+    let first = answered::reduced(input, head, states, standard, leads, coefficients, times);
     counts::count(counts, counts::REDUCED, first);
-    let second = answered::reduced(fd, head, states, standard, leads, coefficients, times);
+    let second = answered::reduced(input, head, states, standard, leads, coefficients, times);
     counts::count(counts, counts::REDUCED, second);
 }
 
 // Reads the tables of a case that is accepted and tries the calls.
-fn run_basis(fd: i32, head: Head, levels: &[i8], counts: &mut [u64; 16]) {
+fn run_basis<R: io::Read>(input: &mut R, head: Head, levels: &[i8], counts: &mut [u64; 16]) {
     let mut values = [0i8; 64];
-    buffers::read_levels(fd, &mut values, head.n as usize);
+    buffers::read_levels(input, &mut values, head.n as usize);
     let mut states = [0u8; 512];
-    buffers::read_front(fd, &mut states, head.points as usize);
+    buffers::read_front(input, &mut states, head.points as usize);
     let mut standard = [0u8; 512];
-    buffers::read_front(fd, &mut standard, head.points as usize);
+    buffers::read_front(input, &mut standard, head.points as usize);
     let mut leads = [0u8; 3592];
-    buffers::read_front(fd, &mut leads, head.leads as usize);
+    buffers::read_front(input, &mut leads, head.leads as usize);
     let mut coefficients = [0u8; 28736];
-    buffers::read_front(fd, &mut coefficients, head.coefficients as usize);
+    buffers::read_front(input, &mut coefficients, head.coefficients as usize);
     let mut times = [0u8; 64];
-    buffers::read_front(fd, &mut times, head.n as usize);
+    buffers::read_front(input, &mut times, head.n as usize);
     try_points(
         head,
         levels,
@@ -140,7 +141,7 @@ fn run_basis(fd: i32, head: Head, levels: &[i8], counts: &mut [u64; 16]) {
         counts,
     );
     try_answers(
-        fd,
+        input,
         head,
         &values,
         &states,
@@ -166,26 +167,27 @@ fn run_refused(head: Head, levels: &[i8], counts: &mut [u64; 16]) {
     counts::count(counts, counts::REFUSED, passed);
 }
 
-fn run_case(fd: i32, head: Head, counts: &mut [u64; 16]) {
+fn run_case<R: io::Read>(input: &mut R, head: Head, counts: &mut [u64; 16]) {
     let mut levels = [0i8; 512];
     let count = head.levels as usize;
-    buffers::read_levels(fd, &mut levels, count);
+    buffers::read_levels(input, &mut levels, count);
     if head.refusal == 0 {
-        run_basis(fd, head, buffers::signed_front(&levels, count), counts);
+        run_basis(input, head, buffers::signed_front(&levels, count), counts);
     } else {
         run_refused(head, buffers::signed_front(&levels, count), counts);
     }
 }
 
-// All cases of a file. A proved loop has to end, so it counts its turns.
-pub fn run(fd: i32, counts: &mut [u64; 16]) {
+// All cases of an input. A proved loop has to end, so it counts its turns.
+pub fn run<R: io::Read>(rt: &impl Print, input: &mut R, counts: &mut [u64; 16]) -> io::Result<()> {
     for i in 0..65536u64 {
-        let head = read_head(fd);
+        let head = read_head(input);
         if !head.more {
-            return;
+            break;
         }
         let failed = counts::failures(counts);
-        run_case(fd, head, counts);
-        counts::tell(counts, failed, i);
+        run_case(input, head, counts);
+        counts::tell(rt, counts, failed, i)?;
     }
+    Ok(())
 }
