@@ -2,37 +2,42 @@
 ghost use Rattle.misqafur_cli.specs.Moving.{Fits};
 
 use crate::retry;
-use crate::retry::Moved;
+use std::io;
+use std::rt::Clock;
 
-// The next bytes of standard input, at the front of the buffer: as many as one read gives, and none at the end.
-fn read_some(buffer: &mut [u8]) -> Moved
+// The next bytes of the input, at the front of the buffer: as many as one read gives, and none at the end.
+fn read_some<R: io::Read>(rt: &impl Clock, input: &mut R, buffer: &mut [u8]) -> io::Result<usize>
     ensures { Fits result buffer.new }
 {
     let mut tries = retry::TRIES;
-    while tries > 0 {
-        let got = libc::read(libc::STDIN_FILENO, buffer);
-        if got >= 0 {
-            return Moved::Bytes(io::count(got, buffer));
+    loop {
+        match input.read(buffer) {
+            Ok(got) => return Ok(got),
+            Err(error) => {
+                tries = retry::tries_left(rt, error.kind(), tries);
+                if tries == 0 {
+                    return Err(error);
+                }
+            }
         }
-        tries = retry::tries_left(got, tries);
     }
-    os::fail(b"misqafur: reading standard input");
-    Moved::Failed
 }
 
-// Standard input up to its end, or as much of it as the buffer holds. What came before an error is not answered, so that nothing is taken for the whole text.
-pub fn read_text(buffer: &mut [u8]) -> Moved
+// The input up to its end, or as much of it as the buffer holds. What came before an error is not answered, so that nothing is taken for the whole text.
+pub fn read_text<R: io::Read>(
+    rt: &impl Clock,
+    input: &mut R,
+    buffer: &mut [u8],
+) -> io::Result<usize>
     ensures { Fits result buffer.new }
 {
     let mut at = 0;
     while at < buffer.len() {
-        let Moved::Bytes(n) = read_some(&mut buffer[at..]) else {
-            return Moved::Failed;
-        };
-        if n == 0 {
+        let got = read_some(rt, input, &mut buffer[at..])?;
+        if got == 0 {
             break;
         }
-        at += n;
+        at += got;
     }
-    Moved::Bytes(at)
+    Ok(at)
 }

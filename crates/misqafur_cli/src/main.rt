@@ -5,15 +5,20 @@
 mod input;
 mod output;
 mod retry;
+mod telling;
 
-use retry::Moved;
+use std::io;
 
-fn main() {
+fn main(rt: HostRuntime) -> io::Result<()> {
     let mut text = [0u8; 16385];
     let mut out = [0u8; 131072];
-    let Moved::Bytes(got) = input::read_text(&mut text) else {
-        return;
+    let got = match input::read_text(&rt, &mut rt.stdin(), &mut text) {
+        Ok(got) => got,
+        Err(error) => return telling::tell(&rt, "reading standard input", error),
     };
     let n = printing::text::print_text(&text[..got], &mut out);
-    output::write_sheet(&out[..n]);
+    match output::write_sheet(&rt, &mut rt.stdout(), &out[..n]) {
+        Ok(()) => Ok(()),
+        Err(error) => telling::tell(&rt, "writing standard output", error),
+    }
 }

@@ -1,33 +1,45 @@
-// Writing standard output: a write may take a part only, and an error is told on standard error.
+// Writing standard output: a write may take a part only.
 ghost use Rattle.misqafur_cli.specs.Moving.{Advances};
 
 use crate::retry;
-use crate::retry::Moved;
+use std::io;
+use std::io::ErrorKind;
+use std::rt::Clock;
+
+// One write, which takes at least one byte or has failed.
+fn write_once<W: io::Write>(output: &mut W, bytes: &[u8]) -> io::Result<usize>
+    ensures { Advances result bytes.now }
+{
+    let put = output.write(bytes)?;
+    if put == 0 {
+        return Err(io::Error::from(ErrorKind::WriteZero));
+    }
+    Ok(put)
+}
 
 // Writes the first of the bytes, as many as one write takes, and at least one.
-fn write_some(bytes: &[u8]) -> Moved
+fn write_some<W: io::Write>(rt: &impl Clock, output: &mut W, bytes: &[u8]) -> io::Result<usize>
     ensures { Advances result bytes.now }
 {
     let mut tries = retry::TRIES;
-    while tries > 0 {
-        let put = libc::write(libc::STDOUT_FILENO, bytes);
-        let n = io::count(put, bytes);
-        if n > 0 {
-            return Moved::Bytes(n);
+    loop {
+        match write_once(output, bytes) {
+            Ok(put) => return Ok(put),
+            Err(error) => {
+                tries = retry::tries_left(rt, error.kind(), tries);
+                if tries == 0 {
+                    return Err(error);
+                }
+            }
         }
-        tries = retry::tries_left(put, tries);
     }
-    os::fail(b"misqafur: writing standard output");
-    Moved::Failed
 }
 
 // Writes all the bytes, or those before an error.
-pub fn write_sheet(sheet: &[u8]) {
+pub fn write_sheet<W: io::Write>(rt: &impl Clock, output: &mut W, sheet: &[u8]) -> io::Result<()> {
     let mut at = 0;
     while at < sheet.len() {
-        let Moved::Bytes(n) = write_some(&sheet[at..]) else {
-            return;
-        };
-        at += n;
+        at += write_some(rt, output, &sheet[at..])?;
     }
+    Ok(())
 }

@@ -1,2 +1,0 @@
--- The lemmas of the crate misqafur_cli.
-pub mod Counted
