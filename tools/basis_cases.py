@@ -2,13 +2,12 @@
 """Write the stored cases of the test program basis_test: points, and what the calls must answer and leave for them.
 
 usage: tools/basis_cases.py CASES STDOUT [PATTERN]
-       tools/basis_cases.py --parts FOLDER
 Writes the cases to the file CASES (crates/basis_test/data/cases) and what the program prints for them to STDOUT
-(crates/basis_test/stdout); of the cases only those whose names match PATTERN, if it is given. With --parts they are cut
-into parts as tools/text_cases.py does it. They are made of tests/texts/vectors (NAME.csv with what the program prints for
-it in NAME.txt), tests/remainders (NAME.rem: the same points, two polynomials and their remainders) and
-tests/cancellations (a line for each NAME: how many cancellations drawing up these points takes). The bases, interpolants
-and remainders were computed by Singular 4.3.1 and agree with Macaulay2 1.21.
+(crates/basis_test/stdout); of the cases only those whose names match PATTERN, if it is given. They are made of
+tests/texts/vectors (NAME.csv with what the program prints for it in NAME.txt), tests/remainders (NAME.rem: the same
+points, two polynomials and their remainders) and tests/cancellations (a line for each NAME: how many cancellations
+drawing up these points takes). The bases, interpolants and remainders were computed by Singular 4.3.1 and agree with
+Macaulay2 1.21.
 
 A case is a head of 20 bytes and, in this order: levels and values, as signed bytes; the bytes that the tables of
 points, standard monomials, leading monomials, coefficients and counts begin with; the interpolant; 8 bytes, 1 for each
@@ -23,7 +22,7 @@ its levels, at most 512, behind the head, and nothing else.
 import fnmatch, os, sys
 
 sys.dont_write_bytecode = True
-from text_cases import TESTS, levels_in, parts, write, write_parts
+from text_cases import TESTS, levels_in, write
 
 VECTORS = os.path.join(TESTS, "texts", "vectors")
 REMAINDERS = os.path.join(TESTS, "remainders")
@@ -137,15 +136,6 @@ def refusals():
     yield "replicates-256-outside", refused((11, 2, 1), [-1, 3, 10, 3] * 127 + [10, 3, 10, 11], 9)
 
 
-# What the calls of a case cost goes with the cancellations of drawing up its points, and is never less than that of 100; a list
-# that is refused costs next to nothing. 10,000 of them take the program with its assumptions checked about a second.
-MOST_WORK = 10000
-
-
-def work(case):
-    return 1 if case[4] else 100 + int.from_bytes(case[18:20], "little")
-
-
 def print_of(cases):
     bases = [case for case in cases if case[4] == 0]
     added = sum(case[5] > 0 for case in bases)
@@ -159,11 +149,8 @@ def main():
     names = sorted(name[:-4] for name in os.listdir(REMAINDERS))
     counted = counts()
     found = dict([(name, accepted(name, counted[name])) for name in names] + list(refusals()))
-    if sys.argv[1] == "--parts":
-        write_parts(parts(found.values(), work, MOST_WORK), print_of, sys.argv[2])
-    else:
-        chosen = fnmatch.filter(found, sys.argv[3] if len(sys.argv) > 3 else "*")
-        write([found[name] for name in chosen], print_of, *sys.argv[1:3])
+    chosen = fnmatch.filter(found, sys.argv[3] if len(sys.argv) > 3 else "*")
+    write([found[name] for name in chosen], print_of, *sys.argv[1:3])
 
 
 if __name__ == "__main__":

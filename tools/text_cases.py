@@ -2,11 +2,8 @@
 """Write the cases of the test program csv_test: stored texts with what the text reader must answer and leave.
 
 usage: tools/text_cases.py CASES STDOUT [STEP]
-       tools/text_cases.py --parts FOLDER
 Writes the cases to the file CASES (crates/csv_test/data/texts) and what the program prints for them to STDOUT
-(crates/csv_test/stdout); of the cases only every STEP-th, if it is given. With --parts each case goes to one of the
-folders FOLDER/1, FOLDER/2, .. as many as it takes, each with its own files `cases` and `stdout`, so that the program
-with the compiler's assumptions checked takes at most about a second for each. They are made of the folders of tests/texts
+(crates/csv_test/stdout); of the cases only every STEP-th, if it is given. They are made of the folders of tests/texts
 (NAME.csv with the expected print in NAME.txt) and of tests/c/data/fuzz.txt (lines `HEX -> refused N R` and
 `HEX -> read P M ORDER N`). Points and values are read by Python's own csv module, and replicates counted here.
 
@@ -164,34 +161,8 @@ def write(cases, print_of, cases_file, stdout_file):
         file.write(print_of(cases))
 
 
-def parts(cases, work, most):
-    """The cases, from the largest to the smallest, each in the first part that then holds no more than so much work; one of
-    more than that is a part of its own."""
-    found = []
-    for case in sorted(cases, key=work, reverse=True):
-        part = next((part for part in found if part[0] + work(case) <= most), None)
-        if part is None:
-            part = [0, []]
-            found.append(part)
-        part[0] += work(case)
-        part[1].append(case)
-    return [held for _, held in found]
-
-
-def write_parts(cases, print_of, folder):
-    """The parts, each in a folder of its own."""
-    for number, held in enumerate(cases, 1):
-        where = os.path.join(folder, str(number))
-        os.makedirs(where)
-        write(held, print_of, os.path.join(where, "cases"), os.path.join(where, "stdout"))
-
-
 def print_of(cases):
     return "%d passed\n" % len(cases)
-
-
-# Reading 4,000,000 bytes of text takes the program with its assumptions checked less than a second.
-MOST_BYTES = 4000000
 
 
 def main():
@@ -199,10 +170,7 @@ def main():
     cases += fuzz(os.path.join(TESTS, "c", "data", "fuzz.txt"))
     cases += lengths()
     cases += weights()
-    if sys.argv[1] == "--parts":
-        write_parts(parts(cases, len, MOST_BYTES), print_of, sys.argv[2])
-    else:
-        write(cases[:: int(sys.argv[3]) if len(sys.argv) > 3 else 1], print_of, *sys.argv[1:3])
+    write(cases[:: int(sys.argv[3]) if len(sys.argv) > 3 else 1], print_of, *sys.argv[1:3])
 
 
 if __name__ == "__main__":
