@@ -1,12 +1,12 @@
 # Installs the archive, the shared library made from it, the header, pkg-config files, a CMake package, the manual pages, the
-# Python module and the program. `rt staticlib misqafur` writes the archive, `rt check misqafur_cli` the program.
+# Python module and the program. `rt lib` in crates/misqafur writes the archive, `rt run` in crates/misqafur_cli the program.
 # A relative PREFIX or LIBDIR begins at this folder. PYTHONDIR is where the Python module goes (tools/install says where that is).
 
 PREFIX = /usr/local
 LIBDIR = $(PREFIX)/lib
 PYTHONDIR =
-ARCHIVE = target/staticlib/libmisqafur.a
-PROGRAM = target/bin/misqafur_cli
+ARCHIVE = crates/misqafur/out/libmisqafur.a
+PROGRAM = crates/misqafur_cli/out/misqafur_cli
 export PREFIX LIBDIR PYTHONDIR DESTDIR ARCHIVE PROGRAM
 
 .PHONY: shared wheel install uninstall check-install

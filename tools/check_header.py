@@ -16,7 +16,7 @@ import check_versions
 
 ROOT = pathlib.Path(__file__).resolve().parent.parent
 NUMBERS = {"u8": "uint8_t", "u32": "uint32_t", "u64": "uint64_t"}
-EXPORT = re.compile(r'#\[no_mangle\]\s+pub extern "C" fn (\w+)\s*\(([^)]*)\)(?:\s*->\s*([^\s{]+))?')
+EXPORT = re.compile(r'#\[unsafe\(no_mangle\)\]\s+pub extern "C" fn (\w+)\s*\(([^)]*)\)(?:\s*->\s*([^\s{]+))?')
 PROTOTYPE = re.compile(r"([\w\s*]+?)\b(\w+)\s*\(([^)]*)\)\s*;")
 TOLD = re.compile(r"^MISQAFUR_TOLD\((\w+),([^;]*)\);", re.M)
 LENT = re.compile(r"MISQAFUR_LENT(_TABLES)?\((\w+), (\d+)\)")
@@ -57,7 +57,7 @@ def exports(source):
             raise Unclear(f"no C type is known for the answer of {name}, `{answer}`")
         declared = [c for argument in pieces(arguments) for c in as_c(argument)]
         found[name] = (NUMBERS.get(answer, "void"), declared)
-    marked = max(source.count("#[no_mangle]"), len(re.findall(r'\bextern\s+"C"', source)))
+    marked = max(source.count("no_mangle"), len(re.findall(r'\bextern\s+"C"', source)))
     if marked != len(found):
         raise Unclear(f"{marked} functions are marked as exports, and {len(found)} can be read")
     return found
@@ -151,14 +151,14 @@ def changes(wanted, given):
 
 
 SOURCE = """
-#[no_mangle]
+#[unsafe(no_mangle)]
 pub extern "C" fn misqafur_abi_7() -> u32 { 70000 }
-#[no_mangle]
+#[unsafe(no_mangle)]
 pub extern "C" fn one(order: u64, text: &[u8], out: &mut [u8]) -> u32
     ensures { it } { 0 }
-#[no_mangle]
+#[unsafe(no_mangle)]
 pub extern "C" fn two(n: u64, r: u64,) -> u64 { 0 }
-#[no_mangle]
+#[unsafe(no_mangle)]
 pub extern "C" fn six(a: &mut [u8], b: &mut [u8], levels: &[i8]) -> u32 { 0 }
 """
 HEADER = """
@@ -196,7 +196,7 @@ TRIES = [
     (HEADER, "uint64_t two(uint64_t n, uint64_t r);", ""),
     (HEADER, "static", "int four(void);\nstatic"), (HEADER, "static", "extern int five;\nstatic"),
     (HEADER, "static", "uint64_t two(uint64_t n, uint64_t r);\nstatic"),
-    (SOURCE, "n: u64", "n: u16"), (SOURCE, '#[no_mangle]\npub extern "C" fn two', 'pub extern "C" fn two'),
+    (SOURCE, "n: u64", "n: u16"), (SOURCE, '#[unsafe(no_mangle)]\npub extern "C" fn two', 'pub extern "C" fn two'),
     (SOURCE, 'pub extern "C" fn two', "pub fn two"), (SOURCE, SOURCE, ""), (HEADER, HEADER, ""),
     (HEADER, "TOLD(one", "TOLD(uno"), (HEADER, "MISQAFUR_TOLD(two, );", ""), (HEADER, "read_only, 2", "read_only, 3"),
     (HEADER, "read_only, 2", "write_only, 2"), (HEADER, "write_only, 4", "read_only, 4"),

@@ -13,7 +13,7 @@ import sys
 
 ROOT = pathlib.Path(__file__).resolve().parent.parent
 # Every crate that crates.txt lists but those of text and programs, so that a new one is looked at too.
-OTHERS = {"notation", "csv", "writing", "json", "printing", "misqafur", "misqafur_cli", "csv_test", "basis_test"}
+OTHERS = {"notation", "comma_text", "writing", "json_text", "printing", "misqafur", "misqafur_cli", "csv_test", "basis_test"}
 CRATES = [name for name in re.findall(r"^(\w+):", (ROOT / "crates.txt").read_text(), re.MULTILINE) if name not in OTHERS]
 COUNTS = {"usize", "u32", "u64"}
 HALVED = {("power", "left"), ("multiply_powers", "left")}

@@ -22,7 +22,7 @@ def _library():
     abi = re.search(r"^ABI = (\d+)$", (ROOT / "python/misqafur/version.py").read_text(encoding="utf-8"), re.M).group(1)
     place = ROOT / f"target/shared/libmisqafur.so.{abi}"
     if not place.exists():
-        raise SystemExit(f"{place.relative_to(ROOT)} is not there: `rt staticlib misqafur && make shared` makes it")
+        raise SystemExit(f"{place.relative_to(ROOT)} is not there: `rt lib` in crates/misqafur and then `make shared` make it")
     return place
 
 
