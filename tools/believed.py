@@ -1,13 +1,15 @@
 """What has to be believed, for tools/check_documents.py: the files of specs/ that the contracts of the operations (README, 'Calls in
 Rattle') and of the exports reach, and those that the statements reach besides of the theorems that README names in the line above its
 table `| crate | contracts reach | theorems besides |`. A contract or statement reaches the definitions whose names it uses, by the
-`use` lines of its file; a definition those that its own text uses. What src/ declares, structs and enums, is not followed."""
+`use` lines of its file; a definition those that its own text uses. What src/ declares, structs and enums, and what the kit defines
+(std, core and the other crates that are none of the repository's) is not followed."""
 import os
 import re
 
 CALLS, HEAD = "| call | answers |", "| crate | contracts reach | theorems besides |"
 THEOREMS = "| theorem | file under proofs/ | it says |"
-USE = re.compile(r"^(?:ghost )?use Rattle·(\w+?)(?:·\w+)?\.(specs|proofs)\.([\w.-]+?)(?:\.\{([^}]*)\})?(?: as (\w+))?;?$", re.M)
+USE = re.compile(r"^(?:ghost )?use Rattle\.(\w+)\.(specs|proofs)\.([\w.]+?)(?:\.\{([^}]*)\})?(?: as (\w+))?;?$", re.M)
+PROMISE = re.compile(r"^    ensures\*?(?: \w+)? \{(.*?)\}$(?=\n(?:    (?:ensures|requires)|\{))", re.S | re.M)
 NAME = re.compile(r"(?:(?:abbrev|unfoldable|opaque|pub|record|data) +)*([^\s:({]+)")
 WORD = re.compile(r"[^\s(){},;⌜⌝]+")
 
@@ -59,7 +61,7 @@ class Tree:
 def loaded(root):
     files = {}
     for folder, folders, names in os.walk(root):
-        folders[:] = [name for name in folders if name not in (".git", "target", "__pycache__")]
+        folders[:] = [name for name in folders if name not in (".git", "target", "out", "__pycache__")]
         for name in names:
             text, path = "", os.path.join(folder, name)
             if name.endswith((".rt", ".antt", ".md", ".h")):
@@ -75,11 +77,12 @@ def ticked(text):
 
 
 def used(text):
-    """The names that a text imports, each with where it stands: crate, specs or proofs, module."""
+    """The names that a text imports, each with where it stands, crate, specs or proofs, module, and its name there."""
     found = {}
     for crate, kind, module, names, alias in USE.findall(text):
-        for name in [alias + "."] if alias else [name.strip() for name in names.split(",")]:
-            found[name] = (crate, kind, module.replace(".", "/"))
+        for name in [alias + "."] if alias else names.split(","):
+            own, _, here = name.strip().partition(" as ")
+            found[here or own] = ((crate, kind, module.replace(".", "/")), own)
     return found
 
 
@@ -102,9 +105,9 @@ def cited(text, imports):
     for word in WORD.findall(text):
         front, dot, back = word.partition(".")
         if word.strip(".") in imports:
-            yield imports[word.strip(".")], word.strip(".")
+            yield imports[word.strip(".")]
         elif dot and front + "." in imports:
-            yield imports[front + "."], back
+            yield imports[front + "."][0], back
 
 
 def reached(tree, names):
@@ -113,7 +116,7 @@ def reached(tree, names):
     while left:
         at, name = left.pop()
         path = "crates/{}/{}/{}.antt".format(*at)
-        if (at, name) in seen or "/declared/" in path:
+        if (at, name) in seen or "/declared/" in path or at[0] not in tree.crates:
             continue
         seen.add((at, name))
         if at[1] == "proofs" or path not in tree.files:
@@ -125,7 +128,7 @@ def reached(tree, names):
         if not bodies:
             raise Unclear(f"{name} is not found in {path}")
         for body in bodies:
-            left += cited(body, imports | {other: at for other in own if other != name})
+            left += cited(body, imports | {other: (at, other) for other in own if other != name})
     return {(crate, module) for (crate, _, module), _ in seen}
 
 
@@ -139,10 +142,10 @@ def promised(tree):
         calls.append((f"crates/{told[1]}/src/{told[2].replace('::', '/')}.rt", told[3]))
     for path, text in tree.files.items():
         if path.startswith("crates/misqafur/src/"):
-            calls += [(path, name) for name in re.findall(r'#\[no_mangle\]\s+pub extern "C" fn (\w+)', text)]
+            calls += [(path, name) for name in re.findall(r'#\[unsafe\(no_mangle\)\]\s+pub extern "C" fn (\w+)', text)]
     for path, name in calls:
         told = re.search(rf"^pub (?:extern \"C\" )?fn {name}\(.*?^\{{$", tree.files.get(path, ""), re.S | re.M)
-        promise = told and "".join(re.findall(r"ensures \{(.*?)⌝ \}$", told[0], re.S | re.M))
+        promise = told and "\n".join(PROMISE.findall(told[0]))
         if not promise:
             raise Unclear(f"no contract of {name} is found in {path}")
         yield from cited(promise, used(tree.files[path]))

@@ -2,7 +2,8 @@
 """Holds what README.md, docs/ (but docs/changes) and include/misqafur.h say of the tree to the tree. Read are, in all of them:
   `crate::module::item`  the module, or the item in it; `module::item`: in that module of some crate
   PATH                   from the root (docs/X, crates/X, …) or CRATE/src, /specs, /proofs or /must-fail on: it is there. * is any
-                         name, and so is one in capitals; specs/F and proofs/F alone are crate specification's
+                         name, and so is one in capitals; specs/F and proofs/F alone are crate specification's;
+                         what rt makes in out/ is passed over
   `name …` (F)           what the names before it begin with is declared in F: CRATE, FILE or a PATH of specs/ or proofs/;
                          so is (`name`, PATH) and (`name`: PATH)
   misqafur_x, MISQAFUR_X the header declares it
@@ -87,6 +88,8 @@ def paths(tree, page, text):
     for path in PATH.findall(text):
         path = re.sub(r"(?<=/)[A-Z]{3,}(?=/|$)", "*", path.rstrip("./-"))
         top = path.split("/")[0]
+        if re.match(r"crates/\w+/out/", path):
+            continue
         if top in ("specs", "proofs"):
             path = "crates/specification/" + path
         elif top in ("src", "must-fail"):
@@ -178,7 +181,8 @@ def repository(tree):
 
 def citing(tree):
     for path, text in tree.files.items():
-        if re.match(r"crates/\w+/(src|specs)/", path) and re.search(r"^(?:ghost )?use Rattle·.*\bproofs\.", text, re.M):
+        if re.match(r"crates/\w+/(src|specs)/", path) and any(
+                crate in tree.crates for crate in re.findall(r"^(?:ghost )?use Rattle\.(\w+)\.proofs\.", text, re.M)):
             yield f"{path} cites proofs/: what contracts and definitions say stands in specs/"
 
 

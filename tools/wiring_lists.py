@@ -8,7 +8,7 @@ the points and values of each text and each call whose number is 0, by this defi
 the last line of a print (folders of tests/texts, misqafur_cli's stdout, examples/three.expected), and the number and the
 answer of a wiring call (tests/c/data: calls.txt in full, changes/*.txt by its hash).
 
-With `change` the lists are written into these files. Each new list has to be part of the old one, which `wiring-occurs`
+With `change` the lists are written into these files. Each new list has to be part of the old one, which `wiring_occurs`
 proves of any; how many changed is printed.
 
 With `carry` the calls and texts that a folder of vectors has for M-107 go to tests/c/data/changes/M-107.txt and
