@@ -29,7 +29,7 @@ from documents_tried import SMALL, TRIES
 
 ROOT = os.path.join(os.path.dirname(os.path.abspath(__file__)), "..")
 # Modules of the kit and of R, a class of conditions in R, and a crate that begins as C's names do.
-FOREIGN = {"check", "mpoly", "misqafur_refusal", "misqafur_cli"}
+FOREIGN = {"check", "thread", "io", "mpoly", "misqafur_refusal", "misqafur_cli"}
 TOP = r"(?:crates|docs|tests|tools|bench|include|examples|man|python|r|\.ci)"
 PATH = re.compile(r"(?<![\w/.:$`-])`?(%s/[\w./*-]+|(?:\w+/)?(?:specs|proofs)/\w[\w/-]*|(?:\w+/)?(?:src|must-fail)/\w[\w./-]*)" % TOP)
 ITEM = re.compile(r"`(\w+(?:::\w+)+)[^`]*`")
