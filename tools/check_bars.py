@@ -18,7 +18,7 @@ TRIED = re.compile(r"^rt: must-fail (\S+)\.edit: (.*)")
 REFUSED = "refused, as it must be: "
 SHOW_NOTHING = (
     "that can be named",  # the proof names a goal that the edited code does not have
-    "`rw`: no occurrence",  # the proof rewrites a term that the edited definition does not have
+    "no occurrence",  # the proof rewrites a term that the edited definition does not have
     "so this cannot be checked",  # it only follows from another error
 )
 
