@@ -1,0 +1,6 @@
+-- `answers::misqafur_interpolate` meets its contract.
+use borrow.Author.Rules.{rules}
+use Rattle.misqafur.proofs.answers.misqafur_interpolate.Goals as goal
+
+pub returns : goal.returns
+returns c = let a = c in rw (← a.settings_given-settings.ensures) a.interpolate.ensures
