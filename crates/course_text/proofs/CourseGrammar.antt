@@ -5,10 +5,10 @@ use mathlib.Core.List.{List, [], ◌∷◌, ◌++◌, map}
 use mathlib.Core.Logic.{inl, inr, ◌↔◌, ◌≢◌}
 use mathlib.Core.Option
 use mathlib.Core.Option.{Option, some, none}
-use Prim.Native.Nat.{ℕ, suc, ◌+◌, ◌≤◌}
+use Prim.Native.Nat.{ℕ, suc, ◌≤◌}
 use native.Mathlib.Omega.{arith}
 use lib.IntN.{ℤ, pos, negsuc}
-use lib.ListN.{length, get_or, take, drop, length-append, take-append-drop, drop_of_length-le}
+use lib.ListN.{length, get_or, take, length-append, take-append-drop, drop_of_length-le}
 use lib.Seq.{get_or_at, drop-cons}
 use lib.Dec.{leb}
 use borrow.Author.Tests.{leb-true, le-leb}
@@ -25,7 +25,7 @@ use Rattle.comma_text.proofs.reading.FirstFault.{first_at}
 use Rattle.comma_text.proofs.reading.FormFaults.{Records, under, under_read, under_found}
 use Rattle.comma_text.proofs.reading.entries.OneMore.{map_snoc}
 use Rattle.course_text.specs.Form.{course_in, number_of, numbers_of, latest, course_fault, course_form_fault}
-use Rattle.course_text.specs.Grammar.{IsCourseEntry, HasNumber, ReturnsAfter, WrongCourse, CourseFaults}
+use Rattle.course_text.specs.Grammar.{HasNumber, ReturnsAfter, WrongCourse, CourseFaults}
 use Rattle.course_text.proofs.reading.Marks.{latest_snoc}
 use Rattle.course_text.proofs.reading.Returning.{Returns, Faulty, fault_told}
 

@@ -2,7 +2,7 @@
 use mathlib.Core.Path.{◌≡◌, refl, sym, ap, ap₂, ◌∙◌, subst}
 use mathlib.Core.Bool.{false}
 use mathlib.Core.List.{List, [], ◌∷◌, ◌++◌, map}
-use mathlib.Core.Logic.{inl, inr, ◌≢◌}
+use mathlib.Core.Logic.{inl, inr}
 use mathlib.Core.Option.{Option, some, none, get_or}
 use Prim.Native.Nat.{ℕ, suc, ◌≤◌}
 use native.Mathlib.Omega.{arith}
@@ -17,7 +17,6 @@ use Rattle.comma_text.proofs.reading.EntryLengths.{AllLong, entries_long}
 use Rattle.comma_text.proofs.reading.FirstPlaces.{fault_step}
 use Rattle.comma_text.proofs.reading.SaidText.{said_by, says_read, says_found}
 use Rattle.comma_text.proofs.reading.FormFaults.{Records}
-use Rattle.courses.specs.TimeCourse.{in_runs}
 use Rattle.course_text.specs.Form.{number_of, course_fault, course_form_fault, timed_of, all_timed}
 use Rattle.course_text.specs.Grammar.{Together, SaysCourses}
 use Rattle.course_text.proofs.reading.Returning.{Free, AllCourses, runs_iff}

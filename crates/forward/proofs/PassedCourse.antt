@@ -1,7 +1,7 @@
 -- What a call has passed that is not refused, and what holds of it (request M-111): the model runs every course of the text forward as it was recorded, the sheet
 -- is that of the points, and the answer is the first return of the run.
 use mathlib.Core.Path.{◌≡◌, refl, sym, ap, subst, ◌∙◌}
-use mathlib.Core.Bool.{Bool, true, false, not, cond, ◌&&◌}
+use mathlib.Core.Bool.{Bool, false, not, cond, ◌&&◌}
 use mathlib.Core.Logic.{◌≢◌}
 use mathlib.Core.List.{List, [], ◌∷◌, ◌++◌, map}
 use mathlib.Core.Option
@@ -10,13 +10,12 @@ use Prim.Native.Nat.{ℕ, suc, ◌<◌, ◌≤◌}
 use native.Mathlib.Decide.{ℕ_discrete}
 use native.Mathlib.Omega.{arith}
 use lib.IntN.{ℤ}
-use lib.ListN.{length, get_or, drop, length-map}
+use lib.ListN.{length, get_or}
 use lib.Dec.{T, eqb, leb, ltb, leb→le}
 use borrow.Author.Tests.{not-false, eqb-true, eq-eqb, ne_eqb}
 use Rattle.residue.specs.Modulus.{is_modulus}
 use Rattle.residue.specs.Lists.{Among}
 use Rattle.residue.proofs.Tests.{of_true, and_left, and_right}
-use Rattle.residue.proofs.level.Moduli.{modulus_range}
 use Rattle.specification.specs.declared.settings.Settings.{Settings}
 use Rattle.specification.specs.Refusal.{first_of}
 use Rattle.specification.specs.Settings.{right_weights, Accepted}
@@ -31,11 +30,11 @@ use Rattle.comma_text.specs.reading.Text.{further, first_fault, first_after, is_
 use Rattle.comma_text.proofs.reading.TextCases.{passed}
 use Rattle.comma_text.proofs.reading.FirstPlaces.{fault_step}
 use Rattle.comma_text.proofs.reading.AcceptedPoints.{in_small, or_small, all_long, all_some}
-use Rattle.courses.specs.TimeCourse.{Timed, in_runs, course_of, moves_of, points_of_moves, moves_cases, course_cases, course_refusal, step, times, course_return, course_sheet}
+use Rattle.courses.specs.TimeCourse.{Timed, in_runs, course_of, moves_of, points_of_moves, moves_cases, course_cases, course_refusal, step, times}
 use Rattle.courses.specs.Returns.{Ends}
-use Rattle.courses.proofs.theory.Forward.{course_entries, course_leaves, forward, return_ends}
+use Rattle.courses.proofs.theory.Forward.{course_leaves, forward, return_ends}
 use Rattle.course_text.specs.Form.{course_fault, course_form_fault, all_timed, first_state_outside}
-use Rattle.forward.specs.Outcome.{CourseOutcome, timed_by, short_for, records_cases, time_cases, refused_course, course_accepted, course_refused, course_decided, course_outcome}
+use Rattle.forward.specs.Outcome.{CourseOutcome, timed_by, short_for, time_cases, refused_course, course_accepted, course_refused, course_decided, course_outcome}
 use Rattle.course_text.proofs.reading.Returning.{runs_iff}
 use Rattle.forward.proofs.running.Recorded.{each_point}
 use Rattle.forward.proofs.running.RunCases.{first_mapped}

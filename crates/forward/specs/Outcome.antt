@@ -1,11 +1,10 @@
 -- Running a time course forward from its text: the call's refusals with the record at fault, in document 02's order (M-111), and what an accepted call leaves.
-use Rattle.std.specs.Prelude.{Bool, not, cond, ◌||◌, List, [], ◌∷◌, ◌++◌, map, ℕ, ℤ, length, eqb, ltb}
+use Rattle.std.specs.Prelude.{Bool, not, cond, ◌||◌, List, ◌∷◌, ◌++◌, map, ℕ, length, eqb, ltb}
 use Rattle.std.proofs.Math.Option.{get_or}
 use Rattle.residue.specs.Layout.{over}
 use Rattle.specification.specs.Refusal.{first_of}
 use Rattle.specification.specs.Tables.{Tables, five_tables, too_short}
 use Rattle.notation.specs.Fields.{records_of}
-use Rattle.notation.specs.Forms.{Header}
 use Rattle.comma_text.specs.declared.reading.Refusal.{Refusal}
 use Rattle.comma_text.specs.reading.Text.{header_in, no_header, Contents, contents_of, refusal_at, not_refused, broken_at, TextCase, settings_by, header_cases, entry_case}
 use Rattle.courses.specs.TimeCourse.{Timed, course_cases, course_return, course_sheet, course_model}

@@ -23,7 +23,6 @@ use Rattle.specification.specs.BasisOf.{value_at, interpolant_of, remainder_of}
 use Rattle.specification.specs.Tables.{order_under, space_under, points_under}
 use Rattle.specification.specs.Polynomial.{Polynomial, eval}
 use Rattle.specification.specs.Instance.{Point, point_of}
-use Rattle.specification.specs.Levels.{residues}
 use Rattle.specification.specs.Solving.{within_variables, polynomial_of}
 use Rattle.specification.proofs.ideal.Lists.{get_d_among, index_of}
 use Rattle.specification.proofs.ideal.Basis.{interpolant_fits, interpolant_agree, value_at_lem}

@@ -9,7 +9,7 @@ use native.Mathlib.Omega.{arith}
 use lib.ListN.{length}
 use lib.Dec.{eqb, ltb}
 use borrow.Author.Tests.{le-ltb, eqb-true, eq-eqb}
-use Rattle.residue.specs.Layout.{fill, over, length_fill}
+use Rattle.residue.specs.Layout.{over, length_fill}
 use Rattle.residue.proofs.Tests.{neither}
 use Rattle.specification.specs.Refusal.{Case, first_of}
 use Rattle.specification.specs.Settings.{settings_cases}

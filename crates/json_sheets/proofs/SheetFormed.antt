@@ -8,7 +8,7 @@ use native.Mathlib.Omega.{arith}
 use lib.ListN.{length, take}
 use lib.Dec.{eqb}
 use borrow.Author.Tests.{eq-eqb}
-use Rattle.residue.specs.Lists.{Among, every}
+use Rattle.residue.specs.Lists.{Among}
 use Rattle.residue.proofs.level.Moduli.{modulus_range}
 use Rattle.residue.specs.Layout.{length_fill}
 use Rattle.specification.specs.declared.settings.Settings.{Settings}
@@ -17,7 +17,6 @@ use Rattle.specification.proofs.counted.Held.{points_held, counts_held}
 use Rattle.json_text.specs.Documents.{Document, written, weight_count, is_byte, are_bytes, is_table, fitting, well_formed}
 use Rattle.json_sheets.specs.Sheets.{document_of, document_under, settings_in, state_count, row_count_in, tables_in, sized}
 use Rattle.json_text.specs.Reading.{read}
-use Rattle.json_text.proofs.Digits.{both}
 use Rattle.json_text.proofs.DocumentTexts.{Bytes, bytes_all}
 use Rattle.json_text.proofs.RoundTrip.{read_written, written_injective}
 use Rattle.json_sheets.proofs.SheetDocuments.{Checked, S, given, count, right, exponents_long, standards, leads, rows, rows_long, document_held, count_back, rows_back, settings_back, tables_back}

@@ -1,5 +1,5 @@
 -- The JSON texts of sheets with equal members `coefficients`, `leads` and `standard` have equal sets of `points`, under the same settings (request M-113).
-use mathlib.Core.Path.{◌≡◌, refl, sym, ◌∙◌, ap, subst, subst₂}
+use mathlib.Core.Path.{◌≡◌, sym, ◌∙◌, ap, subst, subst₂}
 use mathlib.Core.Bool.{true}
 use mathlib.Core.Logic.{◌↔◌}
 use mathlib.Core.List.{List}
@@ -10,8 +10,8 @@ use Rattle.residue.specs.Lists.{Among}
 use Rattle.residue.specs.Layout.{fill, in_places}
 use Rattle.specification.specs.declared.settings.Settings.{Settings}
 use Rattle.specification.specs.Refusal.{first_of}
-use Rattle.specification.specs.Tables.{Tables, points_in, held_in}
-use Rattle.specification.specs.TablesRead.{SameAlgebra, SameStates}
+use Rattle.specification.specs.Tables.{Tables, points_in}
+use Rattle.specification.specs.TablesRead.{SameAlgebra}
 use Rattle.specification.specs.SheetNames.{IsSheet}
 use Rattle.specification.proofs.counted.Held.{points_held}
 use Rattle.specification.proofs.SheetNames.{sheet_names}
@@ -20,7 +20,7 @@ use Rattle.json_text.proofs.Digits.{both}
 use Rattle.json_sheets.specs.Sheets.{document_of, document_under, settings_in, state_count, row_count_in, tables_in}
 use Rattle.json_sheets.specs.Calls.{read_cases}
 use Rattle.json_sheets.proofs.SheetDocuments.{Checked, few_leads, document_held}
-use Rattle.json_sheets.proofs.DocumentBack.{Fitting, fitting_parts, table_of, document_back}
+use Rattle.json_sheets.proofs.DocumentBack.{fitting_parts, table_of, document_back}
 use Rattle.json_sheets.proofs.SizedTables.{nothing, written_nothing}
 use Rattle.json_sheets.proofs.ReadOnly.{d, is_text, passed}
 

@@ -1,6 +1,6 @@
 -- The two calls of request M-112: what each answers and leaves in the lent buffers, refused or not.
-use Rattle.std.specs.Prelude.{Bool, true, false, not, cond, ◌||◌, List, [], ◌∷◌, ◌++◌, ℕ, length, eqb, ltb}
-use Rattle.std.proofs.Math.Option.{Option, some, none, get_or}
+use Rattle.std.specs.Prelude.{Bool, not, cond, ◌||◌, List, [], ◌∷◌, ◌++◌, ℕ, length, eqb, ltb}
+use Rattle.std.proofs.Math.Option.{get_or}
 use Rattle.residue.specs.Layout.{over}
 use Rattle.specification.specs.declared.settings.Settings.{Settings}
 use Rattle.specification.specs.Refusal.{Case, first_of}

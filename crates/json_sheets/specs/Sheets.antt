@@ -1,5 +1,5 @@
 -- A sheet as a document and back: docs/SCOPE.md, 'The sheet' and 'Sheets as JSON' (request M-112).
-use Rattle.std.specs.Prelude.{List, map, ℕ, length, take}
+use Rattle.std.specs.Prelude.{map, ℕ, length, take}
 use Rattle.residue.specs.Sizes.{states_size, standard_size, leads_size, coefficients_size, counts_size}
 use Rattle.residue.specs.Layout.{fill, in_places}
 use Rattle.specification.specs.declared.settings.Settings.{Settings}

@@ -3,10 +3,8 @@
 -- of this index. `ranks` has the ranks of the standard monomials, `steps` those of the variables.
 use Rattle.std.specs.Prelude.{Bool, not, cond, ◌&&◌, ◌||◌, List, ℕ, zero, suc, ◌+◌, ◌*◌, ◌^◌, eqb, ltb, take, drop, get_or, set}
 use Rattle.monomial.specs.declared.candidate.LeastRank.{LeastRank}
-use Rattle.monomial.specs.declared.candidate.LeastRank.TheVariants as LeastRank
 use Rattle.monomial.specs.declared.candidate.Parents.{Parents}
 use Rattle.monomial.specs.declared.candidate.Candidate.{Candidate}
-use Rattle.monomial.specs.declared.candidate.Candidate.TheVariants as Candidate
 
 -- variable k has a next product
 abbrev pub is_open : ℕ → List ℕ → ℕ → Bool

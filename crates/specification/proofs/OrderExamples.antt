@@ -28,7 +28,7 @@ use Rattle.specification.specs.Cancellations.{examined_from, examined_all}
 use Rattle.specification.specs.Instance.{monomial_of, Monomial, Point, reduced, point_of}
 use Rattle.specification.specs.Points.{IsPoint}
 use Rattle.specification.specs.Tables.{space_under, points_under, standard_under, leads_under, rows_under}
-use Rattle.specification.specs.Examples.{Example, basis, Holds, LaidOut, B, lex_standard, lex_leads, lex_rows, grlex_standard, grlex_leads, grlex_rows}
+use Rattle.specification.specs.Examples.{Example, Holds, LaidOut, B, lex_standard, lex_leads, lex_rows, grlex_standard, grlex_leads, grlex_rows}
 use Rattle.specification.specs.Examples.{grevlex_standard, grevlex_leads, grevlex_rows, order_examples}
 use Rattle.specification.proofs.Instance.{monomial_path}
 use Rattle.specification.proofs.ideal.Basis.{basis_is, basis_only}

@@ -17,7 +17,7 @@ use Rattle.monomial.specs.Insert.{removed_at}
 use Rattle.specification.specs.declared.settings.Settings.{Settings}
 use Rattle.specification.specs.Levels.{residues, is_among}
 use Rattle.specification.specs.Counted.{Counted, points_of, counts_of, entered, lowered, count_of, place_in}
-use Rattle.specification.specs.Tables.{Tables, five_tables, row_count, states_table, standard_table, leads_table, coefficients_table, tables_of, written, points_in, held_in}
+use Rattle.specification.specs.Tables.{Tables, row_count, tables_of, written, points_in, held_in}
 use Rattle.specification.specs.Adding.{Outcome, holding, holding_both, by_refusal, add_refusal, add_outcome}
 use Rattle.specification.specs.Withdrawing.{withdraw_cases, withdraw_refusal, withdraw_outcome}
 use Rattle.specification.specs.Reference.{Operation, adding, withdrawing, outcome_of, refusal_of, list_after}

@@ -32,10 +32,9 @@ use Rattle.specification.proofs.counted.Room.{room_there, room_new}
 use Rattle.specification.specs.Points.{IsPoint}
 use Rattle.specification.proofs.agreement.Points.{levels_point}
 use Rattle.specification.proofs.agreement.Refusals.{large_of}
-use Rattle.specification.proofs.agreement.Drawings.{few_rows}
 use Rattle.construction.specs.Drawing.{PointsGiven, DrawnUp}
 use Rattle.growth.specs.Growing.{all_points, NewPoint}
-use Rattle.construction.proofs.drawing.Given.{given, drawn_of}
+use Rattle.construction.proofs.drawing.Given.{drawn_of}
 use Rattle.points.proofs.levels.LevelLists.{residues_below}
 use Rattle.recognition.specs.Naming.{naming_faults, naming_refusal}
 use Rattle.recognition.proofs.looking.Looks.{Open, look_first, look_then}

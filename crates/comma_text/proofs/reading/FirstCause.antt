@@ -10,7 +10,6 @@ use borrow.Author.Tests.{ne_eqb}
 use Rattle.residue.specs.Lists.{Among}
 use Rattle.residue.proofs.Tests.{Decides, told_true, true_told}
 use Rattle.specification.specs.Refusal.{first_of}
-use Rattle.comma_text.specs.declared.reading.Refusal.{Refusal}
 use Rattle.comma_text.specs.reading.Text.{refusal_at, not_refused, TextCase}
 use Rattle.comma_text.specs.reading.Faults.{FirstAt}
 use Rattle.comma_text.specs.reading.Causes.{Cause, length_of_text, form, modulus, variables, weights, buffers, range, points, replicates, values}

@@ -1,15 +1,15 @@
 -- The records are checked one after the other, each by those before it.
 use mathlib.Core.Path.{◌≡◌, refl, sym, ap, ap₂, ◌∙◌, subst}
 use mathlib.Core.Bool.{Bool, true, false, not, cond, ◌&&◌, ◌||◌}
-use mathlib.Core.List.{List, [], ◌∷◌, ◌++◌, map}
+use mathlib.Core.List.{List, [], ◌∷◌, ◌++◌}
 use mathlib.Core.Option
 use mathlib.Core.Option.{Option, some, none}
-use Prim.Native.Nat.{ℕ, suc, ◌+◌, ◌<◌, ◌≤◌}
+use Prim.Native.Nat.{ℕ, ◌+◌, ◌<◌, ◌≤◌}
 use native.Mathlib.Omega.{arith}
 use lib.IntN.{ℤ}
 use lib.ListN.{length, get_or, set, drop, replicate, length-drop, length-append, drop_of_length-le}
 use lib.Dec.{eqb}
-use Rattle.notation.specs.Fields.{Part, part, faulty, records_from, records_of}
+use Rattle.notation.specs.Fields.{part, records_from, records_of}
 use Rattle.comma_text.specs.reading.Text.{refusal_at}
 use Rattle.comma_text.specs.reading.Records.{entry_part, entries_at, ends, refuses, checked}
 use Rattle.comma_text.specs.reading.Text.{last_level}

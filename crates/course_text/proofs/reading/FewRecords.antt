@@ -1,15 +1,14 @@
 -- A text has few records: each of a level and a number takes three bytes, and all but the last a break behind them.
-use mathlib.Core.Path.{◌≡◌, refl, sym, ap, ◌∙◌}
+use mathlib.Core.Path.{◌≡◌, refl, ap}
 use mathlib.Core.List.{List, [], ◌∷◌, ◌++◌, map}
-use mathlib.Core.Logic.{inl, inr}
 use mathlib.Core.Option.{Option, some, none}
 use Prim.Native.Nat.{ℕ, suc, ◌+◌, ◌*◌, ◌<◌, ◌≤◌}
 use native.Mathlib.Omega.{arith}
 use lib.IntN.{ℤ}
-use lib.ListN.{length, length-append, length-map}
+use lib.ListN.{length, length-append}
 use Rattle.notation.specs.Fields.{records_of}
 use Rattle.notation.specs.Forms.{entry_of}
-use Rattle.notation.specs.Grammar.{IsField, bare, enclosed, doubled, IsRecord, single, joined, IsBreak, feed, return_feed, Complete, done, next, IsText, ended, unended}
+use Rattle.notation.specs.Grammar.{IsField, bare, enclosed, IsRecord, single, joined, IsBreak, feed, return_feed, Complete, done, next, IsText, ended, unended}
 use Rattle.notation.specs.FormGrammar.{IsNumber, one, two, three, IsLevel, unsigned, signed, AreLevels, no_levels, levels, IsEntry}
 use Rattle.notation.proofs.Grammar.LevelForm.{entry_grammar}
 use Rattle.notation.proofs.Grammar.TextFound.{text_grammar}

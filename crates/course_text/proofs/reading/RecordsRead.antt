@@ -1,8 +1,8 @@
 -- A record's state and course number, and the records one after the other in two tables.
-use mathlib.Core.Path.{◌≡◌, refl, sym, ap, ap₂, ◌∙◌, subst}
+use mathlib.Core.Path.{◌≡◌, refl, sym, ap, ap₂, ◌∙◌}
 use mathlib.Core.Bool.{Bool, true, false, not}
 use mathlib.Core.List.{List, [], ◌∷◌, ◌++◌, map}
-use Prim.Native.Nat.{ℕ, suc, ◌+◌, ◌*◌, ◌-◌, ◌<◌, ◌≤◌}
+use Prim.Native.Nat.{ℕ, ◌+◌, ◌*◌, ◌-◌, ◌<◌, ◌≤◌}
 use native.Mathlib.Omega.{arith}
 use lib.IntN.{ℤ, pos}
 use lib.ListN.{length, get_or, set, take, drop, length-drop, length-map}
@@ -24,7 +24,7 @@ use Rattle.comma_text.proofs.reading.entries.EntriesRead.{ReadOn, begun, next, n
 use Rattle.comma_text.proofs.reading.entries.EntriesInside.{inside_on, outside_here, all_inside}
 use Rattle.comma_text.proofs.reading.entries.OneMore.{map_snoc}
 use Rattle.courses.specs.TimeCourse as C
-use Rattle.courses.specs.Records.{most_records, records_size, RecordedAs}
+use Rattle.courses.specs.Records.{most_records, records_size}
 use Rattle.course_text.specs.Form.{course_in, number_of, timed_of, all_timed, state_outside, first_state_outside}
 use Rattle.course_text.specs.Reading.{TimedAs, ReadAs}
 use Rattle.course_text.specs.declared.reading.Timed.{Timed}

@@ -1,10 +1,10 @@
 -- A text without a fault of form has its course numbers in runs, and conversely: what is looked for record by record is what `in_runs` says of them all.
 use mathlib.Core.Path.{◌≡◌, refl, sym, ap, ◌∙◌, subst}
-use mathlib.Core.Bool.{Bool, true, false, not, cond, ◌&&◌, ◌||◌}
+use mathlib.Core.Bool.{Bool, false, not, ◌&&◌, ◌||◌}
 use mathlib.Core.List.{List, [], ◌∷◌, ◌++◌, map}
 use mathlib.Core.Logic.{◌⊎◌, inl, inr, ◌↔◌, ◌≢◌}
-use mathlib.Core.Option.{Option, some, none, get_or}
-use Prim.Native.Nat.{ℕ, suc}
+use mathlib.Core.Option.{Option, some, get_or}
+use Prim.Native.Nat.{ℕ}
 use native.Mathlib.Omega.{arith}
 use lib.IntN.{ℤ}
 use lib.Dec.{T, eqb, not_T, T_not}

@@ -6,7 +6,7 @@ use mathlib.Core.List.{List, [], ◌∷◌}
 use Prim.Native.Nat.{ℕ, suc, ◌+◌, ◌*◌, ◌<◌, ◌≤◌}
 use native.Mathlib.Numerals.{add-one}
 use native.Mathlib.Omega.{arith}
-use lib.ListN.{length, get_or, take, drop, length-map}
+use lib.ListN.{length, get_or, drop, length-map}
 use lib.Seq.{get_or-take, get_or-drop}
 use lib.Dec.{T, eqb}
 use Rattle.residue.specs.Lists.{Among, some}
@@ -18,7 +18,7 @@ use Rattle.specification.specs.Settings.{Accepted}
 use Rattle.specification.specs.Counted.{Counted, points_of, counts_of}
 use Rattle.specification.specs.Tables.{Tables, points_in, states_table, standard_table}
 use Rattle.specification.specs.Adding.{DrawOutcome, uncosted}
-use Rattle.specification.specs.Points.{IsPoint, Points}
+use Rattle.specification.specs.Points.{IsPoint}
 use Rattle.specification.proofs.counted.Gathered.{Entries}
 use Rattle.specification.proofs.counted.Saturated.{none_capped}
 use Rattle.construction.specs.Drawing.{PointsGiven, Solves}
@@ -28,7 +28,7 @@ use Rattle.basis.proofs.drawing.Outcomes.{tabled_given, tabled_done}
 use Rattle.courses.specs.declared.returns.Return.{Return}
 use Rattle.courses.specs.TimeCourse.{Timed, course_of, Move, moves_of, points_of_moves, successor_of, genes_of, course_refusal, course_return, course_sheet, course_model, return_of}
 use Rattle.courses.specs.Moves.{FirstsOf}
-use Rattle.steps.specs.Stepping.{solutions_of, step_of}
+use Rattle.steps.specs.Stepping.{step_of}
 use Rattle.steps.proofs.model.ModelLaws.{next_below}
 use Rattle.courses.proofs.theory.Forward.{passes, rare_points, course_entries}
 use Rattle.steps.proofs.InBytes.{Followed, genes_are, model_bytes, run_bytes}

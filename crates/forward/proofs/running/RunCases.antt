@@ -11,7 +11,7 @@ use Rattle.specification.specs.declared.settings.Settings.{Settings}
 use Rattle.specification.specs.Refusal.{first_of}
 use Rattle.specification.specs.Tables.{Tables}
 use Rattle.comma_text.specs.declared.reading.Refusal.{Refusal}
-use Rattle.comma_text.specs.reading.Text.{Contents, TextCase, not_refused, refusal_at, header_cases, entry_case}
+use Rattle.comma_text.specs.reading.Text.{TextCase, not_refused, refusal_at, header_cases, entry_case}
 use Rattle.comma_text.specs.reading.Points.{levels_at, saying}
 use Rattle.comma_text.proofs.reading.TextCases.{Allowed, room, settings_over, first_of_both, place_refuses, place_passes}
 use Rattle.courses.specs.TimeCourse.{Timed, course_cases, course_refusal, course_return, course_sheet, course_model}

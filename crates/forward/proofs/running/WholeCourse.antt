@@ -6,7 +6,7 @@ use mathlib.Core.Option.{Option, some, none, get_or}
 use Prim.Native.Nat.{ℕ, suc, ◌+◌, ◌<◌, ◌≤◌}
 use native.Mathlib.Omega.{arith}
 use lib.IntN.{ℤ}
-use lib.ListN.{length, drop, length-append}
+use lib.ListN.{length, length-append}
 use lib.Dec.{T, eqb}
 use borrow.Author.Tests.{lt-ltb, le-ltb, eq-eqb, ne_eqb}
 use Rattle.residue.specs.Layout.{over}
@@ -22,7 +22,7 @@ use Rattle.comma_text.specs.reading.Points.{levels_at, saying}
 use Rattle.comma_text.proofs.reading.WholeText.{no_header_lem, some_header, entries_few}
 use Rattle.course_text.specs.Form.{course_fault, course_form_fault}
 use Rattle.course_text.specs.Reading.{counted_courses}
-use Rattle.forward.specs.Outcome.{CourseOutcome, short_for, time_cases, refused_course, course_refused, course_accepted, course_decided, course_outcome}
+use Rattle.forward.specs.Outcome.{CourseOutcome, short_for, time_cases, course_refused, course_accepted, course_decided, course_outcome}
 use Rattle.forward.specs.Running.{RunOutcome, without_weights, run_cases, run_outcome}
 
 -- an outcome of records, with the weights

@@ -1,5 +1,5 @@
 -- Reading a sheet: its number, case by case, and what it leaves.
-use mathlib.Core.Path.{◌≡◌, refl, sym, ◌∙◌, ap}
+use mathlib.Core.Path.{◌≡◌, refl, ◌∙◌, ap}
 use mathlib.Core.Bool.{Bool, false, ◌||◌, or-false}
 use mathlib.Core.List.{List}
 use mathlib.Core.Option.{some, none}

@@ -1,8 +1,8 @@
 -- Writing a sheet: its number, the room that its text has, and what it leaves.
-use mathlib.Core.Path.{◌≡◌, refl, sym, ◌∙◌, ap}
+use mathlib.Core.Path.{◌≡◌, refl}
 use mathlib.Core.Bool.{◌||◌, or_comm, false}
 use mathlib.Core.List.{List}
-use Prim.Native.Nat.{ℕ, ◌*◌, ◌≤◌}
+use Prim.Native.Nat.{ℕ, ◌≤◌}
 use native.Mathlib.Nat.{zero-add}
 use native.Mathlib.Omega.{arith}
 use lib.ListN.{length}
@@ -15,11 +15,11 @@ use Rattle.specification.specs.Refusal.{first_of}
 use Rattle.specification.specs.Tables.{Tables, too_short}
 use Rattle.specification.proofs.agreement.Refusals.{large_of}
 use Rattle.writing.specs.Appending.{Room, put_at, Put}
-use Rattle.json_text.specs.Documents.{written, weight_count}
-use Rattle.json_text.specs.Tables.{document_in, Holds}
+use Rattle.json_text.specs.Documents.{written}
+use Rattle.json_text.specs.Tables.{Holds}
 use Rattle.json_sheets.specs.Sheets.{document_of, shape_under}
 use Rattle.json_sheets.specs.Calls.{text_size, sheet_cases, wrote, writing, write_cases, write_outcome}
-use Rattle.json_sheets.proofs.SheetDocuments.{Checked, few_leads, right}
+use Rattle.json_sheets.proofs.SheetDocuments.{Checked, few_leads}
 use Rattle.json_sheets.proofs.TextLength.{few_weights, sheet_bound}
 use Rattle.json_sheets.proofs.Passed.{Passed, passed_of}
 

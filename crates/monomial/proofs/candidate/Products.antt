@@ -11,10 +11,8 @@ use lib.ListN.{length, take, drop, get_or, set, length-set}
 use lib.Seq.{get_or-set_same, get_or-set_other}
 use Rattle.residue.proofs.Tests.{Decides, so, not_so}
 use Rattle.monomial.specs.declared.candidate.LeastRank.{LeastRank}
-use Rattle.monomial.specs.declared.candidate.LeastRank.TheVariants as LeastRank
 use Rattle.monomial.specs.declared.candidate.Parents.{Parents}
 use Rattle.monomial.specs.declared.candidate.Candidate.{Candidate}
-use Rattle.monomial.specs.declared.candidate.Candidate.TheVariants as Candidate
 use Rattle.monomial.specs.Candidate.{rank_at, lowest, least_of, is_of, products_passed, parents_of, occurring_in, Searched, search_ends, is_whole, at_least, next_from, next_of}
 use Rattle.monomial.proofs.candidate.Turns.{parents}
 

@@ -1,7 +1,7 @@
 -- The examples of specs/Examples.antt, computed from the definitions: one claim over their list.
-use mathlib.Core.Path.{◌≡◌, ap, ◌∙◌}
+use mathlib.Core.Path.{ap, ◌∙◌}
 use mathlib.Core.Bool.{Bool, cond}
-use mathlib.Core.List.{List, [], ◌∷◌, flatten, zip_with, zip}
+use mathlib.Core.List.{List, [], flatten, zip_with, zip}
 use Prim.Native.Nat.{ℕ}
 use lib.ListN.{length, replicate}
 use lib.Dec.{T}

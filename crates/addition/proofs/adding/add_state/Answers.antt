@@ -3,7 +3,6 @@ use mathlib.Core.Path.{ap, ◌∙◌}
 use Prim.Native.Nat.{ℕ, ◌+◌, ◌*◌, ◌-◌}
 use native.Mathlib.Omega.{arith}
 use native.Mathlib.Nat.{add-sub_cancel_left}
-use borrow.Author.Rules.{rules}
 use Rattle.residue.specs.Layout.{with_place}
 use Rattle.residue.proofs.Layouts.{over_all}
 use Rattle.residue.proofs.Replaced.{put_place}

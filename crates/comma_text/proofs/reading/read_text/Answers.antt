@@ -1,5 +1,4 @@
 -- `reading::read_text` meets its contract: the length, the header, the entries, and what they decide.
-use borrow.Author.Rules.{rules}
 use mathlib.Core.Path.{◌≡◌, sym, ap, ◌∙◌, subst}
 use mathlib.Core.List.{List}
 use Prim.Native.Nat.{ℕ, ◌≤◌}

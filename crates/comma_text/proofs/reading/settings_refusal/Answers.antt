@@ -1,8 +1,6 @@
 -- `reading::settings_refusal` meets its contract: the tests in the order of checking.
-use borrow.Author.Rules.{rules}
 use mathlib.Core.Path.{◌≡◌, sym, ◌∙◌}
 use mathlib.Core.Bool.{true}
-use borrow.Author.Tests.{not-true, not-false}
 use Rattle.residue.specs.Modulus.{is_modulus}
 use Rattle.specification.specs.Settings.{right_weights}
 use Rattle.comma_text.proofs.reading.TextCases.{refuse_3, refuse_4_low, refuse_4_high, refuse_15, refuse_6, settings_pass}

@@ -1,6 +1,5 @@
 -- `reading::read_record` meets its contract: the point, and behind it the course number.
-use borrow.Author.Rules.{rules}
-use mathlib.Core.Path.{◌≡◌, sym, ap, ◌∙◌, subst}
+use mathlib.Core.Path.{sym, ap, ◌∙◌, subst}
 use lib.ListN.{length}
 use Rattle.comma_text.specs.reading.Records.{level_at_said, LevelWithin}
 use Rattle.course_text.proofs.reading.RecordsRead.{column_there, number_done}

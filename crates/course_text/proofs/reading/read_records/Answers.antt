@@ -1,17 +1,15 @@
 -- `reading::read_records` meets its contract. The first i records are in the tables; those behind them are to be read from `from` on.
-use borrow.Author.Rules.{rules}
-use mathlib.Core.Path.{◌≡◌, refl, sym, ap, ◌∙◌}
+use mathlib.Core.Path.{◌≡◌, sym, ap, ◌∙◌}
 use mathlib.Core.List.{[]}
-use Prim.Native.Nat.{ℕ, ◌+◌, ◌*◌, ◌-◌, ◌<◌}
+use Prim.Native.Nat.{◌+◌, ◌*◌, ◌-◌, ◌<◌}
 use native.Mathlib.Omega.{arith}
-use lib.ListN.{length, drop}
+use lib.ListN.{length}
 use borrow.Author.Tests.{not-true, not-false}
 use borrow.Rule.Slice.PartMut.{same_len_mid}
 use Rattle.residue.specs.Layout.{length_fill}
-use Rattle.comma_text.specs.reading.Points.{levels_at}
 use Rattle.comma_text.proofs.reading.entries.EntriesRead.{entry_there}
 use Rattle.courses.specs.Records.{most_records, records_size}
-use Rattle.course_text.proofs.reading.RecordsRead.{RecordsOn, none_read, records_long, numbers_long, part_fits, all_recorded, outside_record, record_more}
+use Rattle.course_text.proofs.reading.RecordsRead.{none_read, records_long, numbers_long, part_fits, all_recorded, outside_record, record_more}
 use Rattle.course_text.proofs.reading.read_records.Goals as goal
 use Rattle.course_text.proofs.reading.read_records.Goals.{After-read_record-timed, At-loop-i, Start}
 

@@ -1,17 +1,8 @@
 -- `reading::read_records` meets its contract. The first i records are in the tables; those behind them are to be read from `from` on.
-use borrow.Author.Rules.{rules}
-use mathlib.Core.Path.{◌≡◌, refl, sym, ap, ◌∙◌}
-use mathlib.Core.List.{[]}
-use Prim.Native.Nat.{ℕ, ◌+◌, ◌*◌, ◌-◌, ◌<◌}
-use native.Mathlib.Omega.{arith}
-use lib.ListN.{length, drop}
-use borrow.Author.Tests.{not-true, not-false}
-use borrow.Rule.Slice.PartMut.{same_len_mid}
-use Rattle.residue.specs.Layout.{length_fill}
+use Prim.Native.Nat.{◌-◌}
+use lib.ListN.{drop}
 use Rattle.comma_text.specs.reading.Points.{levels_at}
-use Rattle.comma_text.proofs.reading.entries.EntriesRead.{entry_there}
-use Rattle.courses.specs.Records.{most_records, records_size}
-use Rattle.course_text.proofs.reading.RecordsRead.{RecordsOn, none_read, records_long, numbers_long, part_fits, all_recorded, outside_record, record_more}
+use Rattle.course_text.proofs.reading.RecordsRead.{RecordsOn}
 use Rattle.course_text.proofs.reading.read_records.Given as goal
 
 abbrev pub invariant-loop-i : goal.invariant-loop-i

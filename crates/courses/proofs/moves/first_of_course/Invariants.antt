@@ -1,11 +1,8 @@
 -- `moves::first_of_course` meets its contract: none of the first i numbers is the course, and its place among the others follows.
-use borrow.Author.Rules.{rules}
-use mathlib.Core.Path.{◌≡◌, ◌∙◌}
+use mathlib.Core.Path.{◌≡◌}
 use Prim.Native.Nat.{◌-◌, ◌+◌, ◌≤◌}
-use native.Mathlib.Omega.{arith}
 use lib.ListN.{take, drop}
 use Rattle.courses.specs.Moves.{place_of_course}
-use Rattle.courses.proofs.moves.CoursePlaces.{course_start, course_hit, course_on, course_end}
 use Rattle.courses.proofs.moves.first_of_course.Given as goal
 
 abbrev pub invariant-loop-i : goal.invariant-loop-i

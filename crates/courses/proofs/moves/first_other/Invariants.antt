@@ -1,15 +1,11 @@
 -- `moves::first_other` meets its contract: no 17 among the moves of the first i records.
-use borrow.Author.Rules.{rules}
-use mathlib.Core.Path.{◌≡◌, sym, ◌∙◌}
+use mathlib.Core.Path.{◌≡◌}
 use mathlib.Core.List.{List, []}
 use Prim.Native.Nat.{ℕ, ◌-◌, ◌≤◌}
-use native.Mathlib.Omega.{arith}
 use lib.ListN.{length}
-use Rattle.residue.proofs.Tests.{and_left, and_right, true_of, of_true}
 use Rattle.courses.specs.TimeCourse.{Timed, first_move, other_next}
 use Rattle.courses.specs.Records.{HeldIn}
-use Rattle.courses.specs.Moves.{has_next, move_at, moves_before}
-use Rattle.courses.proofs.moves.OtherRecords.{fault_here, no_fault_here, no_fault_yet, no_fault}
+use Rattle.courses.specs.Moves.{moves_before}
 use Rattle.courses.proofs.moves.first_other.Given as goal
 
 abbrev pub invariant-loop-i : goal.invariant-loop-i

@@ -1,5 +1,4 @@
 -- `moves::first_record` meets its contract.
-use borrow.Author.Rules.{rules}
 use mathlib.Core.Path.{refl, sym}
 use borrow.Author.Tests.{eq-eqb, ne_eqb}
 use Rattle.courses.proofs.moves.first_record.Goals as goal

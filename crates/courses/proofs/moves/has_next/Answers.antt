@@ -1,5 +1,4 @@
 -- `moves::has_next` meets its contract.
-use borrow.Author.Rules.{rules}
 use Rattle.courses.proofs.moves.OtherRecords.{last_alone, next_told}
 use Rattle.courses.proofs.moves.has_next.Goals as goal
 

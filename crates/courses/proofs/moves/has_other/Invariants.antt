@@ -1,17 +1,12 @@
 -- `moves::has_other` meets its contract: none of the first j records stands with another successor than record i.
-use borrow.Author.Rules.{rules}
-use mathlib.Core.Path.{◌≡◌, refl, sym, ap, ap₂, ◌∙◌}
-use mathlib.Core.Bool.{true, false, ◌&&◌}
+use mathlib.Core.Path.{◌≡◌}
+use mathlib.Core.Bool.{true, false}
 use mathlib.Core.List.{List}
 use Prim.Native.Nat.{ℕ, ◌-◌, ◌+◌, ◌<◌, ◌≤◌}
-use native.Mathlib.Omega.{arith}
 use lib.ListN.{length}
-use borrow.Author.Tests.{not-true, not-false}
 use Rattle.courses.specs.TimeCourse.{Timed, other_next}
 use Rattle.courses.specs.Records.{HeldIn}
 use Rattle.courses.specs.Moves.{has_next, move_at, moves_before}
-use Rattle.courses.proofs.moves.HeldRecords.{next_known}
-use Rattle.courses.proofs.moves.OtherRecords.{next_inside, no_other_yet, other_on, other_met}
 use Rattle.courses.proofs.moves.has_other.Given as goal
 
 abbrev pub invariant-loop-j : goal.invariant-loop-j

@@ -1,8 +1,6 @@
 -- `moves::is_other` meets its contract.
-use borrow.Author.Rules.{rules}
 use mathlib.Core.Path.{sym, ap, ◌∙◌}
 use mathlib.Core.Bool.{not}
-use borrow.Author.Tests.{not-true, not-false}
 use Rattle.courses.proofs.moves.OtherRecords.{no_next, other_state, same_states}
 use Rattle.courses.proofs.moves.is_other.Goals as goal
 

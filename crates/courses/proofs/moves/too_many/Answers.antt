@@ -1,5 +1,4 @@
 -- `moves::too_many` meets its contract.
-use borrow.Author.Rules.{rules}
 use mathlib.Core.Path.{ap, ◌∙◌}
 use Prim.Native.Nat.{ℕ}
 use Rattle.courses.specs.Moves.{many_answer}

@@ -1,10 +1,9 @@
 -- `reducing::gain` meets its contract. The loop has written the entries before i, each as the definition has it.
 use mathlib.Core.Path.{◌≡◌, ap, ◌∙◌}
-use mathlib.Core.List.{List}
-use Prim.Native.Nat.{ℕ, ◌+◌, ◌-◌, ◌%◌, ◌≤◌}
+use Prim.Native.Nat.{ℕ, ◌+◌, ◌%◌}
 use native.Mathlib.Omega.{arith}
 use lib.ListN.{length, get_or}
-use Rattle.residue.proofs.vector.Filled.{filled, filled_none, kept_length, own, filled_more, filled_part}
+use Rattle.residue.proofs.vector.Filled.{filled_none, kept_length, own, filled_more, filled_part}
 use Rattle.residue.proofs.vector.Vectors.{add_scaled_length}
 use Rattle.elimination.proofs.reducing.Multiples.{added_at, added_none}
 use Rattle.elimination.proofs.reducing.gain.Invariants.{entry}

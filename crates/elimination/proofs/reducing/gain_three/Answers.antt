@@ -1,13 +1,13 @@
 -- `reducing::gain_three` meets its contract. The loop has written the entries before i, each as the definition has it.
 use mathlib.Core.Path.{◌≡◌, ap, ◌∙◌}
 use mathlib.Core.List.{List}
-use Prim.Native.Nat.{ℕ, ◌+◌, ◌-◌, ◌%◌, ◌<◌, ◌≤◌}
+use Prim.Native.Nat.{ℕ, ◌+◌, ◌%◌, ◌<◌, ◌≤◌}
 use native.Mathlib.Nat.{mod-lt}
 use native.Mathlib.Omega.{arith}
 use lib.ListN.{length, get_or}
 use Rattle.residue.specs.Vector.{Below, add_scaled}
 use Rattle.elimination.specs.Elimination.{ZeroFrom}
-use Rattle.residue.proofs.vector.Filled.{filled, filled_none, kept_length, own, filled_more, filled_part}
+use Rattle.residue.proofs.vector.Filled.{filled_none, kept_length, own, filled_more, filled_part}
 use Rattle.residue.proofs.vector.Vectors.{add_scaled_length, add_scaled_below}
 use Rattle.elimination.proofs.reducing.Multiples.{added_at, added_none}
 use Rattle.elimination.proofs.reducing.gain_three.Invariants.{entry}

@@ -1,5 +1,4 @@
 -- `reducing::whole` meets its contract.
-use native.Mathlib.Omega.{arith}
 use borrow.Author.Tests.{lt-ltb, le-ltb}
 use Rattle.elimination.specs.Elimination.{whole_width}
 use Rattle.elimination.proofs.reducing.whole.Goals as goal

@@ -1,9 +1,6 @@
 -- `rows::first_nonzero` meets its contract. Where not all are 0, the numbers passed are.
-use mathlib.Core.Path.{sym, ◌∙◌}
 use Prim.Native.Nat.{◌-◌, ◌≤◌}
-use native.Mathlib.Omega.{arith}
-use lib.Seq.{length-take-le}
-use Rattle.elimination.proofs.rows.Zeros.{ZerosPassed, passed_none, passed_more, passed_hit, passed_end, zero_first}
+use Rattle.elimination.proofs.rows.Zeros.{ZerosPassed}
 use Rattle.elimination.proofs.rows.first_nonzero.Given as goal
 
 abbrev pub invariant-loop-q : goal.invariant-loop-q

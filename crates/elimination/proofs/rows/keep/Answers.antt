@@ -4,7 +4,6 @@ use mathlib.Core.List.{List}
 use Prim.Native.Nat.{ℕ, ◌+◌, ◌*◌, ◌-◌}
 use native.Mathlib.Omega.{arith}
 use lib.ListN.{length, get_or}
-use borrow.Author.Rules.{rules}
 use Rattle.residue.specs.Inverse.{inverse_of}
 use Rattle.residue.specs.Vector.{Below}
 use Rattle.elimination.specs.Rows.{pivot_row}

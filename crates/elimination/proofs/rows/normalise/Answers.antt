@@ -7,7 +7,6 @@ use native.Mathlib.Decide.{dec_lt}
 use native.Mathlib.Omega.{arith}
 use lib.ListN.{length, get_or, set, take, drop, length-set, take-append-drop}
 use lib.Seq.{length-take-le, length_front}
-use borrow.Author.Rules.{rules}
 use Rattle.residue.specs.Modulus.{is_modulus}
 use Rattle.residue.specs.Inverse.{inverse_of}
 use Rattle.residue.specs.Vector.{Below, scaled}

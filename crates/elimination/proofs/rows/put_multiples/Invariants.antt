@@ -1,18 +1,10 @@
 -- `rows::put_multiples` meets its contract. The first k multiples are in the block, the next is at hand, and the first of the three that it is one of.
-use mathlib.Core.Path.{◌≡◌, refl, sym, ap, ap₂, subst, ◌∙◌}
-use mathlib.Core.Logic.{⊎_elim}
-use mathlib.Core.List.{List, ◌++◌}
+use mathlib.Core.Path.{◌≡◌}
+use mathlib.Core.List.{List}
 use Prim.Native.Nat.{ℕ, ◌+◌, ◌*◌, ◌-◌, ◌%◌, ◌<◌, ◌≤◌}
-use native.Mathlib.Decide.{dec_lt}
-use native.Mathlib.Nat.{not-suc-le-zero}
-use native.Mathlib.Omega.{arith}
-use lib.ListN.{length, get_or, take, drop}
-use Rattle.residue.specs.Vector.{Below, add_scaled, scaled}
+use lib.ListN.{length, get_or}
+use Rattle.residue.specs.Vector.{scaled}
 use Rattle.elimination.specs.Elimination.{factors}
-use Rattle.residue.proofs.vector.Vectors.{scaled_length, scaled_below, scaled_one}
-use Rattle.residue.proofs.Layouts.{over_all}
-use Rattle.residue.proofs.Replaced.{replaced_length, replaced_before, replaced_here, part_long}
-use Rattle.elimination.proofs.reducing.Multiples.{next_factor, scaled_sum, block_is}
 use Rattle.elimination.proofs.rows.put_multiples.Given as goal
 
 abbrev pub multiple : ℕ → List ℕ → ℕ → List ℕ

@@ -1,14 +1,7 @@
 -- `running::decide` meets its contract: what the moves refuse, or whether the course is there.
-use borrow.Author.Rules.{rules}
 use borrow.Author.Tests.{lt-ltb, le-ltb}
-use mathlib.Core.Path.{◌≡◌, sym, ◌∙◌}
-use mathlib.Core.List.{List}
-use Prim.Native.Nat.{ℕ}
+use mathlib.Core.Path.{◌∙◌}
 use native.Mathlib.Omega.{arith}
-use lib.ListN.{length}
-use Rattle.courses.specs.TimeCourse.{Timed}
-use Rattle.courses.specs.Records.{HeldIn}
-use Rattle.courses.specs.Moves.{MovesGathered}
 use Rattle.courses.proofs.moves.CoursePlaces.{found_named, found_first}
 use Rattle.forward.proofs.running.Decisions.{moves_refuse, course_there, course_away}
 use Rattle.forward.proofs.running.decide.Goals as goal

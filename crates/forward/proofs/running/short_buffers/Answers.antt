@@ -1,5 +1,4 @@
 -- `running::short_buffers` meets its contract: the tests in the definition's order.
-use borrow.Author.Rules.{rules}
 use borrow.Author.Tests.{lt-ltb, le-ltb}
 use Rattle.forward.proofs.running.short_buffers.Goals as goal
 

@@ -11,7 +11,7 @@ use borrow.Author.Tests.{eq-eqb, ne_eqb}
 use Rattle.residue.proofs.Replaced.{part_long}
 use Rattle.specification.specs.Needed.{apart}
 use Rattle.interpolation.specs.Pairs.{chain_of, Last, contrary_to}
-use Rattle.interpolation.proofs.Chains.{Left, left_start, left_on, left_hit, left_end, within_chain, other_rest, same_value, by_apart}
+use Rattle.interpolation.proofs.Chains.{left_start, left_on, left_hit, left_end, within_chain, other_rest, same_value, by_apart}
 use Rattle.interpolation.proofs.pairs.against_earlier.Goals as goal
 use Rattle.interpolation.proofs.pairs.against_earlier.Goals.{At-loop-next, Start}
 

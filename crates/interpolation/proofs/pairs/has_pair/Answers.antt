@@ -1,14 +1,13 @@
 -- `pairs::has_pair` meets its contract: the first i points are linked, and no two of them are a pair.
 use mathlib.Core.Path.{◌≡◌, refl, sym, ◌∙◌}
-use mathlib.Core.Bool.{false}
 use mathlib.Core.List.{List}
-use Prim.Native.Nat.{ℕ, ◌+◌, ◌-◌, ◌<◌, ◌≤◌}
+use Prim.Native.Nat.{ℕ, ◌+◌, ◌<◌}
 use native.Mathlib.Nat.{mod-lt}
 use native.Mathlib.Omega.{arith}
 use lib.ListN.{length, get_or, set, length-set}
-use Rattle.interpolation.specs.Pairs.{chain_of, Chained, some_below, contrary_to}
+use Rattle.interpolation.specs.Pairs.{chain_of, Chained}
 use Rattle.interpolation.proofs.PairSearch.{pair_found, no_pair, unpaired_more}
-use Rattle.interpolation.proofs.Chains.{Lasts, lasts_none, lasts_more, chained_more}
+use Rattle.interpolation.proofs.Chains.{lasts_none, lasts_more, chained_more}
 use Rattle.interpolation.proofs.pairs.has_pair.Goals as goal
 use Rattle.interpolation.proofs.pairs.has_pair.Goals.{At-loop-i, Start}
 

@@ -1,7 +1,6 @@
 -- `pairs::is_needed` meets its contract: a variable that is the same in all points has no pair.
 use native.Mathlib.Omega.{arith}
 use Rattle.interpolation.proofs.PairSearch.{constant_none}
-use borrow.Author.Rules.{rules}
 use Rattle.interpolation.proofs.pairs.is_needed.Goals as goal
 
 pub returns : goal.returns

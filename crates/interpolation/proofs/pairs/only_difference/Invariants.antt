@@ -1,9 +1,6 @@
 -- `pairs::only_difference` meets its contract: the differences among the first i places are counted.
-use mathlib.Core.Path.{◌≡◌, sym, subst₂}
-use mathlib.Core.Logic.{⊎_elim}
-use Prim.Native.Nat.{◌+◌, ◌-◌, ◌≤◌}
-use native.Mathlib.Omega.{arith}
-use Rattle.interpolation.proofs.Differences.{Differing, differing_none, differing_same, differing_other, only_one, none_or_more}
+use Prim.Native.Nat.{◌-◌, ◌≤◌}
+use Rattle.interpolation.proofs.Differences.{Differing}
 use Rattle.interpolation.proofs.pairs.only_difference.Given as goal
 
 abbrev pub invariant-loop-i : goal.invariant-loop-i

@@ -1,13 +1,9 @@
 -- `pairs::put_names` meets its contract: the names of the first k variables have been put.
-use mathlib.Core.Path.{◌≡◌, refl, sym, ap, ap₂, ◌∙◌}
-use mathlib.Core.List.{List, [], ◌∷◌}
-use Prim.Native.Nat.{ℕ, ◌+◌, ◌-◌, ◌≤◌}
-use native.Mathlib.Omega.{arith}
-use lib.ListN.{length, take, set, length-append}
-use mathlib.Core.Logic.{⊎_elim}
-use Rattle.residue.specs.Layout.{groups, fill, length_fill}
-use Rattle.residue.proofs.Layouts.{fill_zeros, fill_put}
-use Rattle.specification.proofs.Wiring.{names_on, names_off, names_length}
+use mathlib.Core.Path.{◌≡◌}
+use mathlib.Core.List.{List}
+use Prim.Native.Nat.{ℕ, ◌-◌, ◌≤◌}
+use lib.ListN.{length, take}
+use Rattle.residue.specs.Layout.{groups, fill}
 use Rattle.specification.specs.Needed.{wiring_of}
 use Rattle.interpolation.proofs.pairs.put_names.Given as goal
 

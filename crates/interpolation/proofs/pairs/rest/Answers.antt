@@ -5,7 +5,6 @@ use native.Mathlib.Omega.{arith}
 use lib.ListN.{get_or}
 use Rattle.interpolation.specs.Pairs.{rest_of}
 use Rattle.interpolation.proofs.Chains.{left_out}
-use borrow.Author.Rules.{rules}
 use Rattle.interpolation.proofs.pairs.rest.Goals as goal
 use Rattle.interpolation.proofs.pairs.rest.Goals.{After-shared_slice_known-2-1, Start}
 

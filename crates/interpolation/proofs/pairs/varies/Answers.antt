@@ -1,7 +1,7 @@
 -- `pairs::varies` meets its contract: the first i points have the same coordinate.
 use mathlib.Core.Path.{◌≡◌, subst}
 use mathlib.Core.Bool.{true≢false}
-use Prim.Native.Nat.{ℕ, ◌-◌, ◌≤◌}
+use Prim.Native.Nat.{ℕ}
 use native.Mathlib.Omega.{arith}
 use Rattle.interpolation.specs.Pairs.{Constant}
 use Rattle.interpolation.proofs.PairSearch.{constant_more}

@@ -1,11 +1,9 @@
 -- `parity::byte_of` meets its contract: the byte of the last k variables.
-use mathlib.Core.Path.{◌≡◌, ap₂, ◌∙◌}
-use Prim.Native.Nat.{ℕ, ◌+◌, ◌*◌, ◌-◌, ◌≤◌}
+use mathlib.Core.Path.{ap₂, ◌∙◌}
+use Prim.Native.Nat.{ℕ, ◌+◌, ◌*◌, ◌-◌}
 use native.Mathlib.Omega.{arith}
-use lib.ListN.{drop, get_or}
-use Rattle.interpolation.specs.Parity.{byte_of}
+use lib.ListN.{get_or}
 use Rattle.interpolation.proofs.ParityLaws.{occurring_le, byte_none, byte_bound, byte_more, byte_all}
-use borrow.Author.Rules.{rules}
 use Rattle.interpolation.proofs.parity.byte_of.Goals as goal
 
 pub loop-k-init : goal.loop-k-init

@@ -1,12 +1,11 @@
 -- `parity::low_mask` meets its contract: the mask of the first k variables.
 use mathlib.Core.Path.{◌≡◌, ap, ◌∙◌}
 use mathlib.Core.Logic.{⊎_elim}
-use Prim.Native.Nat.{ℕ, ◌-◌, ◌<◌, ◌≤◌}
+use Prim.Native.Nat.{ℕ, ◌<◌}
 use native.Mathlib.Omega.{arith}
 use Rattle.residue.specs.Words.{word_of}
 use Rattle.interpolation.specs.Parity.{values_at}
 use Rattle.interpolation.proofs.MaskLaws.{low_none, low_same, low_more, shift_lt}
-use borrow.Author.Rules.{rules}
 use Rattle.interpolation.proofs.parity.low_mask.Goals as goal
 
 pub loop-k-init : goal.loop-k-init

@@ -1,12 +1,8 @@
 -- `parity::low_mask` meets its contract: the mask of the first k variables.
-use mathlib.Core.Path.{◌≡◌, ap, ◌∙◌}
-use mathlib.Core.Logic.{⊎_elim}
-use Prim.Native.Nat.{ℕ, ◌-◌, ◌<◌, ◌≤◌}
-use native.Mathlib.Omega.{arith}
+use mathlib.Core.Path.{◌≡◌}
+use Prim.Native.Nat.{◌-◌, ◌≤◌}
 use Rattle.residue.specs.Words.{word_of}
 use Rattle.interpolation.specs.Parity.{values_at}
-use Rattle.interpolation.proofs.MaskLaws.{low_none, low_same, low_more, shift_lt}
-use borrow.Author.Rules.{rules}
 use Rattle.interpolation.proofs.parity.low_mask.Given as goal
 
 abbrev pub invariant-loop-k : goal.invariant-loop-k

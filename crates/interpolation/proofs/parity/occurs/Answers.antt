@@ -1,6 +1,5 @@
 -- `parity::occurs` meets its contract.
 use Rattle.interpolation.proofs.ParityLaws.{occurring_some}
-use borrow.Author.Rules.{rules}
 use Rattle.interpolation.proofs.parity.occurs.Goals as goal
 
 pub returns : goal.returns

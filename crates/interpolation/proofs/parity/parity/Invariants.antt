@@ -1,8 +1,6 @@
 -- `parity::parity` meets its contract: what is left of the first w words has the parity.
 use Prim.Native.Nat.{◌-◌, ◌≤◌}
-use native.Mathlib.Omega.{arith}
-use Rattle.interpolation.proofs.ParityLaws.{LeftOf, words_none, words_more, words_all}
-use borrow.Author.Rules.{rules}
+use Rattle.interpolation.proofs.ParityLaws.{LeftOf}
 use Rattle.interpolation.proofs.parity.parity.Given as goal
 
 abbrev pub invariant-loop-w : goal.invariant-loop-w

@@ -1,7 +1,6 @@
 -- `parity::put_mask` meets its contract.
 use native.Mathlib.Omega.{arith}
 use Rattle.interpolation.proofs.MaskLaws.{mask_written}
-use borrow.Author.Rules.{rules}
 use Rattle.interpolation.proofs.parity.put_mask.Goals as goal
 
 pub kept-next-requires : goal.kept-next-requires

@@ -1,15 +1,14 @@
 -- `parity::put_parities` meets its contract: the values at the first i points are written.
 use mathlib.Core.Path.{◌≡◌, refl, sym, ap, ◌∙◌}
 use mathlib.Core.List.{List}
-use Prim.Native.Nat.{ℕ, ◌+◌, ◌*◌, ◌-◌, ◌%◌, ◌<◌, ◌≤◌}
+use Prim.Native.Nat.{ℕ, ◌+◌, ◌*◌, ◌-◌, ◌%◌, ◌<◌}
 use native.Mathlib.Omega.{arith}
 use lib.ListN.{length, take, drop, length-drop, length-replicate}
 use lib.Seq.{length-take-le}
 use Rattle.residue.proofs.vector.Vectors.{below_take, below_drop}
-use Rattle.residue.proofs.vector.Filled.{filled, filled_none, kept_length, filled_more}
+use Rattle.residue.proofs.vector.Filled.{filled_none, kept_length, filled_more}
 use Rattle.interpolation.specs.Parity.{ones_left, SetOf, mask_of}
 use Rattle.interpolation.proofs.PointValues.{parity_at, parities_all}
-use borrow.Author.Rules.{rules}
 use Rattle.interpolation.proofs.parity.put_parities.Goals as goal
 use Rattle.interpolation.proofs.parity.put_parities.Goals.{At-loop-i, Start}
 

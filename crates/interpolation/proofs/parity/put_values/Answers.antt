@@ -5,7 +5,6 @@ use native.Mathlib.Omega.{arith}
 use Rattle.residue.specs.Vector.{Below}
 use Rattle.residue.specs.Layout.{over}
 use Rattle.monomial.specs.Terms.{term_values}
-use borrow.Author.Rules.{rules}
 use Rattle.interpolation.proofs.parity.put_values.Goals as goal
 
 pub put_parities-requires : goal.put_parities-requires

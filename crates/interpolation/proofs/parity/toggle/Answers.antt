@@ -1,6 +1,5 @@
 -- `parity::toggle` meets its contract.
 use Rattle.interpolation.proofs.ParityLaws.{toggled_is}
-use borrow.Author.Rules.{rules}
 use Rattle.interpolation.proofs.parity.toggle.Goals as goal
 
 pub returns : goal.returns

@@ -1,9 +1,9 @@
 -- `solving::put_negatives` meets its contract. The loop has written the negatives before i.
 use mathlib.Core.Path.{◌≡◌, ◌∙◌}
-use Prim.Native.Nat.{ℕ, ◌-◌, ◌%◌, ◌≤◌}
+use Prim.Native.Nat.{ℕ, ◌-◌, ◌%◌}
 use native.Mathlib.Omega.{arith}
 use lib.ListN.{length, get_or}
-use Rattle.residue.proofs.vector.Filled.{filled, filled_none, kept_length, filled_more}
+use Rattle.residue.proofs.vector.Filled.{filled_none, kept_length, filled_more}
 use Rattle.residue.proofs.bytes.Copies.{mapped}
 use Rattle.interpolation.proofs.solving.put_negatives.Goals as goal
 use Rattle.interpolation.proofs.solving.put_negatives.Goals.{At-loop-i, Start}

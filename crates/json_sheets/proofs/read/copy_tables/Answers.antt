@@ -1,5 +1,4 @@
 -- `read::copy_tables` meets its contract.
-use borrow.Author.Rules.{rules}
 use Rattle.specification.specs.Tables.{written}
 use Rattle.json_sheets.proofs.read.copy_tables.Goals as goal
 

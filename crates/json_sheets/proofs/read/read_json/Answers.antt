@@ -1,5 +1,4 @@
 -- `read::read_json` meets its contract: each refusal is the first case that holds, and a sheet that is taken stands in the lent tables.
-use borrow.Author.Rules.{rules}
 use mathlib.Core.Path.{◌≡◌, refl, sym, ◌∙◌, ap, subst}
 use mathlib.Core.Bool.{Bool, ◌||◌}
 use mathlib.Core.List.{List}

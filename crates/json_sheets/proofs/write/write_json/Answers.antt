@@ -1,8 +1,6 @@
 -- `write::write_json` meets its contract: it is refused with the number of its look, or the document is written.
 use borrow.Author.Rules.{rules}
-use mathlib.Core.Path.{◌≡◌, refl, sym, ◌∙◌}
-use mathlib.Core.List.{List}
-use Prim.Native.Nat.{ℕ}
+use mathlib.Core.Path.{◌≡◌, sym, ◌∙◌}
 use native.Mathlib.Omega.{arith}
 use lib.ListN.{length}
 use Rattle.residue.proofs.level.Moduli.{modulus_range}
@@ -10,7 +8,7 @@ use Rattle.specification.specs.Refusal.{first_of}
 use Rattle.specification.specs.Tables.{Tables, five_tables}
 use Rattle.json_sheets.specs.Sheets.{document_of}
 use Rattle.json_sheets.specs.Calls.{write_cases}
-use Rattle.json_sheets.proofs.SheetDocuments.{Checked, few_leads}
+use Rattle.json_sheets.proofs.SheetDocuments.{Checked}
 use Rattle.json_sheets.proofs.write.Writes.{judged, checked, holds, room, write_refused, write_accepted, write_short}
 use Rattle.json_sheets.proofs.write.write_json.Goals as goal
 use Rattle.json_sheets.proofs.write.write_json.Goals.{After-judge-refusal, Else-refusal-ne0, Start}

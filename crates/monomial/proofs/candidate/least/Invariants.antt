@@ -1,12 +1,7 @@
 -- `candidate::least` meets its contract. The best rank so far is the least of the first k variables' next products.
-use mathlib.Core.Path.{◌≡◌, ◌∙◌}
-use mathlib.Core.Logic.{⊎_elim}
+use mathlib.Core.Path.{◌≡◌}
 use Prim.Native.Nat.{◌≤◌, ◌-◌}
-use borrow.Author.Rules.{rules}
-use native.Mathlib.Omega.{arith}
-use lib.ListN.{get_or}
 use Rattle.monomial.specs.Candidate.{lowest}
-use Rattle.monomial.proofs.candidate.Turns.{lowest_shut, lowest_left, lowest_taken, least_none, least_some}
 use Rattle.monomial.proofs.candidate.least.Given as goal
 
 abbrev pub invariant-loop-k : goal.invariant-loop-k

@@ -5,8 +5,8 @@ use borrow.Author.Rules.{rules}
 use native.Mathlib.Omega.{arith}
 use lib.ListN.{length, take, drop, length-take, length-drop}
 use Rattle.monomial.specs.declared.candidate.LeastRank.TheVariants.{Of}
-use Rattle.monomial.specs.Candidate.{least_of, occurring_in, next_of}
-use Rattle.monomial.proofs.candidate.Products.{remaining, passed_length, passed_fewer, least_last, Searching, search_start, search_none, search_found, search_again}
+use Rattle.monomial.specs.Candidate.{least_of, occurring_in}
+use Rattle.monomial.proofs.candidate.Products.{passed_length, passed_fewer, least_last, search_start, search_none, search_found, search_again}
 use Rattle.monomial.proofs.candidate.next.Goals as goal
 use Rattle.monomial.proofs.candidate.next.Goals.{After-occurring, After-pass-parents, At-loop-rank, Start}
 

@@ -1,12 +1,8 @@
 -- `candidate::next` meets its contract. What is left of the search ends as the whole does; each turn passes a product.
-use mathlib.Core.Path.{◌≡◌, sym, ap, ◌∙◌}
-use Prim.Native.Nat.{ℕ, ◌+◌, ◌-◌, ◌*◌, ◌<◌, ◌≤◌}
-use borrow.Author.Rules.{rules}
-use native.Mathlib.Omega.{arith}
-use lib.ListN.{length, take, drop, length-take, length-drop}
-use Rattle.monomial.specs.declared.candidate.LeastRank.TheVariants.{Of}
-use Rattle.monomial.specs.Candidate.{least_of, occurring_in, next_of}
-use Rattle.monomial.proofs.candidate.Products.{remaining, passed_length, passed_fewer, least_last, Searching, search_start, search_none, search_found, search_again}
+use mathlib.Core.Path.{◌≡◌}
+use lib.ListN.{length}
+use Rattle.monomial.specs.Candidate.{next_of}
+use Rattle.monomial.proofs.candidate.Products.{remaining, Searching}
 use Rattle.monomial.proofs.candidate.next.Given as goal
 
 abbrev pub invariant-loop-rank : goal.invariant-loop-rank

@@ -1,7 +1,6 @@
 -- `candidate::occurring` meets its contract. The count so far is that of the first i variables.
-use mathlib.Core.Path.{◌≡◌, ◌∙◌, ap}
+use mathlib.Core.Path.{◌∙◌, ap}
 use mathlib.Core.Logic.{⊎_elim}
-use Prim.Native.Nat.{◌≤◌, ◌-◌}
 use borrow.Author.Rules.{rules}
 use native.Mathlib.Omega.{arith}
 use Rattle.monomial.specs.Candidate.{occurring_in}

@@ -1,11 +1,7 @@
 -- `candidate::occurring` meets its contract. The count so far is that of the first i variables.
-use mathlib.Core.Path.{◌≡◌, ◌∙◌, ap}
-use mathlib.Core.Logic.{⊎_elim}
+use mathlib.Core.Path.{◌≡◌}
 use Prim.Native.Nat.{◌≤◌, ◌-◌}
-use borrow.Author.Rules.{rules}
-use native.Mathlib.Omega.{arith}
 use Rattle.monomial.specs.Candidate.{occurring_in}
-use Rattle.monomial.proofs.candidate.Turns.{occurs_self, occurs_more, occurs_not}
 use Rattle.monomial.proofs.candidate.occurring.Given as goal
 
 abbrev pub invariant-loop-i : goal.invariant-loop-i

@@ -1,11 +1,6 @@
 -- `candidate::pass` meets its contract. The first k variables have been looked at.
-use mathlib.Core.Path.{◌≡◌}
-use mathlib.Core.Logic.{⊎_elim}
 use Prim.Native.Nat.{◌≤◌, ◌-◌}
-use borrow.Author.Rules.{rules}
-use native.Mathlib.Omega.{arith}
-use lib.ListN.{get_or}
-use Rattle.monomial.proofs.candidate.Turns.{Passing, pass_start, pass_shut, pass_other, pass_one}
+use Rattle.monomial.proofs.candidate.Turns.{Passing}
 use Rattle.monomial.proofs.candidate.pass.Given as goal
 
 abbrev pub invariant-loop-k : goal.invariant-loop-k

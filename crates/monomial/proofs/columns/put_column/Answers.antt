@@ -1,9 +1,9 @@
 -- `columns::put_column` meets its contract. The loop has written the entries before its index.
 use mathlib.Core.Path.{◌≡◌, refl, ◌∙◌}
-use Prim.Native.Nat.{◌+◌, ◌*◌, ◌-◌, ◌≤◌}
+use Prim.Native.Nat.{◌+◌, ◌*◌}
 use native.Mathlib.Omega.{arith}
 use lib.ListN.{length, get_or}
-use Rattle.residue.proofs.vector.Filled.{filled, filled_none, kept_length, filled_more}
+use Rattle.residue.proofs.vector.Filled.{filled_none, kept_length, filled_more}
 use Rattle.residue.proofs.bytes.Copies.{written_front}
 use Rattle.monomial.specs.Columns.{column_of}
 use Rattle.monomial.proofs.columns.Entries.{column_long, column_at}

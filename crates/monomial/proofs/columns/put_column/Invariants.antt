@@ -1,12 +1,8 @@
 -- `columns::put_column` meets its contract. The loop has written the entries before its index.
-use mathlib.Core.Path.{◌≡◌, refl, ◌∙◌}
+use mathlib.Core.Path.{◌≡◌}
 use Prim.Native.Nat.{◌+◌, ◌*◌, ◌-◌, ◌≤◌}
-use native.Mathlib.Omega.{arith}
-use lib.ListN.{length, get_or}
-use Rattle.residue.proofs.vector.Filled.{filled, filled_none, kept_length, filled_more}
-use Rattle.residue.proofs.bytes.Copies.{written_front}
-use Rattle.monomial.specs.Columns.{column_of}
-use Rattle.monomial.proofs.columns.Entries.{column_long, column_at}
+use lib.ListN.{get_or}
+use Rattle.residue.proofs.vector.Filled.{filled}
 use Rattle.monomial.proofs.columns.put_column.Given as goal
 
 abbrev pub invariant-loop-i : goal.invariant-loop-i

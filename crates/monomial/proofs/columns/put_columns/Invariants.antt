@@ -1,12 +1,8 @@
 -- `columns::put_columns` meets its contract. The loop has written the first k columns into the table.
-use mathlib.Core.Path.{◌≡◌, sym, ap, ◌∙◌}
-use Prim.Native.Nat.{ℕ, ◌+◌, ◌*◌, ◌-◌, ◌≤◌}
-use native.Mathlib.Omega.{arith}
-use lib.ListN.{length}
-use Rattle.residue.specs.Layout.{fill, in_places, length_fill}
-use Rattle.residue.proofs.Replaced.{part_long, zeros_long}
+use mathlib.Core.Path.{◌≡◌}
+use Prim.Native.Nat.{◌-◌, ◌≤◌}
+use Rattle.residue.specs.Layout.{fill, in_places}
 use Rattle.monomial.specs.Columns.{columns_of}
-use Rattle.monomial.proofs.columns.Entries.{columns_none, columns_more}
 use Rattle.monomial.proofs.columns.put_columns.Given as goal
 
 abbrev pub invariant-loop-k : goal.invariant-loop-k

@@ -1,11 +1,9 @@
 -- `exponents::degree` meets its contract: what is summed and the degree of what is left make the degree.
-use mathlib.Core.Path.{◌≡◌, ap}
-use Prim.Native.Nat.{◌+◌, ◌*◌, ◌-◌, ◌≤◌}
+use mathlib.Core.Path.{ap}
 use native.Mathlib.Omega.{arith}
-use lib.ListN.{drop, drop_of_length-le}
+use lib.ListN.{drop_of_length-le}
 use Rattle.monomial.specs.Monomial.{degree}
 use Rattle.monomial.proofs.Loops.{degree_turn}
-use borrow.Author.Rules.{rules}
 use Rattle.monomial.proofs.exponents.degree.Goals as goal
 
 pub overflow_cast-sum : goal.overflow_cast-sum

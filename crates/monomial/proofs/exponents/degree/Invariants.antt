@@ -1,11 +1,8 @@
 -- `exponents::degree` meets its contract: what is summed and the degree of what is left make the degree.
-use mathlib.Core.Path.{◌≡◌, ap}
+use mathlib.Core.Path.{◌≡◌}
 use Prim.Native.Nat.{◌+◌, ◌*◌, ◌-◌, ◌≤◌}
-use native.Mathlib.Omega.{arith}
-use lib.ListN.{drop, drop_of_length-le}
+use lib.ListN.{drop}
 use Rattle.monomial.specs.Monomial.{degree}
-use Rattle.monomial.proofs.Loops.{degree_turn}
-use borrow.Author.Rules.{rules}
 use Rattle.monomial.proofs.exponents.degree.Given as goal
 
 abbrev pub invariant-loop-i : goal.invariant-loop-i

@@ -1,11 +1,6 @@
 -- `exponents::divides` meets its contract: what is left divides as the whole does, until an exponent is too large.
-use mathlib.Core.Path.{◌≡◌}
-use Prim.Native.Nat.{◌-◌, ◌≤◌}
 use native.Mathlib.Omega.{arith}
-use lib.ListN.{drop}
-use Rattle.monomial.specs.Monomial.{divides}
 use Rattle.monomial.proofs.Loops.{divides_again, divides_found, divides_end}
-use borrow.Author.Rules.{rules}
 use Rattle.monomial.proofs.exponents.divides.Goals as goal
 
 pub returns-then-b-i : goal.returns-then-b-i

@@ -1,12 +1,11 @@
 -- `exponents::weigh` meets its contract: what is summed and the weight of what is left make the weight.
-use mathlib.Core.Path.{◌≡◌, ap}
-use Prim.Native.Nat.{ℕ, ◌+◌, ◌*◌, ◌-◌, ◌<◌, ◌≤◌}
+use mathlib.Core.Path.{ap}
+use Prim.Native.Nat.{ℕ, ◌*◌, ◌<◌, ◌≤◌}
 use native.Mathlib.Nat.{mul-le-mul_right}
 use native.Mathlib.Omega.{arith}
 use lib.ListN.{get_or, drop, drop_of_length-le}
 use Rattle.monomial.specs.Order.{weigh}
 use Rattle.monomial.proofs.Loops.{weigh_turn}
-use borrow.Author.Rules.{rules}
 use Rattle.monomial.proofs.exponents.weigh.Goals as goal
 use Rattle.monomial.proofs.exponents.weigh.Goals.{After-shared_slice_known-in-loop-i-1}
 

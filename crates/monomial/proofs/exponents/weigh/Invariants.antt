@@ -1,12 +1,8 @@
 -- `exponents::weigh` meets its contract: what is summed and the weight of what is left make the weight.
-use mathlib.Core.Path.{◌≡◌, ap}
-use Prim.Native.Nat.{ℕ, ◌+◌, ◌*◌, ◌-◌, ◌<◌, ◌≤◌}
-use native.Mathlib.Nat.{mul-le-mul_right}
-use native.Mathlib.Omega.{arith}
-use lib.ListN.{get_or, drop, drop_of_length-le}
+use mathlib.Core.Path.{◌≡◌}
+use Prim.Native.Nat.{◌+◌, ◌*◌, ◌-◌, ◌≤◌}
+use lib.ListN.{drop}
 use Rattle.monomial.specs.Order.{weigh}
-use Rattle.monomial.proofs.Loops.{weigh_turn}
-use borrow.Author.Rules.{rules}
 use Rattle.monomial.proofs.exponents.weigh.Given as goal
 
 abbrev pub invariant-loop-i : goal.invariant-loop-i

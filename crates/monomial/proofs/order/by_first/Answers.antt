@@ -1,14 +1,10 @@
 -- `order::by_first` meets its contract: what is left compares as the whole does, until an exponent differs.
-use mathlib.Core.Path.{◌≡◌, ap}
+use mathlib.Core.Path.{ap}
 use Prim.Native.Nat.{Ordering}
-use Prim.Native.Nat.{◌-◌, ◌≤◌}
 use native.Mathlib.Omega.{arith}
-use lib.ListN.{drop}
-use Rattle.monomial.specs.Order.{by_first}
 use Rattle.monomial.specs.Comparison.{comparison_of}
 use Rattle.monomial.proofs.Orders.Answers.{less, more, lt≢eq, gt≢eq}
 use Rattle.monomial.proofs.Loops.{first_again, first_found, first_end}
-use borrow.Author.Rules.{rules}
 use Rattle.monomial.proofs.order.by_first.Goals as goal
 
 pub returns-then-a-i : goal.returns-then-a-i

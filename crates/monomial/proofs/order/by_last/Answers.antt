@@ -1,14 +1,12 @@
 -- `order::by_last` meets its contract: nothing differs from place i on, until an exponent does.
 use mathlib.Core.Path.{◌≡◌, sym, ap}
 use Prim.Native.Nat.{Ordering}
-use Prim.Native.Nat.{◌-◌, ◌≤◌}
+use Prim.Native.Nat.{◌-◌}
 use native.Mathlib.Omega.{arith}
-use lib.ListN.{length, drop, drop_of_length-le}
-use Rattle.monomial.specs.Order.{by_last}
+use lib.ListN.{length, drop_of_length-le}
 use Rattle.monomial.specs.Comparison.{comparison_of}
 use Rattle.monomial.proofs.Orders.Answers.{less, more, lt≢eq, gt≢eq}
 use Rattle.monomial.proofs.Loops.{last_again, last_found}
-use borrow.Author.Rules.{rules}
 use Rattle.monomial.proofs.order.by_last.Goals as goal
 
 pub loop-i-init : goal.loop-i-init

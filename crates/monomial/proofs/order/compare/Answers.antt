@@ -5,7 +5,6 @@ use native.Mathlib.Omega.{arith}
 use Rattle.monomial.specs.Comparison.{comparison_of}
 use Rattle.monomial.proofs.Orders.Answers.{less, more, lt≢eq, gt≢eq}
 use Rattle.monomial.proofs.Loops.{number_lex, number_graded, number_last, number_first}
-use borrow.Author.Rules.{rules}
 use Rattle.monomial.proofs.order.compare.Goals as goal
 
 pub returns-then-order-eq0 : goal.returns-then-order-eq0

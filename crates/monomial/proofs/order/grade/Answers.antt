@@ -2,7 +2,6 @@
 use mathlib.Core.Path.{◌∙◌}
 use native.Mathlib.Omega.{arith}
 use Rattle.monomial.proofs.Loops.{grade_degree, grade_weight}
-use borrow.Author.Rules.{rules}
 use Rattle.monomial.proofs.order.grade.Goals as goal
 
 pub returns-then-order-lt3 : goal.returns-then-order-lt3

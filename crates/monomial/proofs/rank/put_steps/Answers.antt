@@ -1,10 +1,8 @@
 -- `rank::put_steps` meets its contract. The loop has written the entries before its index.
 use mathlib.Core.Path.{◌≡◌, sym, ◌∙◌}
-use Prim.Native.Nat.{◌-◌, ◌≤◌}
 use native.Mathlib.Omega.{arith}
-use borrow.Author.Rules.{rules}
 use lib.ListN.{length}
-use Rattle.residue.proofs.vector.Filled.{filled, filled_none, kept_length, filled_more, filled_all}
+use Rattle.residue.proofs.vector.Filled.{filled_none, kept_length, filled_more, filled_all}
 use Rattle.monomial.specs.Order.{order_of}
 use Rattle.monomial.specs.Rank.{variable_rank, steps_of}
 use Rattle.monomial.proofs.rank.Steps.{steps_long, steps_at}

@@ -6,7 +6,6 @@ use Prim.Native.Nat.{ℕ, zero, suc, ◌+◌, ◌*◌, ◌<◌}
 use native.Mathlib.Omega.{arith}
 use lib.Dec.{eqb, eqb→eq, ltb, ltb→lt}
 use lib.ListN.{get_or}
-use borrow.Author.Rules.{rules}
 use Rattle.residue.proofs.level.Moduli.{below, below_at}
 use Rattle.monomial.specs.Order.{Order, lex, grlex, grevlex, order_of}
 use Rattle.monomial.specs.Rank.{key, rank_of, variable_rank}

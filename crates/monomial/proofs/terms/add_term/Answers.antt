@@ -4,7 +4,6 @@ use mathlib.Core.List.{List, ◌++◌}
 use Prim.Native.Nat.{ℕ}
 use native.Mathlib.Omega.{arith}
 use lib.ListN.{length, take, drop, replicate, length-replicate}
-use borrow.Author.Rules.{rules}
 use Rattle.residue.specs.Vector.{Below, add_scaled}
 use Rattle.monomial.proofs.terms.TermRows.{front_ones, front_made, front_room, monomial_row, monomial_row_long, monomial_row_below}
 use Rattle.monomial.proofs.terms.add_term.Goals as goal

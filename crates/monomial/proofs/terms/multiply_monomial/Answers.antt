@@ -1,9 +1,9 @@
 -- `terms::multiply_monomial` meets its contract. At each point, what is there times the value of the variables left is the monomial's value.
 use mathlib.Core.Path.{sym, ap, ◌∙◌}
-use Prim.Native.Nat.{ℕ, ◌-◌, ◌≤◌}
+use Prim.Native.Nat.{ℕ}
 use native.Mathlib.Omega.{arith}
 use lib.ListN.{length, length-replicate}
-use Rattle.monomial.proofs.terms.TermRows.{VariablesLeft, ones_left, variable_more, all_left}
+use Rattle.monomial.proofs.terms.TermRows.{ones_left, variable_more, all_left}
 use Rattle.monomial.proofs.terms.multiply_monomial.Goals as goal
 use Rattle.monomial.proofs.terms.multiply_monomial.Goals.{At-loop-k, Start}
 

@@ -4,7 +4,6 @@ use mathlib.Core.List.{List}
 use Prim.Native.Nat.{ℕ}
 use native.Mathlib.Omega.{arith}
 use lib.ListN.{length, take}
-use borrow.Author.Rules.{rules}
 use Rattle.residue.specs.Vector.{Below, powered}
 use Rattle.monomial.specs.Columns.{column_of}
 use Rattle.monomial.proofs.columns.Entries.{column_long, column_below}

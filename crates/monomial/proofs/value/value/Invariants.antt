@@ -1,12 +1,8 @@
 -- `value::value` meets its contract: the product is the value of the exponents passed, modulo p.
 use Prim.Native.Nat.{◌*◌, ◌-◌, ◌<◌, ◌≤◌}
-use native.Mathlib.Nat.{one-mul, mod-lt}
-use native.Mathlib.Omega.{arith}
 use lib.ListN.{drop}
 use Rattle.residue.specs.Congruence.{Mod}
-use Rattle.residue.proofs.Congruence.{of}
 use Rattle.monomial.specs.Monomial.{monomial_at}
-use Rattle.monomial.proofs.Loops.{value_again, value_end}
 use Rattle.monomial.proofs.value.value.Given as goal
 
 abbrev pub invariant-loop-i : goal.invariant-loop-i

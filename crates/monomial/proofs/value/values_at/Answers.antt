@@ -1,12 +1,12 @@
 -- `value::values_at` meets its contract. The loop has written the first i values.
 use mathlib.Core.Path.{◌≡◌, sym, ap, ◌∙◌}
 use mathlib.Core.List.{List, []}
-use Prim.Native.Nat.{ℕ, ◌+◌, ◌*◌, ◌-◌, ◌%◌, ◌≤◌}
+use Prim.Native.Nat.{ℕ, ◌+◌, ◌*◌, ◌-◌, ◌%◌}
 use native.Mathlib.Omega.{arith}
 use lib.ListN.{length, get_or, take, drop, length-drop}
 use lib.Seq.{length-take-le}
 use Rattle.residue.specs.Layout.{groups}
-use Rattle.residue.proofs.vector.Filled.{filled, filled_none, kept_length, filled_more}
+use Rattle.residue.proofs.vector.Filled.{filled_none, kept_length, filled_more}
 use Rattle.residue.proofs.Places.{length_groups, groups_at}
 use Rattle.residue.proofs.bytes.Copies.{mapped}
 use Rattle.monomial.specs.Monomial.{monomial_at}

@@ -2,16 +2,15 @@
 use mathlib.Core.Path.{◌≡◌, refl, sym, ◌∙◌}
 use mathlib.Core.Bool.{true}
 use mathlib.Core.List.{List}
-use Prim.Native.Nat.{ℕ, ◌+◌, ◌-◌, ◌^◌, ◌<◌, ◌≤◌}
+use Prim.Native.Nat.{ℕ, ◌+◌, ◌<◌, ◌≤◌}
 use native.Mathlib.Nat.{zero-add}
 use native.Mathlib.Omega.{arith}
 use lib.ListN.{length, get_or, drop}
-use borrow.Author.Tests.{not-true, not-false}
-use Rattle.notation.specs.Digits.{is_digit, digits_from}
+use Rattle.notation.specs.Digits.{is_digit}
 use Rattle.notation.specs.Fields.{front}
 use Rattle.notation.proofs.digits.NumberDigits.{tens, hundred, digit_range}
 use Rattle.notation.proofs.fields.Searches.{front_on, front_stop, front_end}
-use Rattle.notation.proofs.digits.LeadingDigits.{digits, digits_next, leading_done, leading_long}
+use Rattle.notation.proofs.digits.LeadingDigits.{digits_next, leading_done, leading_long}
 use Rattle.notation.proofs.digits.read_leading.Goals as goal
 use Rattle.notation.proofs.digits.read_leading.Goals.{At-loop-i, Else-i-eq3, Else-not-is_digit}
 

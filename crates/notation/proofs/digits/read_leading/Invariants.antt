@@ -1,17 +1,10 @@
 -- `digits::read_leading` meets its contract. The digits from `i` on, behind the number so far, write the number of all, and end where all do.
-use mathlib.Core.Path.{◌≡◌, refl, sym, ◌∙◌}
-use mathlib.Core.Bool.{true}
-use mathlib.Core.List.{List}
-use Prim.Native.Nat.{ℕ, ◌+◌, ◌-◌, ◌^◌, ◌<◌, ◌≤◌}
-use native.Mathlib.Nat.{zero-add}
-use native.Mathlib.Omega.{arith}
-use lib.ListN.{length, get_or, drop}
-use borrow.Author.Tests.{not-true, not-false}
+use mathlib.Core.Path.{◌≡◌}
+use Prim.Native.Nat.{◌+◌, ◌-◌, ◌^◌, ◌<◌, ◌≤◌}
+use lib.ListN.{length, drop}
 use Rattle.notation.specs.Digits.{is_digit, digits_from}
 use Rattle.notation.specs.Fields.{front}
-use Rattle.notation.proofs.digits.NumberDigits.{tens, hundred, digit_range}
-use Rattle.notation.proofs.fields.Searches.{front_on, front_stop, front_end}
-use Rattle.notation.proofs.digits.LeadingDigits.{digits, digits_next, leading_done, leading_long}
+use Rattle.notation.proofs.digits.LeadingDigits.{digits}
 use Rattle.notation.proofs.digits.read_leading.Given as goal
 
 abbrev pub invariant-loop-i : goal.invariant-loop-i

@@ -1,9 +1,7 @@
 -- `fields::content_end` meets its contract: without quotes, or behind the one that closes the field.
-use borrow.Author.Rules.{rules}
 use mathlib.Core.Path.{◌≡◌}
 use mathlib.Core.Bool.{true}
 use native.Mathlib.Omega.{arith}
-use borrow.Author.Tests.{not-true, not-false}
 use Rattle.notation.proofs.fields.FieldEnds.{tested, never_closed, not_closed, closed_here}
 use Rattle.notation.proofs.fields.content_end.Goals as goal
 use Rattle.notation.proofs.fields.content_end.Goals.{Else-not-quotes}

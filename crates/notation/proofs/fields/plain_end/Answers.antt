@@ -1,10 +1,7 @@
 -- `fields::plain_end` meets its contract. The search from `i` on is the search from `at` on.
-use mathlib.Core.Path.{◌≡◌, refl, sym, ◌∙◌}
-use Prim.Native.Nat.{◌+◌, ◌-◌, ◌≤◌}
+use mathlib.Core.Path.{refl, sym, ◌∙◌}
 use native.Mathlib.Omega.{arith}
-use lib.ListN.{length, drop}
-use borrow.Author.Tests.{not-true, not-false}
-use Rattle.notation.specs.Fields.{is_plain, front}
+use Rattle.notation.specs.Fields.{is_plain}
 use Rattle.notation.proofs.fields.Searches.{front_on, front_stop, front_end}
 use Rattle.notation.proofs.fields.plain_end.Goals as goal
 

@@ -1,9 +1,6 @@
 -- `fields::quote_end` meets its contract. The search from `i` on is the search from `at` on.
-use mathlib.Core.Path.{◌≡◌, refl, ◌∙◌}
-use Prim.Native.Nat.{◌+◌, ◌-◌, ◌≤◌}
+use mathlib.Core.Path.{refl, ◌∙◌}
 use native.Mathlib.Omega.{arith}
-use lib.ListN.{length, drop}
-use Rattle.notation.specs.Spans.{closing}
 use Rattle.notation.proofs.fields.Searches.{closing_on, closing_last, closing_here, closing_pair, closing_end}
 use Rattle.notation.proofs.fields.quote_end.Goals as goal
 

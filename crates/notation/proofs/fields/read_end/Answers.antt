@@ -1,5 +1,4 @@
 -- `fields::read_end` meets its contract, byte by byte.
-use borrow.Author.Rules.{rules}
 use mathlib.Core.Path.{sym}
 use native.Mathlib.Omega.{arith}
 use Rattle.notation.specs.Spans.{ended_by}

@@ -1,5 +1,4 @@
 -- `fields::read_field` meets its contract: with an opening quote or without.
-use borrow.Author.Rules.{rules}
 use mathlib.Core.Path.{◌≡◌, sym, ap, ◌∙◌, subst}
 use mathlib.Core.Logic.{⊎_elim}
 use mathlib.Core.List.{List}

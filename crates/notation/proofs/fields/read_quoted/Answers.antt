@@ -1,5 +1,4 @@
 -- `fields::read_quoted` meets its contract: what stands at the closing quote ends the field.
-use borrow.Author.Rules.{rules}
 use mathlib.Core.Path.{◌≡◌, refl, sym, ap, ◌∙◌, subst}
 use mathlib.Core.List.{List}
 use Prim.Native.Nat.{ℕ, ◌-◌, ◌≤◌}

@@ -1,5 +1,4 @@
 -- `forms::keep_weight` meets its contract: a place beyond the last is not set.
-use borrow.Author.Rules.{rules}
 use mathlib.Core.Path.{sym}
 use lib.Seq.{set_out}
 use Rattle.notation.proofs.forms.keep_weight.Goals as goal

@@ -1,7 +1,5 @@
 -- `forms::read_last` meets its contract: `mod ` and the settings behind it.
-use borrow.Author.Rules.{rules}
 use mathlib.Core.Path.{sym, ◌∙◌}
-use borrow.Author.Tests.{not-true, not-false}
 use lib.Seq.{length-take-le}
 use Rattle.notation.specs.Said.{last_said}
 use Rattle.notation.proofs.Numbers.{last_says}

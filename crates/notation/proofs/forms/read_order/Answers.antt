@@ -1,10 +1,7 @@
 -- `forms::read_order` meets its contract: the words are looked for in the definition's order.
-use borrow.Author.Rules.{rules}
 use mathlib.Core.Path.{◌≡◌, sym, ◌∙◌}
 use mathlib.Core.Bool.{false}
-use borrow.Author.Tests.{not-true, not-false}
 use lib.ListN.{length}
-use lib.Seq.{length-take-le}
 use Rattle.residue.specs.Lists.{same_list}
 use Rattle.notation.specs.Forms.{lex_word, grlex_word, grevlex_word}
 use Rattle.notation.specs.Said.{order_said}

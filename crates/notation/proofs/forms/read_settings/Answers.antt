@@ -1,5 +1,4 @@
 -- `forms::read_settings` meets its contract: the digits, and the word behind them.
-use borrow.Author.Rules.{rules}
 use mathlib.Core.Path.{sym, ap, ◌∙◌, subst}
 use mathlib.Core.List.{List}
 use Prim.Native.Nat.{ℕ, ◌≤◌}

@@ -1,5 +1,4 @@
 -- `forms::read_weight` meets its contract: the space, and one or two digits behind it.
-use borrow.Author.Rules.{rules}
 use mathlib.Core.Path.{subst}
 use mathlib.Core.List.{List}
 use Prim.Native.Nat.{ℕ, ◌<◌}

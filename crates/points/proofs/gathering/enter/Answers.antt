@@ -1,5 +1,4 @@
 -- `gathering::enter` meets its contract: the point is entered at its place.
-use borrow.Author.Rules.{rules}
 use native.Mathlib.Omega.{arith}
 use Rattle.residue.specs.Layout.{groups}
 use Rattle.residue.proofs.Places.{length_groups}

@@ -1,5 +1,4 @@
 -- `gathering::enter_at` meets its contract: the point is there, with a count of 255 or below, or it is new, with room for it or without.
-use borrow.Author.Rules.{rules}
 use mathlib.Core.Path.{◌≡◌}
 use Prim.Native.Nat.{◌+◌, ◌*◌, ◌-◌}
 use native.Mathlib.Nat.{add-sub_cancel_left}

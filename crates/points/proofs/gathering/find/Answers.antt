@@ -1,5 +1,4 @@
 -- `gathering::find` meets its contract: a point without a hint is new; where the hint fails, the table is searched.
-use borrow.Author.Rules.{rules}
 use mathlib.Core.Path.{◌≡◌, sym, ap, ◌∙◌}
 use Prim.Native.Nat.{ℕ, suc, ◌+◌, ◌-◌, ◌%◌, ◌<◌}
 use native.Mathlib.Omega.{arith}

@@ -3,7 +3,7 @@ use mathlib.Core.Path.{◌≡◌, refl, sym, ap, ◌∙◌, subst}
 use mathlib.Core.Bool.{Bool, cond}
 use mathlib.Core.Logic.{inl, inr, ◌⊎◌}
 use mathlib.Core.List.{List}
-use Prim.Native.Nat.{ℕ, ◌+◌, ◌*◌, ◌-◌, ◌≤◌}
+use Prim.Native.Nat.{ℕ, ◌+◌, ◌*◌, ◌≤◌}
 use native.Mathlib.Nat.{mul-le-mul_left}
 use native.Mathlib.Omega.{arith}
 use lib.ListN.{length, take, drop}
@@ -12,10 +12,10 @@ use Rattle.residue.proofs.Places.{length_groups}
 use Rattle.residue.proofs.Replaced.{zeros_long}
 use Rattle.specification.specs.Levels.{residues}
 use Rattle.specification.proofs.agreement.Points.{length_residues}
-use Rattle.points.specs.Gathering.{Hinted, EnteredAs}
+use Rattle.points.specs.Gathering.{EnteredAs}
 use Rattle.points.proofs.places.PointPlaces.{place_le}
 use Rattle.points.proofs.gathering.Hints.{hinted_none, hinted_next}
-use Rattle.points.proofs.gathering.Gathering.{Before, holds_sizes, once_held, before_first, refused_full, stopped, before_next, all_in, all_tabled, all_told}
+use Rattle.points.proofs.gathering.Gathering.{holds_sizes, once_held, before_first, refused_full, stopped, before_next, all_in, all_tabled, all_told}
 use Rattle.points.proofs.gathering.gather.Goals as goal
 use Rattle.points.proofs.gathering.gather.Goals.{After-enter_at-full, After-find-at, After-put_point, At-loop-i, In-loop-i, Start}
 

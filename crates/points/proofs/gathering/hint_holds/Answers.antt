@@ -1,5 +1,4 @@
 -- `gathering::hint_holds` meets its contract: a place behind the n points has none of them, and at any other the keys are compared.
-use borrow.Author.Rules.{rules}
 use mathlib.Core.Path.{◌≡◌, sym, ap, ◌∙◌}
 use mathlib.Core.Bool.{Bool, ◌&&◌}
 use Prim.Native.Nat.{ℕ, ◌+◌, ◌*◌, ◌-◌, ◌<◌}

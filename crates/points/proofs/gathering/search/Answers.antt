@@ -1,5 +1,4 @@
 -- `gathering::search` meets its contract: the place that is found is written as a hint.
-use borrow.Author.Rules.{rules}
 use mathlib.Core.Path.{◌≡◌, ap}
 use Prim.Native.Nat.{suc, ◌+◌, ◌≤◌}
 use native.Mathlib.Omega.{arith}

@@ -1,5 +1,5 @@
 -- `leaving::gather_without` meets its contract: what is gathered of the points before the ith, with the rest of them, gives all.
-use mathlib.Core.Path.{◌≡◌, refl, sym, ap, ◌∙◌}
+use mathlib.Core.Path.{◌≡◌, sym, ap, ◌∙◌}
 use mathlib.Core.Bool.{Bool, cond}
 use mathlib.Core.Logic.{inl, inr, ◌⊎◌}
 use mathlib.Core.List.{List}
@@ -12,7 +12,7 @@ use Rattle.residue.proofs.Replaced.{part_long, zeros_long}
 use Rattle.monomial.specs.Insert.{removed_at}
 use Rattle.specification.specs.Counted.{place_in}
 use Rattle.points.proofs.gathering.Gathering.{holds_sizes}
-use Rattle.points.proofs.leaving.Entries.{point_out, Before, Taken, before_first, all_tabled, none_refused, inside, refused_sum, before_next}
+use Rattle.points.proofs.leaving.Entries.{point_out, Taken, before_first, all_tabled, none_refused, inside, refused_sum, before_next}
 use Rattle.points.proofs.leaving.gather_without.Goals as goal
 use Rattle.points.proofs.leaving.gather_without.Goals.{After-place_of-at, After-put_new, After-raise, After-take_out, At-loop-i, Else-raise, In-loop-i, Joined-at-left, Start}
 

@@ -1,5 +1,4 @@
 -- `leaving::put_new` meets its contract: the point is there, or it comes behind the first n.
-use borrow.Author.Rules.{rules}
 use borrow.Author.Tests.{lt-ltb, le-ltb}
 use mathlib.Core.Path.{refl}
 use Prim.Native.Nat.{◌+◌, ◌*◌, ◌-◌}

@@ -1,5 +1,4 @@
 -- `leaving::raise` meets its contract: the sum is above 255, or it is the new count.
-use borrow.Author.Rules.{rules}
 use borrow.Author.Tests.{lt-ltb, le-ltb}
 use mathlib.Core.Path.{refl, sym}
 use Prim.Native.Nat.{ℕ, ◌+◌, ◌<◌}

@@ -1,14 +1,10 @@
 -- `levels::in_range` meets its contract: no level was outside so far, and those from i on are in range, exactly where all are.
-use mathlib.Core.Path.{◌≡◌, refl, sym, ap, ap₂, subst, ◌∙◌}
-use mathlib.Core.Bool.{Bool, ◌&&◌, and-true, and-false}
-use mathlib.Core.Logic.{⊎_elim}
-use Prim.Native.Nat.{ℕ, ◌+◌, ◌-◌, ◌<◌, ◌≤◌}
-use native.Mathlib.Omega.{arith}
-use lib.IntN.{ℤ, pos, nat_abs}
-use lib.ListN.{length, drop, get_or}
+use mathlib.Core.Path.{◌≡◌}
+use mathlib.Core.Bool.{◌&&◌}
+use Prim.Native.Nat.{◌≤◌}
+use lib.ListN.{length, drop}
 use lib.Dec.{eqb}
 use Rattle.specification.specs.Levels.{in_range}
-use Rattle.points.proofs.levels.LevelLists.{handed, range_on, range_stop, range_end}
 use Rattle.points.proofs.levels.in_range.Given as goal
 
 abbrev pub invariant-loop-i : goal.invariant-loop-i

@@ -1,14 +1,13 @@
 -- `levels::put_first` meets its contract. The loop has written what is before i.
 use mathlib.Core.Path.{◌≡◌, refl, ap, ◌∙◌}
 use mathlib.Core.Logic.{inl, inr}
-use mathlib.Core.List.{List}
-use Prim.Native.Nat.{ℕ, ◌-◌, ◌≤◌}
+use Prim.Native.Nat.{ℕ}
 use native.Mathlib.Omega.{arith}
 use lib.IntN.{ℤ, pos}
 use lib.ListN.{length, get_or, take}
 use Rattle.residue.specs.Level.{residue_of}
 use Rattle.residue.specs.Layout.{fill, length_fill}
-use Rattle.residue.proofs.vector.Filled.{filled, filled_none, kept_length, filled_more, filled_all}
+use Rattle.residue.proofs.vector.Filled.{filled_none, kept_length, filled_more, filled_all}
 use Rattle.specification.specs.Levels.{residue_or0, residues}
 use Rattle.points.proofs.levels.LevelLists.{handed}
 use Rattle.points.proofs.levels.PointTables.{first_there, first_past}

@@ -1,5 +1,4 @@
 -- `levels::put_point` meets its contract, both ways: the residues of a part of the levels are that part of the residues.
-use borrow.Author.Rules.{rules}
 use mathlib.Core.Path.{ap, ◌∙◌}
 use mathlib.Core.List.{List}
 use Prim.Native.Nat.{ℕ, ◌+◌, ◌-◌}

@@ -1,9 +1,9 @@
 -- `levels::put_reduced` meets its contract. The loop has written the remainders before i.
 use mathlib.Core.Path.{◌≡◌, ◌∙◌}
-use Prim.Native.Nat.{ℕ, ◌%◌, ◌≤◌, ◌-◌}
+use Prim.Native.Nat.{ℕ, ◌%◌}
 use native.Mathlib.Omega.{arith}
 use lib.ListN.{length, get_or}
-use Rattle.residue.proofs.vector.Filled.{filled, filled_none, kept_length, filled_more}
+use Rattle.residue.proofs.vector.Filled.{filled_none, kept_length, filled_more}
 use Rattle.residue.proofs.bytes.Copies.{mapped}
 use Rattle.points.proofs.levels.put_reduced.Goals as goal
 use Rattle.points.proofs.levels.put_reduced.Goals.{At-loop-i, Start}

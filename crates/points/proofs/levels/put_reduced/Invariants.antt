@@ -1,10 +1,8 @@
 -- `levels::put_reduced` meets its contract. The loop has written the remainders before i.
-use mathlib.Core.Path.{◌≡◌, ◌∙◌}
-use Prim.Native.Nat.{ℕ, ◌%◌, ◌≤◌, ◌-◌}
-use native.Mathlib.Omega.{arith}
+use mathlib.Core.Path.{◌≡◌}
+use Prim.Native.Nat.{◌%◌, ◌≤◌}
 use lib.ListN.{length, get_or}
-use Rattle.residue.proofs.vector.Filled.{filled, filled_none, kept_length, filled_more}
-use Rattle.residue.proofs.bytes.Copies.{mapped}
+use Rattle.residue.proofs.vector.Filled.{filled}
 use Rattle.points.proofs.levels.put_reduced.Given as goal
 
 abbrev pub invariant-loop-i : goal.invariant-loop-i

@@ -1,13 +1,12 @@
 -- `levels::put_residues` meets its contract. The loop has written the residues before i.
 use mathlib.Core.Path.{◌≡◌, ap, ◌∙◌}
-use Prim.Native.Nat.{ℕ, ◌≤◌, ◌-◌}
+use Prim.Native.Nat.{ℕ}
 use native.Mathlib.Omega.{arith}
-use lib.IntN.{ℤ, pos}
+use lib.IntN.{pos}
 use lib.ListN.{length, get_or}
-use Rattle.residue.specs.Level.{residue_of}
-use Rattle.residue.proofs.vector.Filled.{filled, filled_none, kept_length, filled_more}
+use Rattle.residue.proofs.vector.Filled.{filled_none, kept_length, filled_more}
 use Rattle.residue.proofs.bytes.Copies.{mapped}
-use Rattle.specification.specs.Levels.{residue_or0, residues}
+use Rattle.specification.specs.Levels.{residues}
 use Rattle.points.proofs.levels.LevelLists.{handed}
 use Rattle.points.proofs.levels.put_residues.Invariants.{entry}
 use Rattle.points.proofs.levels.put_residues.Goals as goal

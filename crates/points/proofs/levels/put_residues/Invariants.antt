@@ -1,14 +1,11 @@
 -- `levels::put_residues` meets its contract. The loop has written the residues before i.
-use mathlib.Core.Path.{◌≡◌, ap, ◌∙◌}
-use Prim.Native.Nat.{ℕ, ◌≤◌, ◌-◌}
-use native.Mathlib.Omega.{arith}
+use mathlib.Core.Path.{◌≡◌}
+use Prim.Native.Nat.{ℕ, ◌≤◌}
 use lib.IntN.{ℤ, pos}
 use lib.ListN.{length, get_or}
 use Rattle.residue.specs.Level.{residue_of}
-use Rattle.residue.proofs.vector.Filled.{filled, filled_none, kept_length, filled_more}
-use Rattle.residue.proofs.bytes.Copies.{mapped}
-use Rattle.specification.specs.Levels.{residue_or0, residues}
-use Rattle.points.proofs.levels.LevelLists.{handed}
+use Rattle.residue.proofs.vector.Filled.{filled}
+use Rattle.specification.specs.Levels.{residue_or0}
 use Rattle.points.proofs.levels.put_residues.Given as goal
 
 abbrev pub entry : ℕ → ℤ → ℕ

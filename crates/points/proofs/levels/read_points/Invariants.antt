@@ -1,12 +1,9 @@
 -- `levels::read_points` meets its contract. The loop has written the first i points into the table.
-use mathlib.Core.Path.{◌≡◌, sym, ap, ◌∙◌}
-use mathlib.Core.List.{List, [], ◌∷◌, ◌++◌, map}
-use Prim.Native.Nat.{ℕ, ◌+◌, ◌*◌, ◌-◌, ◌%◌, ◌<◌, ◌≤◌}
-use native.Mathlib.Omega.{arith}
-use lib.ListN.{length, take, drop, length-drop, length-take, length-map}
-use Rattle.residue.specs.Layout.{fill, in_places, over, groups, length_fill}
-use Rattle.residue.proofs.Places.{place_more, part_fits, no_places}
-use Rattle.points.proofs.levels.PointTables.{points_as, length_points, points_more, point_read, points_in_lem}
+use mathlib.Core.Path.{◌≡◌}
+use mathlib.Core.List.{List}
+use Prim.Native.Nat.{ℕ, ◌-◌, ◌≤◌}
+use Rattle.residue.specs.Layout.{fill, in_places}
+use Rattle.points.proofs.levels.PointTables.{points_as}
 use Rattle.points.proofs.levels.read_points.Given as goal
 
 abbrev pub table : ℕ → ℕ → List ℕ → ℕ → List ℕ

@@ -1,5 +1,4 @@
 -- `levels::residue_or_0` meets its contract.
-use borrow.Author.Rules.{rules}
 use mathlib.Core.Path.{sym, ap, ◌∙◌}
 use mir.Syntax.{w8}
 use mir.Facts.{to_z-of_z}

@@ -1,5 +1,4 @@
 -- `places::is_among` meets its contract: a point is among others exactly where its place is before their end.
-use borrow.Author.Rules.{rules}
 use mathlib.Core.Path.{ap₂, sym, ◌∙◌}
 use lib.Dec.{ltb}
 use Rattle.residue.specs.Layout.{groups}

@@ -1,11 +1,8 @@
 -- `places::key` meets its contract. Each half has i digits so far.
-use mathlib.Core.Path.{◌≡◌, refl, sym, ap, ap₂, ◌∙◌}
-use Prim.Native.Nat.{ℕ, ◌+◌, ◌*◌, ◌^◌, ◌-◌, ◌<◌, ◌≤◌}
-use native.Mathlib.Omega.{arith}
+use mathlib.Core.Path.{◌≡◌}
+use Prim.Native.Nat.{◌*◌, ◌^◌, ◌-◌, ◌<◌, ◌≤◌}
 use lib.ListN.{drop}
-use lib.Seq.{get_or-drop}
 use Rattle.residue.specs.Lists.{key_of}
-use Rattle.residue.proofs.bytes.Keys.{digit_more, key_none, key_more, digits_fit, key_halves}
 use Rattle.points.proofs.places.key.Given as goal
 
 abbrev pub invariant-loop-i : goal.invariant-loop-i

@@ -1,5 +1,4 @@
 -- `weights::right_weights` meets its contract: order 3 weighs m variables, the others none.
-use borrow.Author.Rules.{rules}
 use borrow.Author.Tests.{eq-eqb, ne_eqb}
 use Rattle.specification.specs.Settings.{right_weights}
 use Rattle.points.proofs.weights.right_weights.Goals as goal

@@ -1,9 +1,8 @@
 -- `weights::weighs_first` meets its contract: k weights are passed, and the others are right exactly where all are.
 use mathlib.Core.Path.{◌≡◌, sym, ap, ◌∙◌}
-use Prim.Native.Nat.{ℕ, ◌-◌, ◌≤◌}
+use Prim.Native.Nat.{ℕ, ◌-◌}
 use native.Mathlib.Omega.{arith}
 use lib.ListN.{drop}
-use borrow.Author.Tests.{not-true, not-false}
 use Rattle.specification.specs.Settings.{weighs_first}
 use Rattle.points.proofs.weights.Weights.{weight_on, weight_stop, weight_end}
 use Rattle.points.proofs.weights.weighs_first.Goals as goal

@@ -7,7 +7,6 @@ use Rattle.writing.specs.Appending.{Room}
 use Rattle.writing.specs.Rows.{in_table}
 use Rattle.writing.proofs.appending.Appends.{first_room, put_room, put_front, put_more}
 use Rattle.writing.proofs.TableRows.{length_table}
-use borrow.Author.Rules.{rules}
 use Rattle.printing.proofs.lines.print_basis.Goals as goal
 use Rattle.printing.proofs.lines.print_basis.Goals.{After-put_first_line-first, After-put_line-last, After-put_rows-rows, After-put_standard-middle, Start}
 

@@ -3,7 +3,6 @@ use mathlib.Core.List.{List, ◌∷◌, ◌++◌}
 use Prim.Native.Nat.{ℕ}
 use Rattle.printing.specs.Lines.{points_word, standard_word, rows_word, line_end, labelled, first_line}
 use Rattle.writing.proofs.appending.Appends.{first_room, put_room, put_front, put_more}
-use borrow.Author.Rules.{rules}
 use Rattle.printing.proofs.lines.put_first_line.Goals as goal
 use Rattle.printing.proofs.lines.put_first_line.Goals.{After-put_labelled-points, After-put_labelled-rows, After-put_labelled-standard, Start}
 

@@ -2,7 +2,6 @@
 use mathlib.Core.List.{◌++◌}
 use Rattle.printing.specs.Lines.{line_end, spaced_numbers, line}
 use Rattle.writing.proofs.appending.Appends.{first_room, put_room, put_front, put_more}
-use borrow.Author.Rules.{rules}
 use Rattle.printing.proofs.lines.put_line.Goals as goal
 
 pub put_word-next-requires : goal.put_word-next-requires

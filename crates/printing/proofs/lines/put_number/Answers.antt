@@ -1,5 +1,4 @@
 -- `text::put_number` meets its contract.
-use borrow.Author.Rules.{rules}
 use mathlib.Core.List.{[], ◌∷◌}
 use Rattle.writing.specs.Decimal.{decimal}
 use Rattle.printing.specs.Lines.{spaced}

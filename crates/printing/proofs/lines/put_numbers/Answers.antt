@@ -1,12 +1,11 @@
 -- `text::put_numbers` meets its contract. The loop has put the numbers before i.
 use mathlib.Core.Path.{◌≡◌, refl}
 use mathlib.Core.List.{[], map, flatten}
-use Prim.Native.Nat.{◌-◌, ◌<◌, ◌≤◌}
+use Prim.Native.Nat.{◌<◌}
 use native.Mathlib.Omega.{arith}
-use lib.ListN.{length, get_or, take, length-map}
+use lib.ListN.{length, get_or, length-map}
 use Rattle.residue.proofs.vector.Vectors.{map_at}
 use Rattle.printing.specs.Lines.{spaced, spaced_numbers}
-use Rattle.writing.specs.Appending.{Put}
 use Rattle.writing.proofs.appending.Appends.{put_nothing, turn_room, turn, turns_all, turn_length}
 use Rattle.printing.proofs.lines.put_numbers.Goals as goal
 use Rattle.printing.proofs.lines.put_numbers.Goals.{At-loop-i}

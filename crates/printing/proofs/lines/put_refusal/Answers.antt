@@ -2,7 +2,6 @@
 use mathlib.Core.List.{◌++◌}
 use Rattle.printing.specs.Lines.{refused_word, line_end, spaced, labelled, refusal_line}
 use Rattle.writing.proofs.appending.Appends.{first_room, put_room, put_front, put_more}
-use borrow.Author.Rules.{rules}
 use Rattle.printing.proofs.lines.put_refusal.Goals as goal
 
 pub put_labelled-next-requires : goal.put_labelled-next-requires

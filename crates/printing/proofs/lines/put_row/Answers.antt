@@ -2,7 +2,6 @@
 use mathlib.Core.List.{◌++◌}
 use Rattle.printing.specs.Lines.{row_word, colon, spaced_numbers, line, row_line}
 use Rattle.writing.proofs.appending.Appends.{first_room, put_room, put_front, put_more}
-use borrow.Author.Rules.{rules}
 use Rattle.printing.proofs.lines.put_row.Goals as goal
 use Rattle.printing.proofs.lines.put_row.Goals.{After-put_numbers-end, After-put_word-next, Start}
 

@@ -1,13 +1,10 @@
 -- `text::put_rows` meets its contract. The loop has put the lines before the ith.
 use mathlib.Core.List.{zip_with, flatten}
 use Prim.Native.Nat.{◌-◌, ◌≤◌}
-use native.Mathlib.Omega.{arith}
 use lib.ListN.{take}
-use Rattle.printing.specs.Lines.{row_line, row_lines}
+use Rattle.printing.specs.Lines.{row_line}
 use Rattle.writing.specs.Appending.{Put}
 use Rattle.writing.specs.Rows.{in_table}
-use Rattle.writing.proofs.appending.Appends.{put_nothing, turn_room, turn, turns_all, turn_length}
-use Rattle.printing.proofs.lines.TableLines.{rows_length, rows_at}
 use Rattle.printing.proofs.lines.put_rows.Given as goal
 
 abbrev pub invariant-loop-i : goal.invariant-loop-i

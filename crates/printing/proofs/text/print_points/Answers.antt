@@ -5,7 +5,6 @@ use Prim.Native.Nat.{ℕ, ◌≤◌}
 use native.Mathlib.Omega.{arith}
 use lib.ListN.{length, take}
 use lib.Seq.{length-take-le}
-use borrow.Author.Rules.{rules}
 use Rattle.residue.specs.Layout.{groups, length_fill}
 use Rattle.residue.proofs.level.Moduli.{modulus_range}
 use Rattle.specification.specs.declared.settings.Settings.{Settings}

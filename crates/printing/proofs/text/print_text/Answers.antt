@@ -5,7 +5,6 @@ use Rattle.comma_text.specs.reading.Text.{TextOutcome, text_ended}
 use Rattle.writing.proofs.appending.Appends.{put_within}
 use Rattle.printing.proofs.lines.LongestPrint.{refusal_length}
 use Rattle.printing.proofs.text.AcceptedText.{Fit, fit, printed_refusal, printed_basis, print_short, print_long}
-use borrow.Author.Rules.{rules}
 use Rattle.printing.proofs.text.print_text.Goals as goal
 use Rattle.printing.proofs.text.print_text.Goals.{After-read_text-read, After-states-3-1, After-weights-2-1, Else-refusal-ne0}
 

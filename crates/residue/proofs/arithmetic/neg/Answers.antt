@@ -2,7 +2,6 @@
 use mathlib.Core.Path.{◌≡◌, sym, ◌∙◌}
 use Prim.Native.Nat.{◌-◌}
 use native.Mathlib.Omega.{arith}
-use borrow.Author.Rules.{rules}
 use Rattle.residue.proofs.arithmetic.Reduction.{kept, lessened}
 use Rattle.residue.proofs.arithmetic.neg.Goals as goal
 

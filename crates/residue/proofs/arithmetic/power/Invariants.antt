@@ -1,13 +1,6 @@
 -- `arithmetic::power` meets its contract. The product so far, times what is left of the power of the square, is the whole power.
-use mathlib.Core.Path.{◌≡◌, ◌∙◌}
-use mathlib.Core.Logic.{⊎_elim}
 use Prim.Native.Nat.{◌*◌, ◌^◌, ◌<◌}
-use native.Mathlib.Nat.{mod-lt}
-use native.Mathlib.Omega.{arith}
 use Rattle.residue.specs.Congruence.{Mod}
-use Rattle.residue.proofs.Congruence.{of}
-use Rattle.residue.proofs.arithmetic.Reduction.{kept}
-use Rattle.residue.proofs.arithmetic.Powers.{even, odd, whole}
 use Rattle.residue.proofs.arithmetic.power.Given as goal
 
 abbrev pub invariant-loop-left : goal.invariant-loop-left

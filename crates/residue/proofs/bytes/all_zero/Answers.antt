@@ -1,9 +1,8 @@
 -- `bytes::all_zero` meets its contract. The largest of the numbers before i is 0 exactly where they all are.
-use mathlib.Core.Path.{◌≡◌, ap, ◌∙◌}
+use mathlib.Core.Path.{ap, ◌∙◌}
 use mathlib.Core.Logic.{⊎_elim}
-use Prim.Native.Nat.{ℕ, ◌-◌, ◌≤◌}
+use Prim.Native.Nat.{ℕ}
 use native.Mathlib.Omega.{arith}
-use lib.ListN.{length, take}
 use lib.Seq.{take_all}
 use lib.Dec.{eqb}
 use Rattle.residue.specs.Lists.{all_zero}

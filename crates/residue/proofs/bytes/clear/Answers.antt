@@ -1,9 +1,8 @@
 -- `bytes::clear` meets its contract. The loop has cleared the entries before i.
 use mathlib.Core.Path.{◌≡◌, refl, ◌∙◌}
-use Prim.Native.Nat.{◌-◌, ◌≤◌}
 use native.Mathlib.Omega.{arith}
 use lib.ListN.{length}
-use Rattle.residue.proofs.vector.Filled.{filled, filled_none, kept_length, filled_more}
+use Rattle.residue.proofs.vector.Filled.{filled_none, kept_length, filled_more}
 use Rattle.residue.proofs.bytes.Copies.{cleared}
 use Rattle.residue.proofs.bytes.clear.Goals as goal
 use Rattle.residue.proofs.bytes.clear.Goals.{At-loop-i}

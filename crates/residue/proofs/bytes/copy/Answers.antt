@@ -1,9 +1,8 @@
 -- `bytes::copy` meets its contract. The loop has written the entries before i.
 use mathlib.Core.Path.{◌≡◌, refl, ◌∙◌}
-use Prim.Native.Nat.{◌-◌, ◌≤◌}
 use native.Mathlib.Omega.{arith}
 use lib.ListN.{length, get_or}
-use Rattle.residue.proofs.vector.Filled.{filled, filled_none, kept_length, filled_more}
+use Rattle.residue.proofs.vector.Filled.{filled_none, kept_length, filled_more}
 use Rattle.residue.proofs.bytes.Copies.{copied}
 use Rattle.residue.proofs.bytes.copy.Goals as goal
 use Rattle.residue.proofs.bytes.copy.Goals.{At-loop-i}

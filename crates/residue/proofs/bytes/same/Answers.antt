@@ -1,9 +1,8 @@
 -- `bytes::same` meets its contract. There is no difference so far exactly where the bytes before i are the same.
-use mathlib.Core.Path.{◌≡◌, sym, ap, ap₂, ◌∙◌}
+use mathlib.Core.Path.{sym, ap, ap₂, ◌∙◌}
 use mathlib.Core.Logic.{⊎_elim}
-use Prim.Native.Nat.{ℕ, ◌-◌, ◌≤◌}
+use Prim.Native.Nat.{ℕ}
 use native.Mathlib.Omega.{arith}
-use lib.ListN.{length, take}
 use lib.Seq.{take_all}
 use lib.Dec.{eqb}
 use Rattle.residue.specs.Lists.{same_list}

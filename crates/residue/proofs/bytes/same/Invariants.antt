@@ -1,13 +1,9 @@
 -- `bytes::same` meets its contract. There is no difference so far exactly where the bytes before i are the same.
-use mathlib.Core.Path.{◌≡◌, sym, ap, ap₂, ◌∙◌}
-use mathlib.Core.Logic.{⊎_elim}
-use Prim.Native.Nat.{ℕ, ◌-◌, ◌≤◌}
-use native.Mathlib.Omega.{arith}
+use mathlib.Core.Path.{◌≡◌}
+use Prim.Native.Nat.{◌≤◌}
 use lib.ListN.{length, take}
-use lib.Seq.{take_all}
 use lib.Dec.{eqb}
 use Rattle.residue.specs.Lists.{same_list}
-use Rattle.residue.proofs.bytes.Equality.{same_length, same_none, same_on, same_off}
 use Rattle.residue.proofs.bytes.same.Given as goal
 
 abbrev pub invariant-loop-i : goal.invariant-loop-i

@@ -1,12 +1,9 @@
 -- `inverse::inverse` meets its contract. The search along the rest of the primes is the whole search, and the inverses of the ith start at `start`.
-use mathlib.Core.Path.{◌≡◌, refl, sym, ap, ◌∙◌}
-use mathlib.Core.Bool.{true}
-use Prim.Native.Nat.{ℕ, ◌+◌, ◌≤◌, ◌<◌, ◌-◌}
-use native.Mathlib.Omega.{arith}
-use lib.ListN.{get_or, drop}
+use mathlib.Core.Path.{◌≡◌}
+use Prim.Native.Nat.{◌≤◌, ◌-◌}
+use lib.ListN.{drop}
 use Rattle.residue.specs.Modulus.{primes, is_one_of, is_modulus}
-use Rattle.residue.proofs.level.Moduli.{search_end, search_on, search_hit, prime_small}
-use Rattle.residue.proofs.inverse.Inverses.{inverses, start, start_small, start_more, inside, entry_is, inverse_is, no_modulus, no_residue}
+use Rattle.residue.proofs.inverse.Inverses.{start}
 use Rattle.residue.proofs.inverse.inverse.Given as goal
 
 abbrev pub invariant-loop-i : goal.invariant-loop-i

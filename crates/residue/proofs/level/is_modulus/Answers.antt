@@ -1,10 +1,8 @@
 -- `level::is_modulus` meets its contract. The search along the rest of the list is the search along the whole of it.
-use mathlib.Core.Path.{◌≡◌, refl, sym, ◌∙◌}
-use Prim.Native.Nat.{◌≤◌, ◌-◌}
+use mathlib.Core.Path.{refl, sym, ◌∙◌}
 use native.Mathlib.Omega.{arith}
-use lib.ListN.{drop}
-use Rattle.residue.specs.Modulus.{primes, is_one_of, is_modulus}
-use Rattle.residue.proofs.level.Moduli.{search_end, search_on, search_hit, prime_small}
+use Rattle.residue.specs.Modulus.{primes, is_modulus}
+use Rattle.residue.proofs.level.Moduli.{search_end, search_on, search_hit}
 use Rattle.residue.proofs.level.is_modulus.Goals as goal
 
 pub loop-i-init : goal.loop-i-init

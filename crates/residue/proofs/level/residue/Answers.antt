@@ -1,5 +1,4 @@
 -- `level::residue` meets its contract, by the size of the level and its sign.
-use borrow.Author.Rules.{rules}
 use mathlib.Core.Path.{◌≡◌, sym, ap, subst, ◌∙◌}
 use mathlib.Core.Bool.{Bool}
 use Prim.Native.Nat.{ℕ, ◌<◌, ◌≤◌, ◌-◌}

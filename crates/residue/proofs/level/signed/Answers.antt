@@ -1,5 +1,4 @@
 -- `level::signed` meets its contract: a byte of 128 or more, less 256, is a signed byte.
-use borrow.Author.Rules.{rules}
 use mathlib.Core.Path.{◌≡◌, sym, ap, subst, ◌∙◌}
 use Prim.Native.Nat.{ℕ, ◌-◌}
 use native.Mathlib.Omega.{arith}

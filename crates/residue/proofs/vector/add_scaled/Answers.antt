@@ -1,12 +1,11 @@
 -- `vector::add_scaled` meets its contract. The loop has written the entries before i, each as the definition has it.
 use mathlib.Core.Path.{◌≡◌, ap₂, ◌∙◌}
-use mathlib.Core.List.{List}
-use Prim.Native.Nat.{ℕ, ◌+◌, ◌*◌, ◌-◌, ◌%◌, ◌<◌, ◌≤◌}
+use Prim.Native.Nat.{ℕ, ◌+◌, ◌*◌, ◌%◌, ◌<◌}
 use native.Mathlib.Omega.{arith}
 use lib.ListN.{length, get_or}
 use native.Mathlib.Nat.{mod-lt}
 use Rattle.residue.proofs.Congruence.{rfl, reduce, ◌plus◌}
-use Rattle.residue.proofs.vector.Filled.{filled, filled_none, kept_length, own, filled_more, filled_all}
+use Rattle.residue.proofs.vector.Filled.{filled_none, kept_length, own, filled_more, filled_all}
 use Rattle.residue.proofs.vector.Vectors.{add_scaled_length, add_scaled_at}
 use Rattle.residue.proofs.vector.add_scaled.Invariants.{entry}
 use Rattle.residue.proofs.vector.add_scaled.Goals as goal

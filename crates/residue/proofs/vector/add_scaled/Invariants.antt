@@ -1,13 +1,9 @@
 -- `vector::add_scaled` meets its contract. The loop has written the entries before i, each as the definition has it.
-use mathlib.Core.Path.{◌≡◌, ap₂, ◌∙◌}
+use mathlib.Core.Path.{◌≡◌}
 use mathlib.Core.List.{List}
-use Prim.Native.Nat.{ℕ, ◌+◌, ◌*◌, ◌-◌, ◌%◌, ◌<◌, ◌≤◌}
-use native.Mathlib.Omega.{arith}
+use Prim.Native.Nat.{ℕ, ◌+◌, ◌*◌, ◌%◌, ◌≤◌}
 use lib.ListN.{length, get_or}
-use native.Mathlib.Nat.{mod-lt}
-use Rattle.residue.proofs.Congruence.{rfl, reduce, ◌plus◌}
-use Rattle.residue.proofs.vector.Filled.{filled, filled_none, kept_length, own, filled_more, filled_all}
-use Rattle.residue.proofs.vector.Vectors.{add_scaled_length, add_scaled_at}
+use Rattle.residue.proofs.vector.Filled.{filled}
 use Rattle.residue.proofs.vector.add_scaled.Given as goal
 
 abbrev pub entry : ℕ → ℕ → List ℕ → List ℕ → ℕ → ℕ

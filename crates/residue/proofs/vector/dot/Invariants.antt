@@ -1,16 +1,8 @@
 -- `vector::dot` meets its contract. The sum so far is that of the products before i.
-use mathlib.Core.Path.{◌≡◌, refl, sym, ap, ap₂, subst, ◌∙◌}
-use mathlib.Core.List.{List, ◌++◌}
-use Prim.Native.Nat.{ℕ, ◌+◌, ◌*◌, ◌-◌, ◌%◌, ◌<◌, ◌≤◌}
-use native.Mathlib.Nat.{mod-lt}
-use native.Mathlib.Omega.{arith}
-use lib.ListN.{length, get_or, take, replicate, length-replicate, get_or-append}
-use lib.Seq.{take_all}
-use Rattle.residue.specs.Vector.{Below, pointwise, dot_of}
-use Rattle.residue.proofs.Congruence.{reduce, ◌plus◌}
-use Rattle.residue.proofs.Layouts.{take_over, length_over}
-use Rattle.residue.proofs.arithmetic.Reduction.{kept}
-use Rattle.residue.proofs.vector.Vectors.{dot_more, pointwise_length, pointwise_at}
+use mathlib.Core.Path.{◌≡◌}
+use Prim.Native.Nat.{◌-◌, ◌%◌, ◌≤◌}
+use lib.ListN.{length, take}
+use Rattle.residue.specs.Vector.{dot_of}
 use Rattle.residue.proofs.vector.dot.Given as goal
 
 abbrev pub invariant-loop-i : goal.invariant-loop-i

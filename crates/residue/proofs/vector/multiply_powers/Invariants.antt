@@ -1,17 +1,10 @@
 -- `vector::multiply_powers` meets its contract. At each place the product so far, times what is left of the power of the square, is the whole.
-use mathlib.Core.Path.{◌≡◌, refl, sym, ap, subst, ◌∙◌}
-use mathlib.Core.Logic.{⊎_elim}
+use mathlib.Core.Path.{◌≡◌}
 use mathlib.Core.List.{List}
-use Prim.Native.Nat.{ℕ, ◌*◌, ◌/◌, ◌%◌, ◌^◌, ◌<◌}
-use native.Mathlib.Omega.{arith}
+use Prim.Native.Nat.{ℕ, ◌*◌, ◌^◌, ◌<◌}
 use lib.ListN.{length, get_or}
-use lib.Seq.{ext_get_or}
 use Rattle.residue.specs.Congruence.{Mod}
-use Rattle.residue.specs.Vector.{Below, pointwise, squares_left}
-use Rattle.residue.proofs.Congruence.{rfl}
-use Rattle.residue.proofs.arithmetic.Reduction.{kept}
-use Rattle.residue.proofs.arithmetic.Powers.{even, odd, whole}
-use Rattle.residue.proofs.vector.Vectors.{pointwise_length, pointwise_at, pointwise_below, powered_length, powered_at, squares_turn, squares_none}
+use Rattle.residue.specs.Vector.{Below, squares_left}
 use Rattle.residue.proofs.vector.multiply_powers.Given as goal
 
 -- both rows as long as they came, residues, what is left at each place, and what is left of the squares

@@ -1,10 +1,9 @@
 -- `vector::scale` meets its contract. The loop has written the entries before i, each as the definition has it.
 use mathlib.Core.Path.{◌≡◌, ap, ◌∙◌}
-use mathlib.Core.List.{List}
-use Prim.Native.Nat.{ℕ, ◌*◌, ◌-◌, ◌%◌, ◌<◌, ◌≤◌}
+use Prim.Native.Nat.{ℕ, ◌*◌, ◌%◌, ◌<◌}
 use native.Mathlib.Omega.{arith}
 use lib.ListN.{length, get_or}
-use Rattle.residue.proofs.vector.Filled.{filled, filled_none, kept_length, own, filled_more, filled_all}
+use Rattle.residue.proofs.vector.Filled.{filled_none, kept_length, own, filled_more, filled_all}
 use Rattle.residue.proofs.vector.Vectors.{scaled_length, scaled_at}
 use Rattle.residue.proofs.vector.scale.Invariants.{entry}
 use Rattle.residue.proofs.vector.scale.Goals as goal

@@ -1,7 +1,7 @@
 -- `model::put_genes` meets its contract. The loop has written the interpolants of the first g genes.
-use mathlib.Core.Path.{subst, ◌≡◌, refl, sym, ap, ◌∙◌}
+use mathlib.Core.Path.{subst, ◌≡◌, sym, ap, ◌∙◌}
 use mathlib.Core.List.{List}
-use Prim.Native.Nat.{ℕ, ◌+◌, ◌*◌, ◌-◌, ◌<◌, ◌≤◌}
+use Prim.Native.Nat.{ℕ, ◌+◌, ◌*◌, ◌-◌, ◌<◌}
 use native.Mathlib.Omega.{arith}
 use lib.ListN.{take, drop, replicate, length}
 use Rattle.residue.specs.Vector.{Below}

@@ -4,7 +4,6 @@ use mathlib.Core.List.{List, ◌++◌}
 use Prim.Native.Nat.{ℕ, ◌≤◌}
 use lib.ListN.{length, take, drop, replicate}
 use lib.Seq.{length-take-le, take_at, drop_at}
-use borrow.Author.Rules.{rules}
 use Rattle.residue.specs.Layout.{fill, over}
 use Rattle.residue.proofs.Layouts.{answered}
 use Rattle.residue.proofs.Replaced.{zeros_long}

@@ -1,11 +1,8 @@
 -- `model::put_next` meets its contract. The loop has written the values before its index.
-use mathlib.Core.Path.{◌≡◌, sym, ap, ◌∙◌}
-use Prim.Native.Nat.{ℕ, ◌+◌, ◌*◌, ◌-◌, ◌≤◌}
-use native.Mathlib.Omega.{arith}
-use lib.ListN.{length, get_or, take}
-use lib.Seq.{get_or-take}
-use Rattle.residue.proofs.vector.Filled.{filled, filled_none, kept_length, filled_more}
-use Rattle.steps.proofs.model.ModelLaws.{next_put}
+use mathlib.Core.Path.{◌≡◌}
+use Prim.Native.Nat.{◌+◌, ◌*◌, ◌-◌, ◌≤◌}
+use lib.ListN.{get_or, take}
+use Rattle.residue.proofs.vector.Filled.{filled}
 use Rattle.steps.proofs.model.put_next.Given as goal
 
 abbrev pub invariant-loop-j : goal.invariant-loop-j

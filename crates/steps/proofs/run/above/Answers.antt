@@ -1,8 +1,8 @@
 -- `run::above` meets its contract. The largest so far is no less than those before the index.
 use mathlib.Core.Logic.{⊎_elim}
-use Prim.Native.Nat.{ℕ, ◌-◌, ◌<◌, ◌≤◌}
+use Prim.Native.Nat.{ℕ, ◌<◌}
 use native.Mathlib.Omega.{arith}
-use lib.ListN.{length, get_or}
+use lib.ListN.{get_or}
 use Rattle.steps.proofs.run.RunLaws.{raised_bound}
 use Rattle.steps.proofs.run.above.Goals as goal
 

@@ -10,7 +10,7 @@ use Rattle.residue.proofs.Replaced.{part_long}
 use Rattle.residue.proofs.vector.Vectors.{below_take, below_drop, below_zeros}
 use Rattle.steps.specs.Stepping.{step_of}
 use Rattle.steps.proofs.stepping.StepLaws.{step_long, step_below}
-use Rattle.steps.proofs.run.RunLaws.{Running, running_start, running_end, running_hit, running_on, all_met}
+use Rattle.steps.proofs.run.RunLaws.{running_start, running_end, running_hit, running_on, all_met}
 use Rattle.steps.proofs.run.run.Goals as goal
 use Rattle.steps.proofs.run.run.Goals.{At-loop-k, Start}
 

@@ -1,10 +1,9 @@
 -- `stepping::multiply_variable` meets its contract.
 use mathlib.Core.Path.{subst, ◌≡◌, sym, ap, ◌∙◌}
 use mathlib.Core.List.{List}
-use Prim.Native.Nat.{ℕ, ◌-◌}
+use Prim.Native.Nat.{ℕ}
 use native.Mathlib.Omega.{arith}
 use lib.ListN.{take, replicate, length}
-use borrow.Author.Rules.{rules}
 use Rattle.residue.specs.Vector.{Below, pointwise}
 use Rattle.residue.specs.Layout.{over}
 use Rattle.interpolation.proofs.Interpolants.{front_of}

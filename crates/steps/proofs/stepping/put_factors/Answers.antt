@@ -1,9 +1,9 @@
 -- `stepping::put_factors` meets its contract. The loop has written the factors before its index.
 use mathlib.Core.Path.{◌≡◌, sym, ap, ◌∙◌}
-use Prim.Native.Nat.{◌<◌, ℕ, ◌+◌, ◌*◌, ◌-◌, ◌≤◌}
+use Prim.Native.Nat.{◌<◌, ℕ, ◌+◌, ◌*◌}
 use native.Mathlib.Omega.{arith}
 use lib.ListN.{length, get_or}
-use Rattle.residue.proofs.vector.Filled.{filled, filled_none, kept_length, filled_more}
+use Rattle.residue.proofs.vector.Filled.{filled_none, kept_length, filled_more}
 use Rattle.monomial.specs.Columns.{column_of}
 use Rattle.monomial.proofs.columns.Entries.{column_at}
 use Rattle.steps.proofs.stepping.StepLaws.{factors_put}

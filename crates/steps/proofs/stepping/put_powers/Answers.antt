@@ -1,7 +1,7 @@
 -- `stepping::put_powers` meets its contract. The loop has written the powers with exponents below e, and holds the e-th.
-use mathlib.Core.Path.{refl, ap₂, subst, ◌≡◌, sym, ap, ◌∙◌}
+use mathlib.Core.Path.{ap₂, subst, ◌≡◌, sym, ap, ◌∙◌}
 use mathlib.Core.List.{List}
-use Prim.Native.Nat.{◌^◌, ◌<◌, ℕ, ◌+◌, ◌*◌, ◌-◌, ◌≤◌}
+use Prim.Native.Nat.{◌^◌, ◌<◌, ℕ, ◌+◌, ◌*◌, ◌-◌}
 use native.Mathlib.Omega.{arith}
 use lib.ListN.{take, drop, length-map, length}
 use lib.Seq.{length-take-le}
@@ -11,7 +11,7 @@ use Rattle.residue.proofs.Layouts.{below_fill}
 use Rattle.residue.proofs.Places.{over_zeros}
 use Rattle.residue.proofs.Replaced.{part_long, zeros_long}
 use Rattle.steps.specs.Stepping.{powers_of}
-use Rattle.steps.proofs.stepping.StepLaws.{remainders_low, raised, raised_none, raised_more, raised_front, powers_none, powers_more}
+use Rattle.steps.proofs.stepping.StepLaws.{remainders_low, raised_none, raised_more, raised_front, powers_none, powers_more}
 use Rattle.steps.proofs.stepping.put_powers.Goals as goal
 use Rattle.steps.proofs.stepping.put_powers.Goals.{At-loop-e, Start}
 

@@ -1,7 +1,7 @@
 -- `stepping::put_values` meets its contract. The loop has multiplied by the powers of the first k coordinates.
 use mathlib.Core.Path.{ap₂, subst, ◌≡◌, refl, sym, ap, ◌∙◌}
 use mathlib.Core.List.{List}
-use Prim.Native.Nat.{ℕ, ◌-◌, ◌<◌, ◌≤◌}
+use Prim.Native.Nat.{ℕ, ◌<◌}
 use native.Mathlib.Omega.{arith}
 use lib.ListN.{length}
 use Rattle.residue.specs.Vector.{Below, pointwise}

@@ -1,13 +1,8 @@
 -- `stepping::put_values` meets its contract. The loop has multiplied by the powers of the first k coordinates.
-use mathlib.Core.Path.{ap₂, subst, ◌≡◌, refl, sym, ap, ◌∙◌}
-use mathlib.Core.List.{List}
-use Prim.Native.Nat.{ℕ, ◌-◌, ◌<◌, ◌≤◌}
-use native.Mathlib.Omega.{arith}
+use mathlib.Core.Path.{◌≡◌}
+use Prim.Native.Nat.{◌-◌, ◌≤◌}
 use lib.ListN.{length}
-use Rattle.residue.specs.Vector.{Below, pointwise}
-use Rattle.residue.specs.Layout.{length_fill}
-use Rattle.steps.specs.Stepping.{factors_of, values_at}
-use Rattle.steps.proofs.stepping.StepLaws.{powers_below, values_long, values_below, values_none, values_more}
+use Rattle.steps.specs.Stepping.{values_at}
 use Rattle.steps.proofs.stepping.put_values.Given as goal
 
 abbrev pub invariant-loop-k : goal.invariant-loop-k

@@ -4,7 +4,6 @@ use mathlib.Core.List.{List, ◌++◌}
 use Prim.Native.Nat.{ℕ, ◌≤◌}
 use native.Mathlib.Omega.{arith}
 use lib.ListN.{length, take, drop, replicate, length-replicate, length-append}
-use borrow.Author.Rules.{rules}
 use Rattle.residue.specs.Vector.{Below}
 use Rattle.steps.specs.Stepping.{values_at}
 use Rattle.steps.proofs.stepping.StepLaws.{front_ones, values_front, values_long, values_below, step_sums}

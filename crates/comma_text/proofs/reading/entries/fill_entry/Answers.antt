@@ -1,5 +1,4 @@
 -- `entries::fill_entry` meets its contract: the point, and behind it the value.
-use borrow.Author.Rules.{rules}
 use Rattle.comma_text.proofs.reading.entries.EntryFilled.{last_column, value_done}
 use Rattle.comma_text.proofs.reading.entries.fill_entry.Goals as goal
 

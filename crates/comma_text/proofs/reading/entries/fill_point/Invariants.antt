@@ -1,10 +1,8 @@
 -- `entries::fill_point` meets its contract. The first j residues are written and spelled by the key; the levels behind them are to be read from `from` on.
-use Prim.Native.Nat.{◌*◌, ◌^◌, ◌-◌, ◌<◌}
-use native.Mathlib.Omega.{arith}
+use Prim.Native.Nat.{◌-◌}
 use lib.ListN.{drop}
-use Rattle.residue.proofs.bytes.Keys.{digits_fit}
 use Rattle.comma_text.specs.reading.Records.{entry_part}
-use Rattle.comma_text.proofs.reading.entries.EntryFilled.{SoFar, start, level_there, step, point_done}
+use Rattle.comma_text.proofs.reading.entries.EntryFilled.{SoFar}
 use Rattle.comma_text.proofs.reading.entries.fill_point.Given as goal
 
 abbrev pub invariant-loop-j : goal.invariant-loop-j

@@ -1,5 +1,4 @@
 -- `entries::residue_at` meets its contract: the field is a level by what is required, and its residue is that of the sign and size read.
-use borrow.Author.Rules.{rules}
 use mathlib.Core.Path.{◌≡◌, sym, ap, ◌∙◌, subst}
 use mathlib.Core.List.{List}
 use Prim.Native.Nat.{ℕ, ◌≤◌}

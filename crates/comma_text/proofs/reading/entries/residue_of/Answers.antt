@@ -1,5 +1,4 @@
 -- `entries::residue_of` meets its contract: a size below 128 is a signed byte, and so is its negation.
-use borrow.Author.Rules.{rules}
 use mathlib.Core.Path.{ap, ◌∙◌}
 use native.Mathlib.Omega.{arith}
 use Rattle.residue.specs.Level.{residue_of}

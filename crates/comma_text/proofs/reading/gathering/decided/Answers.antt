@@ -1,7 +1,6 @@
 -- `gathering::decided` meets its contract.
 use mathlib.Core.Path.{sym, ap, ◌∙◌}
 use borrow.Author.Tests.{eq-eqb}
-use borrow.Author.Rules.{rules}
 use Rattle.specification.specs.Refusal.{first_of}
 use Rattle.comma_text.specs.reading.Points.{answered}
 use Rattle.comma_text.specs.declared.reading.Refusal.{Refusal}

@@ -2,7 +2,7 @@
 -- `from` on.
 use mathlib.Core.Path.{◌≡◌, refl, sym, ap, ◌∙◌}
 use mathlib.Core.List.{List, []}
-use Prim.Native.Nat.{◌+◌, ◌-◌, ◌<◌}
+use Prim.Native.Nat.{◌+◌, ◌<◌}
 use native.Mathlib.Omega.{arith}
 use lib.IntN.{ℤ}
 use lib.ListN.{length, take, drop}
@@ -16,7 +16,7 @@ use Rattle.comma_text.proofs.reading.entries.EntriesRead.{ReadOn, begun, entry_t
 use Rattle.comma_text.proofs.reading.entries.EntriesInside.{inside_on, outside_here, all_inside, range_said}
 use Rattle.comma_text.proofs.reading.gathering.SmallPlaces.{lt_le, next_le, one_less, fits_64}
 use Rattle.comma_text.proofs.reading.gathering.EntriesGathered.{Gathering, once_there, values_long}
-use Rattle.comma_text.proofs.reading.gathering.AllGathered.{first, outside_refused, keyed, Turned, none_turned, going, turned_full, full_turn, place_below, next_turn, all_gathered, places_within}
+use Rattle.comma_text.proofs.reading.gathering.AllGathered.{first, outside_refused, keyed, none_turned, going, turned_full, full_turn, place_below, next_turn, all_gathered, places_within}
 use Rattle.comma_text.proofs.reading.gathering.gather_entries.Goals as goal
 use Rattle.comma_text.proofs.reading.gathering.gather_entries.Goals.{After-enter-met, After-fill_entry-entry, After-keep_value-kept, After-struct_known-1, After-struct_known-in-loop-i-1, After-struct_known-in-loop-i-2-1, At-loop-i, Else-full-ne0, Else-met-eq64, Else-not-entry, Start}
 

@@ -2,7 +2,6 @@
 use mathlib.Core.Path.{refl}
 use native.Mathlib.Omega.{arith}
 use borrow.Author.Tests.{eq-eqb, ne_eqb}
-use borrow.Author.Rules.{rules}
 use Rattle.comma_text.proofs.reading.gathering.keep_value.Goals as goal
 
 pub returns-then-at-n : goal.returns-then-at-n

@@ -1,8 +1,7 @@
 -- `records::check_entries` meets its contract. The count goes on from `from`; each entry takes a byte, so there are no more of them than bytes.
-use borrow.Author.Rules.{rules}
 use mathlib.Core.Path.{◌≡◌, refl, sym, ap, ◌∙◌, subst}
 use mathlib.Core.List.{List}
-use Prim.Native.Nat.{ℕ, ◌+◌, ◌-◌, ◌<◌, ◌≤◌}
+use Prim.Native.Nat.{ℕ, ◌+◌, ◌<◌, ◌≤◌}
 use native.Mathlib.Omega.{arith}
 use lib.ListN.{length, drop}
 use Rattle.comma_text.specs.reading.Records.{entries_at, entry_said, EntryWithin, counted_entries}

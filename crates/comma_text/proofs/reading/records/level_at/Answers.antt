@@ -1,5 +1,4 @@
 -- `records::level_at` meets its contract: with quotes or without.
-use borrow.Author.Rules.{rules}
 use mathlib.Core.Path.{ap, ◌∙◌}
 use mathlib.Core.Logic.{⊎_elim}
 use native.Mathlib.Omega.{arith}

@@ -1,12 +1,10 @@
 -- `records::read_header` meets its contract. The header from `at` on, behind the names so far, is the whole one; each name takes a byte.
-use borrow.Author.Rules.{rules}
 use mathlib.Core.Path.{◌≡◌, refl, sym, ap, ◌∙◌, subst}
 use mathlib.Core.Bool.{Bool, true}
 use mathlib.Core.List.{List}
 use Prim.Native.Nat.{ℕ, ◌-◌, ◌<◌, ◌≤◌}
 use native.Mathlib.Omega.{arith}
 use lib.ListN.{length, take, drop, length-drop}
-use borrow.Author.Tests.{not-true, not-false}
 use Rattle.notation.specs.Fields.{field, field_of, kept}
 use Rattle.notation.specs.Forms.{header_of}
 use Rattle.notation.specs.Spans.{undoubled, spanned, SpanWithin}

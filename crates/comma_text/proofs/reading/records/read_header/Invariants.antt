@@ -1,20 +1,9 @@
 -- `records::read_header` meets its contract. The header from `at` on, behind the names so far, is the whole one; each name takes a byte.
-use borrow.Author.Rules.{rules}
-use mathlib.Core.Path.{◌≡◌, refl, sym, ap, ◌∙◌, subst}
-use mathlib.Core.Bool.{Bool, true}
-use mathlib.Core.List.{List}
-use Prim.Native.Nat.{ℕ, ◌-◌, ◌<◌, ◌≤◌}
-use native.Mathlib.Omega.{arith}
-use lib.ListN.{length, take, drop, length-drop}
-use borrow.Author.Tests.{not-true, not-false}
-use Rattle.notation.specs.Fields.{field, field_of, kept}
-use Rattle.notation.specs.Forms.{header_of}
-use Rattle.notation.specs.Spans.{undoubled, spanned, SpanWithin}
-use Rattle.notation.specs.Said.{last_said}
-use Rattle.comma_text.specs.reading.Records.{header_part, header_said}
-use Rattle.notation.specs.declared.forms.Last.{Last}
-use Rattle.comma_text.proofs.reading.records.Numbers.{header_read}
-use Rattle.comma_text.proofs.reading.records.HeaderFields.{headed, head_broken, head_more, head_last, field_shorter}
+use mathlib.Core.Path.{◌≡◌}
+use Prim.Native.Nat.{◌-◌, ◌≤◌}
+use lib.ListN.{length, drop}
+use Rattle.comma_text.specs.reading.Records.{header_part}
+use Rattle.comma_text.proofs.reading.records.HeaderFields.{headed}
 use Rattle.comma_text.proofs.reading.records.read_header.Given as goal
 
 abbrev pub invariant-loop-from : goal.invariant-loop-from

@@ -1,5 +1,4 @@
 -- `records::signed_level` meets its contract: with a minus sign or without.
-use borrow.Author.Rules.{rules}
 use mathlib.Core.Path.{◌∙◌}
 use mathlib.Core.Logic.{⊎_elim}
 use native.Mathlib.Omega.{arith}
