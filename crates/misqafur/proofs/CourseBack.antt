@@ -1,23 +1,18 @@
 -- What C takes out of the number that a time course returns: the refusal with its record, or n, r, the settings, the step and the distance back.
-use mathlib.Core.Path.{◌≡◌, refl, sym, ◌∙◌, ap, subst}
-use mathlib.Core.Bool.{Bool, true, false, cond}
+use mathlib.Core.Path.{◌≡◌, refl, sym, ◌∙◌, subst}
 use mathlib.Core.List.{List, [], ◌∷◌}
 use mathlib.Core.Logic.{◌≢◌}
 use Prim.Native.Nat.{ℕ, ◌+◌, ◌*◌, ◌≤◌}
 use native.Mathlib.Omega.{arith}
 use native.Mathlib.Decide.{ℕ_discrete}
-use lib.ListN.{length, length-map}
-use lib.Dec.{eqb}
-use borrow.Author.Tests.{eqb-true, eq-eqb, ne_eqb}
+use borrow.Author.Tests.{eq-eqb, ne_eqb}
 use Rattle.residue.proofs.level.Moduli.{modulus_range}
-use Rattle.specification.specs.Counted.{points_of}
 use Rattle.specification.specs.Tables.{Tables}
-use Rattle.specification.specs.CallByCall.{HoldsBasis}
 use Rattle.courses.specs.Returns.{Ends, comes, never}
 use Rattle.courses.specs.declared.returns.Return.{Return}
 use Rattle.forward.specs.declared.running.Course.{Course}
-use Rattle.forward.specs.Outcome.{CourseOutcome, course_accepted, course_outcome, refused_course}
-use Rattle.forward.proofs.PassedCourse.{PassedCourse, course_few, course_never, course_alone, taken, accepted_is, course_holds, course_ends}
+use Rattle.forward.specs.Outcome.{CourseOutcome, course_accepted, course_outcome}
+use Rattle.forward.proofs.PassedCourse.{course_few, course_never, course_alone, taken, accepted_is, course_holds, course_ends}
 use Rattle.misqafur.specs.Packing.{packed, packed_course, CourseFits}
 use Rattle.misqafur.specs.Unpacking.{refusal_from, points_from, fault_from, modulus_from, variables_from, order_from, course_elements_from, step_from, back_from}
 use Rattle.misqafur.proofs.Unpacked.{few_held}

@@ -6,7 +6,6 @@ use native.Mathlib.Omega.{arith}
 use lib.ListN.{length}
 use Rattle.residue.specs.Words.{bytes_of}
 use Rattle.residue.specs.Vector.{Below}
-use Rattle.specification.specs.declared.settings.Settings.{Settings}
 use Rattle.misqafur.specs.Packing.{packed, settings_given}
 
 bytes_handed : (ws : List ℕ) → Below 256 ws → bytes_of (length ws) (packed ws) ≡ ws

@@ -1,5 +1,4 @@
 -- `answers::misqafur_remainder` meets its contract.
-use borrow.Author.Rules.{rules}
 use Rattle.misqafur.proofs.answers.misqafur_remainder.Goals as goal
 
 pub returns : goal.returns

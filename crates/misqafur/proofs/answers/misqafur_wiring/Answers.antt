@@ -1,5 +1,4 @@
 -- `answers::misqafur_wiring` meets its contract.
-use borrow.Author.Rules.{rules}
 use Rattle.misqafur.proofs.Packed.{packs_list}
 use Rattle.misqafur.proofs.answers.misqafur_wiring.Goals as goal
 

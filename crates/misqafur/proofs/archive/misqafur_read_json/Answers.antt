@@ -1,5 +1,4 @@
 -- `archive::misqafur_read_json` meets its contract.
-use borrow.Author.Rules.{rules}
 use Rattle.misqafur.proofs.Packed.{packs_sheet}
 use Rattle.misqafur.proofs.archive.misqafur_read_json.Goals as goal
 

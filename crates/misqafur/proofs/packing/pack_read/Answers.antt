@@ -1,5 +1,4 @@
 -- `packing::pack_read` meets its contract.
-use borrow.Author.Rules.{rules}
 use borrow.Author.Tests.{eq-eqb, ne_eqb}
 use native.Mathlib.Omega.{arith}
 use Rattle.misqafur.proofs.packing.pack_read.Goals as goal

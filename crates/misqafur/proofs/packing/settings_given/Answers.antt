@@ -3,7 +3,6 @@ use mathlib.Core.Path.{ap}
 use mathlib.Core.List.{List}
 use Prim.Native.Nat.{ℕ}
 use Rattle.residue.proofs.Words.{eight_bytes}
-use borrow.Author.Rules.{rules}
 use Rattle.misqafur.proofs.packing.settings_given.Goals as goal
 
 pub returns : goal.returns

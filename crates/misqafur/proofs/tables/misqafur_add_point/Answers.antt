@@ -1,5 +1,4 @@
 -- `tables::misqafur_add_point` meets its contract.
-use borrow.Author.Rules.{rules}
 use Rattle.misqafur.proofs.Packed.{packs}
 use Rattle.misqafur.proofs.tables.misqafur_add_point.Goals as goal
 

@@ -1,5 +1,4 @@
 -- `tables::misqafur_check` meets its contract.
-use borrow.Author.Rules.{rules}
 use Rattle.misqafur.proofs.tables.misqafur_check.Goals as goal
 
 pub returns : goal.returns

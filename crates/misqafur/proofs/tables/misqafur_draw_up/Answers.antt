@@ -1,5 +1,4 @@
 -- `tables::misqafur_draw_up` meets its contract.
-use borrow.Author.Rules.{rules}
 use Rattle.misqafur.proofs.Packed.{packs_drawn}
 use Rattle.misqafur.proofs.tables.misqafur_draw_up.Goals as goal
 

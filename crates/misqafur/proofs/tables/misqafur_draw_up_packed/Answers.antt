@@ -1,5 +1,4 @@
 -- `tables::misqafur_draw_up_packed` meets its contract.
-use borrow.Author.Rules.{rules}
 use Rattle.misqafur.proofs.Packed.{packs}
 use Rattle.misqafur.proofs.tables.misqafur_draw_up_packed.Goals as goal
 

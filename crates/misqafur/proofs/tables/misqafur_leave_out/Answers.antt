@@ -1,5 +1,4 @@
 -- `tables::misqafur_leave_out` meets its contract.
-use borrow.Author.Rules.{rules}
 use Rattle.misqafur.proofs.Packed.{packs}
 use Rattle.misqafur.proofs.tables.misqafur_leave_out.Goals as goal
 

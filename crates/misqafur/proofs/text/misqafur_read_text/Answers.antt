@@ -1,5 +1,4 @@
 -- `text::misqafur_read_text` meets its contract.
-use borrow.Author.Rules.{rules}
 use Rattle.misqafur.proofs.Packed.{packs_read}
 use Rattle.misqafur.proofs.text.misqafur_read_text.Goals as goal
 

@@ -1,5 +1,4 @@
 -- `text::misqafur_time_course` meets its contract.
-use borrow.Author.Rules.{rules}
 use mathlib.Core.Path.{sym, ap, subst}
 use Rattle.specification.specs.Tables.{five_tables}
 use Rattle.forward.specs.Outcome.{CourseOutcome}

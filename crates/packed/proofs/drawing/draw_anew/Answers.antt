@@ -6,14 +6,6 @@ use Prim.Native.Nat.{ℕ, ◌≤◌}
 use native.Mathlib.Omega.{arith}
 use lib.ListN.{replicate}
 use Rattle.residue.specs.Sizes.{standard_size, leads_size, coefficients_size}
-use borrow.Author.Rules.{rules}
-use Rattle.packed.proofs.drawing.draw_anew.Reads as reads
-use Rattle.packed.proofs.drawing.draw_anew.Lts as lts
-use Rattle.packed.proofs.drawing.draw_grevlex.Reads as draw-grevlex-reads
-use Rattle.packed.proofs.drawing.draw_grlex.Reads as draw-grlex-reads
-use Rattle.packed.proofs.drawing.draw_lex.Reads as draw-lex-reads
-use Rattle.packed.proofs.drawing.draw_weighted.Reads as draw-weighted-reads
-use Rattle.residue.proofs.bytes.clear.Reads as clear_reads
 use Rattle.packed.proofs.drawing.draw_anew.Goals as goal
 use Rattle.packed.proofs.drawing.draw_anew.Goals.{After-clear-3, Start}
 

@@ -1,9 +1,5 @@
 -- `drawing::draw_grevlex` meets its contract: the constant tables are those of grevlex.
 use Rattle.packed.proofs.SequenceTables.{grevlex_under}
-use borrow.Author.Rules.{rules}
-use Rattle.packed.proofs.drawing.draw_grevlex.Reads as reads
-use Rattle.packed.proofs.drawing.draw_grevlex.Lts as lts
-use Rattle.packed.proofs.drawing.walk.Reads as walk-reads
 use Rattle.packed.proofs.drawing.draw_grevlex.Goals as goal
 
 pub walk-requires : goal.walk-requires

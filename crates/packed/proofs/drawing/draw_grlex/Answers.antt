@@ -1,9 +1,5 @@
 -- `drawing::draw_grlex` meets its contract: the constant tables are those of grlex.
 use Rattle.packed.proofs.SequenceTables.{grlex_under}
-use borrow.Author.Rules.{rules}
-use Rattle.packed.proofs.drawing.draw_grlex.Reads as reads
-use Rattle.packed.proofs.drawing.draw_grlex.Lts as lts
-use Rattle.packed.proofs.drawing.walk.Reads as walk-reads
 use Rattle.packed.proofs.drawing.draw_grlex.Goals as goal
 
 pub walk-requires : goal.walk-requires

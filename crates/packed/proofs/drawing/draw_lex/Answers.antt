@@ -1,9 +1,5 @@
 -- `drawing::draw_lex` meets its contract: the constant tables are those of lex.
 use Rattle.packed.proofs.SequenceTables.{lex_under_lem}
-use borrow.Author.Rules.{rules}
-use Rattle.packed.proofs.drawing.draw_lex.Reads as reads
-use Rattle.packed.proofs.drawing.draw_lex.Lts as lts
-use Rattle.packed.proofs.drawing.walk.Reads as walk-reads
 use Rattle.packed.proofs.drawing.draw_lex.Goals as goal
 
 pub walk-requires : goal.walk-requires

@@ -1,10 +1,5 @@
 -- `drawing::draw_weighted` meets its contract: the tables are computed, and the walk takes them.
-use borrow.Author.Rules.{rules}
 use Rattle.packed.proofs.SequenceTables.{weighted_under}
-use Rattle.packed.proofs.drawing.draw_weighted.Reads as reads
-use Rattle.packed.proofs.drawing.draw_weighted.Lts as lts
-use Rattle.packed.proofs.drawing.put_tables_under.Reads as put-tables-under-reads
-use Rattle.packed.proofs.drawing.walk.Reads as walk-reads
 use Rattle.packed.proofs.drawing.draw_weighted.Goals as goal
 
 pub walk-requires : goal.walk-requires

@@ -2,9 +2,6 @@
 use Rattle.specification.proofs.agreement.Refusals.{light_under}
 use Rattle.packed.proofs.SequenceTables.{light_of}
 use borrow.Author.Rules.{rules}
-use Rattle.packed.proofs.drawing.put_tables_under.Reads as reads
-use Rattle.packed.proofs.drawing.put_tables_under.Lts as lts
-use Rattle.orders.proofs.weighing.put_tables.Reads as put-tables-reads
 use Rattle.packed.proofs.drawing.put_tables_under.Goals as goal
 
 pub put_tables-requires : goal.put_tables-requires
