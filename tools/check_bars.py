@@ -20,6 +20,8 @@ SHOW_NOTHING = (
     "that can be named",  # the proof names a goal that the edited code does not have
     "no occurrence",  # the proof rewrites a term that the edited definition does not have
     "so this cannot be checked",  # it only follows from another error
+    "was not checked",  # nor does a declaration whose ground was refused show more than that ground
+    "were not checked",
 )
 
 

@@ -1,2 +1,2 @@
--- The definitions of the crate csv.
+-- The definitions of the crate comma_text.
 pub mod reading

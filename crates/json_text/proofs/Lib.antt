@@ -1,7 +1,8 @@
--- The theorems of the crate json, and the laws of its loops.
+-- The theorems of the crate json_text, and the laws of its loops.
 pub mod Digits
 pub mod Numbers
 pub mod Readers
+pub mod ItemBehind
 pub mod Arrays
 pub mod DocumentTexts
 pub mod RoundTrip

@@ -120,7 +120,7 @@ fn put_rows(
     next
 }
 
-// The lines of a drawn_up basis of n points in m variables, with r rows, of an interpolant and of a wiring list.
+// The lines of a drawn-up basis of n points in m variables, with r rows, of an interpolant and of a wiring list.
 pub fn print_basis(
     m: usize,
     n: usize,

@@ -1,4 +1,4 @@
--- The tables of a drawn_up basis read back as its lists, and what is printed of them: it fits the buffer.
+-- The tables of a drawn-up basis read back as its lists, and what is printed of them: it fits the buffer.
 use mathlib.Core.Path.{◌≡◌, sym, ◌∙◌, ap, subst}
 use mathlib.Core.Bool.{true}
 use mathlib.Core.List.{List, [], map, zip, append-nil}

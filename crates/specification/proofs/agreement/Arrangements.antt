@@ -31,7 +31,8 @@ use Rattle.specification.specs.Reference.{Held}
 use Rattle.specification.specs.Agreement.{SameSet, Arranges, SameValues, SameAs, SameCounts}
 use Rattle.specification.specs.Points.{IsPoint}
 use Rattle.specification.proofs.counted.Few.{few_counts}
-use Rattle.specification.proofs.counted.Gathered.{Entries, of_parts, positive_of, positive_gathered, once_gathered, among_gathered, count_gathered}
+use Rattle.specification.proofs.counted.Gathered.{Entries, positive_of, positive_gathered, once_gathered, among_gathered, count_gathered}
+use Rattle.specification.proofs.counted.Parts.{of_parts}
 use Rattle.specification.proofs.counted.Gathered.{count_some, some_count, count_few}
 use Rattle.specification.proofs.agreement.Refusals.{settings_pass, Large, large_of, written_held, written_points}
 use Rattle.specification.proofs.agreement.Values.{same_range}

@@ -6,10 +6,10 @@ use mathlib.Core.List.{List, [], ◌∷◌, ◌++◌, map-append}
 use Prim.Native.Nat.{ℕ, suc, ◌+◌, ◌≤◌}
 use native.Mathlib.Omega.{arith}
 use lib.ListN.{length, length-map}
-use lib.Dec.{T, leb, ltb}
+use lib.Dec.{T, leb}
 use borrow.Author.Tests.{le-leb, leb-true, ltb-false}
-use Rattle.residue.specs.Lists.{Among, every, some, same_list}
-use Rattle.residue.proofs.Tests.{of_true, true_of, and_left, and_right, and_both, neither}
+use Rattle.residue.specs.Lists.{Among, every, same_list}
+use Rattle.residue.proofs.Tests.{of_true, true_of, and_left, and_right, and_both}
 use Rattle.residue.proofs.bytes.Equality.{same_is, same_self}
 use Rattle.specification.specs.declared.settings.Settings.{Settings}
 use Rattle.specification.specs.Levels.{is_among, no_repeat}
@@ -19,6 +19,7 @@ use Rattle.specification.proofs.Repeats.{among_is, is_among_lem}
 use Rattle.specification.specs.Points.{Points, IsPoint}
 use Rattle.specification.proofs.agreement.Points.{once_snoc, no_points}
 use Rattle.specification.proofs.counted.Entered.{Positive, entered_there, entered_new}
+use Rattle.specification.proofs.counted.Parts.{of_parts}
 use Rattle.specification.proofs.ideal.Lists.{snoc_of, snoc_in}
 
 -- At most 64 points, none twice, each with a count from 1 to 255.
@@ -29,15 +30,7 @@ pub record Entries (s : Settings) (L : Counted) : Type 0 where
 pub no_entries : (s : Settings) → Entries s []
 no_entries s = record { points = no_points s; counts = tt }
 
--- counts from 1 to 255, in parts
-pub of_parts : (l : List ℕ) → T (every (leb 1) l) → some (ltb 255) l ≡ false → T (every is_count l)
-unfolding is_count
-of_parts [] h e = tt
-of_parts (k ∷ l) h e = let n = neither (ltb 255 k) (some (ltb 255) l) e in
-    and_both (is_count k) (every is_count l)
-    (and_both (leb 1 k) (leb k 255) (and_left (leb 1 k) (every (leb 1) l) h) (of_true (le-leb k 255 (ltb-false 255 k n.0))))
-    (of_parts l (and_right (leb 1 k) (every (leb 1) l) h) n.1)
-
+-- counts from 1 to 255 are positive
 pub positive_of : (l : List ℕ) → T (every is_count l) → T (every (leb 1) l)
 unfolding is_count
 positive_of [] h = tt
