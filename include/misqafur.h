@@ -901,59 +901,6 @@ static inline MISQAFUR_ANSWER uint32_t misqafur_course_run(struct misqafur_cours
     return MISQAFUR_TAKEN;
 }
 
-/* ---- From a text to its sheet in one call, and a polynomial at a state ---- */
-
-/* Makes the sheet of a text that misqafur_read_text takes, whatever it was before: settings, weights and counts are those of its
- * records. Writes 64 bytes of values, the target's residue at each point in the points' order, then zeros: hand the first n of
- * them to misqafur_sheet_interpolate. Writes the record at fault to record, where it is refused; then all else is as it was.
- * Refusals: those of misqafur_read_text, 6 (record 0) where values_length is below 64. */
-static inline MISQAFUR_ANSWER uint32_t misqafur_sheet_read(struct misqafur_sheet *to, const uint8_t *text, size_t text_length,
-                                                           uint8_t *values, size_t values_length, uint64_t *record)
-{
-    uint8_t states[MISQAFUR_STATES_SIZE], levels[MISQAFUR_LEVELS_SIZE];
-    uint8_t counts[MISQAFUR_COUNTS_SIZE], weights[MISQAFUR_WEIGHTS_SIZE];
-    const uint64_t answer = misqafur_read_text(text, text_length, states, sizeof states, values, values_length,
-                                               counts, sizeof counts, weights, sizeof weights);
-    uint32_t refusal = misqafur_read_refusal(answer);
-    if (refusal != 0) {
-        *record = misqafur_read_record(answer);
-        return refusal;
-    }
-    to->modulus = misqafur_read_modulus(answer);
-    to->variables = misqafur_read_variables(answer);
-    to->order = misqafur_read_order(answer);
-    to->weights = misqafur_pack_weights(weights, sizeof weights);
-    /* The points of a text that was taken are drawn up, each counted once, and nothing is refused. */
-    refusal = misqafur_sheet_draw_up(to, levels, misqafur_pack_levels(states, misqafur_read_points(answer), to->variables, levels));
-    if (refusal == 0)
-        memcpy(to->counts, counts, sizeof counts);
-    return refusal;
-}
-
-/* The value of a polynomial at a state, which need not be on any sheet, through the proved calls: its remainder over the sheet of
- * this state alone, whose one standard monomial is 1. The polynomial is handed over as to misqafur_remainder; an interpolant or a
- * remainder over a sheet goes in as it is, the n residues with sheet.standard and 8 * n. Writes the residue to value, where it is
- * not refused. It takes the stack of a call and a struct misqafur_sheet more.
- * Refusals: 3, 4, 7 (levels_length is not m), 9 (a level), 7 (exponents_length is not 8 times term_coefficients_length), 8 (more
- * than 256 terms), 9 (a coefficient or an exponent). */
-static inline MISQAFUR_ANSWER uint32_t misqafur_value(uint64_t modulus, uint64_t variables,
-                                                      const uint8_t *levels, size_t levels_length,
-                                                      const uint8_t *term_coefficients, size_t term_coefficients_length,
-                                                      const uint8_t *exponents, size_t exponents_length, uint8_t *value)
-{
-    struct misqafur_sheet here;
-    uint8_t residues[MISQAFUR_RESIDUES_SIZE];
-    uint32_t refusal = misqafur_sheet_init(&here, modulus, variables, MISQAFUR_LEX, 0);
-    if (refusal == 0)
-        refusal = misqafur_sheet_add(&here, levels, levels_length);
-    if (refusal == 0)
-        refusal = misqafur_sheet_remainder(&here, term_coefficients, term_coefficients_length, exponents, exponents_length,
-                                           residues, sizeof residues);
-    if (refusal == 0)
-        *value = residues[0];
-    return refusal;
-}
-
 #ifdef __cplusplus
 }
 #endif

@@ -21,7 +21,7 @@ def differences():
     program, library = plain("misqafur.1"), plain("misqafur.3")
     call = "misqafur_abi_" + re.search(r"^#define MISQAFUR_ABI (\d+)$", header, re.M).group(1)
     names = re.findall(r"^uint\d+_t (misqafur_\w+)\(", header, re.M) + re.findall(r"\b(misqafur_(?:sheet|course|json)_\w+)\(", header)
-    for name in sorted(set(names + ["misqafur_refusal_text", "misqafur_level", "misqafur_value", "misqafur_version", call]) - {"misqafur_sheet_keep", "misqafur_sheet_take"}):
+    for name in sorted(set(names + ["misqafur_refusal_text", "misqafur_level", "misqafur_version", call]) - {"misqafur_sheet_keep", "misqafur_sheet_take"}):
         if not re.search(rf"\b{name}\b", library):
             yield f"misqafur(3) does not name {name}"
     for number, sentence in enumerate(re.findall(r'return "([^"]*)";', header)[1:-1], 1):

@@ -1,5 +1,5 @@
 """One version in every place that tells it: the header's, which pkg-config files and the shared library's name are made from,
-and those of the proved definition, the Python module, its package and the R package. The version's first number is the interface's.
+and those of the proved definition, the Python module and the R package. The version's first number is the interface's.
 tools/check_header.py runs this, and tools/check_manual.py holds the manual to the header.
 
 Each run first tries the comparison itself: every edit in TRIES of small texts that agree has to be noticed."""
@@ -8,11 +8,10 @@ import re
 # Where a place is, and the pattern of what it tells.
 PLACES = {
     "include/misqafur.h": r'^#define MISQAFUR_VERSION "(.*)"$',
-    "python/misqafur/version.py": r'^__version__ = "(.*)"$',
-    "pyproject.toml": r'^version = "(.*)"$',
+    "python/misqafur.py": r'^__version__ = "(.*)"$',
     "r/misqafur/DESCRIPTION": r"^Version: (.*)$",
 }
-HEADER, PYTHON, DEFINITION = "include/misqafur.h", "python/misqafur/version.py", "crates/misqafur/specs/Version.antt"
+HEADER, PYTHON, DEFINITION = "include/misqafur.h", "python/misqafur.py", "crates/misqafur/specs/Version.antt"
 
 
 def numbers(text, pattern):
@@ -44,15 +43,13 @@ SMALL = {
     HEADER: '#define MISQAFUR_ABI 7\n#define MISQAFUR_VERSION_MAJOR 7\n#define MISQAFUR_VERSION_MINOR 1\n'
             '#define MISQAFUR_VERSION_PATCH 2\n#define MISQAFUR_VERSION "7.1.2"\n',
     PYTHON: '__version__ = "7.1.2"\nABI = 7\n',
-    "pyproject.toml": 'version = "7.1.2"\n',
     "r/misqafur/DESCRIPTION": "Version: 7.1.2\n",
     DEFINITION: "major = 7\nminor = 1\npatch = 2\n",
 }
 TRIES = [
     (HEADER, "ABI 7", "ABI 8"), (HEADER, "MAJOR 7", "MAJOR 8"), (HEADER, "MINOR 1", "MINOR 2"), (HEADER, "PATCH 2", "PATCH 3"),
     (HEADER, '"7.1.2"', '"7.1.3"'), (PYTHON, "7.1.2", "7.1.1"), (PYTHON, "ABI = 7", "ABI = 6"), (PYTHON, "ABI = 7", ""),
-    (PYTHON, '__version__ = "7.1.2"', ""), ("r/misqafur/DESCRIPTION", "7.1.2", "1.0.0"), ("pyproject.toml", "7.1.2", "7.1"),
-    (DEFINITION, "major = 7", "major = 2"),
+    (PYTHON, '__version__ = "7.1.2"', ""), ("r/misqafur/DESCRIPTION", "7.1.2", "1.0.0"), (DEFINITION, "major = 7", "major = 2"),
     (DEFINITION, "minor = 1", "minor = 0"), (DEFINITION, "patch = 2", ""),
 ]
 

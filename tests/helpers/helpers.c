@@ -1,15 +1,13 @@
 /* The header's helpers over whole sheets against the plain calls: the same random call is made both ways on equal sheets,
  * and refusal, counts and every byte have to be equal afterwards; and after a refusal every byte as it was before. Leaving a
- * variable out is in leaving.h, running a time course in courses.h, a sheet as JSON in json.h, reading a text and values of
- * polynomials in reading.h.
+ * variable out is in leaving.h, running a time course in courses.h, a sheet as JSON in json.h.
  * usage: helpers CALLS [SEED] */
 #include "json.h"
-#include "reading.h"
 
 #include <stdio.h>
 #include <stdlib.h>
 
-enum kind { ADD, WITHDRAW, DRAW_UP, PACKED, CHECK, INTERPOLATE, REMAINDER, WIRING, KINDS, INIT = KINDS, LEAVE_OUT, COURSE, WRITE_JSON, READ_JSON, READ, VALUE, HELPERS };
+enum kind { ADD, WITHDRAW, DRAW_UP, PACKED, CHECK, INTERPOLATE, REMAINDER, WIRING, KINDS, INIT = KINDS, LEAVE_OUT, COURSE, WRITE_JSON, READ_JSON, HELPERS };
 
 /* What a call is handed beside the sheet, and what it answers. */
 struct terms {
@@ -190,8 +188,7 @@ static void all_seen(void)
                                         {0, 3, 15, 7, 8, 9, 13}, {0, 15, 10},           {0, 15, 6, 7, 9, 10},
                                         {0, 15, 6, 7, 8, 9, 10}, {0, 15, 6, 7, 9, 10},  {0, 3, 4, 5, 15},
                                         {0, 15, 16, 6, 8, 10, 13}, {0, 2, 3, 15, 9, 17, 8, 13, 18},
-                                        {0, 15, 6, 8, 10},       {0, 1, 19, 3, 4, 5, 15, 8, 10},
-                                        {0, 1, 2, 3, 4, 15, 6, 9, 8, 13, 14}, {0, 3, 4, 7, 8, 9}};
+                                        {0, 15, 6, 8, 10},       {0, 1, 19, 3, 4, 5, 15, 8, 10}};
     for (int kind = 0; kind < HELPERS; kind++)
         for (int i = 0; i < 11; i++)
             expect(seen[kind][due[kind][i]] > 0, "an answer that never came", 10 * kind + due[kind][i]);
@@ -212,11 +209,6 @@ int main(int count, char **words)
         if (i % 4 == 1) {
             seen[WRITE_JSON][try_write_json(i, &sheet) & 31]++;
             seen[READ_JSON][try_read_json(i, &sheet) & 31]++;
-        }
-        if (i % 4 == 2) {
-            seen[READ][try_reading(i) & 31]++;
-            seen[VALUE][try_value(i) & 31]++;
-            try_interpolant(i, &sheet);
         }
     }
     texts();

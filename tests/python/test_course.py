@@ -217,10 +217,7 @@ class Data(unittest.TestCase):
         self.same(ROOT / "examples/course.csv")
         self.same(io.BytesIO(EXAMPLE))
         self.assertEqual(misqafur.read(ROOT / "examples/three.csv")[1], [1, 0, 3])
-        self.same(str(ROOT / "examples/course.csv"))
-        with self.assertRaises(FileNotFoundError):
-            misqafur.course("a,mod 5", 3)
-        for wrong in (EXAMPLE.decode(), io.StringIO(EXAMPLE.decode()), 5, None, [(0, 1)]):
+        for wrong in (EXAMPLE.decode(), "examples/course.csv", io.StringIO(EXAMPLE.decode()), 5, None, [(0, 1)]):
             with self.subTest(wrong), self.assertRaises(TypeError):
                 misqafur.course(wrong, 3)
         for wrong in ("3", None, 1.5):
@@ -382,7 +379,7 @@ class Pictures(unittest.TestCase):
             picture = self.drawn(misqafur.course(text, 1))
             words = [part.text for part in picture.iter(self.SPACE + "text")]
             for name in names:
-                self.assertIn(name.replace("\x01", "\\x01") or "(no name)", words)
+                self.assertIn(name.replace("\x01", "\ufffd") or "(no name)", words)
 
     def test_sizes(self):
         for genes in range(1, 9):
@@ -417,11 +414,11 @@ class Reports(unittest.TestCase):
 
     def test_beyond_what_was_measured(self):
         _, said = self.said(b"a b,mod 5\n0,1\n1,1\n", "-", "--course", "1")
-        self.assertIn("next `a b` = 1", said)
+        self.assertIn("x1 is 'a b'", said)
         self.assertIn("! What comes after the state of step 1 was not measured in any course: from step 2 on the run is the model's", said)
         self.assertIn("it stays as it is from step 1.", said)
         _, said = self.said(b"\xef\xbb\xbfa,mod 5\n0,1\n0,1\n", "-", "--course", "1")
-        self.assertIn("! Undone: byte-order mark.", said)
+        self.assertIn("! It begins with a byte-order mark", said)
         self.assertNotIn("What comes after", said)
 
     def test_none_within_256(self):
@@ -441,13 +438,7 @@ class Reports(unittest.TestCase):
                      "- Name one of the text's courses."):
             self.assertIn(part, said)
         status, said = self.said(b"a;mod 5\n1;1\n", "-", "--course", "1")
-        self.assertEqual((status, "! Undone: semicolons." in said), (0, True))
-        for text, due in ((b"# made up\na;mod 5\n1;1\n2;1\n\n1;1\n3;1\n",
-                           "Row 6 has the state of row 3 (a 1), which is followed by a 2 there, and here by a 3"),
-                          (b"a,mod 5\n1,1\n2,\n", "cell B3 (the course number) is empty"),
-                          (b"a,mod 5\n1,1\n\n2,0\n", "Row 4: the course number 0 is not from 1 to 99")):
-            status, said = self.said(text, "-", "--course", "1")
-            self.assertEqual((status, due in said), (1, True), said)
+        self.assertEqual((status, "divided by semicolons" in said), (1, True))
         for words in (("-",), ("--course", "3"), ("-", "--course", "three"), (self.folder.name + "/none.csv", "--course", "3")):
             self.assertEqual(self.said(EXAMPLE, *words)[0], 2)
 

@@ -61,14 +61,5 @@ class CellCycle(unittest.TestCase):
         self.assertIn("6 genes (E2F, CycA, Cdc20, Cdh1, UbcH10, CycB)", self.said("-m", "misqafur", "report", str(FOLDER / "CycA.csv")))
 
 
-class Many(unittest.TestCase):
-    def test_screen(self):
-        """The made-up screen, on one core, on a pool, and where it is on a local cluster of Dask: the same table."""
-        said = subprocess.run([sys.executable, str(FOLDER.parent / "many/screen.py"), "600"], capture_output=True, text=True, timeout=3600, check=True)
-        self.assertEqual(said.stdout, "600 targets of 64 states, 0 refused; the first is T1 = g5*g6\none core and every other way give the same table\n")
-        if "not tried" in said.stderr:
-            self.skipTest("Dask is not installed (examples/many)")
-
-
 if __name__ == "__main__":
     sys.exit(not unittest.main(exit=False).result.wasSuccessful())

@@ -133,7 +133,7 @@ class Reports(unittest.TestCase):
         status, said = self.said("g1", "g1,g2,mod 5 grlex\n0,0,1\n1,2,0\n2,1,3\n")
         self.assertEqual(status, 0)
         for part in ("3 states of 1 gene (g2), levels modulo 5, order grlex", "g1 is left out. No two states became equal: there are 3 as before.",
-                     "(at each of these states it has the value that the table gives): the target = 1 + 2*g2 Wiring: g2"):
+                     "(at each state it has the value that the text gives): 1 + 2*g2 Wiring: g2"):
             self.assertIn(part, said)
 
     def test_states_become_equal(self):
@@ -141,7 +141,7 @@ class Reports(unittest.TestCase):
         for gene in ("Rb", "1"):
             status, said = self.said(gene, text)
             self.assertEqual(status, 0)
-            for part in ("2 states of 1 gene (E2F), levels modulo 3, order by weight (E2F 1) replicates: each state 2 times",
+            for part in ("2 states of 1 gene (E2F), levels modulo 3, order by weight (E2F 1) replicates: (0,) 2 times, (2,) 2 times",
                          "! Rb is left out. States that became equal are one, and their counts are added: of 3 there are 2.", "1 + E2F Wiring: E2F"):
                 self.assertIn(part, said)
 

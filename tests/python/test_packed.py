@@ -57,7 +57,7 @@ class Packed(unittest.TestCase):
         """Drawing up and reading modulo 2 count their cancellations as ever; `packed` is asked for by its name."""
         states = [(0, 0), (0, 1), (1, 1)]
         self.assertGreater(misqafur.Sheet(2, 2).draw_up(states).cancellations, 0)
-        with unittest.mock.patch.object(misqafur.sheet, "_call", wraps=misqafur.sheet._call) as calls:
+        with unittest.mock.patch.object(misqafur, "_call", wraps=misqafur._call) as calls:
             misqafur.Sheet(2, 2).draw_up(states, packed=True).draw_up(states)
         self.assertEqual([call.args[0] for call in calls.mock_calls if call.args], ["check", "draw_up_packed", "draw_up"])
         self.assertGreater(misqafur.read(b"a,b,mod 2\n0,0,1\n0,1,1\n1,1,0\n")[0].cancellations, 0)
@@ -97,7 +97,7 @@ class Versions(unittest.TestCase):
         """A library of this interface that has not every call is told as that, in a sentence."""
         with tempfile.TemporaryDirectory() as folder:
             older = pathlib.Path(folder) / f"libmisqafur.so.{misqafur.ABI}"
-            names = [name for name in misqafur.library._CALLS if name not in ("draw_up_packed", f"abi_{misqafur.ABI}")]
+            names = [name for name in misqafur._CALLS if name not in ("draw_up_packed", f"abi_{misqafur.ABI}")]
             code = f"int misqafur_abi_{misqafur.ABI}(void) {{ return {10000 * misqafur.ABI}; }}\n" + "".join(f"int misqafur_{name}(void) {{ return 0; }}\n" for name in names)
             subprocess.run(["gcc", "-shared", "-fPIC", "-xc", "-", "-o", str(older)], input=code, text=True, check=True)
             said = subprocess.run([sys.executable, "-m", "misqafur", "report", "-"], input="g1,mod 5\n1,1\n", capture_output=True, text=True,

@@ -1,11 +1,8 @@
 """What people see of the Python module: polynomials, reports, advice, pictures, the command line, other packages."""
-import contextlib
 import importlib.util
-import io
 import os
 import pathlib
 import random
-import re
 import shutil
 import subprocess
 import sys
@@ -34,14 +31,9 @@ class Polynomials(unittest.TestCase):
         self.assertEqual([str(p) for p in sheet.basis], ["g2^2 + g2 + 4*g1", "g1*g2 + g2 + g1", "g1^2 + 4*g2 + g1"])
         self.assertEqual(str(sheet.interpolate([1, 0, 3])), "1 + 2*g2")
         self.assertEqual(str(sheet.interpolate([0, 0, 0])), "0")
-        self.assertEqual(str(sheet_of(["Nkx2-5", "p27.kip"]).basis[1]), "`Nkx2-5`*p27.kip + p27.kip + `Nkx2-5`")
-        self.assertEqual(str(sheet_of(["a", "a"]).basis[0]), "`a (2)`^2 + `a (2)` + 4*`a (1)`")
-        self.assertEqual(str(sheet_of(["a b", ""]).basis[0]), "`gene (2)`^2 + `gene (2)` + 4*`a b`")
-        self.assertEqual(str(sheet_of(["a`b", "c"]).basis[2]), "`a\\x60b`^2 + 4*c + `a\\x60b`")
-        for names in (["a", "b c"], ["a", "a", "a (1)"], ["", "gene (1)"], ["a`", "a\\x60"], ["\x1b[31m", "\u202eb", "\n"], ["a" * 200, "a" * 201]):
-            shown = misqafur.shown_names(names)
-            self.assertEqual(len(set(shown)), len(names), shown)
-            self.assertTrue("".join(shown).isprintable())
+        self.assertEqual(str(sheet_of(["Nkx2-5", "p27.kip"]).basis[1]), "Nkx2-5*p27.kip + p27.kip + Nkx2-5")
+        self.assertEqual(str(sheet_of(["a", "a"]).basis[0]), "x2^2 + x2 + 4*x1")
+        self.assertEqual(str(sheet_of(["a b", ""]).basis[0]), "x2^2 + x2 + 4*x1")
 
     def test_compared_and_evaluated(self):
         first, second, third = sheet_of().basis
@@ -57,123 +49,55 @@ class Polynomials(unittest.TestCase):
 
     def test_parsed(self):
         chance = random.Random(3)
-        for names in (["g1", "g10", "g1x"], ["Nkx2-5", "p", "p27"], ["a b", "", "c"], ["x2", "x1", "x"], ["a", "b", "ab"], ["a`", "a-b", "b_c"]):
+        for names in (["g1", "g10", "g1x"], ["Nkx2-5", "p", "p27"], ["a b", "", "c"]):
             for _ in range(50):
                 terms = [(chance.randrange(7), [chance.randrange(4) for _ in names]) for _ in range(chance.randrange(1, 6))]
                 polynomial = misqafur.Polynomial(7, names, terms)
                 self.assertEqual(misqafur.Polynomial.parse(7, names, str(polynomial)), polynomial)
-        for wrong in ("", "g3", "g1 g2", "g1 +", "g1^", "1.5*g1", "g1^-1", "(g1", "g1)", "g1++g2", "2*", "g1 - -g2", "2 g1", "g1(g2)",
-                      "g1^g2", "g1^2^2", "g1/2", "g1.real", "f(g1)", "g1 if g2 else 1", "__import__('os')", "g1\x00", "(g1 + g2)^256", "x3"):
+        for wrong in ("", "g3", "g1 g2", "g1 +", "g1^", "1.5*g1", "g1^-1", "(g1)", "g1++g2", "2*"):
             with self.subTest(wrong), self.assertRaises(ValueError):
                 sheet_of().polynomial(wrong)
         self.assertEqual(str(sheet_of().remainder("g1^2*g2")), "2*g1")
         self.assertEqual(str(sheet_of().remainder("-3")), "2")
-        long = " + ".join(f"{k % 4 + 1}*g1^{k % 7}*g2^{k % 5}" for k in range(2000))
-        self.assertEqual(sheet_of().polynomial(long), misqafur.Polynomial(5, ["g1", "g2"], [(k % 4 + 1, (k % 7, k % 5)) for k in range(2000)]))
-
-    def test_read_back(self):
-        """What packages print: genes of one letter with their powers behind them, no sign for a product, parentheses, x1 and the like."""
-        sheet = sheet_of(["x", "y"])
-        due = misqafur.Polynomial(5, ["x", "y"], [(1, (2, 0)), (4, (0, 1))])
-        for text in ("x2+4y", "x^2+4*y", "x**2 - y", "(x)^2-(y)", "-y+x2", "x*(x) + 2*(2y)", "(x+1)^2 - 2x - 1 - y", "2(3x2)+4y"):
-            self.assertEqual(sheet.polynomial(text), due, text)
-        self.assertEqual(sheet.polynomial("3xy2+x2y"), misqafur.Polynomial(5, ["x", "y"], [(3, (1, 2)), (1, (2, 1))]))
-        genes = sheet_of(["Rb", "E2F"])
-        for text in ("x1^2 - x2", "x_1^2-x_2", "x(1)^2+4*x(2)", "x[1]^2 +4*x[2]", "Rb^2 - E2F", "Rb^2 - x2"):
-            self.assertEqual(genes.polynomial(text).terms, [(1, (2, 0)), (4, (0, 1))], text)
-        turned = sheet_of(["x2", "x1"])
-        self.assertEqual(turned.polynomial("x1").terms, [(1, (0, 1))])
-        self.assertEqual(turned.polynomial("x1", exported=True).terms, [(1, (1, 0))])
-        with self.assertRaises(ValueError):
-            genes.polynomial("Rb", exported=True)
-
-    def test_at_many_states(self):
-        rule = sheet_of(["a", "b"]).interpolate([1, 0, 3])
-        self.assertEqual(rule.at(A), [1, 0, 3])
-        self.assertEqual(rule.at({"b": [0, 2, 1], "a": [0, 1, 2]}), [1, 0, 3])
-        if has("numpy"):
-            import numpy
-            self.assertEqual(rule.at(numpy.array(A)), [1, 0, 3])
-        if has("pandas"):
-            import pandas
-            frame = pandas.DataFrame(A, columns=["a", "b"])
-            self.assertEqual(rule.at(frame[["b", "a"]].assign(other=7)), [1, 0, 3])
-            with self.assertRaises(ValueError):
-                rule.at(frame.rename(columns={"a": "c"}))
-
-    @unittest.skipUnless(has("sympy"), "sympy is not installed")
-    def test_to_sympy(self):
-        import sympy
-        a, b = sympy.Symbol("a"), sympy.Symbol("b c")
-        rule = sheet_of(["a", "b c"]).polynomial("2*a^2 + 3*`b c` + 1")
-        self.assertEqual(rule.to_sympy(), sympy.Poly(2 * a**2 + 3 * b + 1, a, b, modulus=5))
 
 
 class Exports(unittest.TestCase):
     def test_syntax(self):
         sheet = sheet_of()
-        self.assertIn("// x1 is g1\n// x2 is g2\nring sheet = 5, (x1, x2), Dp;\nideal theBasis = x2^2 + x2 + 4*x1, ", sheet.export("singular"))
-        self.assertIn("sheet = ZZ/5[x1, x2, MonomialOrder => GLex];\n", sheet.export("macaulay2"))
-        self.assertIn("R = PolynomialRing(GF(5), 2, ['x1', 'x2'], order='deglex')\n", sheet.export("sage"))
-        self.assertIn("use R ::= ZZ/(5)[x1, x2], DegLex;\n", sheet.export("cocoa"))
-        self.assertIn('R<x1, x2> := PolynomialRing(GF(5), 2, "glex");\n', sheet.export("magma"))
-        self.assertIn("Poly(x2**2 + x2 + 4*x1, *genes, modulus=5)", sheet.export("sympy"))
-        self.assertIn(r"\[ f = 1 + 2 x_{2} \pmod{5} \]", sheet.export("latex", [1, 0, 3]))
-        with self.assertRaises(ValueError):
-            sheet.export("maple")
-
-    def test_names_are_comments(self):
-        """Whatever the genes are called, what a package would run is the same."""
-        kinds = [kind for kind in misqafur.SYNTAXES if kind not in ("plain", "latex")]
-        due = {kind: [line for line in sheet_of().export(kind, [1, 0, 3]).splitlines() if " is g" not in line] for kind in kinds}
-        for names in (["hh", "odd"], ["run", "res"], ["a\nquit;", "*/ x"], ["ring", "\u2028exit"], ["\x1b[2J", "\\end"], ["-- }", "\r\n// x"]):
-            for kind in kinds:
-                said = sheet_of(names).export(kind, [1, 0, 3])
-                self.assertEqual([line for line in said.splitlines() if not re.match(r"\S+ x\d is ", line)], due[kind])
-                self.assertTrue(said.replace("\n", "").isprintable())
+        self.assertIn("ring sheet = 5, (g1, g2), Dp;\nideal basis = g2^2 + g2 + 4*g1, ", sheet.export("singular"))
+        self.assertIn("sheet = ZZ/5[g1, g2, MonomialOrder => GLex];\n", sheet.export("macaulay2"))
+        self.assertIn("Poly(g2**2 + g2 + 4*g1, *genes, modulus=5)", sheet.export("sympy"))
+        for names in (["a b", "c"], ["ring", "x"], ["if", "x"], ["a", "a"], ["b_1", "b_2"]):
+            self.assertIn("(x1, x2), dp;", sheet_of(names, "grevlex").export("singular"))
 
     def test_by_weight(self):
         """Two packages have an order by weight; sympy has none, and its script names no other."""
         sheet = sheet_of(2, "weight", [2, 1])
-        self.assertIn("ring sheet = 5, (x1, x2), (a(2,1),lp);\n", sheet.export("singular"))
-        self.assertIn("sheet = ZZ/5[x1, x2, MonomialOrder => {Weights => {2,1}, Lex}];\n", sheet.export("macaulay2"))
-        self.assertIn("order=TermOrder('wdeglex', (2,1,)))\n", sheet.export("sage"))
-        self.assertIn("matrix([[2, 1], [1, 0]]), 0);\n", sheet.export("cocoa"))
-        self.assertIn('"weight", [2, 1, 1, 0]);\n', sheet.export("magma"))
-        self.assertIn("order by weight (x1 2, x2 1), which sympy does not have: what it says of leading terms is of another order\n",
+        self.assertIn("ring sheet = 5, (g1, g2), (a(2,1),lp);\n", sheet.export("singular"))
+        self.assertIn("sheet = ZZ/5[g1, g2, MonomialOrder => {Weights => {2,1}, Lex}];\n", sheet.export("macaulay2"))
+        self.assertIn("; order by weight (g1 2, g2 1), which sympy does not have: what it says of leading terms is of another order\n",
                       sheet.export("sympy"))
 
     @unittest.skipUnless(shutil.which("Singular"), "Singular is not installed")
     def test_singular(self):
         for order in (("lex",), ("grlex",), ("grevlex",), ("weight", [2, 1]), ("weight", [1, 99])):
-            sheet = sheet_of(["hh", "odd"], *order)
-            script = sheet.export("singular", [1, 0, 3]) + "ideal s = std(theBasis); vdim(s); size(s); size(reduce(s, theBasis));\ntheBasis[1];\nquit;\n"
-            said = subprocess.run(["Singular", "-q"], input=script, capture_output=True, text=True, timeout=3600).stdout.split("\n")
-            said = [line for line in said if not line.startswith("//")]
-            self.assertEqual([line for line in said if line.isdigit()], ["3", str(len(sheet.basis)), "0"])
-            self.assertEqual(said[0], "true")
-            self.assertEqual(sheet.polynomial(said[4], exported=True), sheet.basis[0])
+            sheet = sheet_of(2, *order)
+            script = sheet.export("singular") + "ideal s = std(basis); vdim(s); size(s); size(reduce(s, basis));\nquit;\n"
+            said = subprocess.run(["Singular", "-q"], input=script, capture_output=True, text=True, timeout=3600).stdout
+            self.assertEqual([line for line in said.split("\n") if line.isdigit()], ["3", str(len(sheet.basis)), "0"])
 
     @unittest.skipUnless(shutil.which("M2"), "Macaulay2 is not installed")
     def test_macaulay2(self):
         for order in (("grlex",), ("weight", [2, 1])):
-            sheet = sheet_of(["hh", "odd"], *order)
-            script = sheet.export("macaulay2", [1, 0, 3]) + 'print("degree " | toString degree ideal theBasis); print toString theBasis#0;\n'
+            script = sheet_of(2, *order).export("macaulay2") + 'print("degree " | toString degree basis\');\n'
             said = subprocess.run(["M2", "--stop", "--silent", "-e", script + "exit 0"], capture_output=True, text=True, timeout=3600).stdout
-            self.assertIn("true\ndegree 3\n", said)
-            self.assertEqual(sheet.polynomial(said.strip().split("\n")[-1], exported=True), sheet.basis[0])
+            self.assertIn("degree 3", said)
 
     @unittest.skipUnless(has("sympy"), "sympy is not installed")
     def test_sympy(self):
         for order in (("grlex",), ("weight", [2, 1])):
             space = {}
-            for values, due in (([1, 0, 3], "true"), (None, "true")):
-                with contextlib.redirect_stdout(io.StringIO()) as said:
-                    exec(sheet_of(2, *order).export("sympy", values), space)
-                self.assertEqual(said.getvalue(), due + "\n")
-            with contextlib.redirect_stdout(io.StringIO()) as said:
-                exec(sheet_of(2, *order).export("sympy", [1, 0, 3]).replace("values = [1, 0, 3]", "values = [1, 0, 2]"), {})
-            self.assertEqual(said.getvalue(), "false\n")
+            exec(sheet_of(2, *order).export("sympy"), space)
             self.assertEqual([[p.eval(dict(zip(space["genes"], s))) % 5 for s in A] for p in space["basis"]],
                              [[0] * 3 for _ in sheet_of(2, *order).basis])
 
@@ -193,7 +117,7 @@ class Exports(unittest.TestCase):
         self.assertEqual(misqafur.Sheet(5, frame.columns, "grlex").draw_up(frame).basis, sheet_of(["a", "b"]).basis)
         told = frame.assign(**{"mod 5 grlex": [1, 0, 3]})
         self.assertEqual(misqafur.read(told.to_csv(index=False).encode())[0].basis, sheet_of(["a", "b"]).basis)
-        self.assertEqual(misqafur.table.load(told.to_csv().encode()).left_out, ["Left out: column A, which has row numbers."])
+        self.assertIn("index=False in pandas", "".join(misqafur._habits(told.to_csv().encode())))
 
 
 class Reports(unittest.TestCase):
@@ -205,10 +129,8 @@ class Reports(unittest.TestCase):
         return self.fail(f"{text!r} is taken")
 
     def test_report(self):
-        self.assertNotIn("Groebner", misqafur.report(*misqafur.read(THREE)))
-        said = misqafur.report(*misqafur.read(THREE), full=True)
-        for part in ("3 states of 2 genes (g1, g2), levels modulo 5, order grlex", "    the target = 1 + 2*g2\n", "3 of the 5^2 = 25 states were seen (12 %)",
-                     "1. g2^2 + g2 + 4*g1", "3. g1^2 + 4*g2 + g1",
+        said = misqafur.report(*misqafur.read(THREE))
+        for part in ("3 states of 2 genes (g1, g2), levels modulo 5, order grlex", "    1 + 2*g2\n", "1. g2^2 + g2 + 4*g1", "3. g1^2 + 4*g2 + g1",
                      "    1, g2, g1", "\nWiring: " + (", ".join(f"g{k}" for k in sheet_of().wiring([1, 0, 3])) or "none")):
             self.assertIn(part, said)
         self.assertNotIn("replicates", said)
@@ -217,36 +139,32 @@ class Reports(unittest.TestCase):
         larger = (ROOT / "tests/texts/vectors/026-random-p7-m3-n27-lex.csv").read_bytes()
         self.assertLessEqual(max(map(len, misqafur.report(*misqafur.read(larger)).split("\n"))), 100)
         self.assertIn("0 states of 1 gene (a)", misqafur.report(*misqafur.read(b"a,mod 5")))
-        self.assertIn("2 genes (`gene (1)`, b)", misqafur.report(*misqafur.read(b',b,mod 5\n0,1,2')))
-        self.assertIn("All 2^1 = 2 states were seen, so there is one rule", misqafur.report(*misqafur.read(b'b,mod 2\n0,1\n1,0\n')))
-        large = b"a,b,c,d,e,f,g,h,mod 3\n" + b"".join(b",".join(b"%d" % (i // 3**k % 3) for k in range(8)) + b",%d\n" % (i * i % 3) for i in range(64))
-        self.assertLess(len(misqafur.report(*misqafur.read(large)).split("\n")), 40)
+        self.assertIn("x1 is ''", misqafur.report(*misqafur.read(b',b,mod 5\n0,1,2')))
 
     def test_advice(self):
-        for text, part in ((b"g1;g2;mod 5\n0;0;1\n", "the text is not plain. Undone: semicolons."), (b"g1\tmod 5\n0\t0\n", "Undone: tabs."),
-                           (b'\xef\xbb\xbf"g1",mod 5\n0,1\n', "Undone: byte-order mark."), (THREE + b"\n", "Undone: empty lines at the end (row 5)."),
-                           ("g1,mod 5\n0,1\n".encode("utf-16"), "Undone: UTF-16."), (b"g1,g2\n0,0\n", "the header's last cell B1 is `g2`"),
-                           (THREE + b"1,1\n", "cell C5 (the value) is empty."), (THREE + b"1,1.0,1\n", "decimal points (1 cell, as '1.0' in B5)"),
-                           (THREE + b"1, 1,1\n", "blanks (1 cell, as ' 1' in B5)"), (THREE + b"1,7,1\n", "cell B5 (g2) has 7, which is not from -4 to 4."),
-                           (THREE + b"1,1,-9\n", "cell C5 (the value) has -9"), (THREE + b"1,1.5,1\n", "cell B5 (g2) has `1.5`, which is no whole number."),
-                           (THREE + b"-4,2,1\n", "rows 3 and 5 are one state (g1 1 g2 2) with different values of the target, 0 and 1."),
-                           (THREE + b"2,-4,3\n" * 255, "row 259 is the 256th of its state"), (b"g1,mod 4\n", "Take 2, 3, 5"),
-                           (b"a,b,c,d,e,f,g,h,i,mod 5\n", "there are 9 genes (a, b, c, d, e, f, g, h, i), and at most 8 are taken."),
-                           (b"a,mod 5" + b"x" * 20000, "Leave out states"), (b"", "the file is empty"),
-                           (b'a,"mod 5\n0,0\n', "Refused with 2: a quote in line"),
-                           (b"a,b,mod 61\n" + b"".join(b"%d,%d,0\n" % (i % 61, i // 61) for i in range(65)), "row 66 brings the 65th different state")):
+        for text, part in ((b"g1;g2;mod 5\n0;0;1\n", "divided by semicolons"), (b"g1\tmod 5\n0\t0\n", "divided by tabs"),
+                           (b'\xef\xbb\xbf"g1",mod 5\n0,1\n', "byte-order mark"), (THREE + b"\n", "blank line at its end"),
+                           ("g1,mod 5\n0,1\n".encode("utf-16"), "UTF-16"), (b"g1,g2\n0,0\n", "last field has to be `mod P`"),
+                           (THREE + b"1,1\n", "Record 5 has 2 fields, the header 3."), (THREE + b"1,1.0,1\n", "`1.0` is no level"),
+                           (THREE + b"1, 1,1\n", "` 1` is no level"), (THREE + b"1,7,1\n", "Record 5, field 2 (g2): 7 is not from -4 to 4."),
+                           (THREE + b"1,1,-9\n", "Record 5, field 3 (the value): -9"),
+                           (THREE + b"-4,2,1\n", "Record 5 repeats the state of record 3, with the value 1 in place of 0."),
+                           (THREE + b"2,-4,3\n" * 255, "Record 259 repeats the state of record 4."),
+                           (b'"","g1","mod 5"\n"1",0,1\n"2",1,1\n"3",1,1\n"4",1,1\n"5",0,0\n', "row.names=FALSE in R"),
+                           (b",g1,mod 2\n0,0,1\n1,1,1\n2,1,1\n", "index=False in pandas"), (b"g1,mod 4\n", "Take 2, 3, 5"),
+                           (b"a,b,c,d,e,f,g,h,i,mod 5\n", "at most 8 genes"), (b"a,mod 5" + b"x" * 20000, "Leave out states"),
+                           (b"", "last field has to be `mod P`"), (b'a,"mod 5\n0,0\n', "Refused with 2, record 1"),
+                           (b"a,b,mod 61\n" + b"".join(b"%d,%d,0\n" % (i % 61, i // 61) for i in range(65)), "64 states that matter most")):
             with self.subTest(part):
                 self.assertIn(part, self.advice(text))
+        for text in (b'"","g1","mod 5"\n"1",0,1\n"2",1,1\n', b"\xef\xbb\xbfg1,mod 5\n0,1\n"):
+            self.assertIn("  ! It", misqafur.report(*misqafur.read(text), misqafur._habits(text)))
         self.assertEqual(misqafur.read(b"\xef\xbb\xbfg1,mod 5\n0,1\n")[0].names, ("g1",))
 
     def test_advice_for_all_stored(self):
         for text in (ROOT / "tests/texts").glob("*/*.csv"):
-            verdict, *rest = text.with_suffix(".txt").read_text().split()
-            if verdict == "refused":
-                said = self.advice(text.read_bytes())
-                self.assertTrue(said.startswith(f"Refused with {rest[0]}"), said)
-                row = re.search(r"row (\d+):", said)
-                self.assertTrue(rest[0] not in ("8", "9", "13", "14") or row and row.group(1) == rest[1], (text.name, said))
+            if text.with_suffix(".txt").read_text().startswith("refused"):
+                self.assertTrue(self.advice(text.read_bytes()).startswith("Refused with "))
 
 
 class Pictures(unittest.TestCase):
@@ -296,18 +214,18 @@ class CommandLine(unittest.TestCase):
         return subprocess.run([sys.executable, "-m", "misqafur", *words], capture_output=True, timeout=3600, env=surroundings, **more)
 
     def test_report(self):
-        good = self.run_module("report", self.file(THREE), "--svg", self.folder.name + "/a.svg", "--draw", "g2,g1", "--full")
+        good = self.run_module("report", self.file(THREE), "--svg", self.folder.name + "/a.svg", "--genes", "g2,g1")
         self.assertEqual((good.returncode, good.stderr), (0, b""))
         self.assertIn(b"1. g2^2 + g2 + 4*g1", good.stdout)
         self.assertIn("Monomials in g2 and g1", "".join(xml.parse(self.folder.name + "/a.svg").getroot().itertext()))
-        bad = self.run_module("report", self.file(THREE + b"1\n"))
+        bad = self.run_module("report", self.file(THREE + b"\n"))
         self.assertEqual((bad.returncode, bad.stderr), (1, b""))
         self.assertIn(b"What to do:", bad.stdout)
         self.assertEqual(self.run_module("report", "-", input=THREE).returncode, 0)
         self.assertEqual(self.run_module("report", self.file("gène,mod 5\n0,1\n".encode()), env={"PYTHONIOENCODING": "ascii"}).returncode, 0)
 
     def test_many(self):
-        many = self.run_module("report", "--many", "--progress", self.file(b"\n\n".join([THREE, b"a;mod 4", THREE.replace(b"\n", b"\r\n")]) + b"\n\n"))
+        many = self.run_module("report", "--many", "--progress", self.file(b"\n\n".join([THREE, b"a;mod 5", THREE.replace(b"\n", b"\r\n")]) + b"\n\n"))
         self.assertEqual((many.returncode, many.stdout.count(b"\n== ") + 1), (1, 3))
         self.assertTrue(many.stderr.endswith(b"\r3 of 3 texts, 1 refused\n"), many.stderr)
         self.assertEqual(self.run_module("report", self.file(THREE), self.file(THREE, "b.csv")).returncode, 0)
@@ -316,22 +234,14 @@ class CommandLine(unittest.TestCase):
         for words in ((), ("report",), ("report", self.folder.name + "/none.csv"), ("report", self.folder.name), ("export", "maple", self.file(THREE))):
             said = self.run_module(*words)
             self.assertEqual((said.returncode, said.stdout), (2, b""), words)
-        for words in (("--svg", "x.svg", self.file(THREE), self.file(THREE)), ("--svg", self.folder.name + "/x", "--draw", "g1,g9", self.file(THREE))):
+        for words in (("--svg", "x.svg", self.file(THREE), self.file(THREE)), ("--svg", self.folder.name + "/x", "--genes", "g1,g9", self.file(THREE))):
             self.assertEqual(self.run_module("report", *words).returncode, 1)
         lost = self.run_module("report", self.file(THREE), env={"MISQAFUR_LIBRARY": "/nowhere/lib.so"})
         self.assertEqual((lost.returncode, b"MISQAFUR_LIBRARY" in lost.stderr), (2, True))
 
     def test_export(self):
-        self.assertEqual(self.run_module("export", "sympy", self.file(THREE)).stdout.decode(), sheet_of().export("sympy", [1, 0, 3]))
+        self.assertEqual(self.run_module("export", "sympy", self.file(THREE)).stdout.decode(), sheet_of().export("sympy"))
         self.assertEqual(self.run_module("export", "sympy", self.file(b"x")).returncode, 1)
-        table = self.file(b"Rb;A;B\n0;0;1\n0;1;2\n1;0;2\n")
-        for targets in (("--target", "A,B"), ("--target", "A", "--target", "B")):
-            run = self.run_module("export", "sympy", *targets, "--modulus", "5", table)
-            self.assertEqual((run.returncode, run.stdout, run.stderr), (1, b"", b"misqafur: export takes one target\n"))
-        run = self.run_module("export", "sympy", "--target", "A", "--modulus", "5", table)
-        due = misqafur.Sheet(5, ["Rb", "B"]).draw_up([(0, 1), (0, 2), (1, 2)]).export("sympy", [0, 1, 0])
-        self.assertEqual((run.returncode, run.stdout.decode()), (0, due))
-        self.assertEqual(run.stderr, b"Undone: semicolons.\n")
 
 
 if __name__ == "__main__":

@@ -120,7 +120,7 @@ class Refusals(unittest.TestCase):
         for name, size in misqafur.TABLES.items():
             self.assertIn(f"#define MISQAFUR_{name.upper()}_SIZE {size}\n", header)
         prototypes = set(re.findall(r"^uint\d+_t misqafur_(\w+)\(", header, re.M))
-        self.assertEqual(prototypes | {f"abi_{misqafur.ABI}"}, set(misqafur.library._CALLS))
+        self.assertEqual(prototypes | {f"abi_{misqafur.ABI}"}, set(misqafur._CALLS))
 
 
 class RandomCalls(unittest.TestCase):

@@ -123,13 +123,12 @@ class Texts(unittest.TestCase):
 
     def test_refused(self):
         for text, number, said in (
-                (b"a,b,mod 5 weight 2\n", 2, "the header's last cell C1, `mod 5 weight 2`, has 1 weight for 2 genes."),
-                (b"a,mod 5 weight\n", 2, "`mod 5 weight`, has 0 weights for 1 gene."),
-                (b"a,mod 5 weight 100\n", 2, "the header's last cell B1, `mod 5 weight 100`, has to be `mod P`."),
-                (b"a,mod 5 Weight 1\n", 2, "Undone: `mod 5 Weight 1` for `mod 5 weight 1` (B1)."),
-                (b"a,b,mod 5 weight 0 1\n", 15, "the weight of a is 0."),
-                (b"a,b,mod 5 weight 0 00\n", 15, "the weight of a, b is 0."),
-                (b",b,mod 5 weight 0 00\n", 15, "by weight each gene has one from 1 to 99")):
+                (b"a,b,mod 5 weight 2\n", 2, "The header has 2 gene names and 1 weight: one is wanted for each gene."),
+                (b"a,mod 5 weight\n", 2, "The header has 1 gene name and 0 weights"),
+                (b"a,mod 5 weight 100\n", 2, "`mod 5 weight 2 1`, and is `mod 5 weight 100`"),
+                (b"a,mod 5 Weight 1\n", 2, "and is `mod 5 Weight 1`"),
+                (b"a,b,mod 5 weight 0 1\n", 15, "The weight is 0 of a."),
+                (b",b,mod 5 weight 0 00\n", 15, "The weight is 0 of a gene without a name, b.")):
             with self.subTest(text):
                 self.assertEqual(self.advice(text)[:2], (number, 1))
                 self.assertIn(said, self.advice(text)[2])

@@ -1,7 +1,5 @@
-# The R package on the stored texts, on refusals, names and copies (names.R), weights (weights.R), a gene left out (leaving.R), time courses
-# (course.R), tables (table.R), polynomials from strings (parsing.R), pictures and names in them (pictures.R) and on random calls: what the
-# program prints, made from its answers, is held to the stored print; a polynomial is evaluated in R at every state.
-# usage: Rscript test.R ROOT
+# The R package on the stored texts, on refusals, names and copies (names.R), weights (weights.R), a gene left out (leaving.R), time courses (course.R), sheets as JSON (json.R) and on random calls: what the program prints, made from its answers, is held
+# to the stored print; a polynomial is evaluated in R at every state. usage: Rscript test.R ROOT
 library(misqafur)
 root <- commandArgs(TRUE)[1]
 passed <- failed <- 0
@@ -54,8 +52,7 @@ damaged <- three
 damaged$raw[100] <- as.raw(3)
 expect(refusal(check_sheet(damaged)) == 10 && refusal(basis(damaged)) == 10, "a damaged sheet")
 
-for (part in c("names.R", "weights.R", "leaving.R", "course.R", "json.R", "table.R", "parsing.R", "pictures.R"))
-  source(file.path(root, "tests/r", part), local = new.env())
+for (part in c("names.R", "weights.R", "leaving.R", "course.R", "json.R")) source(file.path(root, "tests/r", part), local = new.env())
 
 # Replicates: the example of the requirement, one state 255 times, and pots that come and go.
 example <- draw_up(sheet(5, 1), matrix(c(4, 0, -1), 3))

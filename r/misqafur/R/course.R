@@ -33,10 +33,15 @@ course <- function(data, number) {
 # Each row of a table as one string.
 rows_of <- function(table) do.call(paste, unname(as.list(table)))
 
-# The states of a run, a row for each.
+# The states of a run, a row for each. The library works out every value: that of a polynomial at a state is its remainder over the
+# sheet of this state alone.
 run_of <- function(empty, model, exponents, first, steps) {
+  powers <- as.integer(t(cbind(exponents, matrix(0L, nrow(exponents), 8 - ncol(exponents)))))
   met <- matrix(as.integer(first), steps + 1, length(first), byrow = TRUE)
-  for (k in seq_len(steps)) met[k + 1, ] <- vapply(seq_len(nrow(model)), function(g) values_at(empty, model[g, ], exponents, met[k, ]), 0L)
+  for (k in seq_len(steps)) {
+    here <- taken(.Call(C_draw_up, empty$raw, met[k, ]))
+    met[k + 1, ] <- vapply(seq_len(nrow(model)), function(g) taken(.Call(C_remainder, here, model[g, ], powers)), 0L)
+  }
   met
 }
 
@@ -64,7 +69,7 @@ move_wrong <- function(genes, records, modulus, at) {
   number <- records[, length(genes) + 1]
   same <- function(i, j) all(levels[i, ] == levels[j, ])
   moves <- Filter(function(i) number[i] == number[i + 1] && same(i, at) && !same(i + 1, at + 1), seq_len(at - 1))
-  said <- function(i) paste(harmless(genes), levels[i, ], collapse = ", ")
+  said <- function(i) paste(genes, levels[i, ], collapse = ", ")
   sprintf("Record %d has the state of record %d (%s), which is followed by %s there, and here by %s", as.integer(at + 1), moves[1] + 1L, said(at),
           said(moves[1] + 1), said(at + 1))
 }
@@ -77,14 +82,14 @@ ending <- function(course) {
 }
 
 print.misqafur_course <- function(x, ...) {
-  cat(sprintf("course %d of %s modulo %d, run forward: %s\n", as.integer(x$number), paste(harmless(x$sheet$genes), collapse = ", "),
-              as.integer(x$sheet$modulus), ending(x)))
-  cat(paste0("  next ", harmless(names(x$model)), " = ", x$model, "\n"), sep = "")
+  cat(sprintf("course %d of %s modulo %d, run forward: %s\n", as.integer(x$number), paste(x$sheet$genes, collapse = ", "), as.integer(x$sheet$modulus),
+              ending(x)))
+  cat(paste0("  next ", names(x$model), " = ", x$model, "\n"), sep = "")
   cat(sprintf("The course has %d %s, from step 0 on; the run is\n", x$measured, if (x$measured == 1) "record" else "records"))
   if (!is.na(x$unmeasured))
     cat(sprintf("(what comes after the state of step %d was not measured in any course: from step %d on it is the model's, and another model\n",
                 x$unmeasured, x$unmeasured + 1L), "that fits the records may go elsewhere)\n", sep = "")
-  print(structure(x$trajectory, names = harmless(names(x$trajectory))))
+  print(x$trajectory)
   invisible(x)
 }
 
@@ -92,12 +97,21 @@ print.misqafur_course <- function(x, ...) {
 plot.misqafur_course <- function(x, ...) {
   genes <- length(x$trajectory)
   steps <- nrow(x$trajectory)
-  before <- graphics::par("mar")
-  on.exit(graphics::par(mar = before))
-  draw_levels(as.list(x$trajectory), harmless(names(x$trajectory), 24), x$sheet$modulus, genes - seq_len(genes), steps)
+  shades <- grDevices::colorRampPalette(c("#f3f7fb", "#1f4e79"))(x$sheet$modulus)
+  before <- graphics::par(mar = c(5, 2 + 0.6 * max(nchar(names(x$trajectory)), 3), 4, 1))
+  on.exit(graphics::par(before))
+  graphics::plot.new()
+  graphics::plot.window(c(-0.5, steps - 0.5), c(-0.5, genes + 0.5))
+  for (g in seq_len(genes)) {
+    level <- x$trajectory[[g]]
+    at <- seq_len(steps) - 1
+    graphics::rect(at - 0.5, genes - g, at + 0.5, genes - g + 1, col = shades[level + 1], border = "white")
+    graphics::text(at, genes - g + 0.5, level, cex = min(1, 25 / steps), col = ifelse(level / (x$sheet$modulus - 1) > 0.55, "white", "#222222"))
+  }
   if (x$step > 0) graphics::rect(x$step - x$back - 0.5, 0, x$step - 0.5, genes, border = "#d35400", lwd = 3)
   graphics::points(seq_len(min(x$measured, steps)) - 1, rep(-0.25, min(x$measured, steps)), pch = 19, col = "#2e7d32")
   graphics::axis(1, at = seq_len(steps) - 1)
+  graphics::axis(2, at = genes - seq_len(genes) + 0.5, labels = names(x$trajectory), las = 1, tick = FALSE)
   graphics::title(main = paste0("Course ", x$number, ", run forward:\n", ending(x)), font.main = 1,
                   xlab = paste0("time step (dot: measured in this course", if (x$step > 0) "; frame: comes again for ever", ")"))
   invisible(x)

@@ -1,5 +1,8 @@
 # States and weights that come with names are put in the order of the sheet's genes by them; those without names go by place.
 
+quoted <- function(names) if (length(names) == 0) "none" else paste(encodeString(names, quote = "\""), collapse = ", ")
+wrong <- function(...) stop(..., call. = FALSE)
+
 # For each gene the place of its name among those that were handed over.
 order_of <- function(names, genes, what = "level") {
   if (anyNA(names) || any(names == "")) wrong("names cannot tell which ", what, " is whose: one is missing in ", quoted(names))

@@ -40,7 +40,7 @@ weights_wanted <- function(genes, weights) {
   if (length(weights) != length(genes))
     return(sprintf("One weight is wanted for each gene, %d, and %d were given", length(genes), length(weights)))
   outside <- is.na(weights) | weights < 1 | weights > 99
-  paste0("Weights are whole numbers from 1 to 99, and not so for ", paste(harmless(genes[outside]), collapse = ", "))
+  paste0("Weights are whole numbers from 1 to 99, and not so for ", paste(genes[outside], collapse = ", "))
 }
 
 # A state as levels: a vector, or one row of a data frame, by the genes' names where it has any. One that is there already is a
@@ -59,8 +59,8 @@ withdraw_state <- function(sheet, state) {
 # genes' names where it has any. Rows may repeat. Packed, for the modulus 2 alone, the library makes the same sheet sooner.
 draw_up <- function(sheet, states, packed = FALSE) {
   if (packed && sheet$modulus != 2) taken(list(3L), more = paste0("This sheet is modulo ", sheet$modulus, ": draw it up without `packed`"))
-  levels <- levels_of(sheet, states)
-  sheet$raw <- taken(if (packed) .Call(C_draw_up_packed, sheet$raw, levels) else .Call(C_draw_up, sheet$raw, levels))
+  call <- if (packed) C_draw_up_packed else C_draw_up
+  sheet$raw <- taken(.Call(call, sheet$raw, levels_of(sheet, states)))
   sheet
 }
 
@@ -89,12 +89,9 @@ valued <- function(call, sheet, values) {
   if (is.data.frame(values)) values <- as.matrix(values)
   if (sum(dim(values) != 1) > 1) wrong("values are a vector, or one column: one value for each different state")
   numbers <- whole(values)
-  answer <- call(sheet$raw, numbers)
+  answer <- .Call(call, sheet$raw, numbers)
   taken(answer, more = if (answer[[1]] == 7) values_wanted(sheet, length(numbers)))
 }
-
-interpolant_of <- function(raw, values) .Call(C_interpolate, raw, values)
-wiring_of <- function(raw, values) .Call(C_wiring, raw, values)
 
 # How many values are wanted, and how to get them; nothing of a sheet that is none.
 values_wanted <- function(sheet, given) {
@@ -109,19 +106,20 @@ values_wanted <- function(sheet, given) {
 
 # The polynomial over the standard monomials that has these values at the states, one for each different state, as a string.
 interpolate <- function(sheet, values) {
-  polynomial_text(sheet, valued(interpolant_of, sheet, values), standard(sheet))
+  polynomial_text(sheet, valued(C_interpolate, sheet, values), standard(sheet))
 }
 
-# The polynomial over the standard monomials that equals a polynomial, a string or an mpoly, at the states.
+# The polynomial over the standard monomials that equals a polynomial, a string, at the states.
 remainder <- function(sheet, polynomial) {
   terms <- polynomial_terms(sheet, polynomial)
-  residues <- taken(.Call(C_remainder, sheet$raw, terms$coefficients, powers_of(terms$exponents)))
+  exponents <- cbind(terms$exponents, matrix(0L, nrow(terms$exponents), max(0, 8 - length(sheet$genes))))
+  residues <- taken(.Call(C_remainder, sheet$raw, terms$coefficients, as.integer(t(exponents))))
   polynomial_text(sheet, residues, standard(sheet))
 }
 
 # The wiring list of these values, one for each different state: the genes' numbers, with their names.
 wiring <- function(sheet, values) {
-  list <- valued(wiring_of, sheet, values)
+  list <- valued(C_wiring, sheet, values)
   structure(list, names = sheet$genes[list])
 }
 
@@ -198,8 +196,8 @@ library_version <- function() {
 }
 
 print.misqafur_sheet <- function(x, ...) {
-  order <- if (x$order == "weight") paste0("by weight (", paste(harmless(x$genes), x$weights, collapse = ", "), ")") else x$order
-  cat(sprintf("sheet of %d states of %s modulo %d, %s\n", nrow(states(x)), paste(harmless(x$genes), collapse = ", "), as.integer(x$modulus), order))
+  order <- if (x$order == "weight") paste0("by weight (", paste(x$genes, x$weights, collapse = ", "), ")") else x$order
+  cat(sprintf("sheet of %d states of %s modulo %d, %s\n", nrow(states(x)), paste(x$genes, collapse = ", "), as.integer(x$modulus), order))
   cat(paste0("  ", basis(x), "\n"), sep = "")
   invisible(x)
 }

@@ -18,12 +18,6 @@
 \alias{print.misqafur_course}
 \alias{plot.misqafur_course}
 \alias{library_version}
-\alias{cancellations}
-\alias{print.misqafur_sheet}
-\alias{summary.misqafur_sheet}
-\alias{predict.misqafur_sheet}
-\alias{as.data.frame.misqafur_sheet}
-\alias{plot.misqafur_sheet}
 \title{Model sheets of gene states modulo a small prime}
 \description{The standard monomials and the reduced Groebner basis of the states of up to 8 genes, modulo a prime from 2 to 61;
 interpolants, remainders and wiring lists over them; time courses run forward.}
@@ -43,12 +37,6 @@ states(sheet)
 counts(sheet)
 standard(sheet)
 leads(sheet)
-cancellations(sheet)
-\method{summary}{misqafur_sheet}(object, ...)
-\method{predict}{misqafur_sheet}(object, values, newdata = states(object), ...)
-\method{as.data.frame}{misqafur_sheet}(x, row.names = NULL, optional = FALSE, ...)
-\method{plot}{misqafur_sheet}(x, values = NULL,
-  what = if (is.null(values)) "states" else c("wiring", "states"), ...)
 read_sheet(file)
 course(data, number)
 \method{plot}{misqafur_course}(x, ...)
@@ -61,7 +49,7 @@ library_version()
   \item{weights}{for the order by weight alone: a number from 1 to 99 for each gene, by their names where they have any, and else in the
   genes' order. The monomial with the larger sum of weight times exponent is greater, between equal sums by lex, so that a gene with a
   large weight is used last; with equal weights that is grlex}
-  \item{sheet, object}{a sheet}
+  \item{sheet}{a sheet}
   \item{states}{a data frame or matrix, a row for each state, a column for each gene; at most 64 different states, each at most 255 times.
   Columns with names are taken by their names, in whatever order they stand; names that are not the sheet's genes are an error. Without
   names they are taken by place}
@@ -71,18 +59,13 @@ library_version()
   \item{gene}{the gene to be left out, as where its probe is unreliable: its name, or its number from 1. A name that is no gene of the
   sheet is an error that lists the genes; a number that is none's, or the only gene of a sheet, is refused with 16}
   \item{values}{a value of the target gene for each different state, in the order of \code{states(sheet)}}
-  \item{polynomial}{a string, as \code{"g1^2*g2 + 4"}: sums, products, with or without a sign, powers and parentheses; genes as polynomials show
-  them, or by their own names in backquotes. Or an \code{mpoly}, whose coefficients are whole numbers}
-  \item{newdata}{a data frame or matrix of states, which may have more columns than the genes, or one state, as a vector: they need not be on the
-  sheet}
-  \item{what}{\code{"wiring"}, a graph of which genes the values need (solid: every rule with these values uses the gene; dashed: this rule does;
-  grey: it does not), or \code{"states"}, the states as a heat table}
+  \item{polynomial}{a string, as \code{"g1^2*g2 + 4"}}
   \item{file}{a text: gene names and \code{mod P}, with an order or \code{weight} and weights, in its header, then states and values. It is a
   file, a connection, raw bytes, or a data frame whose last column is named as the header's last field is}
   \item{data}{the same with a course number from 1 to 99 in place of each value: consecutive records of one number are consecutive times}
   \item{number}{the course from whose first state the model is run}
-  \item{x}{a sheet, or what \code{course} answers}
-  \item{row.names, optional, ...}{not used}
+  \item{x}{what \code{course} answers}
+  \item{...}{not used}
 }
 \value{\code{sheet}, \code{draw_up}, \code{add_state}, \code{withdraw_state} and \code{without} answer a sheet; the sheet handed in stays as it is.
 Without a gene, states that become equal are one, at the place of the first, and their counts are added: there may be fewer states, and as many
@@ -90,10 +73,7 @@ values are wanted; the genes and weights that are left keep their order.
 \code{basis}, \code{interpolate} and \code{remainder} answer polynomials as strings that \code{mpoly::mp} reads, with x1, x2 and so on
 for genes whose names it does not take. \code{wiring} answers the genes' numbers, with their names.
 A state that is added or drawn up again is a replicate: \code{counts} answers how often each state was taken, in the order of \code{states},
-and the rest of the sheet is that of the different states.
-\code{cancellations} answers how many cancellations drawing up the states takes, in their order, which its time goes with. \code{predict} answers the
-values at states of the polynomial that \code{interpolate} answers, worked out by the library; \code{as.data.frame} the states and counts, \code{summary} one
-line with the settings and sizes. \code{read_sheet} answers a list of the sheet and the values.
+and the rest of the sheet is that of the different states. \code{read_sheet} answers a list of the sheet and the values.
 \code{course} answers a list: the \code{sheet} of the states that have a next one; the \code{model}, the polynomial of each gene's next level, by the
 genes' names; the \code{trajectory}, a row for each step from 0, by the genes' names; the \code{step} that gives a state met before and the distance
 \code{back} to it, both 0 where none came within 256 steps; the \code{cycle}, the states that come again for ever; how many records of the course were

@@ -163,39 +163,6 @@ static SEXP wiring(SEXP raw, SEXP values)
     return answered_bytes(refusal, out, count);
 }
 
-/* A polynomial, judged as above, at each of some states, which need not be on any sheet. */
-static SEXP values_at(SEXP modulus, SEXP genes, SEXP levels, SEXP coefficients, SEXP exponents)
-{
-    const size_t width = (size_t)asInteger(genes), count = width == 0 ? 0 : (size_t)XLENGTH(levels) / width;
-    const uint8_t *states = levels_of(levels), *terms = levels_of(coefficients);
-    uint8_t *powers = (uint8_t *)R_alloc((size_t)XLENGTH(exponents) + 1, 1), *values = (uint8_t *)R_alloc(count + 1, 1);
-    uint32_t refusal = 0;
-    for (R_xlen_t i = 0; i < XLENGTH(exponents); i++)
-        powers[i] = (uint8_t)INTEGER(exponents)[i];
-    for (size_t i = 0; i < count && refusal == 0; i++)
-        refusal = misqafur_value(setting(modulus), width, states + width * i, width, terms, (size_t)XLENGTH(coefficients), powers,
-                                 (size_t)XLENGTH(exponents), values + i);
-    return answered_bytes(refusal, values, count);
-}
-
-/* How many cancellations drawing up a sheet's states takes, in their order. */
-static SEXP cancellations(SEXP raw)
-{
-    struct misqafur_sheet sheet = sheet_of(raw);
-    uint8_t levels[MISQAFUR_LEVELS_SIZE];
-    uint32_t refusal = misqafur_sheet_check(&sheet);
-    uint64_t answer = 0;
-    if (refusal == 0) {
-        answer = misqafur_draw_up(MISQAFUR_SHEET_SETTINGS(&sheet), MISQAFUR_SHEET_TABLES(&sheet), levels,
-                                  misqafur_pack_levels(sheet.states, sheet.n, sheet.variables, levels));
-        refusal = misqafur_refusal(answer);
-    }
-    SEXP number = PROTECT(ScalarInteger((int)misqafur_cancellations(answer))), both;
-    both = answered(refusal, number);
-    UNPROTECT(1);
-    return both;
-}
-
 /* Some rows of a table as a matrix. */
 static SEXP matrix_of(const uint8_t *table, uint64_t rows, uint64_t width, uint64_t columns)
 {
@@ -327,7 +294,6 @@ static SEXP version(void)
 
 #define CALL(name, function, count) {name, (DL_FUNC)function, count}
 static const R_CallMethodDef calls[] = {
-    CALL("values_at", values_at, 5), CALL("cancellations", cancellations, 1),
     CALL("init", init, 4),           CALL("add", add, 2),
     CALL("withdraw", withdraw, 2),   CALL("draw_up", draw_up, 2),
     CALL("draw_up_packed", draw_up_packed, 2), CALL("leave_out", leave_out, 2),
