@@ -11,15 +11,14 @@ ghost use Rattle.comma_text.specs.reading.Points.{PlacedAs, levels_in, PointAs, 
 use crate::reading::records;
 use crate::reading::records::LevelAt;
 use residue::level;
-use residue::level::Level;
 
 // The residue of a level by its sign and size. A size that fits no signed byte is out of range like any other.
-fn residue_of(p: u8, negative: bool, size: u16) -> Level
+fn residue_of(p: u8, negative: bool, size: u16) -> Option<u8>
     requires { p ≤ 128 }
     ensures { result ≡ residue_of p (with_sign negative size) }
 {
     if 127 < size {
-        return Level::Outside;
+        return None;
     }
     let level = size as i8;
     if negative {
@@ -55,7 +54,7 @@ fn residue_at(text: &[u8], at: usize, p: u8) -> Placed
             next: at,
         };
     };
-    let Level::Residue(residue) = residue_of(p, negative, size) else {
+    let Some(residue) = residue_of(p, negative, size) else {
         return Placed {
             inside: false,
             residue: 0,

@@ -7,7 +7,7 @@ use lib.Signed.{lt_z}
 use mir.Syntax.{w8}
 use mir.Val.{to_z, of_z}
 use mir.Facts.{to_z-of_z}
-use Rattle.residue.specs.declared.level.Level.TheVariants.{Residue}
+use Rattle.std.proofs.Common.{Some}
 use Rattle.residue.proofs.level.Levels.{of_negative, of_kept, of_outside}
 use Rattle.residue.proofs.level.residue.Goals as goal
 use Rattle.residue.proofs.level.residue.Goals.{After-magnitude-size}
@@ -30,11 +30,11 @@ module _ (c : After-magnitude-size) where
 
 pub returns-then-level-lt0 : goal.returns-then-level-lt0
 returns-then-level-lt0 c = let m = c in
-    ap (λ (k : ℕ). Residue (p (goal.at.returns-then-level-lt0 m).After-magnitude-size - k)) (size (goal.at.returns-then-level-lt0 m).After-magnitude-size) ∙ of_negative (p (goal.at.returns-then-level-lt0 m).After-magnitude-size) (z (goal.at.returns-then-level-lt0 m).After-magnitude-size) (sign (goal.at.returns-then-level-lt0 m).After-magnitude-size c.if-level-lt0.true) (subst (λ (k : ℕ). k < p (goal.at.returns-then-level-lt0 m).After-magnitude-size) (size (goal.at.returns-then-level-lt0 m).After-magnitude-size) c.if-size-p.true)
+    ap (λ (k : ℕ). Some (p (goal.at.returns-then-level-lt0 m).After-magnitude-size - k)) (size (goal.at.returns-then-level-lt0 m).After-magnitude-size) ∙ of_negative (p (goal.at.returns-then-level-lt0 m).After-magnitude-size) (z (goal.at.returns-then-level-lt0 m).After-magnitude-size) (sign (goal.at.returns-then-level-lt0 m).After-magnitude-size c.if-level-lt0.true) (subst (λ (k : ℕ). k < p (goal.at.returns-then-level-lt0 m).After-magnitude-size) (size (goal.at.returns-then-level-lt0 m).After-magnitude-size) c.if-size-p.true)
 
 pub returns-then-size-p : goal.returns-then-size-p
 returns-then-size-p c = let m = c in
-    ap Residue (size (goal.at.returns-then-size-p m).After-magnitude-size) ∙ of_kept (p (goal.at.returns-then-size-p m).After-magnitude-size) (z (goal.at.returns-then-size-p m).After-magnitude-size) (sign (goal.at.returns-then-size-p m).After-magnitude-size c.if-level-lt0.false) (subst (λ (k : ℕ). k < p (goal.at.returns-then-size-p m).After-magnitude-size) (size (goal.at.returns-then-size-p m).After-magnitude-size) c.if-size-p.true)
+    ap Some (size (goal.at.returns-then-size-p m).After-magnitude-size) ∙ of_kept (p (goal.at.returns-then-size-p m).After-magnitude-size) (z (goal.at.returns-then-size-p m).After-magnitude-size) (sign (goal.at.returns-then-size-p m).After-magnitude-size c.if-level-lt0.false) (subst (λ (k : ℕ). k < p (goal.at.returns-then-size-p m).After-magnitude-size) (size (goal.at.returns-then-size-p m).After-magnitude-size) c.if-size-p.true)
 
 pub returns : goal.returns
 returns c = let m = c in

@@ -37,4 +37,4 @@ returns-in_default-residue_of c = let d = c in
 pub returns : goal.returns
 returns c = let d = c in
     placed_in (start (goal.at.returns d).In-Level).args.p (text (start (goal.at.returns d).In-Level)) (level_field (drop (start (goal.at.returns d).In-Level).args.at (text (start (goal.at.returns d).In-Level)))) _ _ _ (said (goal.at.returns d).In-Level) (within (goal.at.returns d).In-Level) _
-    (sym c.in-Residue.is ∙ c.residue_of.ensures)
+    (sym c.in-Some.is ∙ c.residue_of.ensures)
