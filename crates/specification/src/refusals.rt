@@ -35,3 +35,10 @@ impl Refusal {
         self as u8
     }
 }
+
+// A refusal of a text, and the record at fault: the header is record 1, and 0 is no record.
+#[derive(Clone, Copy, Debug, PartialEq, Eq)]
+pub struct Fault {
+    pub refusal: Refusal,
+    pub at: u16,
+}
