@@ -1,5 +1,6 @@
 -- The definitions that a reader has to believe.
 pub mod Refusal
+pub mod Answers
 pub mod Settings
 pub mod Levels
 pub mod Counted
@@ -15,6 +16,7 @@ pub mod Examination
 pub mod Instance
 pub mod Points
 pub mod Tables
+pub mod Lent
 pub mod Adding
 pub mod Withdrawing
 pub mod Needed

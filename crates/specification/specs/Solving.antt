@@ -3,7 +3,7 @@ use Rattle.std.specs.Prelude.{Bool, not, cond, ◌&&◌, ◌||◌, List, [], ◌
 use Rattle.residue.specs.Lists.{every, all_zero}
 use Rattle.residue.specs.Layout.{groups, fill, over}
 use Rattle.specification.specs.declared.settings.Settings.{Settings}
-use Rattle.specification.specs.declared.answers.Wired.{Wired}
+use Rattle.specification.specs.Answers.{Wired}
 use Rattle.specification.specs.Refusal.{Case, first_of}
 use Rattle.specification.specs.Settings.{settings_cases}
 use Rattle.specification.specs.Levels.{in_range, residues}
