@@ -13,22 +13,22 @@ use borrow.Author.Tests.{ltb-true, lt-ltb, le-ltb}
 use Rattle.residue.specs.Level.{residue_of, signed_of}
 use Rattle.std.proofs.Common.{Some, None}
 
--- a negative level in range has p added, any other in range is kept
-pub of_negative : (p : ℕ) (z : ℤ) → lt_z z (pos 0) ≡ true → nat_abs z < p → Some (p - nat_abs z) ≡ residue_of p z
-unfolding residue_of
-of_negative p (pos k) e h = absurd (not-suc-le-zero (ltb-true k 0 e))
-of_negative p (negsuc k) e h = simp (lt-ltb (suc k) p h)
+-- by a level's size n and its sign: a negative level in range has p added, any other in range is kept, and outside the range there is no residue
+module _ (p n : ℕ) where
+  pub of_negative : (z : ℤ) → n ≡ nat_abs z → lt_z z (pos 0) ≡ true → n < p → Some (p - n) ≡ residue_of p z
+  unfolding residue_of
+  of_negative (pos k) e s h = absurd (not-suc-le-zero (ltb-true k 0 s))
+  of_negative (negsuc k) e s h = simp (lt-ltb (suc k) p (omega arith), e)
 
-pub of_kept : (p : ℕ) (z : ℤ) → lt_z z (pos 0) ≡ false → nat_abs z < p → Some (nat_abs z) ≡ residue_of p z
-unfolding residue_of
-of_kept p (pos k) e h = simp (lt-ltb k p h)
-of_kept p (negsuc k) e h = absurd (true≢false e)
+  pub of_kept : (z : ℤ) → n ≡ nat_abs z → lt_z z (pos 0) ≡ false → n < p → Some n ≡ residue_of p z
+  unfolding residue_of
+  of_kept (pos k) e s h = simp (lt-ltb k p (omega arith), e)
+  of_kept (negsuc k) e s h = absurd (true≢false s)
 
--- there is none outside the range
-pub of_outside : (p : ℕ) (z : ℤ) → p ≤ nat_abs z → None ≡ residue_of p z
-unfolding residue_of
-of_outside p (pos k) h = simp (le-ltb k p h)
-of_outside p (negsuc k) h = simp (le-ltb (suc k) p h)
+  pub of_outside : (z : ℤ) → n ≡ nat_abs z → p ≤ n → None ≡ residue_of p z
+  unfolding residue_of
+  of_outside (pos k) e h = simp (le-ltb k p (omega arith))
+  of_outside (negsuc k) e h = simp (le-ltb (suc k) p (omega arith))
 
 -- the signed byte of the same bits, as a cast reads them
 pub signed_is : (b : ℕ) → b < 256 → to_z w8 b ≡ signed_of b
