@@ -9,6 +9,7 @@ use Rattle.residue.specs.Layout.{groups}
 use Rattle.writing.specs.Appending.{Room, Put}
 use Rattle.writing.specs.Rows.{in_table}
 use Rattle.writing.specs.Decimal.{decimal}
+use Rattle.writing.proofs.TableRows.{rows_are}
 use Rattle.json_text.specs.Writing.{key, list_text, rows_text}
 use Rattle.json_text.specs.Documents.{Document, written}
 use Rattle.json_text.specs.Documents.{coefficients_name, counts_name, leads_name, modulus_name, order_name}
@@ -21,15 +22,11 @@ use Rattle.json_text.proofs.document_text.put_document.Goals.{After-put_byte, Af
 
 -- What a member says of a table, said of its rows.
 module _ (w k m : ℕ) (t : List ℕ) {rows : List (List ℕ)} (e : rows ≡ groups w k t) where
-  rows_are : map (take m) rows ≡ in_table w k m t
-  unfolding in_table
-  rows_are = ap (map (take m)) e
-
   wrote : (word : List ℕ) {at next : ℕ} {o mid : List ℕ} → Put at (word ++ rows_text (map (take m) rows)) o mid next → Put at (word ++ rows_text (in_table w k m t)) o mid next
-  wrote word {at} {next} {o} {mid} p = subst (λ (L : List (List ℕ)). Put at (word ++ rows_text L) o mid next) rows_are p
+  wrote word {at} {next} {o} {mid} p = subst (λ (L : List (List ℕ)). Put at (word ++ rows_text L) o mid next) (rows_are w k m t e) p
 
   roomy : (word : List ℕ) (at : ℕ) (o : List ℕ) → Room at (word ++ rows_text (in_table w k m t)) o → Room at (word ++ rows_text (map (take m) rows)) o
-  roomy word at o h = subst (λ (L : List (List ℕ)). Room at (word ++ rows_text L) o) (sym rows_are) h
+  roomy word at o h = subst (λ (L : List (List ℕ)). Room at (word ++ rows_text L) o) (sym (rows_are w k m t e)) h
 
 -- Before the first member.
 module _ (p : After-weights_in-w) where
