@@ -4,7 +4,7 @@ ghost use Rattle.specification.specs.Tables.{five_tables, written};
 ghost use Rattle.json_sheets.specs.Calls.{received, read_refused, read_outcome};
 
 use crate::judging::judge;
-use json_text::documents::{Found, read_document};
+use json_text::documents::read_document;
 use recognition::settings::too_short;
 use residue::{bytes, sizes};
 use specification::settings::Settings;
@@ -93,7 +93,7 @@ pub fn read_json(
     let mut new_coefficients = [0u8; sizes::COEFFICIENTS];
     let mut new_counts = [0u8; sizes::COUNTS];
     let mut new_weights = [0u8; WEIGHTS];
-    let Found::Document(shape) = read_document(
+    let Some(shape) = read_document(
         text,
         &mut new_coefficients,
         &mut new_counts,

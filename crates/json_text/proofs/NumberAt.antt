@@ -8,6 +8,8 @@ use native.Mathlib.Omega.{arith}
 use lib.ListN.{length, get_or, take, drop, length-drop, length-take}
 use lib.Dec.{eqb}
 use borrow.Author.Tests.{le-leb, lt-leb, eq-eqb, ne_eqb}
+use Rattle.std.proofs.Common.{Some, None, Result, Ok, Err}
+use Rattle.std.specs.Result.{OkIff, result_ok}
 use Rattle.notation.specs.Digits.{is_digit, decimal_number}
 use Rattle.notation.specs.Fields.{front}
 use Rattle.notation.specs.Said.{leading_said, LeadingRead}
@@ -18,6 +20,15 @@ use Rattle.json_text.specs.Documents.{is_byte}
 use Rattle.json_text.specs.Places.{found, broken, here, number_found, number_at}
 use Rattle.json_text.proofs.Numbers.{few_of}
 use Rattle.json_text.proofs.Places.{here_in}
+
+-- a number as a byte, if it is one
+pub no_byte : {E : Type 0} (r : Result ℕ E) (v : ℕ) → OkIff r (v < 256) v → result_ok r ≡ None → 255 < v
+no_byte (Ok x) v h e = cc
+no_byte (Err d) v h e = omega (arith, h)
+
+pub one_byte : {E : Type 0} (r : Result ℕ E) (v w : ℕ) → OkIff r (v < 256) v → result_ok r ≡ Some w → (v ≤ 255) × (w ≡ v)
+one_byte (Ok x) v w h e = (omega (arith, h.0), cc)
+one_byte (Err d) v w h e = cc
 
 module _ (text : List ℕ) (at : ℕ) where
   -- what is lent of the text from the place on, and the digits there

@@ -10,8 +10,8 @@ use native.Mathlib.Omega.{arith}
 use lib.ListN.{length, get_or, take, drop, drop_of_length-le, length-drop}
 use lib.Seq.{drop-cons, drop-drop, get_or-drop}
 use lib.Dec.{eqb, ltb}
-use borrow.Author.Tests.{lt-ltb, le-ltb, ltb-true}
-use Rattle.residue.specs.Lists.{same_list}
+use borrow.Author.Tests.{lt-ltb, le-ltb, ltb-true, eq-eqb, ne_eqb, eqb-true, eqb-false}
+use Rattle.std.specs.List.{starts_with}
 use Rattle.notation.specs.Digits.{is_digit, decimal_number}
 use Rattle.notation.specs.Fields.{Part, faulty, front}
 use Rattle.notation.proofs.fields.FieldSpans.{front_le}
@@ -97,15 +97,19 @@ both_cond true y u = refl
 both_cond false y u = refl
 
 -- the same by one comparison, as the code does it
-pub exactly_is : (bs text : List ℕ) (at : ℕ) → at ≤ length text → exactly_at bs text at ≡ cond (same_list (take (length bs) (drop at text)) bs) (found tt (at + length bs)) broken
-unfolding exactly_at same_list
+same_byte : (b c : ℕ) (z : Bool) → eqb b c ≡ z → eqb c b ≡ z
+same_byte b c true e = eq-eqb c b (sym (eqb-true b c e))
+same_byte b c false e = ne_eqb c b (λ f. eqb-false b c e (sym f))
+
+pub exactly_is : (bs text : List ℕ) (at : ℕ) → at ≤ length text → exactly_at bs text at ≡ cond (starts_with eqb (drop at text) bs) (found tt (at + length bs)) broken
+unfolding exactly_at
 exactly_is [] text at h = ap (found tt) (sym (add-zero at))
 exactly_is (b ∷ bs) text at h = go (dec_lt at (length text)) (λ k. exactly_is bs text (suc at) k)
   where
-    go : Dec (at < length text) → (suc at ≤ length text → exactly_at bs text (suc at) ≡ cond (same_list (take (length bs) (drop (suc at) text)) bs) (found tt (suc at + length bs)) broken)
-        → cond (here b text at) (exactly_at bs text (suc at)) broken ≡ cond (same_list (take (suc (length bs)) (drop at text)) (b ∷ bs)) (found tt (at + suc (length bs))) broken
+    go : Dec (at < length text) → (suc at ≤ length text → exactly_at bs text (suc at) ≡ cond (starts_with eqb (drop (suc at) text) bs) (found tt (suc at + length bs)) broken)
+        → cond (here b text at) (exactly_at bs text (suc at)) broken ≡ cond (starts_with eqb (drop at text) (b ∷ bs)) (found tt (at + suc (length bs))) broken
     go (yes k) rec = let n : suc at + length bs ≡ at + suc (length bs) = omega arith in
-        rw (here_in b text at k, drop-cons text at 0 k, rec k, n) (both_cond (eqb (get_or text at 0) b) (same_list (take (length bs) (drop (suc at) text)) bs) (found tt (at + suc (length bs))))
+        rw (here_in b text at k, drop-cons text at 0 k, rec k, n, same_byte b (get_or text at 0) (eqb b (get_or text at 0)) refl) (both_cond (eqb b (get_or text at 0)) (starts_with eqb (drop (suc at) text) bs) (found tt (at + suc (length bs))))
     go (no k) rec = let e : length text ≤ at = omega (arith, k) in rw (here_out b text at e, drop_of_length-le text e)
 
 -- a number

@@ -8,16 +8,18 @@ use native.Mathlib.Decide.{dec_lt}
 use native.Mathlib.Omega.{arith}
 use lib.ListN.{length, get_or, take, drop, set, replicate, length-append, length-take}
 use lib.Seq.{take-append-le, take_all, take-nil, drop-cons, set_at, set_out}
-use lib.Dec.{eqb, ltb, eqb-suc-zero}
-use borrow.Author.Tests.{eqb-true, eq-eqb, ltb-true, ltb-false}
+use lib.Dec.{eqb, ltb, eqb-suc-zero, eqb-zero-suc}
+use borrow.Author.Tests.{eqb-true, eqb-false, eq-eqb, ne_eqb, ltb-true, ltb-false}
 use Rattle.residue.specs.Lists.{every}
 use Rattle.residue.specs.Layout.{fill, in_places, over, with_place}
 use Rattle.residue.proofs.Layouts.{fill_cut, length_places, length_over}
 use Rattle.residue.proofs.Places.{places_append, place_more, over_zeros}
 use Rattle.residue.proofs.Replaced.{zeros_long}
 use Rattle.json_text.specs.Documents.{is_table}
-use Rattle.json_text.specs.Places.{columns_of, evenly, row_in}
-use Rattle.json_text.specs.Said.{lengths_of}
+use Rattle.std.proofs.Common.{Option, Some, None}
+use Rattle.std.specs.Option.{option_eq}
+use Rattle.json_text.specs.Places.{row_in}
+use Rattle.json_text.specs.Said.{columns_of, common_length, lengths_of}
 use Rattle.json_text.specs.declared.reading.Lengths.{Lengths}
 
 -- a list that is as long already keeps its first k numbers
@@ -91,42 +93,53 @@ every_snoc : {A : Type 0} (f : A → Bool) (L : List A) (a : A) → every f (L +
 every_snoc f [] a = and_comm (f a) true
 every_snoc f (b ∷ L) a = ap (λ (x : Bool). f b && x) (every_snoc f L a) ∙ sym (and_assoc (f b) (every f L) (f a))
 
-pub columns_next : (L : List (List ℕ)) (l : List ℕ) → cond (eqb (length L) 0) (length l) (columns_of L) ≡ columns_of (L ++ (l ∷ []))
-unfolding columns_of
-columns_next [] l = refl
-columns_next (a ∷ L) l = rw (eqb-suc-zero (length L))
+-- what a longer list of rows has in common
+common_all : (L : List (List ℕ)) (l : List ℕ) → 0 < length L → common_length (L ++ (l ∷ [])) ≡ cond (every (λ x. eqb (length x) (columns_of L)) L && eqb (length l) (columns_of L)) (Some (columns_of L)) None
+unfolding common_length columns_of
+common_all [] l h = absurd (omega arith)
+common_all (a ∷ L) l h = ap (λ (x : Bool). cond x (Some (length a)) None) (every_snoc (λ x. eqb (length x) (length a)) (a ∷ L) l)
 
-pub evenly_next : (L : List (List ℕ)) (l : List ℕ) → (evenly L && eqb (length l) (columns_of (L ++ (l ∷ [])))) ≡ evenly (L ++ (l ∷ []))
-unfolding evenly columns_of
-evenly_next [] l = rw (eq-eqb (length l) (length l) refl)
-evenly_next (a ∷ L) l = sym (every_snoc (λ x. eqb (length x) (length a)) (a ∷ L) l)
+pub common_first : (L : List (List ℕ)) (l : List ℕ) → length L ≡ 0 → Some (length l) ≡ common_length (L ++ (l ∷ []))
+unfolding common_length columns_of
+common_first [] l h = rw (eq-eqb (length l) (length l) refl)
+common_first (a ∷ L) l h = absurd (omega arith)
 
--- the same of numbers and of a test that are told
-pub columns_told : (L : List (List ℕ)) (l : List ℕ) (count size columns c : ℕ) → count ≡ length L → size ≡ length l → columns ≡ columns_of L → c ≡ cond (eqb count 0) size columns → c ≡ columns_of (L ++ (l ∷ []))
-columns_told L l count size columns c n e f g = g ∙ rw (n, e, f) (columns_next L l)
+-- a row more, behind others: as long as they all are, or not
+pub common_more : (L : List (List ℕ)) (l : List ℕ) (x : Bool) → 0 < length L → x ≡ option_eq eqb (common_length L) (Some (length l)) → cond x (Some (length l)) None ≡ common_length (L ++ (l ∷ []))
+unfolding common_length
+common_more L l x h e = ap (λ (y : Bool). cond y (Some (length l)) None) e ∙ go (every (λ x. eqb (length x) (columns_of L)) L) (columns_of L) ∙ sym (common_all L l h)
+  where
+    same : (j k : ℕ) (z : Bool) → eqb j k ≡ z → cond z (Some k) None ≡ cond (eqb k j) (Some j) None
+    same j k true f = let g = eqb-true j k f in rw (eq-eqb k j (sym g), g)
+    same j k false f = rw (ne_eqb k j (λ g. eqb-false j k f (sym g)))
 
-pub evenly_told : (L : List (List ℕ)) (l : List ℕ) (size c : ℕ) (even b : Bool) → size ≡ length l → c ≡ columns_of (L ++ (l ∷ [])) → even ≡ evenly L → b ≡ (even && eqb size c) → b ≡ evenly (L ++ (l ∷ []))
-evenly_told L l size c even b e f g h = h ∙ rw (e, f, g) (evenly_next L l)
+    go : (y : Bool) (j : ℕ) → cond (option_eq eqb (cond y (Some j) None) (Some (length l))) (Some (length l)) None ≡ cond (y && eqb (length l) j) (Some j) None
+    go true j = same j (length l) (eqb j (length l)) refl
+    go false j = refl
 
-pub lengths_told : (L : List (List ℕ)) (count columns : ℕ) (even : Bool) → count ≡ length L → columns ≡ columns_of L → even ≡ evenly L
-    → record { count = count; columns = columns; even = even } ≡ lengths_of L
+pub lengths_told : (L : List (List ℕ)) (count : ℕ) (columns : Option ℕ) → count ≡ length L → columns ≡ common_length L → record { count = count; columns = columns } ≡ lengths_of L
 unfolding lengths_of
-lengths_told L count columns even e f g = rw (e, f, g)
+lengths_told L count columns e f = rw (e, f)
 
 -- So many rows of m numbers, by what the loop keeps.
-pub table_kept : (k m : ℕ) (L : List (List ℕ)) → is_table k m L ≡ (eqb (length L) k && (eqb (length L) 0 || (evenly L && eqb (columns_of L) m)))
-unfolding is_table evenly columns_of
-table_kept k m [] = refl
-table_kept k m (a ∷ L) = ap (λ (x : Bool). eqb (suc (length L)) k && x) (go (eqb (length a) m) refl ∙ sym (rw (eqb-suc-zero (length L), eq-eqb (length a) (length a) refl) refl))
+pub table_kept : (k m : ℕ) (L : List (List ℕ)) → is_table k m L ≡ (eqb (length L) k && (eqb k 0 || option_eq eqb (common_length L) (Some m)))
+unfolding is_table common_length columns_of
+table_kept zero m [] = refl
+table_kept (suc k) m [] = rw (eqb-zero-suc k)
+table_kept zero m (a ∷ L) = rw (eqb-suc-zero (length L))
+table_kept (suc k) m (a ∷ L) = rw (eqb-suc-zero k, eq-eqb (length a) (length a) refl) (ap (λ (x : Bool). eqb (suc (length L)) (suc k) && x) (go (eqb (length a) m) refl ∙ told (every (λ l. eqb (length l) (length a)) L) (length a)))
   where
     go : (x : Bool) → eqb (length a) m ≡ x → (x && every (λ l. eqb (length l) m) L) ≡ (every (λ l. eqb (length l) (length a)) L && x)
     go true e = ap (λ (j : ℕ). every (λ l. eqb (length l) j) L) (sym (eqb-true (length a) m e)) ∙ and_comm true (every (λ l. eqb (length l) (length a)) L)
     go false e = and_comm false (every (λ l. eqb (length l) (length a)) L)
 
-pub table_told : (k m : ℕ) (L : List (List ℕ)) (x : Lengths) → x ≡ lengths_of L
-    → (eqb x.count k && (eqb x.count 0 || (eqb x.columns m && x.even))) ≡ is_table k m L
+    told : (x : Bool) (j : ℕ) → (x && eqb j m) ≡ option_eq eqb (cond x (Some j) None) (Some m)
+    told true j = refl
+    told false j = refl
+
+pub table_told : (k m : ℕ) (L : List (List ℕ)) (x : Lengths) → x ≡ lengths_of L → (eqb x.count k && (eqb k 0 || option_eq eqb x.columns (Some m))) ≡ is_table k m L
 unfolding lengths_of
-table_told k m L x e = rw (e, and_comm (eqb (columns_of L) m) (evenly L)) (sym (table_kept k m L))
+table_told k m L x e = rw e (sym (table_kept k m L))
 
 -- A table of zeros has room for so many bytes, and holds a list as far as it goes.
 pub zeros_room : (k : ℕ) (t : List ℕ) → t ≡ replicate k 0 → (k ≡ length t) × (t ≡ replicate (length t) 0)

@@ -1,39 +1,40 @@
--- A word, and what stands behind it: the code compares as many bytes of the text as the word has.
-use mathlib.Core.Path.{◌≡◌, sym, ◌∙◌, ap}
+-- A byte, a word, and what stands behind it, as the library's methods find them.
+use mathlib.Core.Path.{◌≡◌, sym, ◌∙◌, ap, ap₂}
 use mathlib.Core.Bool.{Bool, cond}
 use mathlib.Core.List.{List}
-use Prim.Native.Nat.{ℕ, ◌+◌, ◌-◌, ◌≤◌, ◌<◌}
-use native.Mathlib.Omega.{arith}
-use lib.ListN.{length, take, drop, length-take, length-drop}
-use Rattle.residue.specs.Lists.{same_list}
-use Rattle.residue.proofs.bytes.Equality.{same_length}
-use Rattle.json_text.specs.Places.{found, broken, Cursor, after_at, exactly_at, behind_word}
+use Prim.Native.Nat.{ℕ, ◌+◌, ◌-◌, ◌<◌, ◌≤◌}
+use lib.ListN.{length, get_or, take, drop}
+use lib.Dec.{eqb, ltb}
+use Rattle.std.proofs.Common.{Option, Some, None}
+use Rattle.std.specs.Option.{is_some, IfSome, option_eq}
+use Rattle.std.proofs.lemmas.Grind.{get_or_default_zero}
+use borrow.Author.Tests.{true-ltb}
+use denote.Ref.{Bor}
+use Rattle.std.specs.List.{starts_with}
+use Rattle.notation.proofs.fields.FieldSpans.{all_behind}
+use Rattle.json_text.specs.Places.{found, broken, Cursor, after_at, here, exactly_at, behind_word}
 use Rattle.json_text.specs.Said.{word_said}
-use Rattle.json_text.specs.declared.read_members.Word.{Word}
-use Rattle.json_text.specs.declared.read_members.Word.TheVariants as W
-use Rattle.json_text.proofs.Places.{exactly_is, placed_exactly, found_inside}
+use Rattle.json_text.proofs.Places.{placed_exactly, exactly_is, found_inside}
+
+-- the byte at a place, by `get`
+pub here_got : (b : ℕ) (text : List ℕ) (at : ℕ) (r : Option (Bor ℕ)) (y : Bor ℕ) → is_some r ≡ ltb at (length text) → IfSome r (λ x. x.now ≡ get_or text at x.now) → y.now ≡ b
+    → option_eq (λ x y. eqb x.now y.now) r (Some y) ≡ here b text at
+unfolding here
+here_got b text at None y e i f = rw (← e)
+here_got b text at (Some x) y e i f = let h : at < length text = true-ltb at (length text) e in
+    rw (← e) (ap₂ eqb (i ∙ get_or_default_zero text at x.now h) f)
 
 module _ (word text : List ℕ) (at : ℕ) (h : at ≤ length text) where
-  -- by a comparison of as many bytes
-  pub compared : (x : Bool) → x ≡ same_list (take ((at + length word) - at) (drop at text)) word
-      → cond x (found tt (at + length word)) broken ≡ exactly_at word text at
-  compared x e = let k : (at + length word) - at ≡ length word = omega arith in
-      ap (λ (y : Bool). cond y (found tt (at + length word)) broken) (e ∙ ap (λ (j : ℕ). same_list (take j (drop at text)) word) k)
-      ∙ sym (exactly_is word text at h)
-
-  -- the text ends before
-  pub too_short_lem : length text - at < length word → broken ≡ exactly_at word text at
-  too_short_lem l =
-      let e = same_length (take (length word) (drop at text)) word (λ e. omega (arith, length-take (length word) (drop at text), length-drop at text)) in
-      sym (exactly_is word text at h ∙ rw e)
+  pub compared : (x : Bool) → x ≡ starts_with eqb (take (length text - at) (drop at text)) word → cond x (found tt (at + length word)) broken ≡ exactly_at word text at
+  compared x e = ap (λ (y : Bool). cond y (found tt (at + length word)) broken) (e ∙ ap (λ (l : List ℕ). starts_with eqb l word) (all_behind text at)) ∙ sym (exactly_is word text at h)
 
   -- What was said of the word, and the value behind it.
-  module _ (r : Word) (said : word_said r ≡ exactly_at word text at) where
-    pub no_word : {A : Type 0} (q : Cursor A) → r ≡ W.Broken → behind_word word q text at ≡ broken
+  module _ (r : Option ℕ) (said : word_said r ≡ exactly_at word text at) where
+    pub no_word : {A : Type 0} (q : Cursor A) → r ≡ None → behind_word word q text at ≡ broken
     unfolding behind_word after_at word_said
     no_word q e = rw (← said, e)
 
-    module _ (next : ℕ) (e : r ≡ W.Read next) where
+    module _ (next : ℕ) (e : r ≡ Some next) where
       pub word_inside : next ≤ length text
       unfolding word_said
       word_inside = found_inside (placed_exactly word) h (sym said ∙ ap word_said e)

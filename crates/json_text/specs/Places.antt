@@ -1,7 +1,6 @@
 -- The reader again, by places in the text: a cursor takes what it can from a place on, and answers the place behind it. Each loop here is one of the code.
 use Rattle.std.specs.Prelude.{Bool, cond, not, ◌&&◌, ◌||◌, List, [], ◌∷◌, ◌++◌, ℕ, zero, suc, ◌+◌, ◌-◌, ◌≤◌, length, get_or, take, drop, eqb, ltb}
 use Rattle.std.proofs.Math.Option.{Option, some, none}
-use Rattle.residue.specs.Lists.{every}
 use Rattle.residue.specs.Layout.{with_place}
 use Rattle.notation.specs.Digits.{is_digit, decimal_number}
 use Rattle.notation.specs.Fields.{Part, part, faulty, front}
@@ -132,14 +131,6 @@ whole_at text (found d next) = cond (eqb next (length text) && fitting d) (some 
 
 unfoldable pub read_at : List ℕ → Option Document
 read_at text = whole_at text (document_at text 0)
-
--- What a loop over rows keeps of their lengths: the first one's, 0 where there is no row, and whether all are as long.
-unfoldable pub columns_of : List (List ℕ) → ℕ
-columns_of [] = 0
-columns_of (l ∷ L) = length l
-
-unfoldable pub evenly : List (List ℕ) → Bool
-evenly L = every (λ l. eqb (length l) (columns_of L)) L
 
 -- A row in its place of a table of so many places, cut to its width; where there is no such place, the table as it is.
 unfoldable pub row_in : (width places row : ℕ) → List ℕ → List ℕ → List ℕ

@@ -1,6 +1,6 @@
 -- A document in lent tables: the numbers of its shape, and its lists in places of 8 and of 64 bytes. The sizes are those of a sheet (docs/SCOPE.md,
 -- 'The sheet').
-use Rattle.std.specs.Prelude.{◌≡◌, List, ℕ, ◌*◌, ◌≤◌, length, take}
+use Rattle.std.specs.Prelude.{◌≡◌, List, ℕ, ◌*◌, ◌≤◌, length, take, Option, Some, None}
 use Rattle.std.proofs.Math.Option.{some, none}
 use Rattle.residue.specs.Sizes.{states_size, standard_size, leads_size, coefficients_size, counts_size}
 use Rattle.residue.specs.Layout.{fill, in_places}
@@ -8,8 +8,6 @@ use Rattle.writing.specs.Rows.{in_table}
 use Rattle.json_text.specs.Documents.{Document, weight_count}
 use Rattle.json_text.specs.Reading.{read}
 use Rattle.json_text.specs.declared.documents.Shape.{Shape}
-use Rattle.json_text.specs.declared.documents.Found.{Found}
-use Rattle.json_text.specs.declared.documents.Found.TheVariants as F
 
 -- n points of m residues, n standard monomials of m exponents, r leads of m exponents, r rows of n coefficients, n counts; weights of order 3 alone
 unfoldable pub document_in : Shape → (coefficients counts leads points standard weights : List ℕ) → Document
@@ -50,7 +48,7 @@ pub record Laid (d : Document) (coefficients counts leads points standard weight
   pub in_weights : weights ≡ fill 8 d.weights
 
 -- what reading a text answers, and leaves in tables of zeros
-abbrev pub DocumentRead : List ℕ → Found → (coefficients counts leads points standard weights : List ℕ) → Type 0
-DocumentRead text (F.Document shape) coefficients counts leads points standard weights =
+abbrev pub DocumentRead : List ℕ → Option Shape → (coefficients counts leads points standard weights : List ℕ) → Type 0
+DocumentRead text (Some shape) coefficients counts leads points standard weights =
     (d : Document) × (read text ≡ some d) × (shape ≡ shape_of d) × Laid d coefficients counts leads points standard weights
-DocumentRead text F.Broken coefficients counts leads points standard weights = read text ≡ none
+DocumentRead text None coefficients counts leads points standard weights = read text ≡ none

@@ -6,6 +6,7 @@ ghost use Rattle.json_text.specs.Tables.{document_in, Holds};
 use crate::documents::{Shape, weights_in};
 use crate::members::{put_list_member, put_number_member, put_rows_member};
 use writing::appending::put_byte;
+use writing::tables::rows;
 
 // The document that the tables hold, from the front of the buffer on; the answer is its length.
 pub fn put_document(
@@ -29,14 +30,20 @@ pub fn put_document(
     let r = shape.r;
     let m = shape.variables as usize;
     let w = weights_in(shape.order, m);
-    let next = put_rows_member(out, 0, b"{\"coefficients\":", 64, r, n, coefficients);
+    let next = put_rows_member(
+        out,
+        0,
+        b"{\"coefficients\":",
+        rows::<64>(r, coefficients),
+        n,
+    );
     let next = put_list_member(out, next, b",\"counts\":", &counts[..n]);
-    let next = put_rows_member(out, next, b",\"leads\":", 8, r, m, leads);
+    let next = put_rows_member(out, next, b",\"leads\":", rows::<8>(r, leads), m);
     let next = put_number_member(out, next, b",\"modulus\":", shape.modulus);
     let next = put_number_member(out, next, b",\"order\":", shape.order);
-    let next = put_rows_member(out, next, b",\"points\":", 8, n, m, points);
-    let next = put_rows_member(out, next, b",\"standard\":", 8, n, m, standard);
+    let next = put_rows_member(out, next, b",\"points\":", rows::<8>(n, points), m);
+    let next = put_rows_member(out, next, b",\"standard\":", rows::<8>(n, standard), m);
     let next = put_number_member(out, next, b",\"variables\":", shape.variables);
     let next = put_list_member(out, next, b",\"weights\":", &weights[..w]);
-    put_byte(out, next, 125)
+    put_byte(out, next, b'}')
 }

@@ -5,7 +5,7 @@ ghost use Rattle.json_text.specs.Documents.{is_table, weight_count};
 ghost use Rattle.json_text.specs.Said.{lengths_of};
 ghost use Rattle.json_text.specs.Tables.{DocumentRead};
 
-use crate::document_parts::{End, Front, Middle, read_end, read_front, read_middle};
+use crate::document_parts::{read_end, read_front, read_middle};
 use crate::reading::Lengths;
 
 // The numbers of a document: those of its settings, how many states it has and how many rows.
@@ -18,37 +18,18 @@ pub struct Shape {
     pub r: usize,
 }
 
-// What a text is: that of a document of this shape, or of none.
-#[derive(Drop)]
-pub enum Found {
-    Document(Shape),
-    Broken,
-}
-
 // Whether rows of these lengths are so many of so many numbers.
 fn is_table(lengths: Lengths, rows: usize, columns: usize) -> bool
     ensures { (l : List (List ℕ)) → lengths ≡ lengths_of l → result ≡ is_table rows columns l }
 {
-    if lengths.count != rows {
-        return false;
-    }
-    if lengths.count == 0 {
-        return true;
-    }
-    if lengths.columns != columns {
-        return false;
-    }
-    lengths.even
+    lengths.count == rows && (rows == 0 || lengths.columns == Some(columns))
 }
 
 // How many weights there are.
 pub(crate) fn weights_in(order: u8, m: usize) -> usize
     ensures { result ≡ weight_count order m }
 {
-    if order == 3 {
-        return m;
-    }
-    0
+    if order == 3 { m } else { 0 }
 }
 
 // A text is read into tables of zeros: as much as there is room for is stored.
@@ -60,47 +41,30 @@ pub fn read_document(
     points: &mut [u8],
     standard: &mut [u8],
     weights: &mut [u8],
-) -> Found
+) -> Option<Shape>
     requires coefficients_value { (coefficients.old ≡ replicate coefficients_size 0) × (counts.old ≡ replicate counts_size 0) × (leads.old ≡ replicate leads_size 0) }
     requires points_value { (points.old ≡ replicate states_size 0) × (standard.old ≡ replicate standard_size 0) × (weights.old ≡ replicate 8 0) }
     ensures { DocumentRead text.now result coefficients.new counts.new leads.new
         points.new standard.new weights.new }
 {
-    let Front::Read {
-        coefficients: rows,
-        n,
-        leads: leading,
-        next,
-    } = read_front(text, coefficients, counts, leads)
-    else {
-        return Found::Broken;
-    };
-    let Middle::Read {
-        modulus,
-        order,
-        points: pointed,
-        standard: standing,
-        next,
-    } = read_middle(text, next, points, standard)
-    else {
-        return Found::Broken;
-    };
-    let End::Read { variables, count } = read_end(text, next, weights) else {
-        return Found::Broken;
-    };
-    let r = leading.count;
-    let m = variables as usize;
-    let fits = is_table(pointed, n, m)
-        & is_table(standing, n, m)
-        & is_table(leading, r, m)
-        & is_table(rows, r, n);
-    if !(fits & (count == weights_in(order, m))) {
-        return Found::Broken;
+    let front = read_front(text, coefficients, counts, leads)?;
+    let middle = read_middle(text, front.next, points, standard)?;
+    let end = read_end(text, middle.next, weights)?;
+    let n = front.n;
+    let r = front.leads.count;
+    let m = end.variables as usize;
+    let fits = is_table(middle.points, n, m)
+        & is_table(middle.standard, n, m)
+        & is_table(front.leads, r, m)
+        & is_table(front.coefficients, r, n)
+        & (end.count == weights_in(middle.order, m));
+    if !fits {
+        return None;
     }
-    Found::Document(Shape {
-        modulus,
-        variables,
-        order,
+    Some(Shape {
+        modulus: middle.modulus,
+        variables: end.variables,
+        order: middle.order,
         n,
         r,
     })

@@ -1,9 +1,8 @@
 // Lists of numbers into a lent buffer.
-ghost use Rattle.std.specs.Prelude.{◌++◌, ◌*◌, ◌≤◌, length};
+ghost use Rattle.std.specs.Prelude.{◌++◌, ◌≤◌, map, take};
 ghost use Rattle.writing.specs.Appending.{Room, Put};
 ghost use Rattle.writing.specs.Decimal.{decimal};
 ghost use Rattle.json_text.specs.Writing.{before, list_text, rows_text};
-ghost use Rattle.writing.specs.Rows.{in_table};
 
 use writing::appending::put_byte;
 
@@ -15,7 +14,7 @@ fn put_before(out: &mut [u8], at: usize, i: usize) -> usize
     if i == 0 {
         return at;
     }
-    put_byte(out, at, 44)
+    put_byte(out, at, b',')
 }
 
 // A number in one, two or three digits, with no call of itself: most of a text is numbers.
@@ -24,15 +23,15 @@ pub(crate) fn put_number(out: &mut [u8], at: usize, v: u8) -> usize
     ensures { Put at (decimal v) out.old out.new result }
 {
     if v < 10 {
-        return put_byte(out, at, 48 + v);
+        return put_byte(out, at, b'0' + v);
     }
     if v < 100 {
-        let next = put_byte(out, at, 48 + v / 10);
-        return put_byte(out, next, 48 + v % 10);
+        let next = put_byte(out, at, b'0' + v / 10);
+        return put_byte(out, next, b'0' + v % 10);
     }
-    let next = put_byte(out, at, 48 + v / 100);
-    let last = put_byte(out, next, 48 + v / 10 % 10);
-    put_byte(out, last, 48 + v % 10)
+    let next = put_byte(out, at, b'0' + v / 100);
+    let last = put_byte(out, next, b'0' + v / 10 % 10);
+    put_byte(out, last, b'0' + v % 10)
 }
 
 fn put_item(out: &mut [u8], at: usize, i: usize, v: u8) -> usize
@@ -47,11 +46,11 @@ pub(crate) fn put_list(out: &mut [u8], at: usize, list: &[u8]) -> usize
     requires { Room at (list_text list.now) out.old }
     ensures { Put at (list_text list.now) out.old out.new result }
 {
-    let mut next = put_byte(out, at, 91);
-    for i in 0..list.len() {
-        next = put_item(out, next, i, list[i]);
+    let mut next = put_byte(out, at, b'[');
+    for (i, v) in list.iter().enumerate() {
+        next = put_item(out, next, i, *v);
     }
-    put_byte(out, next, 93)
+    put_byte(out, next, b']')
 }
 
 fn put_row(out: &mut [u8], at: usize, i: usize, row: &[u8]) -> usize
@@ -62,23 +61,20 @@ fn put_row(out: &mut [u8], at: usize, i: usize, row: &[u8]) -> usize
     put_list(out, next, row)
 }
 
-// The first m numbers in each of the first n places of a table.
-pub(crate) fn put_rows(
+// The first m numbers of each row.
+pub(crate) fn put_rows<const W: usize>(
     out: &mut [u8],
     at: usize,
-    width: usize,
-    n: usize,
+    rows: &[[u8; W]],
     m: usize,
-    table: &[u8],
 ) -> usize
-    requires m_le_width { (m ≤ width) × (width * n ≤ length table.now) }
-    requires room { Room at (rows_text (in_table width n m table.now)) out.old }
-    ensures { Put at (rows_text (in_table width n m table.now)) out.old out.new result }
+    requires m_le_width { m ≤ W }
+    requires room { Room at (rows_text (map (take m) rows.now)) out.old }
+    ensures { Put at (rows_text (map (take m) rows.now)) out.old out.new result }
 {
-    let mut next = put_byte(out, at, 91);
-    for i in 0..n {
-        let from = width * i;
-        next = put_row(out, next, i, &table[from..from + m]);
+    let mut next = put_byte(out, at, b'[');
+    for (i, row) in rows.iter().enumerate() {
+        next = put_row(out, next, i, &row[..m]);
     }
-    put_byte(out, next, 93)
+    put_byte(out, next, b']')
 }

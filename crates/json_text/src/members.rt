@@ -1,8 +1,7 @@
 // The members of a sheet's text.
-ghost use Rattle.std.specs.Prelude.{◌++◌, ◌*◌, ◌≤◌, length};
+ghost use Rattle.std.specs.Prelude.{◌++◌, ◌≤◌, map, take};
 ghost use Rattle.writing.specs.Appending.{Room, Put};
 ghost use Rattle.writing.specs.Decimal.{decimal};
-ghost use Rattle.writing.specs.Rows.{in_table};
 ghost use Rattle.json_text.specs.Writing.{list_text, rows_text};
 
 use crate::lists::{put_list, put_number, put_rows};
@@ -25,19 +24,17 @@ pub(crate) fn put_list_member(out: &mut [u8], at: usize, word: &[u8], list: &[u8
     put_list(out, next, list)
 }
 
-pub(crate) fn put_rows_member(
+pub(crate) fn put_rows_member<const W: usize>(
     out: &mut [u8],
     at: usize,
     word: &[u8],
-    width: usize,
-    n: usize,
+    rows: &[[u8; W]],
     m: usize,
-    table: &[u8],
 ) -> usize
-    requires m_le_width { (m ≤ width) × (width * n ≤ length table.now) }
-    requires room { Room at (word.now ++ rows_text (in_table width n m table.now)) out.old }
-    ensures { Put at (word.now ++ rows_text (in_table width n m table.now)) out.old out.new result }
+    requires m_le_width { m ≤ W }
+    requires room { Room at (word.now ++ rows_text (map (take m) rows.now)) out.old }
+    ensures { Put at (word.now ++ rows_text (map (take m) rows.now)) out.old out.new result }
 {
     let next = put_word(out, at, word);
-    put_rows(out, next, width, n, m, table)
+    put_rows(out, next, rows, m)
 }

@@ -4,47 +4,32 @@ ghost use Rattle.json_text.specs.Places.{exactly_at, behind_word, number_at, lis
 ghost use Rattle.json_text.specs.Said.{word_said, number_said, ListRead, RowsRead};
 
 use crate::reading::{Number, Numbers, Rows, read_list, read_number, read_rows};
-use residue::bytes;
 
 // The place behind the word, if it stands there.
-#[derive(Drop)]
-pub enum Word {
-    Read(usize),
-    Broken,
-}
-
-fn read_word(text: &[u8], at: usize, word: &[u8]) -> Word
+fn read_word(text: &[u8], at: usize, word: &[u8]) -> Option<usize>
     requires { at ≤ length text.now }
     ensures { word_said result ≡ exactly_at word.now text.now at }
 {
-    if text.len() - at < word.len() {
-        return Word::Broken;
+    if !text[at..].starts_with(word) {
+        return None;
     }
-    let end = at + word.len();
-    if !bytes::same(&text[at..end], word) {
-        return Word::Broken;
-    }
-    Word::Read(end)
+    Some(at + word.len())
 }
 
 // A name and a number, a list, or rows behind it.
-pub fn read_number_member(text: &[u8], at: usize, word: &[u8]) -> Number
+pub fn read_number_member(text: &[u8], at: usize, word: &[u8]) -> Option<Number>
     requires { at ≤ length text.now }
     ensures { number_said result ≡ behind_word word.now number_at text.now at }
 {
-    let Word::Read(next) = read_word(text, at, word) else {
-        return Number::Broken;
-    };
+    let next = read_word(text, at, word)?;
     read_number(text, next)
 }
 
-pub fn read_list_member(text: &[u8], at: usize, word: &[u8], out: &mut [u8]) -> Numbers
+pub fn read_list_member(text: &[u8], at: usize, word: &[u8], out: &mut [u8]) -> Option<Numbers>
     requires { at ≤ length text.now }
     ensures { ListRead (behind_word word.now list_at text.now at) out.old out.new result }
 {
-    let Word::Read(next) = read_word(text, at, word) else {
-        return Numbers::Broken;
-    };
+    let next = read_word(text, at, word)?;
     read_list(text, next, out)
 }
 
@@ -55,14 +40,12 @@ pub fn read_rows_member(
     width: usize,
     places: usize,
     out: &mut [u8],
-) -> Rows
+) -> Option<Rows>
     requires at_in_bounds { at ≤ length text.now }
     requires places_value { width * places ≡ length out.old }
     requires out_value { out.old ≡ replicate (length out.old) 0 }
     ensures { RowsRead width places (behind_word word.now rows_at text.now at) out.new result }
 {
-    let Word::Read(next) = read_word(text, at, word) else {
-        return Rows::Broken;
-    };
+    let next = read_word(text, at, word)?;
     read_rows(text, next, width, places, out)
 }

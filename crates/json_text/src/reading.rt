@@ -1,7 +1,7 @@
 // Numbers and lists of numbers read from a place of a text on.
-ghost use Rattle.std.specs.Prelude.{◌≡◌, cond, ◌&&◌, eqb, ◌≤◌, ◌*◌, length, set, replicate};
+ghost use Rattle.std.specs.Prelude.{◌≡◌, List, [], ◌∷◌, ◌++◌, ℕ, ◌≤◌, ◌*◌, length, set, replicate};
 ghost use Rattle.json_text.specs.Places.{here, number_at, list_at, rows_at};
-ghost use Rattle.json_text.specs.Said.{number_said, ListRead, RowRead, RowsRead};
+ghost use Rattle.json_text.specs.Said.{number_said, ListRead, RowRead, RowsRead, common_length};
 
 use notation::digits;
 use notation::digits::Leading;
@@ -10,41 +10,31 @@ use notation::digits::Leading;
 pub fn is_here(text: &[u8], at: usize, b: u8) -> bool
     ensures { result ≡ here b text.now at }
 {
-    if at >= text.len() {
-        return false;
-    }
-    text[at] == b
+    text.get(at) == Some(&b)
 }
 
+// A number, and the place behind it.
 #[derive(Drop)]
-pub enum Number {
-    Read { value: u8, next: usize },
-    Broken,
+pub struct Number {
+    pub value: u8,
+    pub next: usize,
 }
 
-pub fn read_number(text: &[u8], at: usize) -> Number
+pub fn read_number(text: &[u8], at: usize) -> Option<Number>
     requires { at ≤ length text.now }
     ensures { number_said result ≡ number_at text.now at }
 {
     let Leading::Number { size, count } = digits::read_leading(&text[at..]) else {
-        return Number::Broken;
+        return None;
     };
-    if size > 255 {
-        return Number::Broken;
+    let value = u8::try_from(size).ok()?;
+    if count > 1 && is_here(text, at, b'0') {
+        return None;
     }
-    if count == 1 {
-        return Number::Read {
-            value: size as u8,
-            next: at + count,
-        };
-    }
-    if is_here(text, at, 48) {
-        return Number::Broken;
-    }
-    Number::Read {
-        value: size as u8,
+    Some(Number {
+        value,
         next: at + count,
-    }
+    })
 }
 
 // A number at a place of the buffer, where there is room.
@@ -58,40 +48,38 @@ fn store(out: &mut [u8], at: usize, v: u8)
 
 // How many numbers there are, and the place behind them; as many as there is room for are stored.
 #[derive(Drop)]
-pub enum Numbers {
-    Read { count: usize, next: usize },
-    Broken,
+pub struct Numbers {
+    pub count: usize,
+    pub next: usize,
 }
 
-pub fn read_list(text: &[u8], at: usize, out: &mut [u8]) -> Numbers
+pub fn read_list(text: &[u8], at: usize, out: &mut [u8]) -> Option<Numbers>
     requires { at ≤ length text.now }
     ensures { ListRead (list_at text.now at) out.old out.new result }
 {
-    if !is_here(text, at, 91) {
-        return Numbers::Broken;
+    if !is_here(text, at, b'[') {
+        return None;
     }
     let mut i = at + 1;
-    if is_here(text, i, 93) {
-        return Numbers::Read {
+    if is_here(text, i, b']') {
+        return Some(Numbers {
             count: 0,
             next: i + 1,
-        };
+        });
     }
     let mut count = 0;
     loop {
-        let Number::Read { value, next } = read_number(text, i) else {
-            return Numbers::Broken;
-        };
+        let Number { value, next } = read_number(text, i)?;
         store(out, count, value);
         count += 1;
-        if is_here(text, next, 93) {
-            return Numbers::Read {
+        if is_here(text, next, b']') {
+            return Some(Numbers {
                 count,
                 next: next + 1,
-            };
+            });
         }
-        if !is_here(text, next, 44) {
-            return Numbers::Broken;
+        if !is_here(text, next, b',') {
+            return None;
         }
         i = next + 1;
     }
@@ -105,7 +93,7 @@ fn read_row(
     places: usize,
     row: usize,
     out: &mut [u8],
-) -> Numbers
+) -> Option<Numbers>
     requires at_in_bounds { at ≤ length text.now }
     requires places_value { width * places ≡ length out.old }
     ensures { RowRead width places row (list_at text.now at) out.old out.new result }
@@ -118,85 +106,68 @@ fn read_row(
     read_list(text, at, &mut nowhere)
 }
 
-// The first row's length.
-fn first_size(row: usize, columns: usize, size: usize) -> usize
-    ensures { result ≡ cond (eqb row 0) size columns }
+// The length that all rows have in common, behind one row more of this length.
+fn common_length(rows: usize, columns: Option<usize>, size: usize) -> Option<usize>
+    ensures { (L : List (List ℕ)) (l : List ℕ) → rows ≡ length L → columns ≡ common_length L → size ≡ length l → result ≡ common_length (L ++ (l ∷ [])) }
 {
-    if row == 0 {
-        return size;
+    if rows == 0 || columns == Some(size) {
+        return Some(size);
     }
-    columns
+    None
 }
 
-fn still_even(even: bool, columns: usize, size: usize) -> bool
-    ensures { result ≡ (even && eqb size columns) }
-{
-    if !even {
-        return false;
-    }
-    size == columns
-}
-
-// How many rows there are, how long the first is, and whether all are as long.
+// How many rows there are, and how long all of them are, if they are equally long.
 #[derive(Drop)]
 pub struct Lengths {
     pub count: usize,
-    pub columns: usize,
-    pub even: bool,
+    pub columns: Option<usize>,
 }
 
 // What rows there are, and the place behind them; as many as there is room for are stored.
 #[derive(Drop)]
-pub enum Rows {
-    Read { lengths: Lengths, next: usize },
-    Broken,
+pub struct Rows {
+    pub lengths: Lengths,
+    pub next: usize,
 }
 
-pub fn read_rows(text: &[u8], at: usize, width: usize, places: usize, out: &mut [u8]) -> Rows
+pub fn read_rows(
+    text: &[u8],
+    at: usize,
+    width: usize,
+    places: usize,
+    out: &mut [u8],
+) -> Option<Rows>
     requires at_in_bounds { at ≤ length text.now }
     requires places_value { width * places ≡ length out.old }
     requires out_value { out.old ≡ replicate (length out.old) 0 }
     ensures { RowsRead width places (rows_at text.now at) out.new result }
 {
-    if !is_here(text, at, 91) {
-        return Rows::Broken;
+    if !is_here(text, at, b'[') {
+        return None;
     }
     let mut i = at + 1;
-    if is_here(text, i, 93) {
-        let lengths = Lengths {
-            count: 0,
-            columns: 0,
-            even: true,
-        };
-        return Rows::Read {
+    let mut count = 0;
+    let mut columns = Some(0);
+    if is_here(text, i, b']') {
+        let lengths = Lengths { count, columns };
+        return Some(Rows {
             lengths,
             next: i + 1,
-        };
+        });
     }
-    let mut count = 0;
-    let mut columns = 0;
-    let mut even = true;
     loop {
-        let Numbers::Read { count: size, next } = read_row(text, i, width, places, count, out)
-        else {
-            return Rows::Broken;
-        };
-        columns = first_size(count, columns, size);
-        even = still_even(even, columns, size);
+        let Numbers { count: size, next } = read_row(text, i, width, places, count, out)?;
+        columns = common_length(count, columns, size);
         count += 1;
-        if is_here(text, next, 93) {
-            let lengths = Lengths {
-                count,
-                columns,
-                even,
-            };
-            return Rows::Read {
+        if is_here(text, next, b']') {
+            let lengths = Lengths { count, columns };
+            return Some(Rows {
                 lengths,
                 next: next + 1,
-            };
+            });
         }
-        if !is_here(text, next, 44) {
-            return Rows::Broken;
+        if !is_here(text, next, b',') {
+            return None;
         }
         i = next + 1;
     }

@@ -1,5 +1,5 @@
 // The lines of a basis. As in `appending`, each function answers the place behind what it wrote.
-ghost use Rattle.std.specs.Prelude.{◌*◌, ◌≤◌, length};
+ghost use Rattle.std.specs.Prelude.{◌≡◌, ◌*◌, ◌≤◌, length, map, take};
 ghost use Rattle.residue.specs.Sizes.{most_rows};
 ghost use Rattle.writing.specs.Appending.{Room, Put};
 ghost use Rattle.printing.specs.Lines.{spaced, spaced_numbers, labelled, line, first_line, refusal_line};
@@ -8,13 +8,14 @@ ghost use Rattle.printing.specs.Lines.{standard_lines, row_line, row_lines, basi
 
 use writing::appending::{put_byte, put_word};
 use writing::decimal::put_digits;
+use writing::tables::rows;
 
 // A space and the number.
 fn put_number(out: &mut [u8], at: usize, n: u16) -> usize
     requires { Room at (spaced n) out.old }
     ensures { Put at (spaced n) out.old out.new result }
 {
-    let next = put_byte(out, at, 32);
+    let next = put_byte(out, at, b' ');
     put_digits(out, next, n)
 }
 
@@ -23,8 +24,8 @@ fn put_numbers(out: &mut [u8], at: usize, list: &[u8]) -> usize
     ensures { Put at (spaced_numbers list.now) out.old out.new result }
 {
     let mut next = at;
-    for i in 0..list.len() {
-        next = put_number(out, next, list[i] as u16);
+    for v in list {
+        next = put_number(out, next, u16::from(*v));
     }
     next
 }
@@ -45,7 +46,7 @@ fn put_line(out: &mut [u8], at: usize, word: &[u8], list: &[u8]) -> usize
 {
     let next = put_word(out, at, word);
     let end = put_numbers(out, next, list);
-    put_byte(out, end, 10)
+    put_byte(out, end, b'\n')
 }
 
 fn put_first_line(out: &mut [u8], at: usize, n: u16, r: u16) -> usize
@@ -55,7 +56,7 @@ fn put_first_line(out: &mut [u8], at: usize, n: u16, r: u16) -> usize
     let points = put_labelled(out, at, b"points", n);
     let standard = put_labelled(out, points, b" standard", n);
     let rows = put_labelled(out, standard, b" rows", r);
-    put_byte(out, rows, 10)
+    put_byte(out, rows, b'\n')
 }
 
 fn put_row(out: &mut [u8], at: usize, lead: &[u8], coefficients: &[u8]) -> usize
@@ -73,49 +74,40 @@ pub fn put_refusal(out: &mut [u8], at: usize, refusal: u8, record: u16) -> usize
 {
     let next = put_labelled(out, at, b"refused", refusal as u16);
     let end = put_number(out, next, record);
-    put_byte(out, end, 10)
+    put_byte(out, end, b'\n')
 }
 
-// The standard monomials, each a line.
-fn put_standard(out: &mut [u8], at: usize, m: usize, n: usize, standard: &[u8]) -> usize
-    requires m_bound { (m ≤ 8) × (8 * n ≤ length standard.now) }
-    requires room { Room at (standard_lines (in_table 8 n m standard.now)) out.old }
-    ensures { Put at (standard_lines (in_table 8 n m standard.now)) out.old out.new result }
+// The first m exponents of the standard monomials, each a line.
+fn put_standard(out: &mut [u8], at: usize, m: usize, standard: &[[u8; 8]]) -> usize
+    requires m_bound { m ≤ 8 }
+    requires room { Room at (standard_lines (map (take m) standard.now)) out.old }
+    ensures { Put at (standard_lines (map (take m) standard.now)) out.old out.new result }
 {
     let mut next = at;
-    for i in 0..n {
-        let from = 8 * i;
-        next = put_line(out, next, b"standard", &standard[from..from + m]);
+    for monomial in standard {
+        next = put_line(out, next, b"standard", &monomial[..m]);
     }
     next
 }
 
-// The rows, each a line.
+// The rows, each a line: the first m exponents of its lead and its first n coefficients.
 fn put_rows(
     out: &mut [u8],
     at: usize,
     m: usize,
     n: usize,
-    r: usize,
-    leads: &[u8],
-    coefficients: &[u8],
+    leads: &[[u8; 8]],
+    coefficients: &[[u8; 64]],
 ) -> usize
     requires m_bound { (m ≤ 8) × (n ≤ 64) }
-    requires r_in_bounds { (8 * r ≤ length leads.now) × (64 * r ≤ length coefficients.now) }
-    requires room { Room at (row_lines (in_table 8 r m leads.now) (in_table 64 r n coefficients.now)) out.old }
-    ensures { Put at (row_lines (in_table 8 r m leads.now) (in_table 64 r n coefficients.now))
+    requires as_many { length leads.now ≡ length coefficients.now }
+    requires room { Room at (row_lines (map (take m) leads.now) (map (take n) coefficients.now)) out.old }
+    ensures { Put at (row_lines (map (take m) leads.now) (map (take n) coefficients.now))
         out.old out.new result }
 {
     let mut next = at;
-    for i in 0..r {
-        let lead = 8 * i;
-        let row = 64 * i;
-        next = put_row(
-            out,
-            next,
-            &leads[lead..lead + m],
-            &coefficients[row..row + n],
-        );
+    for (lead, row) in leads.iter().zip(coefficients) {
+        next = put_row(out, next, &lead[..m], &row[..n]);
     }
     next
 }
@@ -141,8 +133,15 @@ pub fn print_basis(
         out.old out.new result }
 {
     let first = put_first_line(out, 0, n as u16, r as u16);
-    let middle = put_standard(out, first, m, n, standard);
-    let rows = put_rows(out, middle, m, n, r, leads, coefficients);
-    let last = put_line(out, rows, b"interpolant", interpolant);
+    let middle = put_standard(out, first, m, rows::<8>(n, standard));
+    let end = put_rows(
+        out,
+        middle,
+        m,
+        n,
+        rows::<8>(r, leads),
+        rows::<64>(r, coefficients),
+    );
+    let last = put_line(out, end, b"interpolant", interpolant);
     put_line(out, last, b"wiring", names)
 }

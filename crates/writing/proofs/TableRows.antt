@@ -2,16 +2,13 @@
 use mathlib.Core.Path.{◌≡◌, refl, sym, ◌∙◌, ap, ap₂}
 use mathlib.Core.Logic.{inl, inr}
 use mathlib.Core.List.{List, [], ◌∷◌, ◌++◌, map, append_assoc}
-use Prim.Native.Nat.{ℕ, suc, ◌+◌, ◌-◌, ◌*◌, ◌<◌, ◌≤◌}
-use native.Mathlib.Nat.{mul-le-mul_left}
+use Prim.Native.Nat.{ℕ, ◌+◌, ◌-◌, ◌*◌, ◌≤◌}
 use native.Mathlib.Omega.{arith}
-use lib.ListN.{length, get_or, take, drop, replicate, length-map}
-use lib.Seq.{take-take}
+use lib.ListN.{length, take, replicate, length-map}
 use Rattle.residue.specs.Lists.{Among}
 use Rattle.residue.specs.Layout.{groups, fill, in_places}
 use Rattle.residue.proofs.Layouts.{take_fill, places_back, table_split}
-use Rattle.residue.proofs.vector.Vectors.{map_at}
-use Rattle.residue.proofs.Places.{length_groups, groups_at}
+use Rattle.residue.proofs.Places.{length_groups}
 use Rattle.writing.specs.Rows.{in_table}
 
 module _ (w n m : ℕ) (t : List ℕ) where
@@ -19,17 +16,10 @@ module _ (w n m : ℕ) (t : List ℕ) where
   unfolding in_table
   length_table = length-map (groups w n t) (take m) ∙ length_groups w n t
 
-  -- what is lent of the ith place
-  pub table_at : (i : ℕ) → m ≤ w → i < n → get_or (in_table w n m t) i [] ≡ take ((w * i + m) - w * i) (drop (w * i) t)
-  unfolding in_table
-  table_at i h k =
-      let e : m ≡ (w * i + m) - w * i = omega arith in
-      map_at (take m) (groups w n t) [] [] i (omega (arith, length_groups w n t)) ∙ ap (λ (z : List ℕ). take m z) (groups_at w n i t [] k)
-      ∙ take-take m w (drop (w * i) t) h ∙ ap (λ (z : ℕ). take z (drop (w * i) t)) e
-
--- it lies within the table
-pub place_within : (w n m i N : ℕ) → m ≤ w → i < n → w * n ≤ N → w * i + m ≤ N
-place_within w n m i N h k room = let j : w * suc i ≤ w * n = mul-le-mul_left w k in omega arith
+-- the rows that lie in a table, by the groups that it is cut into
+pub rows_are : (w n m : ℕ) (t : List ℕ) {rows : List (List ℕ)} → rows ≡ groups w n t → map (take m) rows ≡ in_table w n m t
+unfolding in_table
+rows_are w n m t e = ap (map (take m)) e
 
 each_back : (m w : ℕ) (L : List (List ℕ)) → m ≤ w → ((a : List ℕ) → Among a L → length a ≡ m) → map (take m) (map (fill w) L) ≡ L
 each_back m w [] h e = refl

@@ -2,8 +2,6 @@
 ghost use Rattle.std.specs.Prelude.{[], ◌∷◌};
 ghost use Rattle.writing.specs.Appending.{Room, Put};
 
-use residue::bytes;
-
 pub fn put_byte(out: &mut [u8], at: usize, b: u8) -> usize
     requires { Room at (b ∷ []) out.old }
     ensures { Put at (b ∷ []) out.old out.new result }
@@ -16,6 +14,7 @@ pub fn put_word(out: &mut [u8], at: usize, word: &[u8]) -> usize
     requires { Room at word.now out.old }
     ensures { Put at word.now out.old out.new result }
 {
-    bytes::copy(word, &mut out[at..]);
-    at + word.len()
+    let end = at + word.len();
+    out[at..end].copy_from_slice(word);
+    end
 }

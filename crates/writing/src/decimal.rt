@@ -10,8 +10,8 @@ pub fn put_digits(out: &mut [u8], at: usize, n: u16) -> usize
     ensures { Put at (decimal n) out.old out.new result }
 {
     if n < 10 {
-        return put_byte(out, at, 48 + n as u8);
+        return put_byte(out, at, b'0' + n as u8);
     }
     let next = put_digits(out, at, n / 10);
-    put_byte(out, next, 48 + (n % 10) as u8)
+    put_byte(out, next, b'0' + (n % 10) as u8)
 }

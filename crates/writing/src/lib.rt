@@ -3,3 +3,4 @@
 
 pub mod appending;
 pub mod decimal;
+pub mod tables;

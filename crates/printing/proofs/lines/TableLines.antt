@@ -1,32 +1,36 @@
--- The lines of a table, by the places that they are printed from.
+-- The lines of a table's rows, one after the other.
 use mathlib.Core.Path.{◌≡◌, sym, ◌∙◌, ap, ap₂}
 use mathlib.Core.List.{List, [], map, zip_with}
-use Prim.Native.Nat.{ℕ, ◌+◌, ◌*◌, ◌-◌, ◌<◌, ◌≤◌}
+use Prim.Native.Nat.{ℕ, ◌<◌}
 use native.Mathlib.Omega.{arith}
-use lib.ListN.{length, get_or, take, drop, length-map}
+use lib.ListN.{length, get_or, take, length-map}
 use Rattle.residue.proofs.vector.Vectors.{zip_length, zip_at, map_at}
-use Rattle.writing.proofs.TableRows.{length_table, table_at}
 use Rattle.printing.specs.Lines.{line, row_line}
-use Rattle.writing.specs.Rows.{in_table}
 
--- one line for each place
-module _ (word : List ℕ) (n m : ℕ) (t : List ℕ) where
-  pub lines_length : length (map (line word) (in_table 8 n m t)) ≡ n
-  lines_length = length-map (in_table 8 n m t) (line word) ∙ length_table 8 n m t
+-- the first m numbers of a row
+first_at : (m : ℕ) (rows : List (List ℕ)) (i : ℕ) (row : List ℕ) → i < length rows → row ≡ get_or rows i row → get_or (map (take m) rows) i [] ≡ take m row
+first_at m rows i row h e = map_at (take m) rows row [] i h ∙ ap (λ (z : List ℕ). take m z) (sym e)
 
-  pub lines_at : (i : ℕ) → m ≤ 8 → i < n → get_or (map (line word) (in_table 8 n m t)) i [] ≡ line word (take ((8 * i + m) - 8 * i) (drop (8 * i) t))
-  lines_at i h k = map_at (line word) (in_table 8 n m t) [] [] i (omega (arith, length_table 8 n m t)) ∙ ap (λ (z : List ℕ). line word z) (table_at 8 n m t i h k)
+-- one line for each row
+module _ (word : List ℕ) (m : ℕ) (rows : List (List ℕ)) where
+  pub lines_length : length (map (line word) (map (take m) rows)) ≡ length rows
+  lines_length = length-map (map (take m) rows) (line word) ∙ length-map rows (take m)
 
--- one line for each two places, one of each table
-module _ (m n r : ℕ) (t u : List ℕ) where
-  same : length (in_table 8 r m t) ≡ length (in_table 64 r n u)
-  same = length_table 8 r m t ∙ sym (length_table 64 r n u)
+  pub lines_at : (i : ℕ) (row : List ℕ) → i < length rows → row ≡ get_or rows i row → get_or (map (line word) (map (take m) rows)) i [] ≡ line word (take m row)
+  lines_at i row h e =
+      map_at (line word) (map (take m) rows) [] [] i (omega (arith, length-map rows (take m)))
+      ∙ ap (λ (z : List ℕ). line word z) (first_at m rows i row h e)
 
-  pub rows_length : length (zip_with row_line (in_table 8 r m t) (in_table 64 r n u)) ≡ r
-  rows_length = zip_length row_line (in_table 8 r m t) (in_table 64 r n u) same ∙ length_table 8 r m t
+-- one line for each two rows, one of each table
+module _ (m n : ℕ) (leads rows : List (List ℕ)) (as_many : length leads ≡ length rows) where
+  same : length (map (take m) leads) ≡ length (map (take n) rows)
+  same = length-map leads (take m) ∙ as_many ∙ sym (length-map rows (take n))
 
-  pub rows_at : (i : ℕ) → m ≤ 8 → n ≤ 64 → i < r
-      → get_or (zip_with row_line (in_table 8 r m t) (in_table 64 r n u)) i [] ≡ row_line (take ((8 * i + m) - 8 * i) (drop (8 * i) t)) (take ((64 * i + n) - 64 * i) (drop (64 * i) u))
-  rows_at i h j k =
-      zip_at row_line (in_table 8 r m t) (in_table 64 r n u) [] [] [] i (omega (arith, length_table 8 r m t)) same
-      ∙ ap₂ row_line (table_at 8 r m t i h k) (table_at 64 r n u i j k)
+  pub rows_length : length (zip_with row_line (map (take m) leads) (map (take n) rows)) ≡ length leads
+  rows_length = zip_length row_line (map (take m) leads) (map (take n) rows) same ∙ length-map leads (take m)
+
+  pub rows_at : (i : ℕ) (lead row : List ℕ) → i < length leads → lead ≡ get_or leads i lead → row ≡ get_or rows i row
+      → get_or (zip_with row_line (map (take m) leads) (map (take n) rows)) i [] ≡ row_line (take m lead) (take n row)
+  rows_at i lead row h e f =
+      zip_at row_line (map (take m) leads) (map (take n) rows) [] [] [] i (omega (arith, length-map leads (take m))) same
+      ∙ ap₂ row_line (first_at m leads i lead h e) (first_at n rows i row (omega arith) f)

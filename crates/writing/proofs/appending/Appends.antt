@@ -5,9 +5,9 @@ use Prim.Native.Nat.{ℕ, zero, suc, ◌+◌, ◌-◌, ◌<◌, ◌≤◌}
 use native.Mathlib.Nat.{add-zero, not-suc-le-zero, le_of_suc-le-suc}
 use native.Mathlib.Numerals.{add-one}
 use native.Mathlib.Omega.{arith}
-use lib.ListN.{length, get_or, take, drop, set, length-append, length-drop, take-append-drop, drop_of_length-le}
+use lib.ListN.{length, get_or, take, drop, set, length-append, length-drop, take-append-drop}
 use lib.Seq.{length-take-le, take_all, take_at, drop_at, drop-drop, set_split}
-use Rattle.residue.specs.Layout.{over}
+use borrow.Rule.Slice.PartMut.{put_mid}
 use Rattle.writing.specs.Appending.{Room, put_at, Put}
 
 length_put : (at : ℕ) (a o : List ℕ) → Room at a o → length (put_at at a o) ≡ length o
@@ -41,18 +41,12 @@ pub put_set : (at b : ℕ) (o : List ℕ) → at < length o → Put at (b ∷ []
 unfolding put_at
 put_set at b o h = record { ends = refl; holds = set_split o at b h ∙ rw (sym (add-one at)) }
 
--- a part that was lent and came back with its front written over
-pub put_part : (at : ℕ) (w o new : List ℕ) → Room at w o → new ≡ over w (take (length o - at) (drop at o))
-    → Put at w o (take at o ++ (new ++ drop (length o - at) (drop at o))) (at + length w)
-unfolding put_at over
-put_part at w o new h e =
-    let k = length o - at in
-    let n : length (drop at o) ≤ k = omega (arith, length-drop at o) in
-    let f : new ≡ w ++ drop (at + length w) o = e ∙ ap (λ (l : List ℕ). w ++ drop (length w) l) (take_all k (drop at o) n) ∙ ap (λ (l : List ℕ). w ++ l) (drop-drop (length w) at o) in
-    record {
-      ends = refl;
-      holds = ap₂ (λ (x y : List ℕ). take at o ++ (x ++ y)) f (drop_of_length-le (drop at o) {i = k} n) ∙ ap (λ (x : List ℕ). take at o ++ x) (append-nil _);
-    }
+-- a part that was lent and came back as the bytes
+pub put_part : (at : ℕ) (w o new : List ℕ) → new ≡ w → Put at w o (put_mid at ((at + length w) - at) o new) (at + length w)
+unfolding put_at
+put_part at w o new e =
+    let k : at + ((at + length w) - at) ≡ at + length w = omega arith in
+    record { ends = refl; holds = ap₂ (λ (x y : List ℕ). take at o ++ (x ++ y)) e (drop-drop ((at + length w) - at) at o ∙ ap (λ (j : ℕ). drop j o) k) }
 
 module _ {at next : ℕ} {a o mid : List ℕ} (p : Put at a o mid next) where
   pub put_length : Room at a o → length mid ≡ length o

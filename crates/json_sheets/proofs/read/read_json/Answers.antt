@@ -6,13 +6,12 @@ use Prim.Native.Nat.{ℕ, ◌≤◌}
 use native.Mathlib.Omega.{arith}
 use lib.ListN.{length}
 use lib.Dec.{ltb}
+use Rattle.std.proofs.Common.{Option, Some}
 use Rattle.residue.specs.Layout.{over}
 use Rattle.specification.specs.Refusal.{first_of}
 use Rattle.specification.specs.Tables.{Tables, five_tables, too_short, written}
 use Rattle.json_text.specs.Tables.{DocumentRead}
 use Rattle.json_text.specs.declared.documents.Shape.{Shape}
-use Rattle.json_text.specs.declared.documents.Found.{Found}
-use Rattle.json_text.specs.declared.documents.Found.TheVariants as F
 use Rattle.json_sheets.specs.declared.read.Taken.{Taken}
 use Rattle.json_sheets.specs.Calls.{received, read_refused, document_cases, read_outcome}
 use Rattle.json_sheets.proofs.read.Takes.{read_long, read_broken, read_refused_lem, read_accepted_lem, judged_laid, few_points, few_rows, room, room_weights, assembled}
@@ -46,7 +45,7 @@ module _ (w : After-read_document) where
   abbrev v : List ℕ
   v = w.read_document.new.weights
 
-  abbrev Said : Found → Type 0
+  abbrev Said : Option Shape → Type 0
   Said r = DocumentRead s.args.text.now r c k l p t v
 
   short : length s.args.text.now ≤ 131072
@@ -58,10 +57,10 @@ module _ (d : After-judge-refusal) where
   w = (goal.at.After-judge-refusal d).After-read_document
 
   abbrev shape : Shape
-  shape = d.in-Document.shape
+  shape = d.in-Some.shape
 
-  said : Said w (F.Document shape)
-  said = subst (Said w) d.in-Document.is w.read_document.ensures
+  said : Said w (Some shape)
+  said = subst (Said w) d.in-Some.is w.read_document.ensures
 
   told : d.judge-refusal.result ≡ first_of 0 (document_cases said.0 (tables (s w)) (s w).args.weights.now)
   unfolding too_short

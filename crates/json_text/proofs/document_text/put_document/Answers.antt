@@ -1,11 +1,15 @@
 -- `document_text::put_document` meets its contract: member behind member, in a straight line.
 use mathlib.Core.Path.{◌≡◌, sym, ◌∙◌, ap, subst}
-use mathlib.Core.List.{List, [], ◌∷◌, ◌++◌}
+use mathlib.Core.List.{List, [], ◌∷◌, ◌++◌, map}
+use native.Mathlib.Omega.{arith}
 use Prim.Native.Nat.{ℕ, ◌≤◌}
 use lib.ListN.{length, take}
 use lib.Seq.{length-take-le}
+use Rattle.residue.specs.Layout.{groups}
+use Rattle.writing.specs.Appending.{Room, Put}
 use Rattle.writing.specs.Rows.{in_table}
 use Rattle.writing.specs.Decimal.{decimal}
+use Rattle.writing.proofs.TableRows.{rows_are}
 use Rattle.json_text.specs.Writing.{key, list_text, rows_text}
 use Rattle.json_text.specs.Documents.{Document, written}
 use Rattle.json_text.specs.Documents.{coefficients_name, counts_name, leads_name, modulus_name, order_name}
@@ -15,6 +19,14 @@ use Rattle.json_text.proofs.DocumentTexts.{from1, from2, from3, from4, from5, fr
 use Rattle.json_text.proofs.StraightLine.{Going, start, going_room, going_on, going_end, going_length}
 use Rattle.json_text.proofs.document_text.put_document.Goals as goal
 use Rattle.json_text.proofs.document_text.put_document.Goals.{After-put_byte, After-put_list_member-next, After-put_list_member-next-2, After-put_number_member-next, After-put_number_member-next-2, After-put_number_member-next-3, After-put_rows_member-next, After-put_rows_member-next-2, After-put_rows_member-next-3, After-put_rows_member-next-4, After-weights_in-w, Start}
+
+-- What a member says of a table, said of its rows.
+module _ (w k m : ℕ) (t : List ℕ) {rows : List (List ℕ)} (e : rows ≡ groups w k t) where
+  wrote : (word : List ℕ) {at next : ℕ} {o mid : List ℕ} → Put at (word ++ rows_text (map (take m) rows)) o mid next → Put at (word ++ rows_text (in_table w k m t)) o mid next
+  wrote word {at} {next} {o} {mid} p = subst (λ (L : List (List ℕ)). Put at (word ++ rows_text L) o mid next) (rows_are w k m t e) p
+
+  roomy : (word : List ℕ) (at : ℕ) (o : List ℕ) → Room at (word ++ rows_text (in_table w k m t)) o → Room at (word ++ rows_text (map (take m) rows)) o
+  roomy word at o h = subst (λ (L : List (List ℕ)). Room at (word ++ rows_text L) o) (sym (rows_are w k m t e)) h
 
 -- Before the first member.
 module _ (p : After-weights_in-w) where
@@ -71,7 +83,7 @@ module _ (c : After-put_rows_member-next) where
   begun1 = (goal.at.After-put_rows_member-next c).After-weights_in-w
 
   left2 : Left begun1 (from2 (due begun1) []) c.put_rows_member-next.new.out c.put_rows_member-next.result
-  left2 = going_on _ _ (left1 (goal.at.After-put_rows_member-next c).After-weights_in-w) c.put_rows_member-next.ensures
+  left2 = going_on ((123 ∷ key coefficients_name) ++ rows_text (due begun1).coefficients) _ (left1 (goal.at.After-put_rows_member-next c).After-weights_in-w) (wrote 64 (entry begun1).args.shape.r (entry begun1).args.shape.n (entry begun1).args.coefficients.now c.rows.ensures.value (123 ∷ key coefficients_name) c.put_rows_member-next.ensures)
 
 module _ (c : After-put_list_member-next) where
   abbrev begun2 : After-weights_in-w
@@ -85,7 +97,7 @@ module _ (c : After-put_rows_member-next-2) where
   begun3 = begun2 (goal.at.After-put_rows_member-next-2 c).After-put_list_member-next
 
   left4 : Left begun3 (from4 (due begun3) []) c.put_rows_member-next-2.new.out c.put_rows_member-next-2.result
-  left4 = going_on _ _ (left3 (goal.at.After-put_rows_member-next-2 c).After-put_list_member-next) c.put_rows_member-next-2.ensures
+  left4 = going_on ((44 ∷ key leads_name) ++ rows_text (due begun3).leads) _ (left3 (goal.at.After-put_rows_member-next-2 c).After-put_list_member-next) (wrote 8 (entry begun3).args.shape.r (entry begun3).args.shape.variables (entry begun3).args.leads.now c.rows-2.ensures.value (44 ∷ key leads_name) c.put_rows_member-next-2.ensures)
 
 module _ (c : After-put_number_member-next) where
   abbrev begun4 : After-weights_in-w
@@ -106,14 +118,14 @@ module _ (c : After-put_rows_member-next-3) where
   begun6 = begun5 (goal.at.After-put_rows_member-next-3 c).After-put_number_member-next-2
 
   left7 : Left begun6 (from7 (due begun6) []) c.put_rows_member-next-3.new.out c.put_rows_member-next-3.result
-  left7 = going_on _ _ (left6 (goal.at.After-put_rows_member-next-3 c).After-put_number_member-next-2) c.put_rows_member-next-3.ensures
+  left7 = going_on ((44 ∷ key points_name) ++ rows_text (due begun6).points) _ (left6 (goal.at.After-put_rows_member-next-3 c).After-put_number_member-next-2) (wrote 8 (entry begun6).args.shape.n (entry begun6).args.shape.variables (entry begun6).args.points.now c.rows-3.ensures.value (44 ∷ key points_name) c.put_rows_member-next-3.ensures)
 
 module _ (c : After-put_rows_member-next-4) where
   abbrev begun7 : After-weights_in-w
   begun7 = begun6 (goal.at.After-put_rows_member-next-4 c).After-put_rows_member-next-3
 
   left8 : Left begun7 (from8 (due begun7) []) c.put_rows_member-next-4.new.out c.put_rows_member-next-4.result
-  left8 = going_on _ _ (left7 (goal.at.After-put_rows_member-next-4 c).After-put_rows_member-next-3) c.put_rows_member-next-4.ensures
+  left8 = going_on ((44 ∷ key standard_name) ++ rows_text (due begun7).standard) _ (left7 (goal.at.After-put_rows_member-next-4 c).After-put_rows_member-next-3) (wrote 8 (entry begun7).args.shape.n (entry begun7).args.shape.variables (entry begun7).args.standard.now c.rows-4.ensures.value (44 ∷ key standard_name) c.put_rows_member-next-4.ensures)
 
 module _ (c : After-put_number_member-next-3) where
   abbrev begun8 : After-weights_in-w
@@ -134,7 +146,8 @@ left11 c = going_on (125 ∷ []) [] (left10 (goal.at.After-put_byte c).After-put
 
 pub put_rows_member-next-requires : goal.put_rows_member-next-requires
 put_rows_member-next-requires c = let p = (goal.at.put_rows_member-next-requires c).After-weights_in-w in
-    let d = due p in record { m_le_width = ((held p).few, (held p).rows); room = going_room ((123 ∷ key coefficients_name) ++ rows_text d.coefficients) (from2 d []) (left1 p) }
+    let d = due p in let a = (entry p).args in
+    (omega arith, ((held p).few, roomy 64 a.shape.r a.shape.n a.coefficients.now c.rows.ensures.value (123 ∷ key coefficients_name) _ _ (going_room ((123 ∷ key coefficients_name) ++ rows_text d.coefficients) (from2 d []) (left1 p))))
 
 pub slice_bounds-put_list_member-end-4 : goal.slice_bounds-put_list_member-end-4
 slice_bounds-put_list_member-end-4 c = sym (length-take-le _ _ (weighed (begun8 (goal.at.slice_bounds-put_list_member-end-4 c).After-put_number_member-next-3)))
@@ -147,7 +160,8 @@ put_list_member-next-requires c = let q = (goal.at.put_list_member-next-requires
 pub put_rows_member-next-requires-2 : goal.put_rows_member-next-requires-2
 put_rows_member-next-requires-2 c = let q = (goal.at.put_rows_member-next-requires-2 c).After-put_list_member-next in
     let p = begun2 q in
-    let d = due p in record { m_le_width = ((held p).narrow, (held p).leading); room = going_room ((44 ∷ key leads_name) ++ rows_text d.leads) (from4 d []) (left3 q) }
+    let d = due p in let a = (entry p).args in
+    (omega arith, ((held p).narrow, roomy 8 a.shape.r a.shape.variables a.leads.now c.rows-2.ensures.value (44 ∷ key leads_name) _ _ (going_room ((44 ∷ key leads_name) ++ rows_text d.leads) (from4 d []) (left3 q))))
 
 pub put_number_member-next-requires : goal.put_number_member-next-requires
 put_number_member-next-requires c = let q = (goal.at.put_number_member-next-requires c).After-put_rows_member-next-2 in
@@ -162,12 +176,14 @@ put_number_member-next-requires-2 c = let q = (goal.at.put_number_member-next-re
 pub put_rows_member-next-requires-3 : goal.put_rows_member-next-requires-3
 put_rows_member-next-requires-3 c = let q = (goal.at.put_rows_member-next-requires-3 c).After-put_number_member-next-2 in
     let p = begun5 q in
-    let d = due p in record { m_le_width = ((held p).narrow, (held p).pointed); room = going_room ((44 ∷ key points_name) ++ rows_text d.points) (from7 d []) (left6 q) }
+    let d = due p in let a = (entry p).args in
+    (omega arith, ((held p).narrow, roomy 8 a.shape.n a.shape.variables a.points.now c.rows-3.ensures.value (44 ∷ key points_name) _ _ (going_room ((44 ∷ key points_name) ++ rows_text d.points) (from7 d []) (left6 q))))
 
 pub put_rows_member-next-requires-4 : goal.put_rows_member-next-requires-4
 put_rows_member-next-requires-4 c = let q = (goal.at.put_rows_member-next-requires-4 c).After-put_rows_member-next-3 in
     let p = begun6 q in
-    let d = due p in record { m_le_width = ((held p).narrow, (held p).standing); room = going_room ((44 ∷ key standard_name) ++ rows_text d.standard) (from8 d []) (left7 q) }
+    let d = due p in let a = (entry p).args in
+    (omega arith, ((held p).narrow, roomy 8 a.shape.n a.shape.variables a.standard.now c.rows-4.ensures.value (44 ∷ key standard_name) _ _ (going_room ((44 ∷ key standard_name) ++ rows_text d.standard) (from8 d []) (left7 q))))
 
 pub put_number_member-next-requires-3 : goal.put_number_member-next-requires-3
 put_number_member-next-requires-3 c = let q = (goal.at.put_number_member-next-requires-3 c).After-put_rows_member-next-4 in

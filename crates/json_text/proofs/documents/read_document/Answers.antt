@@ -3,6 +3,7 @@ use mathlib.Core.Path.{◌≡◌, sym, ◌∙◌, ap, subst}
 use mathlib.Core.Bool.{Bool, cond, ◌&&◌}
 use mathlib.Core.List.{List}
 use mathlib.Core.Option.{some, none}
+use Rattle.std.proofs.Common.{Option}
 use Prim.Native.Nat.{ℕ}
 use lib.ListN.{length}
 use lib.Dec.{eqb}
@@ -17,10 +18,10 @@ use Rattle.json_text.specs.declared.document_parts.Middle.{Middle}
 use Rattle.json_text.specs.declared.document_parts.End.{End}
 use Rattle.json_text.proofs.DocumentAt.{read_found, fits_told, read_whole, read_broken, shape_told}
 use Rattle.json_text.proofs.documents.read_document.Goals as goal
-use Rattle.json_text.proofs.documents.read_document.Goals.{In-Read, In-Read-read_middle, In-Read-read_end, After-weights_in}
+use Rattle.json_text.proofs.documents.read_document.Goals.{In_ok-front, In_ok-middle, In_ok-end, After-weights_in}
 
 -- Where the first three members were read.
-module _ (k : In-Read) where
+module _ (k : In_ok-front) where
   abbrev text : List ℕ
   text = k.args.text.now
 
@@ -34,21 +35,21 @@ module _ (k : In-Read) where
   leads = k.read_front.new.leads
 
   abbrev n : ℕ
-  n = k.in-Read.n
+  n = k.in_ok-front.front.n
 
   abbrev leading : Lengths
-  leading = k.in-Read.leading
+  leading = k.in_ok-front.front.leads
 
   abbrev behind_front : ℕ
-  behind_front = k.in-Read.next
+  behind_front = k.in_ok-front.front.next
 
-  front : FrontIn text k.in-Read.rows n leading behind_front coefficients counts leads
-  front = subst (λ (x : Front). FrontRead text x coefficients counts leads) k.in-Read.is k.read_front.ensures
+  front : FrontIn text k.in_ok-front.front coefficients counts leads
+  front = subst (λ (x : Option Front). FrontRead text x coefficients counts leads) k.in_ok-front.was k.read_front.ensures
 
 -- Where the next four were read.
-module _ (k : In-Read-read_middle) where
-  abbrev first : In-Read
-  first = (goal.at.In-Read-read_middle k).In-Read
+module _ (k : In_ok-middle) where
+  abbrev first : In_ok-front
+  first = (goal.at.In_ok-middle k).In_ok-front
 
   abbrev points : List ℕ
   points = k.read_middle.new.points
@@ -57,37 +58,37 @@ module _ (k : In-Read-read_middle) where
   standard = k.read_middle.new.standard
 
   abbrev p : ℕ
-  p = k.in-Read-read_middle.modulus
+  p = k.in_ok-middle.middle.modulus
 
   abbrev o : ℕ
-  o = k.in-Read-read_middle.order
+  o = k.in_ok-middle.middle.order
 
   abbrev behind_middle : ℕ
-  behind_middle = k.in-Read-read_middle.next
+  behind_middle = k.in_ok-middle.middle.next
 
   abbrev pointed : Lengths
-  pointed = k.in-Read-read_middle.pointed
+  pointed = k.in_ok-middle.middle.points
 
   abbrev standing : Lengths
-  standing = k.in-Read-read_middle.standing
+  standing = k.in_ok-middle.middle.standard
 
-  middle : MiddleIn (text first) (behind_front first) p o pointed standing behind_middle points standard
+  middle : MiddleIn (text first) (behind_front first) k.in_ok-middle.middle points standard
   middle =
-      subst (λ (x : Middle). MiddleRead (text first) (behind_front first) x points standard) k.in-Read-read_middle.is k.read_middle.ensures
+      subst (λ (x : Option Middle). MiddleRead (text first) (behind_front first) x points standard) k.in_ok-middle.was k.read_middle.ensures
 
 -- Where the last two were read.
-module _ (k : In-Read-read_end) where
-  abbrev second : In-Read-read_middle
-  second = (goal.at.In-Read-read_end k).In-Read-read_middle
+module _ (k : In_ok-end) where
+  abbrev second : In_ok-middle
+  second = (goal.at.In_ok-end k).In_ok-middle
 
   abbrev weights : List ℕ
   weights = k.read_end.new.weights
 
   abbrev m : ℕ
-  m = k.in-Read-read_end.variables
+  m = k.in_ok-end.end.variables
 
-  end : EndIn (text (first second)) (behind_middle second) m k.in-Read-read_end.count weights
-  end = subst (λ (x : End). EndRead (text (first second)) (behind_middle second) x weights) k.in-Read-read_end.is k.read_end.ensures
+  end : EndIn (text (first second)) (behind_middle second) k.in_ok-end.end weights
+  end = subst (λ (x : Option End). EndRead (text (first second)) (behind_middle second) x weights) k.in_ok-end.was k.read_end.ensures
 
   abbrev document : Document
   document = record {
@@ -114,11 +115,11 @@ module _ (k : In-Read-read_end) where
 
 -- Where the lengths were tested.
 module _ (k : After-weights_in) where
-  abbrev third : In-Read-read_end
-  third = (goal.at.After-weights_in k).In-Read-read_end
+  abbrev third : In_ok-end
+  third = (goal.at.After-weights_in k).In_ok-end
 
   abbrev tests : Bool
-  tests = k.is_table.result && k.is_table-2.result && k.is_table-3.result && k.is_table-4.result && eqb k.in-Read-read_end.count k.weights_in.result
+  tests = k.is_table.result && k.is_table-2.result && k.is_table-3.result && k.is_table-4.result && eqb k.in_ok-end.end.count k.weights_in.result
 
   tested : tests ≡ fitting (document third)
   tested =
@@ -133,31 +134,31 @@ module _ (k : After-weights_in) where
   outcome : (b : Bool) → fitting (document third) ≡ b → read (text (first (second third))) ≡ cond b (some (document third)) none
   outcome b e = whole third ∙ ap (λ (x : Bool). cond x (some (document third)) none) e
 
-pub returns-in_default : goal.returns-in_default
-returns-in_default c =
+pub returns-in_err-front : goal.returns-in_err-front
+returns-in_err-front c =
     let t = c.args.text.now in
     let l = c.read_front in
-    read_broken t (subst (λ (x : Front). FrontRead t x l.new.coefficients l.new.counts l.new.leads) c.in_default.is l.ensures)
+    rw c.from_residual.ensures (read_broken t (subst (λ (x : Option Front). FrontRead t x l.new.coefficients l.new.counts l.new.leads) c.in_err-front.was l.ensures))
 
-pub returns-in_default-read_middle : goal.returns-in_default-read_middle
-returns-in_default-read_middle c =
-    let k = (goal.at.returns-in_default-read_middle c).In-Read in
+pub returns-in_err-middle : goal.returns-in_err-middle
+returns-in_err-middle c =
+    let k = (goal.at.returns-in_err-middle c).In_ok-front in
     let l = c.read_middle in
-    let e = subst (λ (x : Middle). MiddleRead (text k) (behind_front k) x l.new.points l.new.standard) c.in_default-read_middle.is l.ensures in
-    read_broken (text k) ((front k).goes_on ∙ e _ _ _)
+    let e = subst (λ (x : Option Middle). MiddleRead (text k) (behind_front k) x l.new.points l.new.standard) c.in_err-middle.was l.ensures in
+    rw c.from_residual-in_err-middle.ensures (read_broken (text k) ((front k).goes_on ∙ e _ _ _))
 
-pub returns-in_default-read_end : goal.returns-in_default-read_end
-returns-in_default-read_end c =
-    let k = (goal.at.returns-in_default-read_end c).In-Read-read_middle in
+pub returns-in_err-end : goal.returns-in_err-end
+returns-in_err-end c =
+    let k = (goal.at.returns-in_err-end c).In_ok-middle in
     let t = text (first k) in
     let l = c.read_end in
-    let e = subst (λ (x : End). EndRead t (behind_middle k) x l.new.weights) c.in_default-read_end.is l.ensures in
-    read_whole t ∙ ap (whole_at t) ((front (first k)).goes_on ∙ (middle k).goes_on _ _ _) ∙ e _ _ _ _ _ _ _
+    let e = subst (λ (x : Option End). EndRead t (behind_middle k) x l.new.weights) c.in_err-end.was l.ensures in
+    rw c.from_residual-in_err-end.ensures (read_whole t ∙ ap (whole_at t) ((front (first k)).goes_on ∙ (middle k).goes_on _ _ _) ∙ e _ _ _ _ _ _ _)
 
-pub returns-then-not-fits-count : goal.returns-then-not-fits-count
-returns-then-not-fits-count c =
-    let k = (goal.at.returns-then-not-fits-count c).After-weights_in in
-    outcome k _ (sym (tested k) ∙ c.if-not-fits-count.true)
+pub returns-then-not-fits : goal.returns-then-not-fits
+returns-then-not-fits c =
+    let k = (goal.at.returns-then-not-fits c).After-weights_in in
+    outcome k _ (sym (tested k) ∙ c.if-not-fits.true)
 
 pub returns : goal.returns
 returns c =
@@ -166,7 +167,7 @@ returns c =
     let l = second t in
     let f = first l in (
       document t,
-      outcome k _ (sym (tested k) ∙ c.if-not-fits-count.false),
+      outcome k _ (sym (tested k) ∙ c.if-not-fits.false),
       shape_told (document t) (n f) (r t) (front f).n_is (r_is t),
       record {
         in_coefficients = (front f).in_coefficients;

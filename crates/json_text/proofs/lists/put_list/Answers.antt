@@ -1,5 +1,5 @@
 -- `lists::put_list` meets its contract.
-use mathlib.Core.Path.{◌≡◌, refl, ◌∙◌}
+use mathlib.Core.Path.{◌≡◌, ◌∙◌}
 use mathlib.Core.List.{List, [], ◌∷◌, map, flatten}
 use Prim.Native.Nat.{ℕ, ◌<◌, ◌≤◌}
 use native.Mathlib.Omega.{arith}
@@ -52,29 +52,25 @@ put_byte-next-requires c = open_room (map decimal c.args.list.now) c.args.at c.a
 
 pub loop-i-init : goal.loop-i-init
 unfolding flatten
-loop-i-init c = (refl, omega arith, put_nothing _ _)
+loop-i-init c = put_nothing _ _
 
 pub put_item-next-requires : goal.put_item-next-requires
-put_item-next-requires c = let l = c in
-    rw (number_at (goal.at.put_item-next-requires l).At-loop-i (omega arith)) at (item_room (items (goal.at.put_item-next-requires l).At-loop-i) (at (goal.at.put_item-next-requires l).At-loop-i) (lent (goal.at.put_item-next-requires l).At-loop-i) (room (goal.at.put_item-next-requires l).At-loop-i) (opened (goal.at.put_item-next-requires l).At-loop-i) l.loop-i.i l.loop-i.invariant.2 (inside (goal.at.put_item-next-requires l).At-loop-i (omega arith)))
+put_item-next-requires c = let l = (goal.at.put_item-next-requires c).At-loop-i in
+    rw (number_at l (omega arith)) at (item_room (items l) (at l) (lent l) (room l) (opened l) c.loop-i.i c.loop-i.invariant (inside l (omega arith)))
 
 pub loop-i-preserved : goal.loop-i-preserved
-loop-i-preserved c = let l = c in (
-  refl,
-  omega arith,
-  item_put (items (goal.at.loop-i-preserved l).At-loop-i) (at (goal.at.loop-i-preserved l).At-loop-i) (lent (goal.at.loop-i-preserved l).At-loop-i) (room (goal.at.loop-i-preserved l).At-loop-i) (opened (goal.at.loop-i-preserved l).At-loop-i) l.loop-i.i l.loop-i.invariant.2 (inside (goal.at.loop-i-preserved l).At-loop-i (omega arith))
-      (rw (number_at (goal.at.loop-i-preserved l).At-loop-i (omega arith)) c.put_item-next.ensures),
-)
+loop-i-preserved c = let l = (goal.at.loop-i-preserved c).At-loop-i in
+    item_put (items l) (at l) (lent l) (room l) (opened l) c.loop-i.i c.loop-i.invariant (inside l (omega arith)) (rw (number_at l (omega arith)) c.put_item-next.ensures)
 
 pub put_byte-requires : goal.put_byte-requires
-put_byte-requires c = let l = c in
-    close_room (items (goal.at.put_byte-requires l).At-loop-i) (at (goal.at.put_byte-requires l).At-loop-i) (lent (goal.at.put_byte-requires l).At-loop-i) (room (goal.at.put_byte-requires l).At-loop-i) (opened (goal.at.put_byte-requires l).At-loop-i) l.loop-i.i l.loop-i.invariant.2 (ended (goal.at.put_byte-requires l).At-loop-i (omega arith))
+put_byte-requires c = let l = (goal.at.put_byte-requires c).At-loop-i in
+    close_room (items l) (at l) (lent l) (room l) (opened l) c.loop-i.i c.loop-i.invariant (ended l (omega arith))
 
 pub shape_of-out : goal.shape_of-out
-shape_of-out c = let l = c in
-    c.put_byte.auto.out ∙ array_length (items (goal.at.shape_of-out l).At-loop-i) (at (goal.at.shape_of-out l).At-loop-i) (lent (goal.at.shape_of-out l).At-loop-i) (room (goal.at.shape_of-out l).At-loop-i) (opened (goal.at.shape_of-out l).At-loop-i) l.loop-i.i l.loop-i.invariant.2
+shape_of-out c = let l = (goal.at.shape_of-out c).At-loop-i in
+    c.put_byte.auto.out ∙ array_length (items l) (at l) (lent l) (room l) (opened l) c.loop-i.i c.loop-i.invariant
 
 pub returns : goal.returns
 unfolding list_text
-returns c = let l = c in
-    array_put (items (goal.at.returns l).At-loop-i) (at (goal.at.returns l).At-loop-i) (lent (goal.at.returns l).At-loop-i) (room (goal.at.returns l).At-loop-i) (opened (goal.at.returns l).At-loop-i) l.loop-i.i l.loop-i.invariant.2 (ended (goal.at.returns l).At-loop-i (omega arith)) c.put_byte.ensures
+returns c = let l = (goal.at.returns c).At-loop-i in
+    array_put (items l) (at l) (lent l) (room l) (opened l) c.loop-i.i c.loop-i.invariant (ended l (omega arith)) c.put_byte.ensures

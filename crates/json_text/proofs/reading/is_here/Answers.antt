@@ -1,10 +1,7 @@
 -- `reading::is_here` meets its contract.
-use mathlib.Core.Path.{sym}
-use Rattle.json_text.proofs.Places.{here_in, here_out}
+use mathlib.Core.Path.{refl, ◌∙◌}
+use Rattle.json_text.proofs.Words.{here_got}
 use Rattle.json_text.proofs.reading.is_here.Goals as goal
 
-pub returns-then-at-text : goal.returns-then-at-text
-returns-then-at-text c = sym (here_out _ _ _ c.if-at-text.true)
-
 pub returns : goal.returns
-returns c = sym (here_in _ _ _ c.if-at-text.false)
+returns c = c.eq.ensures ∙ here_got c.args.b c.args.text.now c.args.at c.get.result _ c.get.ensures.lookup.0 c.get.ensures.lookup.1 refl

@@ -10,10 +10,10 @@ use Rattle.json_text.proofs.Stored.{stored, stored_none, stored_length, stored_p
 use Rattle.json_text.proofs.ListLoops.{Rest, list_none, list_empty, list_opens, list_broken, list_place, list_closed, list_comma, list_neither}
 use Rattle.json_text.specs.Said.{number_said}
 use Rattle.json_text.proofs.reading.read_list.Goals as goal
-use Rattle.json_text.proofs.reading.read_list.Goals.{In-Read}
+use Rattle.json_text.proofs.reading.read_list.Goals.{In_ok-value}
 
 -- The place where a number was read.
-module _ (k : In-Read) where
+module _ (k : In_ok-value) where
   abbrev text : List ℕ
   text = k.args.text.now
 
@@ -36,14 +36,14 @@ module _ (k : In-Read) where
   rest = k.loop-value.invariant.4
 
   abbrev value : ℕ
-  value = k.in-Read.value
+  value = k.in_ok-value.field-0.value
 
   abbrev next : ℕ
-  next = k.in-Read.next
+  next = k.in_ok-value.field-0.next
 
   number : found value next ≡ number_at text i
   unfolding number_said
-  number = sym (ap number_said k.in-Read.is) ∙ k.read_number.ensures
+  number = sym (ap number_said k.in_ok-value.was) ∙ k.read_number.ensures
 
   -- the buffer with the number stored
   kept : (new : List ℕ) → new ≡ set k.loop-value.out k.loop-value.count value → new ≡ stored lent (items ++ (value ∷ []))
@@ -71,37 +71,47 @@ returns-then-is_here c = ([], list_empty _ _ (sym c.is_here.ensures ∙ c.if-not
 pub loop-value-init : goal.loop-value-init
 loop-value-init c = let e = sym c.is_here.ensures ∙ c.if-not-is_here.false in let h = here_inside 91 _ _ e in ([], omega arith, refl, omega arith, list_opens _ _ e (sym c.is_here-2.ensures ∙ c.if-is_here.false), stored_none _)
 
-pub shape_of-out-in_default : goal.shape_of-out-in_default
-shape_of-out-in_default c = ap length c.loop-value.invariant.5 ∙ stored_length c.args.out.now c.loop-value.invariant.0
+pub shape_of-out-in_err-value : goal.shape_of-out-in_err-value
+shape_of-out-in_err-value c = ap length c.loop-value.invariant.5 ∙ stored_length c.args.out.now c.loop-value.invariant.0
 
-pub returns-in_default : goal.returns-in_default
+pub returns-in_err-value : goal.returns-in_err-value
 unfolding number_said
-returns-in_default c = list_broken _ _ c.loop-value.invariant.0 _ c.loop-value.invariant.1 c.loop-value.invariant.4 (sym (ap number_said c.in_default.is) ∙ c.read_number.ensures)
+returns-in_err-value c = rw c.from_residual.ensures (list_broken _ _ c.loop-value.invariant.0 _ c.loop-value.invariant.1 c.loop-value.invariant.4 (sym (ap number_said c.in_err-value.was) ∙ c.read_number.ensures))
 
 pub overflow_add-count : goal.overflow_add-count
-overflow_add-count c = let k = c in let p = place (goal.at.overflow_add-count k).In-Read in let q = k.loop-value.invariant.3 in record { fits = omega arith }
+overflow_add-count c = let p = place (goal.at.overflow_add-count c).In_ok-value in let q = c.loop-value.invariant.3 in record { fits = omega arith }
 
 pub overflow_add-result-then-is_here-2 : goal.overflow_add-result-then-is_here-2
 overflow_add-result-then-is_here-2 c = let h = here_inside 93 _ _ (sym c.is_here-in-loop-value.ensures ∙ c.if-is_here-2.true) in record { fits = omega arith }
 
 pub shape_of-out-then-is_here-2 : goal.shape_of-out-then-is_here-2
-shape_of-out-then-is_here-2 c = let k = (goal.at.shape_of-out-then-is_here-2 c).In-Read in ap length (kept k _ c.store.ensures) ∙ stored_length (lent k) (items k ++ (value k ∷ []))
+shape_of-out-then-is_here-2 c = let k = (goal.at.shape_of-out-then-is_here-2 c).In_ok-value in ap length (kept k _ c.store.ensures) ∙ stored_length (lent k) (items k ++ (value k ∷ []))
 
 pub returns-then-is_here-2 : goal.returns-then-is_here-2
-returns-then-is_here-2 c = let k = (goal.at.returns-then-is_here-2 c).In-Read in (items k ++ (value k ∷ []), list_closed (text k) (at k) (items k) (i k) (here_text k) (rest k) (value k) (next k) (number k) (sym c.is_here-in-loop-value.ensures ∙ c.if-is_here-2.true), more k, kept k _ c.store.ensures)
+returns-then-is_here-2 c = let k = (goal.at.returns-then-is_here-2 c).In_ok-value in (items k ++ (value k ∷ []), list_closed (text k) (at k) (items k) (i k) (here_text k) (rest k) (value k) (next k) (number k) (sym c.is_here-in-loop-value.ensures ∙ c.if-is_here-2.true), more k, kept k _ c.store.ensures)
 
 pub shape_of-out-then-not-is_here-2 : goal.shape_of-out-then-not-is_here-2
-shape_of-out-then-not-is_here-2 c = let k = (goal.at.shape_of-out-then-not-is_here-2 c).In-Read in ap length (kept k _ c.store.ensures) ∙ stored_length (lent k) (items k ++ (value k ∷ []))
+shape_of-out-then-not-is_here-2 c = let k = (goal.at.shape_of-out-then-not-is_here-2 c).In_ok-value in ap length (kept k _ c.store.ensures) ∙ stored_length (lent k) (items k ++ (value k ∷ []))
 
 pub returns-then-not-is_here-2 : goal.returns-then-not-is_here-2
-returns-then-not-is_here-2 c = let k = (goal.at.returns-then-not-is_here-2 c).In-Read in list_neither (text k) (at k) (items k) (i k) (here_text k) (rest k) (value k) (next k) (number k) (sym c.is_here-in-loop-value.ensures ∙ c.if-is_here-2.false) (sym c.is_here-in-loop-value-2.ensures ∙ c.if-not-is_here-2.true)
+returns-then-not-is_here-2 c = let k = (goal.at.returns-then-not-is_here-2 c).In_ok-value in list_neither (text k) (at k) (items k) (i k) (here_text k) (rest k) (value k) (next k) (number k) (sym c.is_here-in-loop-value.ensures ∙ c.if-is_here-2.false) (sym c.is_here-in-loop-value-2.ensures ∙ c.if-not-is_here-2.true)
 
 pub overflow_add-i-in-loop-value : goal.overflow_add-i-in-loop-value
 overflow_add-i-in-loop-value c = let h = here_inside 44 _ _ (sym c.is_here-in-loop-value-2.ensures ∙ c.if-not-is_here-2.false) in record { fits = omega arith }
 
 pub loop-value-smaller : goal.loop-value-smaller
-loop-value-smaller c = let k = (goal.at.loop-value-smaller c).In-Read in let h = here_inside 44 (text k) (next k) (sym c.is_here-in-loop-value-2.ensures ∙ c.if-not-is_here-2.false) in let p = place k in omega arith
+loop-value-smaller c = let k = (goal.at.loop-value-smaller c).In_ok-value in let h = here_inside 44 (text k) (next k) (sym c.is_here-in-loop-value-2.ensures ∙ c.if-not-is_here-2.false) in let p = place k in omega arith
 
 pub loop-value-preserved : goal.loop-value-preserved
-loop-value-preserved c = let k = c in let h = here_inside 44 (text (goal.at.loop-value-preserved k).In-Read) (next (goal.at.loop-value-preserved k).In-Read) (sym c.is_here-in-loop-value-2.ensures ∙ c.if-not-is_here-2.false) in let p = place (goal.at.loop-value-preserved k).In-Read in let q = k.loop-value.invariant.3 in
-    (items (goal.at.loop-value-preserved k).In-Read ++ (value (goal.at.loop-value-preserved k).In-Read ∷ []), omega arith, more (goal.at.loop-value-preserved k).In-Read, omega arith, list_comma (text (goal.at.loop-value-preserved k).In-Read) (at (goal.at.loop-value-preserved k).In-Read) (items (goal.at.loop-value-preserved k).In-Read) (i (goal.at.loop-value-preserved k).In-Read) (here_text (goal.at.loop-value-preserved k).In-Read) (rest (goal.at.loop-value-preserved k).In-Read) (value (goal.at.loop-value-preserved k).In-Read) (next (goal.at.loop-value-preserved k).In-Read) (number (goal.at.loop-value-preserved k).In-Read) (sym c.is_here-in-loop-value.ensures ∙ c.if-is_here-2.false) (sym c.is_here-in-loop-value-2.ensures ∙ c.if-not-is_here-2.false), kept (goal.at.loop-value-preserved k).In-Read _ c.store.ensures)
+loop-value-preserved c =
+    let k = (goal.at.loop-value-preserved c).In_ok-value in
+    let h = here_inside 44 (text k) (next k) (sym c.is_here-in-loop-value-2.ensures ∙ c.if-not-is_here-2.false) in
+    let p = place k in
+    let q = c.loop-value.invariant.3 in (
+      items k ++ (value k ∷ []),
+      omega arith,
+      more k,
+      omega arith,
+      list_comma (text k) (at k) (items k) (i k) (here_text k) (rest k) (value k) (next k) (number k) (sym c.is_here-in-loop-value.ensures ∙ c.if-is_here-2.false) (sym c.is_here-in-loop-value-2.ensures ∙ c.if-not-is_here-2.false),
+      kept k _ c.store.ensures,
+    )

@@ -1,24 +1,22 @@
 -- `reading::read_rows` meets its contract: the rows from the place on are those read and the rest of the reading.
 use mathlib.Core.Path.{◌≡◌, refl, sym, ◌∙◌, ap, subst}
-use mathlib.Core.Bool.{Bool, cond, ◌&&◌}
 use mathlib.Core.List.{List, [], ◌∷◌, ◌++◌}
 use Prim.Native.Nat.{ℕ, ◌+◌, ◌*◌, ◌≤◌, ◌<◌}
 use native.Mathlib.Omega.{arith}
 use lib.ListN.{length, replicate, length-append}
-use lib.Dec.{eqb}
 use Rattle.residue.specs.Layout.{fill, in_places, length_fill}
 use Rattle.residue.proofs.Places.{no_places}
-use Rattle.json_text.specs.Places.{list_at, columns_of, evenly}
+use Rattle.json_text.specs.Places.{list_at}
 use Rattle.json_text.proofs.Places.{here_inside}
-use Rattle.json_text.proofs.Stored.{row_in_lem, columns_told, evenly_told, lengths_told}
+use Rattle.json_text.proofs.Stored.{row_in_lem, lengths_told}
 use Rattle.json_text.proofs.RowLoops.{Rest, rows_none, rows_empty, rows_opens, rows_broken, rows_place, rows_closed, rows_comma, rows_neither}
-use Rattle.json_text.specs.Said.{RowRead, lengths_of}
-use Rattle.json_text.specs.declared.reading.Numbers.TheVariants as L
+use Rattle.json_text.specs.Said.{RowRead, columns_of, common_length, lengths_of}
+use Rattle.std.proofs.Common.{Option, Some}
 use Rattle.json_text.proofs.reading.read_rows.Goals as goal
-use Rattle.json_text.proofs.reading.read_rows.Goals.{In-Read, Start}
+use Rattle.json_text.proofs.reading.read_rows.Goals.{In_ok-size, Start}
 
 -- The place where a row was read.
-module _ (k : In-Read) where
+module _ (k : In_ok-size) where
   abbrev text : List ℕ
   text = k.args.text.now
 
@@ -44,17 +42,17 @@ module _ (k : In-Read) where
   rest = k.loop-size.invariant.4
 
   abbrev size : ℕ
-  size = k.in-Read.size
+  size = k.in_ok-size.field-0.count
 
   abbrev next : ℕ
-  next = k.in-Read.next
+  next = k.in_ok-size.field-0.next
 
   abbrev left : List ℕ
   left = k.read_row.new.out
 
   -- the row
-  row : RowRead width places k.loop-size.count (list_at text i) k.loop-size.out left (L.Read size next)
-  row = subst (RowRead width places k.loop-size.count (list_at text i) k.loop-size.out left) k.in-Read.is k.read_row.ensures
+  row : RowRead width places k.loop-size.count (list_at text i) k.loop-size.out left (Some k.in_ok-size.field-0)
+  row = subst (RowRead width places k.loop-size.count (list_at text i) k.loop-size.out left) k.in_ok-size.was k.read_row.ensures
 
   abbrev line : List ℕ
   line = row.0
@@ -63,16 +61,13 @@ module _ (k : In-Read) where
   place = rows_place text at rows i here_text rest line next (sym row.1)
 
   kept : left ≡ fill (width * places) (in_places width (rows ++ (line ∷ [])))
-  kept = row.3 ∙ row_in_lem width places rows line k.loop-size.out k.loop-size.count k.loop-size.invariant.2 k.loop-size.invariant.7
+  kept = row.3 ∙ row_in_lem width places rows line k.loop-size.out k.loop-size.count k.loop-size.invariant.2 k.loop-size.invariant.6
 
   more : k.loop-size.count + 1 ≡ length (rows ++ (line ∷ []))
   more = omega (arith, k.loop-size.invariant.2, length-append rows (line ∷ []))
 
-  columns_kept : (c : ℕ) → c ≡ cond (eqb k.loop-size.count 0) size k.loop-size.columns → c ≡ columns_of (rows ++ (line ∷ []))
-  columns_kept c e = columns_told rows line k.loop-size.count size k.loop-size.columns c k.loop-size.invariant.2 row.2 k.loop-size.invariant.5 e
-
-  even_kept : (c : ℕ) (b : Bool) → c ≡ columns_of (rows ++ (line ∷ [])) → b ≡ (k.loop-size.even && eqb size c) → b ≡ evenly (rows ++ (line ∷ []))
-  even_kept c b e f = evenly_told rows line size c k.loop-size.even b row.2 e k.loop-size.invariant.6 f
+  columns_kept : (columns : Option ℕ) → ((L : List (List ℕ)) (l : List ℕ) → k.loop-size.count ≡ length L → k.loop-size.columns ≡ common_length L → size ≡ length l → columns ≡ common_length (L ++ (l ∷ []))) → columns ≡ common_length (rows ++ (line ∷ []))
+  columns_kept columns e = e rows line k.loop-size.invariant.2 k.loop-size.invariant.5 row.2
 
   lengths : length left ≡ length k.args.out.now
   lengths = ap length kept ∙ length_fill (width * places) _ ∙ k.requires.places_value
@@ -91,62 +86,66 @@ pub overflow_add-result : goal.overflow_add-result
 overflow_add-result c = let h = here_inside 93 _ _ (sym c.is_here-2.ensures ∙ c.if-is_here.true) in record { fits = omega arith }
 
 pub returns-then-is_here : goal.returns-then-is_here
-unfolding columns_of evenly lengths_of
+unfolding columns_of common_length lengths_of
 returns-then-is_here c = let e = sym c.is_here.ensures ∙ c.if-not-is_here.false in
     ([], rows_empty _ _ e (sym c.is_here-2.ensures ∙ c.if-is_here.true), refl, no_rows (goal.at.returns-then-is_here c).Start)
 
 pub loop-size-init : goal.loop-size-init
-unfolding columns_of evenly
+unfolding columns_of common_length
 loop-size-init c = let e = sym c.is_here.ensures ∙ c.if-not-is_here.false in
     let h = here_inside 91 _ _ e in
-    ([], omega arith, refl, omega arith, rows_opens _ _ e (sym c.is_here-2.ensures ∙ c.if-is_here.false), refl, refl, no_rows (goal.at.loop-size-init c).Start)
+    ([], omega arith, refl, omega arith, rows_opens _ _ e (sym c.is_here-2.ensures ∙ c.if-is_here.false), refl, no_rows (goal.at.loop-size-init c).Start)
 
 pub read_row-requires : goal.read_row-requires
-read_row-requires c = record { at_in_bounds = c.loop-size.invariant.1; places_value = sym (ap length c.loop-size.invariant.7 ∙ length_fill _ _) }
+read_row-requires c = record { at_in_bounds = c.loop-size.invariant.1; places_value = sym (ap length c.loop-size.invariant.6 ∙ length_fill _ _) }
 
-pub shape_of-out-in_default : goal.shape_of-out-in_default
-shape_of-out-in_default c = c.read_row.auto.out ∙ ap length c.loop-size.invariant.7 ∙ length_fill _ _ ∙ c.requires.places_value
+pub shape_of-out-in_err-size : goal.shape_of-out-in_err-size
+shape_of-out-in_err-size c = c.read_row.auto.out ∙ ap length c.loop-size.invariant.6 ∙ length_fill _ _ ∙ c.requires.places_value
 
-pub returns-in_default : goal.returns-in_default
-returns-in_default c = rows_broken _ _ c.loop-size.invariant.0 _ c.loop-size.invariant.1 c.loop-size.invariant.4 (sym (subst (RowRead c.args.width c.args.places c.loop-size.count (list_at c.args.text.now c.loop-size.i) c.loop-size.out c.read_row.new.out) c.in_default.is c.read_row.ensures))
+pub returns-in_err-size : goal.returns-in_err-size
+returns-in_err-size c = rw c.from_residual.ensures (rows_broken _ _ c.loop-size.invariant.0 _ c.loop-size.invariant.1 c.loop-size.invariant.4 (sym (subst (RowRead c.args.width c.args.places c.loop-size.count (list_at c.args.text.now c.loop-size.i) c.loop-size.out c.read_row.new.out) c.in_err-size.was c.read_row.ensures)))
 
 pub overflow_add-count : goal.overflow_add-count
-overflow_add-count c = let k = c in let p = place (goal.at.overflow_add-count k).In-Read in let q = k.loop-size.invariant.3 in record { fits = omega arith }
+overflow_add-count c = let p = place (goal.at.overflow_add-count c).In_ok-size in let q = c.loop-size.invariant.3 in record { fits = omega arith }
 
 pub overflow_add-result-then-is_here-2 : goal.overflow_add-result-then-is_here-2
 overflow_add-result-then-is_here-2 c = let h = here_inside 93 _ _ (sym c.is_here-in-loop-size.ensures ∙ c.if-is_here-2.true) in record { fits = omega arith }
 
 pub shape_of-out-then-is_here-2 : goal.shape_of-out-then-is_here-2
-shape_of-out-then-is_here-2 c = lengths (goal.at.shape_of-out-then-is_here-2 c).In-Read
+shape_of-out-then-is_here-2 c = lengths (goal.at.shape_of-out-then-is_here-2 c).In_ok-size
 
 pub returns-then-is_here-2 : goal.returns-then-is_here-2
-returns-then-is_here-2 c = let k = (goal.at.returns-then-is_here-2 c).In-Read in
-    let e = columns_kept k c.first_size-columns.result c.first_size-columns.ensures in
-    let f = even_kept k c.first_size-columns.result c.still_even-even.result e c.still_even-even.ensures in
-    let g = sym c.is_here-in-loop-size.ensures ∙ c.if-is_here-2.true in (
-      rows k ++ (line k ∷ []),
-      rows_closed (text k) (at k) (rows k) (i k) (here_text k) (rest k) (line k) (next k) (sym (row k).1) g,
-      lengths_told (rows k ++ (line k ∷ [])) _ _ _ (more k) e f,
-      kept k,
-    )
+returns-then-is_here-2 c = let k = (goal.at.returns-then-is_here-2 c).In_ok-size in (
+  rows k ++ (line k ∷ []),
+  rows_closed (text k) (at k) (rows k) (i k) (here_text k) (rest k) (line k) (next k) (sym (row k).1) (sym c.is_here-in-loop-size.ensures ∙ c.if-is_here-2.true),
+  lengths_told (rows k ++ (line k ∷ [])) _ _ (more k) (columns_kept k c.common_length-columns.result c.common_length-columns.ensures),
+  kept k,
+)
 
 pub shape_of-out-then-not-is_here-2 : goal.shape_of-out-then-not-is_here-2
-shape_of-out-then-not-is_here-2 c = lengths (goal.at.shape_of-out-then-not-is_here-2 c).In-Read
+shape_of-out-then-not-is_here-2 c = lengths (goal.at.shape_of-out-then-not-is_here-2 c).In_ok-size
 
 pub returns-then-not-is_here-2 : goal.returns-then-not-is_here-2
-returns-then-not-is_here-2 c = let k = (goal.at.returns-then-not-is_here-2 c).In-Read in
+returns-then-not-is_here-2 c = let k = (goal.at.returns-then-not-is_here-2 c).In_ok-size in
     rows_neither (text k) (at k) (rows k) (i k) (here_text k) (rest k) (line k) (next k) (sym (row k).1) (sym c.is_here-in-loop-size.ensures ∙ c.if-is_here-2.false) (sym c.is_here-in-loop-size-2.ensures ∙ c.if-not-is_here-2.true)
 
 pub overflow_add-i-in-loop-size : goal.overflow_add-i-in-loop-size
 overflow_add-i-in-loop-size c = let h = here_inside 44 _ _ (sym c.is_here-in-loop-size-2.ensures ∙ c.if-not-is_here-2.false) in record { fits = omega arith }
 
 pub loop-size-smaller : goal.loop-size-smaller
-loop-size-smaller c = let k = (goal.at.loop-size-smaller c).In-Read in let h = here_inside 44 (text k) (next k) (sym c.is_here-in-loop-size-2.ensures ∙ c.if-not-is_here-2.false) in let p = place k in omega arith
+loop-size-smaller c = let k = (goal.at.loop-size-smaller c).In_ok-size in let h = here_inside 44 (text k) (next k) (sym c.is_here-in-loop-size-2.ensures ∙ c.if-not-is_here-2.false) in let p = place k in omega arith
 
 pub loop-size-preserved : goal.loop-size-preserved
-loop-size-preserved c = let k = c in
-    let h = here_inside 44 (text (goal.at.loop-size-preserved k).In-Read) (next (goal.at.loop-size-preserved k).In-Read) (sym c.is_here-in-loop-size-2.ensures ∙ c.if-not-is_here-2.false) in
-    let p = place (goal.at.loop-size-preserved k).In-Read in
-    let q = k.loop-size.invariant.3 in
-    let e = columns_kept (goal.at.loop-size-preserved k).In-Read c.first_size-columns.result c.first_size-columns.ensures in
-    (rows (goal.at.loop-size-preserved k).In-Read ++ (line (goal.at.loop-size-preserved k).In-Read ∷ []), omega arith, more (goal.at.loop-size-preserved k).In-Read, omega arith, rows_comma (text (goal.at.loop-size-preserved k).In-Read) (at (goal.at.loop-size-preserved k).In-Read) (rows (goal.at.loop-size-preserved k).In-Read) (i (goal.at.loop-size-preserved k).In-Read) (here_text (goal.at.loop-size-preserved k).In-Read) (rest (goal.at.loop-size-preserved k).In-Read) (line (goal.at.loop-size-preserved k).In-Read) (next (goal.at.loop-size-preserved k).In-Read) (sym (row (goal.at.loop-size-preserved k).In-Read).1) (sym c.is_here-in-loop-size.ensures ∙ c.if-is_here-2.false) (sym c.is_here-in-loop-size-2.ensures ∙ c.if-not-is_here-2.false), e, even_kept (goal.at.loop-size-preserved k).In-Read c.first_size-columns.result c.still_even-even.result e c.still_even-even.ensures, kept (goal.at.loop-size-preserved k).In-Read)
+loop-size-preserved c =
+    let k = (goal.at.loop-size-preserved c).In_ok-size in
+    let h = here_inside 44 (text k) (next k) (sym c.is_here-in-loop-size-2.ensures ∙ c.if-not-is_here-2.false) in
+    let p = place k in
+    let q = c.loop-size.invariant.3 in (
+      rows k ++ (line k ∷ []),
+      omega arith,
+      more k,
+      omega arith,
+      rows_comma (text k) (at k) (rows k) (i k) (here_text k) (rest k) (line k) (next k) (sym (row k).1) (sym c.is_here-in-loop-size.ensures ∙ c.if-is_here-2.false) (sym c.is_here-in-loop-size-2.ensures ∙ c.if-not-is_here-2.false),
+      columns_kept k c.common_length-columns.result c.common_length-columns.ensures,
+      kept k,
+    )

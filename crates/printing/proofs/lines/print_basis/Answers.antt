@@ -1,14 +1,16 @@
--- `text::print_basis` meets its contract: its five parts one after the other.
-use mathlib.Core.Path.{◌≡◌, ap₂}
-use mathlib.Core.List.{List, ◌++◌}
+-- `lines::print_basis` meets its contract: its five parts one after the other.
+use mathlib.Core.Path.{◌≡◌, sym, ◌∙◌, ap, ap₂}
+use mathlib.Core.List.{List, ◌++◌, map}
+use lib.ListN.{take}
+use Rattle.residue.specs.Layout.{groups}
 use Prim.Native.Nat.{ℕ}
 use Rattle.printing.specs.Lines.{interpolant_word, wiring_word, line, first_line, standard_lines, row_lines, basis_lines}
-use Rattle.writing.specs.Appending.{Room}
+use Rattle.writing.specs.Appending.{Room, Put}
 use Rattle.writing.specs.Rows.{in_table}
 use Rattle.writing.proofs.appending.Appends.{first_room, put_room, put_front, put_more}
-use Rattle.writing.proofs.TableRows.{length_table}
+use Rattle.writing.proofs.TableRows.{length_table, rows_are}
 use Rattle.printing.proofs.lines.print_basis.Goals as goal
-use Rattle.printing.proofs.lines.print_basis.Goals.{After-put_first_line-first, After-put_line-last, After-put_rows-rows, After-put_standard-middle, Start}
+use Rattle.printing.proofs.lines.print_basis.Goals.{After-put_first_line-first, After-put_line-last, After-put_rows-end, After-put_standard-middle, Start}
 
 abbrev wired : Start → List ℕ
 wired s = line wiring_word s.args.names.now
@@ -46,37 +48,56 @@ start p = (goal.at.After-put_first_line-first p).Start
 abbrev first : After-put_standard-middle → After-put_first_line-first
 first p = (goal.at.After-put_standard-middle p).After-put_first_line-first
 
-abbrev second : After-put_rows-rows → After-put_standard-middle
-second p = (goal.at.After-put_rows-rows p).After-put_standard-middle
+abbrev second : After-put_rows-end → After-put_standard-middle
+second p = (goal.at.After-put_rows-end p).After-put_standard-middle
 
-abbrev third : After-put_line-last → After-put_rows-rows
-third p = (goal.at.After-put_line-last p).After-put_rows-rows
+abbrev third : After-put_line-last → After-put_rows-end
+third p = (goal.at.After-put_line-last p).After-put_rows-end
+
+-- what the standard lines and the row lines say of their tables
+told : (s : Start) {leads coefficients : List (List ℕ)} → leads ≡ groups 8 s.args.r s.args.leads.now → coefficients ≡ groups 64 s.args.r s.args.coefficients.now
+    → row_lines (map (take s.args.m) leads) (map (take s.args.n) coefficients) ≡ rows s
+told s e f = ap₂ row_lines (rows_are 8 s.args.r s.args.m s.args.leads.now e) (rows_are 64 s.args.r s.args.n s.args.coefficients.now f)
+
+stood : (s : Start) {standard : List (List ℕ)} → standard ≡ groups 8 s.args.n s.args.standard.now → standard_lines (map (take s.args.m) standard) ≡ standards s
+stood s e = ap standard_lines (rows_are 8 s.args.n s.args.m s.args.standard.now e)
+
+middle : (p : After-put_standard-middle) → Put p.put_first_line-first.result (standards (start (first p))) p.put_first_line-first.new.out p.put_standard-middle.new.out p.put_standard-middle.result
+middle p = rw (stood (start (first p)) p.rows.ensures.value) at p.put_standard-middle.ensures
+
+table : (p : After-put_rows-end) → Put p.put_standard-middle.result (rows (start (first (second p)))) p.put_standard-middle.new.out p.put_rows-end.new.out p.put_rows-end.result
+table p = rw (told (start (first (second p))) p.rows-2.ensures.value p.rows-3.ensures.value) at p.put_rows-end.ensures
 
 pub put_first_line-first-requires : goal.put_first_line-first-requires
 put_first_line-first-requires c = let s = c in
     first_room 0 (first_line s.args.n s.args.r) (standards (goal.at.put_first_line-first-requires s).Start ++ (rows (goal.at.put_first_line-first-requires s).Start ++ (solved (goal.at.put_first_line-first-requires s).Start ++ wired (goal.at.put_first_line-first-requires s).Start))) s.args.out.now (room (goal.at.put_first_line-first-requires s).Start)
 
 pub put_standard-middle-requires : goal.put_standard-middle-requires
-put_standard-middle-requires c = let p₁ = c in
-    let s = start (goal.at.put_standard-middle-requires p₁).After-put_first_line-first in record { m_bound = (s.requires.m_bound.0, s.requires.n_in_bounds.0); room = put_front p₁.put_first_line-first.ensures (standards s) (rows s ++ (solved s ++ wired s)) (room s) }
+put_standard-middle-requires c =
+    let p₁ = (goal.at.put_standard-middle-requires c).After-put_first_line-first in
+    let s = start p₁ in record {
+      m_bound = s.requires.m_bound.0;
+      room = rw (stood s c.rows.ensures.value) (put_front p₁.put_first_line-first.ensures (standards s) (rows s ++ (solved s ++ wired s)) (room s));
+    }
 
-pub put_rows-rows-requires : goal.put_rows-rows-requires
-put_rows-rows-requires c = let p₂ = c in
-    let p₁ = first (goal.at.put_rows-rows-requires p₂).After-put_standard-middle in
+pub put_rows-end-requires : goal.put_rows-end-requires
+put_rows-end-requires c =
+    let p₂ = (goal.at.put_rows-end-requires c).After-put_standard-middle in
+    let p₁ = first p₂ in
     let s = start p₁ in record {
       m_bound = (s.requires.m_bound.0, s.requires.m_bound.1);
-      r_in_bounds = (s.requires.n_in_bounds.1, s.requires.n_in_bounds.2);
-      room = put_front p₂.put_standard-middle.ensures (rows s) (solved s ++ wired s)
-          (put_room p₁.put_first_line-first.ensures (standards s ++ (rows s ++ (solved s ++ wired s))) (room s));
+      as_many = c.rows-2.ensures.len ∙ sym c.rows-3.ensures.len;
+      room = rw (told s c.rows-2.ensures.value c.rows-3.ensures.value)
+          (put_front (middle p₂) (rows s) (solved s ++ wired s) (put_room p₁.put_first_line-first.ensures (standards s ++ (rows s ++ (solved s ++ wired s))) (room s)));
     }
 
 pub put_line-last-requires : goal.put_line-last-requires
-put_line-last-requires c = let p₃ = c in
-    let p₂ = second (goal.at.put_line-last-requires p₃).After-put_rows-rows in
+put_line-last-requires c = let p₃ = (goal.at.put_line-last-requires c).After-put_rows-end in
+    let p₂ = second p₃ in
     let p₁ = first p₂ in
     let s = start p₁ in
-    put_front {a = rows s} p₃.put_rows-rows.ensures (solved s) (wired s)
-    (put_room p₂.put_standard-middle.ensures (rows s ++ (solved s ++ wired s))
+    put_front {a = rows s} (table p₃) (solved s) (wired s)
+    (put_room (middle p₂) (rows s ++ (solved s ++ wired s))
     (put_room p₁.put_first_line-first.ensures (standards s ++ (rows s ++ (solved s ++ wired s))) (room s)))
 
 pub put_line-requires : goal.put_line-requires
@@ -86,8 +107,8 @@ put_line-requires c = let p₄ = c in
     let p₁ = first p₂ in
     let s = start p₁ in
     put_room {a = solved s} p₄.put_line-last.ensures (wired s)
-    (put_room {a = rows s} p₃.put_rows-rows.ensures (solved s ++ wired s)
-    (put_room p₂.put_standard-middle.ensures (rows s ++ (solved s ++ wired s))
+    (put_room {a = rows s} (table p₃) (solved s ++ wired s)
+    (put_room (middle p₂) (rows s ++ (solved s ++ wired s))
     (put_room p₁.put_first_line-first.ensures (standards s ++ (rows s ++ (solved s ++ wired s))) (room s))))
 
 pub returns : goal.returns
@@ -98,9 +119,9 @@ returns c = let p₄ = c in
     let s = start p₁ in
     let k₁ = room s in
     let k₂ = put_room p₁.put_first_line-first.ensures (standards s ++ (rows s ++ (solved s ++ wired s))) k₁ in
-    let k₃ = put_room p₂.put_standard-middle.ensures (rows s ++ (solved s ++ wired s)) k₂ in
-    let k₄ = put_room {a = rows s} p₃.put_rows-rows.ensures (solved s ++ wired s) k₃ in
+    let k₃ = put_room (middle p₂) (rows s ++ (solved s ++ wired s)) k₂ in
+    let k₄ = put_room {a = rows s} (table p₃) (solved s ++ wired s) k₃ in
     rw (text s)
     (put_more p₁.put_first_line-first.ensures k₁
-    (put_more p₂.put_standard-middle.ensures k₂
-    (put_more {a = rows s} p₃.put_rows-rows.ensures k₃ (put_more {a = solved s} p₄.put_line-last.ensures k₄ c.put_line.ensures))))
+    (put_more (middle p₂) k₂
+    (put_more {a = rows s} (table p₃) k₃ (put_more {a = solved s} p₄.put_line-last.ensures k₄ c.put_line.ensures))))

@@ -1,4 +1,4 @@
--- `text::put_first_line` meets its contract.
+-- `lines::put_first_line` meets its contract.
 use mathlib.Core.List.{List, ◌∷◌, ◌++◌}
 use Prim.Native.Nat.{ℕ}
 use Rattle.printing.specs.Lines.{points_word, standard_word, rows_word, line_end, labelled, first_line}

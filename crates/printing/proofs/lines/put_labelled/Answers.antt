@@ -1,4 +1,4 @@
--- `text::put_labelled` meets its contract.
+-- `lines::put_labelled` meets its contract.
 use Rattle.printing.specs.Lines.{spaced, labelled}
 use Rattle.writing.proofs.appending.Appends.{first_room, put_room, put_more}
 use Rattle.printing.proofs.lines.put_labelled.Goals as goal

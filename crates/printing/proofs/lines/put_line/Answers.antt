@@ -1,4 +1,4 @@
--- `text::put_line` meets its contract.
+-- `lines::put_line` meets its contract.
 use mathlib.Core.List.{◌++◌}
 use Rattle.printing.specs.Lines.{line_end, spaced_numbers, line}
 use Rattle.writing.proofs.appending.Appends.{first_room, put_room, put_front, put_more}

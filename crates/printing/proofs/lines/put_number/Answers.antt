@@ -1,4 +1,4 @@
--- `text::put_number` meets its contract.
+-- `lines::put_number` meets its contract.
 use mathlib.Core.List.{[], ◌∷◌}
 use Rattle.writing.specs.Decimal.{decimal}
 use Rattle.printing.specs.Lines.{spaced}

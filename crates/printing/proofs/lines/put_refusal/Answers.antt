@@ -1,4 +1,4 @@
--- `text::put_refusal` meets its contract.
+-- `lines::put_refusal` meets its contract.
 use mathlib.Core.List.{◌++◌}
 use Rattle.printing.specs.Lines.{refused_word, line_end, spaced, labelled, refusal_line}
 use Rattle.writing.proofs.appending.Appends.{first_room, put_room, put_front, put_more}

@@ -1,4 +1,4 @@
--- `text::put_row` meets its contract.
+-- `lines::put_row` meets its contract.
 use mathlib.Core.List.{◌++◌}
 use Rattle.printing.specs.Lines.{row_word, colon, spaced_numbers, line, row_line}
 use Rattle.writing.proofs.appending.Appends.{first_room, put_room, put_front, put_more}

@@ -1,4 +1,4 @@
--- `text::put_byte` meets its contract.
+-- `appending::put_byte` meets its contract.
 use native.Mathlib.Omega.{arith}
 use Rattle.writing.proofs.appending.Appends.{put_set}
 use Rattle.writing.proofs.appending.put_byte.Goals as goal

@@ -1,7 +1,6 @@
--- `text::put_word` meets its contract.
-use native.Mathlib.Omega.{arith}
+-- `appending::put_word` meets its contract.
 use Rattle.writing.proofs.appending.Appends.{put_part}
 use Rattle.writing.proofs.appending.put_word.Goals as goal
 
 pub returns : goal.returns
-returns c = let s = c in put_part s.args.at s.args.word.now s.args.out.now _ (omega arith) c.copy.ensures
+returns c = put_part c.args.at c.args.word.now c.args.out.now _ c.copy_from_slice.ensures.after
