@@ -36,8 +36,8 @@ loop-c-preserved c =
     let i : ℕ = length l.yielded in
     let row = t.3 [] ∙ ap (λ (rows : List (List ℕ)). get_or rows i []) c.rows-monomials.ensures.value ∙ groups_at 8 (length cs) i s.exponents.now [] t.0 in
     rw (length_push l.yielded (c.in-Some.c, c.in-Some.a))
-        (row_more s.p s.n cs s.exponents.now s.points.now i 8 l.work s.work.now _ t.0 refl l.invariant
-        (c.add_term.ensures ∙ ap₂ (λ (x : ℕ) (a : List ℕ). add_scaled s.p x (take s.n l.work) (monomial_row s.p s.n a s.points.now)) (t.2 0) row))
+    (row_more s.p s.n cs s.exponents.now s.points.now i 8 l.work s.work.now _ t.0 refl l.invariant
+    (c.add_term.ensures ∙ ap₂ (λ (x : ℕ) (a : List ℕ). add_scaled s.p x (take s.n l.work) (monomial_row s.p s.n a s.points.now)) (t.2 0) row))
 
 pub returns : goal.returns
 returns c =
