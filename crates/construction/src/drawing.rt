@@ -9,9 +9,9 @@ ghost use Rattle.specification.specs.Tables.{order_under, points_in};
 ghost use Rattle.specification.specs.Adding.{cancellations_under};
 ghost use Rattle.construction.specs.Drawing.{RowsLong, PointsGiven, DrawnUp, pivot_bytes, pivot_rows_under};
 
-use crate::drawing::turns::{keep_lead, keep_standard, put_exponents, put_values, reduce};
+use crate::drawing::turns::{exponents_of, keep_lead, keep_standard, put_values, reduce};
 use elimination::rows;
-use monomial::candidate::{Candidate, next};
+use monomial::candidate::next;
 use monomial::columns::put_columns;
 use monomial::rank::put_steps;
 use residue::{bytes, sizes};
@@ -25,8 +25,8 @@ pub struct Counts {
 }
 
 // The ranks of the variables under the settings.
-fn put_steps_under(settings: Settings, steps: &mut [u64])
-    requires { (settings.order ≤ 3) × (length steps.old ≡ 8) }
+fn put_steps_under(settings: Settings, steps: &mut [u64; 8])
+    requires { settings.order ≤ 3 }
     ensures { steps.new ≡ steps_of (order_under settings) }
 {
     put_steps(settings.order as u8, &settings.weights, steps);
@@ -80,12 +80,12 @@ pub fn draw(
             found += 1;
         }
         let m = settings.variables as usize;
-        let Candidate::Of(k, t, least) = next(m, found, standard, &ranks, &steps, &mut at) else {
+        let Some(product) = next(m, found, standard, &ranks, &steps, &mut at) else {
             return Counts { r, cancellations };
         };
-        rank = least;
-        put_exponents(k, t, standard, &mut exponents);
-        put_values(p, n, k, t, &columns, &values, &mut own);
+        rank = product.rank;
+        exponents = exponents_of(&product, standard);
+        put_values(p, n, &product, &columns, &values, &mut own);
     }
 }
 

@@ -1,7 +1,7 @@
 -- What the functions of the addition leave of the bytes that they are lent.
 use mathlib.Core.Path.{◌≡◌, refl, sym, ◌∙◌, ap, ap₂}
 use mathlib.Core.List.{List, [], ◌∷◌, ◌++◌, append_assoc, append-nil}
-use Prim.Native.Nat.{ℕ, zero, suc, ◌+◌, ◌*◌, ◌-◌, ◌<◌}
+use Prim.Native.Nat.{ℕ, zero, suc, ◌+◌, ◌*◌, ◌-◌, ◌<◌, ◌≤◌}
 use native.Mathlib.Omega.{arith}
 use native.Mathlib.Nat.{mod-lt}
 use native.Mathlib.Numerals.{add-one}
@@ -11,6 +11,7 @@ use Rattle.residue.specs.Vector.{Below}
 use Rattle.residue.specs.Layout.{fill, in_places, over, row_at, length_fill}
 use Rattle.residue.proofs.vector.Vectors.{below_append, below_take, below_drop, below_zeros}
 use Rattle.residue.proofs.Layouts.{fill_append, over_all, fill_cut}
+use Rattle.residue.proofs.Places.{over_more, over_keep, over_own}
 use Rattle.monomial.specs.Insert.{inserted_at, taken_out}
 use Rattle.growth.specs.Growing.{row_value_at, corrected_by, corrected_row, corrected_rows, rows_left}
 
@@ -67,6 +68,29 @@ module _ (p place i : ℕ) (gone point values leads table : List ℕ) where
 pub length_row : (p place i : ℕ) (gone point values lead cs : List ℕ) → length (corrected_row p place i gone point values lead cs) ≡ 64
 unfolding corrected_row
 length_row p place i gone point values lead cs = length_corrected p place _ gone cs
+
+-- in a turn of the loop over the rows the table is as long as it came, and its row i is still its own
+module _ (p place inverse : ℕ) (gone point values leads table now : List ℕ) (i : ℕ) (e : now ≡ over (in_places 64 (corrected_rows p place inverse gone point values leads table i)) table) where
+  abbrev rows_done : List (List ℕ)
+  rows_done = corrected_rows p place inverse gone point values leads table i
+
+  done_many : length rows_done ≡ i
+  done_many = rows_length p place inverse gone point values leads table i
+
+  pub rows_keep : 64 * i ≤ length table → length now ≡ length table
+  rows_keep h = over_keep rows_done table now e (omega (arith, done_many))
+
+  pub own_row : {k : ℕ} {copy : List ℕ} → 64 * i + 64 ≤ length table → k ≡ 64 → copy ≡ over (take k (drop (64 * i) now)) (replicate 64 0) → copy ≡ row_at 64 i table
+  own_row h f g =
+      g ∙ ap (λ (z : List ℕ). over z (replicate 64 0)) (ap (λ (n : ℕ). take n (drop (64 * i) now)) f ∙ over_own rows_done table now e (64 * i) (ap (λ (n : ℕ). 64 * n) (sym done_many)))
+      ∙ over_all (row_at 64 i table) (replicate 64 0) (omega (arith, length-take-le 64 (drop (64 * i) table) (simp length-drop (omega arith))))
+
+  pub row_corrected : {k : ℕ} {row lead copy : List ℕ} → 64 * i + 64 ≤ length table → k ≡ 64 → lead ≡ row_at 8 i leads → copy ≡ row_at 64 i table → row ≡ corrected_row p place inverse gone point values lead copy
+      → take (64 * i) now ++ (row ++ drop k (drop (64 * i) now)) ≡ over (in_places 64 (corrected_rows p place inverse gone point values leads table (i + 1))) table
+  row_corrected h f l c g =
+      over_more rows_done (corrected_row p place inverse gone point values (row_at 8 i leads) (row_at 64 i table)) table now _ (64 * i) _ e (ap (λ (n : ℕ). 64 * n) (sym done_many)) h f
+      (g ∙ ap₂ (corrected_row p place inverse gone point values) l c) (length_row p place inverse gone point values (row_at 8 i leads) (row_at 64 i table))
+      ∙ ap (λ (z : List (List ℕ)). over (in_places 64 z) table) (sym (corrected_more p place inverse gone point values leads table i))
 
 -- the rows left are residues where all rows were
 pub left_below : (p r j : ℕ) (t : List ℕ) → 0 < p → Below p t → Below p (rows_left r j t)

@@ -1,17 +1,26 @@
 // Rows of the basis when a point is added: their values there, the first that is not 0, and the others corrected by it.
 ghost use Rattle.std.specs.Prelude.{◌≡◌, ◌*◌, ◌<◌, ◌≤◌, length};
+ghost use Rattle.std.specs.Option.{unwrap_or};
 ghost use Rattle.residue.specs.Sizes.{most_points};
 ghost use Rattle.residue.specs.Vector.{Below, add_scaled};
 ghost use Rattle.residue.specs.Layout.{in_places, over};
 ghost use Rattle.growth.specs.Growing.{row_value_at, value_of_row, first_from, factor_of, corrected_by, corrected_row, corrected_rows};
 
+use crate::addition::Addition;
+use monomial::exponents::rows;
 use monomial::value::value;
 use residue::{arithmetic, bytes, sizes, vector};
 
 // The value of a row at a point where the standard monomials have these values.
-pub(crate) fn row_value(p: u8, point: &[u8], values: &[u8], lead: &[u8], coefficients: &[u8]) -> u8
+pub(crate) fn row_value(
+    p: u8,
+    point: &[u8],
+    values: &[u8],
+    lead: &[u8; 8],
+    coefficients: &[u8],
+) -> u8
     requires le_p { (2 ≤ p) × (p ≤ 61) }
-    requires point_len { (length point.now ≡ 8) × (length lead.now ≡ 8) }
+    requires point_len { length point.now ≡ 8 }
     requires coefficients_len { (length coefficients.now ≡ length values.now) × (length coefficients.now ≤ 256) }
     requires below { Below p point.now }
     requires below_2 { Below p values.now × Below p coefficients.now }
@@ -24,7 +33,7 @@ pub(crate) fn row_value(p: u8, point: &[u8], values: &[u8], lead: &[u8], coeffic
     )
 }
 
-// The first of r rows, in increasing order, whose value at the point is not 0, or r.
+// The first of r rows, in increasing order, whose value at the point is not 0.
 pub(crate) fn first_row(
     p: u8,
     n: usize,
@@ -33,37 +42,21 @@ pub(crate) fn first_row(
     values: &[u8],
     leads: &[u8],
     coefficients: &[u8],
-) -> usize
+) -> Option<usize>
     requires le_p { (2 ≤ p) × (p ≤ 61) × (n ≤ 64) }
     requires point_len { (length point.now ≡ 8) × (n ≤ length values.now) }
     requires r_in_bounds { (8 * r ≤ length leads.now) × (64 * r ≤ length coefficients.now) }
     requires below { Below p point.now }
     requires below_2 { Below p values.now × Below p coefficients.now }
-    ensures { result ≡ first_from (value_of_row p n point.now values.now leads.now coefficients.now) 0 r }
+    ensures { unwrap_or result r ≡ first_from (value_of_row p n point.now values.now leads.now coefficients.now) 0 r }
 {
-    let mut i = 0;
-    let found = 'rows: loop {
-        if i == r {
-            break i;
+    for (i, lead) in rows(r, leads).iter().enumerate() {
+        let row = &coefficients[64 * i..64 * i + n];
+        if row_value(p, point, &values[..n], lead, row) != 0 {
+            return Some(i);
         }
-        let from = 8 * i;
-        let first = 64 * i;
-        let mut sum = value(p, point, &leads[from..from + 8]);
-        let mut j = 0;
-        'terms: loop {
-            if j == n {
-                if sum != 0 {
-                    break 'rows i;
-                }
-                break 'terms;
-            }
-            let term = arithmetic::mul(p, coefficients[first + j], values[j]);
-            sum = arithmetic::add(p, sum, term);
-            j += 1;
-        }
-        i += 1;
-    };
-    found
+    }
+    None
 }
 
 // A row of coefficients plus factor times the lost row, with the factor put into the column of its lead.
@@ -91,67 +84,34 @@ fn put_corrected(
 }
 
 // A row corrected, from its lead and its coefficients.
-pub(crate) fn correct(
-    p: u8,
-    place: usize,
-    inverse: u8,
-    gone: &[u8],
-    point: &[u8],
-    values: &[u8],
-    lead: &[u8],
-    coefficients: &mut [u8],
-    row: &mut [u8],
-)
-    requires le_p { (2 ≤ p) × (p ≤ 61) × (place < 64) × (inverse < p) }
-    requires point_len { (length point.now ≡ 8) × (length lead.now ≡ 8) × (length values.now ≡ most_points) }
-    requires gone_len { (length gone.now ≡ most_points) × (length coefficients.old ≡ most_points) × (length row.old ≡ most_points) }
-    requires below { Below p point.now × Below p values.now }
-    requires below_2 { Below p gone.now × Below p coefficients.old }
-    ensures coefficients_after { coefficients.new
-        ≡ add_scaled p (factor_of p inverse (row_value_at p point.now values.now lead.now coefficients.old))
-        coefficients.old gone.now }
-    ensures row_after { row.new ≡ corrected_row p place inverse gone.now point.now values.now lead.now
-        coefficients.old }
+pub(crate) fn correct(addition: &Addition, lead: &[u8; 8], coefficients: &mut [u8], row: &mut [u8])
+    requires coefficients_len { (length coefficients.old ≡ most_points) × (length row.old ≡ most_points) }
+    requires below { Below addition.now.p coefficients.old }
+    ensures coefficients_after { let a = addition.now in coefficients.new
+        ≡ add_scaled a.p (factor_of a.p a.inverse (row_value_at a.p a.point.now a.values.now lead.now coefficients.old)) coefficients.old a.gone.now }
+    ensures row_after { let a = addition.now in row.new
+        ≡ corrected_row a.p a.place a.inverse a.gone.now a.point.now a.values.now lead.now coefficients.old }
 {
-    let v = row_value(p, point, values, lead, coefficients);
-    let factor = arithmetic::neg(p, arithmetic::mul(p, v, inverse));
-    put_corrected(p, place, factor, gone, coefficients, row);
+    let p = addition.p;
+    let v = row_value(p, addition.point, addition.values, lead, coefficients);
+    let factor = arithmetic::neg(p, arithmetic::mul(p, v, addition.inverse));
+    put_corrected(p, addition.place, factor, addition.gone, coefficients, row);
 }
 
 // The first k rows corrected, each in its part of the table of coefficients.
-pub(crate) fn correct_rows(
-    p: u8,
-    place: usize,
-    inverse: u8,
-    gone: &[u8],
-    point: &[u8],
-    values: &[u8],
-    k: usize,
-    leads: &[u8],
-    table: &mut [u8],
-)
-    requires le_p { (2 ≤ p) × (p ≤ 61) × (place < 64) × (inverse < p) }
-    requires gone_len { (length gone.now ≡ most_points) × (length point.now ≡ 8) × (length values.now ≡ most_points) }
+pub(crate) fn correct_rows(addition: &Addition, k: usize, leads: &[u8], table: &mut [u8])
     requires k_in_bounds { (8 * k ≤ length leads.now) × (64 * k ≤ length table.old) }
-    requires below { Below p gone.now × Below p point.now × Below p values.now }
-    requires below_2 { Below p table.old }
-    ensures { table.new ≡ over
-        (in_places 64 (corrected_rows p place inverse gone.now point.now values.now leads.now table.old
-        k)) table.old }
+    requires below { Below addition.now.p table.old }
+    ensures { let a = addition.now in table.new
+        ≡ over (in_places 64 (corrected_rows a.p a.place a.inverse a.gone.now a.point.now a.values.now leads.now table.old k)) table.old }
 {
-    for i in 0..k {
+    for (i, lead) in rows(k, leads).iter().enumerate() {
         let mut coefficients = [0u8; sizes::POINTS];
-        let from = 8 * i;
         let first = 64 * i;
         bytes::copy(&table[first..first + 64], &mut coefficients);
         correct(
-            p,
-            place,
-            inverse,
-            gone,
-            point,
-            values,
-            &leads[from..from + 8],
+            addition,
+            lead,
             &mut coefficients,
             &mut table[first..first + 64],
         );

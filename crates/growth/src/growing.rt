@@ -9,8 +9,10 @@ ghost use Rattle.specification.specs.Settings.{Accepted};
 ghost use Rattle.growth.specs.Growing.{grown, others_of, others_corrected, standard_grown, grown_by, all_points, NewPoint};
 ghost use Rattle.construction.specs.Drawing.{PointsGiven, Tabled, DrawnUp};
 
+use crate::addition::Addition;
 use crate::correcting;
 use crate::products::{add_products, put_under};
+use monomial::exponents::rows as rows_of;
 use monomial::insert;
 use monomial::value::values_at;
 use residue::inverse::inverse;
@@ -19,12 +21,7 @@ use specification::settings::Settings;
 
 // The leads but that of row j, and their rows corrected.
 fn keep_others(
-    p: u8,
-    place: usize,
-    inverse: u8,
-    gone: &[u8],
-    point: &[u8],
-    values: &[u8],
+    addition: &Addition,
     r: usize,
     j: usize,
     leads: &[u8],
@@ -32,29 +29,16 @@ fn keep_others(
     new_leads: &mut [u8],
     new_coefficients: &mut [u8],
 )
-    requires le_p { (2 ≤ p) × (p ≤ 61) × (place < 64) × (inverse < p) }
-    requires gone_len { (length gone.now ≡ most_points) × (length point.now ≡ 8) × (length values.now ≡ most_points) }
     requires j_lt_r { (j < r) × (r ≤ most_rows) × (length leads.now ≡ leads_size) × (length coefficients.now ≡ coefficients_size) }
-    requires below { Below p gone.now × Below p point.now × Below p values.now × Below p coefficients.now }
+    requires below { Below addition.now.p coefficients.now }
     requires new_leads_value { (new_leads.old ≡ replicate leads_size 0) × (new_coefficients.old ≡ replicate coefficients_size 0) }
     ensures new_leads_after { new_leads.new ≡ others_of r j leads.now }
-    ensures new_coefficients_after { new_coefficients.new
-        ≡ others_corrected p place inverse gone.now point.now values.now r j leads.now
-        coefficients.now }
+    ensures new_coefficients_after { let a = addition.now in new_coefficients.new
+        ≡ others_corrected a.p a.place a.inverse a.gone.now a.point.now a.values.now r j leads.now coefficients.now }
 {
     insert::take_out(8, r, j, leads, new_leads);
     insert::take_out(64, r, j, coefficients, new_coefficients);
-    correcting::correct_rows(
-        p,
-        place,
-        inverse,
-        gone,
-        point,
-        values,
-        r - 1,
-        new_leads,
-        new_coefficients,
-    );
+    correcting::correct_rows(addition, r - 1, new_leads, new_coefficients);
 }
 
 // The tables of n points and r rows once row j, which is not 0 at the new point, is lost. Answers how many rows there are then.
@@ -91,19 +75,26 @@ fn grow(
         coefficients.now rows.now pivots.now point.now values.now j }
 {
     let p = settings.modulus as u8;
-    let lead = &leads[8 * j..8 * j + 8];
+    let lead = &rows_of(r, leads)[j];
     let mut gone = [0u8; sizes::POINTS];
     bytes::copy(&coefficients[64 * j..64 * j + 64], &mut gone);
-    let i = inverse(p, correcting::row_value(p, point, values, lead, &gone));
+    let inverse = inverse(p, correcting::row_value(p, point, values, lead, &gone));
     bytes::copy(standard, new_standard);
     let place = put_under(settings, n, new_standard, lead);
-    keep_others(
+    let addition = Addition {
         p,
+        n,
+        points,
+        rows,
+        pivots,
         place,
-        i,
-        &gone,
+        inverse,
+        gone: &gone,
         point,
         values,
+    };
+    keep_others(
+        &addition,
         r,
         j,
         leads,
@@ -113,15 +104,7 @@ fn grow(
     );
     add_products(
         settings,
-        n,
-        points,
-        rows,
-        pivots,
-        place,
-        i,
-        &gone,
-        point,
-        values,
+        &addition,
         r - 1,
         lead,
         new_leads,
@@ -157,7 +140,10 @@ fn add_to(
     let p = settings.modulus as u8;
     let mut values = [0u8; sizes::POINTS];
     values_at(p, n, standard, point, &mut values);
-    let j = correcting::first_row(p, n, r, point, &values, leads, coefficients);
+    // The point is new, so that a row is not 0 there.
+    let Some(j) = correcting::first_row(p, n, r, point, &values, leads, coefficients) else {
+        return r;
+    };
     grow(
         settings,
         n,

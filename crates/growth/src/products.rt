@@ -10,6 +10,7 @@ ghost use Rattle.specification.specs.Settings.{Accepted};
 ghost use Rattle.specification.specs.Tables.{order_under};
 ghost use Rattle.growth.specs.Growing.{corrected_row, reduced_row, grown, product_put, products_put};
 
+use crate::addition::Addition;
 use crate::correcting;
 use elimination::reducing::eliminate;
 use monomial::insert;
@@ -18,9 +19,9 @@ use residue::{bytes, sizes};
 use specification::settings::Settings;
 
 // Puts a monomial in at its place among the k increasing ones of a table, and answers the place. An addition reads the settings' order and weights here alone.
-pub(crate) fn put_under(settings: Settings, k: usize, table: &mut [u8], a: &[u8]) -> usize
+pub(crate) fn put_under(settings: Settings, k: usize, table: &mut [u8], a: &[u8; 8]) -> usize
     requires order_bound { settings.order ≤ 3 }
-    requires k_in_bounds { (8 * k + 8 ≤ length table.old) × (k ≤ 448) × (length a.now ≡ 8) }
+    requires k_in_bounds { (8 * k + 8 ≤ length table.old) × (k ≤ 448) }
     ensures value { result ≡ place_of (cmp (order_under settings)) a.now (groups 8 k table.old) }
     ensures table_after { table.new ≡ with_row_at 8 k result a.now table.old }
 {
@@ -28,44 +29,27 @@ pub(crate) fn put_under(settings: Settings, k: usize, table: &mut [u8], a: &[u8]
 }
 
 // The row of a monomial put into the table of coefficients before row i of k: its values at the n points are eliminated, and what they leave is corrected.
-fn put_row(
-    p: u8,
-    n: usize,
-    points: &[u8],
-    rows: &[u8],
-    pivots: &[u8],
-    place: usize,
-    inverse: u8,
-    gone: &[u8],
-    point: &[u8],
-    values: &[u8],
-    a: &[u8],
-    k: usize,
-    i: usize,
-    table: &mut [u8],
-)
-    requires le_p { (2 ≤ p) × (p ≤ 61) × (n < 64) × (place < 64) × (inverse < p) }
-    requires points_len { (length points.now ≡ states_size) × (length rows.now ≡ pivot_rows_size) × (length pivots.now ≡ most_points) }
-    requires gone_len { (length gone.now ≡ most_points) × (length point.now ≡ 8) × (length values.now ≡ most_points) × (length a.now ≡ 8) }
-    requires i_le_k { (i ≤ k) × (k ≤ 448) × (64 * k + 64 ≤ length table.old) }
-    requires below { Below p points.now × Multiplied p n rows.now × Below p gone.now × Below p point.now × Below p values.now }
-    requires by_index { (t : ℕ) → t < n → get_or pivots.now t 0 < n }
-    ensures { table.new ≡ with_row_at 64 k i
-        (corrected_row p place inverse gone.now point.now values.now a.now
-        (reduced_row p n points.now rows.now pivots.now a.now)) table.old }
+fn put_row(addition: &Addition, a: &[u8; 8], k: usize, i: usize, table: &mut [u8])
+    requires { (i ≤ k) × (k ≤ 448) × (64 * k + 64 ≤ length table.old) }
+    ensures { let x = addition.now in table.new
+        ≡ with_row_at 64 k i (corrected_row x.p x.place x.inverse x.gone.now x.point.now x.values.now a.now
+        (reduced_row x.p x.n x.points.now x.rows.now x.pivots.now a.now)) table.old }
 {
+    let n = addition.n;
     let mut work = [0u8; sizes::WORK];
-    put_term_values(p, &[1u8], a, n, points, &mut work);
-    eliminate(p, sizes::WORK, n, rows, pivots, &mut work);
+    put_term_values(addition.p, &[1u8], a, n, addition.points, &mut work);
+    eliminate(
+        addition.p,
+        sizes::WORK,
+        n,
+        addition.rows,
+        addition.pivots,
+        &mut work,
+    );
     let from = 64 * i;
     insert::move_on(64, from, 64 * k, table);
     correcting::correct(
-        p,
-        place,
-        inverse,
-        gone,
-        point,
-        values,
+        addition,
         a,
         &mut work[n..n + 64],
         &mut table[from..from + 64],
@@ -75,85 +59,42 @@ fn put_row(
 // A product of the lost lead put in with its row, unless one of k other leads divides it. Answers how many leads there are then.
 fn add_product(
     settings: Settings,
-    n: usize,
-    points: &[u8],
-    rows: &[u8],
-    pivots: &[u8],
-    place: usize,
-    inverse: u8,
-    gone: &[u8],
-    point: &[u8],
-    values: &[u8],
+    addition: &Addition,
     k: usize,
     others: &[u8],
-    a: &[u8],
+    a: &[u8; 8],
     count: usize,
     leads: &mut [u8],
     coefficients: &mut [u8],
 ) -> usize
-    requires accepted { Accepted settings × ((n < 64) × (place < 64) × (inverse < settings.modulus)) }
-    requires points_len { (length points.now ≡ states_size) × (length rows.now ≡ pivot_rows_size) × (length pivots.now ≡ most_points) }
-    requires gone_len { (length gone.now ≡ most_points) × (length point.now ≡ 8) × (length values.now ≡ most_points) × (length a.now ≡ 8) }
+    requires accepted { settings.order ≤ 3 }
     requires k_in_bounds { (8 * k ≤ length others.now) × (count ≤ 448) × (length leads.old ≡ leads_size) × (length coefficients.old ≡ coefficients_size) }
-    requires below { Below settings.modulus points.now × Multiplied settings.modulus n rows.now × Below settings.modulus gone.now
-        × Below settings.modulus point.now × Below settings.modulus values.now }
-    requires by_index { (t : ℕ) → t < n → get_or pivots.now t 0 < n }
-    ensures { grown result leads.new coefficients.new
-        ≡ product_put settings.modulus (order_under settings) n points.now rows.now pivots.now place inverse
-        gone.now point.now values.now k others.now a.now
+    ensures { let x = addition.now in grown result leads.new coefficients.new
+        ≡ product_put x.p (order_under settings) x.n x.points.now x.rows.now x.pivots.now x.place x.inverse x.gone.now x.point.now x.values.now k others.now a.now
         (grown count leads.old coefficients.old) }
 {
     if insert::divided(k, others, a) {
         return count;
     }
     let i = put_under(settings, count, leads, a);
-    put_row(
-        settings.modulus as u8,
-        n,
-        points,
-        rows,
-        pivots,
-        place,
-        inverse,
-        gone,
-        point,
-        values,
-        a,
-        count,
-        i,
-        coefficients,
-    );
+    put_row(addition, a, count, i, coefficients);
     count + 1
 }
 
 // The products of the lost lead with the m variables. Answers how many leads there are then; before, the k others alone.
 pub(crate) fn add_products(
     settings: Settings,
-    n: usize,
-    points: &[u8],
-    rows: &[u8],
-    pivots: &[u8],
-    place: usize,
-    inverse: u8,
-    gone: &[u8],
-    point: &[u8],
-    values: &[u8],
+    addition: &Addition,
     k: usize,
-    lead: &[u8],
+    lead: &[u8; 8],
     leads: &mut [u8],
     coefficients: &mut [u8],
 ) -> usize
-    requires accepted { Accepted settings × ((n < 64) × (place < 64) × (inverse < settings.modulus)) }
-    requires points_len { (length points.now ≡ states_size) × (length rows.now ≡ pivot_rows_size) × (length pivots.now ≡ most_points) }
-    requires gone_len { (length gone.now ≡ most_points) × (length point.now ≡ 8) × (length values.now ≡ most_points) × (length lead.now ≡ 8) }
+    requires accepted { Accepted settings }
     requires variables_bound { (k + settings.variables ≤ most_rows) × (length leads.old ≡ leads_size) × (length coefficients.old ≡ coefficients_size) }
-    requires below { Below settings.modulus points.now × Multiplied settings.modulus n rows.now × Below settings.modulus gone.now
-        × Below settings.modulus point.now × Below settings.modulus values.now }
-    requires by_index { (t : ℕ) → t < n → get_or pivots.now t 0 < n }
-    requires by_index_2 { (v : ℕ) → get_or lead.now v 0 < 255 }
-    ensures { grown result leads.new coefficients.new
-        ≡ products_put settings.modulus (order_under settings) n points.now rows.now pivots.now place inverse
-        gone.now point.now values.now k leads.old lead.now
+    requires lead_below { (v : ℕ) → get_or lead.now v 0 < 255 }
+    ensures { let x = addition.now in grown result leads.new coefficients.new
+        ≡ products_put x.p (order_under settings) x.n x.points.now x.rows.now x.pivots.now x.place x.inverse x.gone.now x.point.now x.values.now k leads.old lead.now
         settings.variables (grown k leads.old coefficients.old) }
 {
     let m = settings.variables as usize;
@@ -161,20 +102,11 @@ pub(crate) fn add_products(
     bytes::copy(leads, &mut others);
     let mut count = k;
     for v in 0..m {
-        let mut a = [0u8; 8];
-        bytes::copy(lead, &mut a);
+        let mut a = *lead;
         a[v] += 1;
         count = add_product(
             settings,
-            n,
-            points,
-            rows,
-            pivots,
-            place,
-            inverse,
-            gone,
-            point,
-            values,
+            addition,
             k,
             &others,
             &a,

@@ -1,7 +1,7 @@
 -- The program's answer for a comparison.
 use Prim.Native.Nat.{Ordering}
-use Rattle.monomial.specs.declared.order.Comparison.{Comparison}
-use Rattle.monomial.specs.declared.order.Comparison.TheVariants.{Less, Equal, Greater}
+use Rattle.std.specs.declared.cmp.Ordering.{Ordering as Comparison}
+use Rattle.std.specs.declared.cmp.Ordering.TheVariants.{Less, Equal, Greater}
 
 -- less, equal or greater, in the order of docs/SCOPE.md, 'Monomial orders'
 abbrev pub comparison_of : Ordering → Comparison

@@ -4,13 +4,15 @@ ghost use Rattle.residue.specs.Sizes.{states_size, columns_size};
 ghost use Rattle.residue.specs.Layout.{fill, in_places, over};
 ghost use Rattle.monomial.specs.Columns.{column_of, columns_of};
 
+use crate::exponents::rows;
+
 // One coordinate of each point.
 pub(crate) fn put_column(n: usize, k: usize, points: &[u8], column: &mut [u8])
     requires { (n ≤ length column.old) × ((k < 8) × ((length points.now ≡ states_size) × (n ≤ 64))) }
     ensures { column.new ≡ over (column_of k n points.now) column.old }
 {
-    for i in 0..n {
-        column[i] = points[8 * i + k];
+    for (i, point) in rows(n, points).iter().enumerate() {
+        column[i] = point[k];
     }
 }
 

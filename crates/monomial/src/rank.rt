@@ -1,5 +1,5 @@
 // Ranks: one number for a monomial, whose order is the monomial order as long as the total degree is below 65.
-ghost use Rattle.std.specs.Prelude.{◌≡◌, ◌<◌, ◌≤◌, length};
+ghost use Rattle.std.specs.Prelude.{◌≡◌, ◌<◌, ◌≤◌};
 ghost use Rattle.monomial.specs.Order.{order_of};
 ghost use Rattle.monomial.specs.Rank.{variable_rank, steps_of};
 
@@ -32,8 +32,8 @@ const VARIABLES: [u64; 24] = [
 ];
 
 // The rank of x_(k+1). Under weights it is that in lex, and 65 to the power 8 for each unit of its weight.
-fn variable_rank(order: u8, weights: &[u8], k: usize) -> u64
-    requires { (order ≤ 3) × ((k < 8) × (length weights.now ≡ 8)) }
+fn variable_rank(order: u8, weights: &[u8; 8], k: usize) -> u64
+    requires { (order ≤ 3) × (k < 8) }
     ensures { result ≡ variable_rank (order_of order weights.now) k }
 {
     if order == 3 {
@@ -43,8 +43,8 @@ fn variable_rank(order: u8, weights: &[u8], k: usize) -> u64
 }
 
 // The ranks of the variables.
-pub fn put_steps(order: u8, weights: &[u8], steps: &mut [u64])
-    requires { (order ≤ 3) × ((length weights.now ≡ 8) × (length steps.old ≡ 8)) }
+pub fn put_steps(order: u8, weights: &[u8; 8], steps: &mut [u64; 8])
+    requires { order ≤ 3 }
     ensures { steps.new ≡ steps_of (order_of order weights.now) }
 {
     for k in 0..8 {

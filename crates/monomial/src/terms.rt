@@ -8,6 +8,7 @@ ghost use Rattle.monomial.specs.Columns.{column_of};
 ghost use Rattle.monomial.specs.Terms.{term_values};
 
 use crate::columns::put_column;
+use crate::exponents::rows;
 use residue::sizes;
 use residue::vector::{add_scaled, multiply_powers};
 
@@ -27,21 +28,21 @@ fn multiply_variable(p: u8, n: usize, k: usize, e: u8, points: &[u8], values: &m
 }
 
 // Multiplies ones at n points by the values of a monomial there. Exponents stay as they are: modulo p - 1 they would be wrong at 0.
-fn multiply_monomial(p: u8, n: usize, a: &[u8], points: &[u8], values: &mut [u8])
+fn multiply_monomial(p: u8, n: usize, a: &[u8; 8], points: &[u8], values: &mut [u8])
     requires le_p { ((2 ≤ p) × (p ≤ 61)) × (n ≤ 64) }
-    requires a_len { (length a.now ≡ 8) × ((length points.now ≡ states_size) × Below p points.now) }
+    requires points_len { (length points.now ≡ states_size) × Below p points.now }
     requires values_value { values.old ≡ replicate n 1 }
     ensures { values.new ≡ map (λ P. monomial_at P a.now % p) (groups 8 n points.now) }
 {
-    for k in 0..8 {
-        multiply_variable(p, n, k, a[k], points, values);
+    for (k, e) in a.iter().enumerate() {
+        multiply_variable(p, n, k, *e, points, values);
     }
 }
 
 // Adds the values of a term at n points.
-fn add_term(p: u8, n: usize, c: u8, a: &[u8], points: &[u8], values: &mut [u8])
+fn add_term(p: u8, n: usize, c: u8, a: &[u8; 8], points: &[u8], values: &mut [u8])
     requires le_p { ((2 ≤ p) × (p ≤ 61)) × ((n ≤ 64) × (c < p)) }
-    requires a_len { (length a.now ≡ 8) × ((length points.now ≡ states_size) × Below p points.now) }
+    requires points_len { (length points.now ≡ states_size) × Below p points.now }
     requires values_len { (length values.old ≡ n) × Below p values.old }
     ensures { values.new
         ≡ add_scaled p c values.old (map (λ P. monomial_at P a.now % p) (groups 8 n points.now)) }
@@ -68,16 +69,8 @@ pub fn put_term_values(
     ensures { work.new
         ≡ over (term_values p coefficients.now exponents.now n points.now) work.old }
 {
-    for i in 0..coefficients.len() {
-        let place = 8 * i;
-        let c = coefficients[i];
-        add_term(
-            p,
-            n,
-            c,
-            &exponents[place..place + 8],
-            points,
-            &mut work[..n],
-        );
+    let monomials = rows(coefficients.len(), exponents);
+    for (c, a) in coefficients.iter().zip(monomials) {
+        add_term(p, n, *c, a, points, &mut work[..n]);
     }
 }

@@ -18,14 +18,14 @@ use Rattle.monomial.specs.Monomial.{degree}
 use Rattle.monomial.specs.Order.{Order, LightOrder}
 use Rattle.monomial.specs.Rank.{rank_of, variable_rank}
 use Rattle.monomial.specs.Increasing.{Increasing}
-use Rattle.monomial.specs.declared.candidate.LeastRank.{LeastRank}
+use Rattle.std.specs.Prelude.{Option, Some, None}
 use Rattle.monomial.specs.declared.candidate.Parents.{Parents}
 use Rattle.monomial.specs.declared.candidate.Candidate.{Candidate}
 use Rattle.monomial.specs.Candidate.{least_of, products_passed, parents_of, occurring_in, is_whole, Searched, search_ends, at_least, next_from, next_of}
 use Rattle.monomial.proofs.Algebra.Products.{degree_times_variable}
 use Rattle.monomial.proofs.candidate.Products.{remaining, remaining_most, Product, least_of_lem, least_nothing, passed_length, passed_is, passed_not, Last, passed_fewer, least_last}
 use Rattle.monomial.proofs.candidate.Counts.{Occurs, count_whole, whole_count}
-use Rattle.monomial.proofs.candidate.Exponents.{rank_small, rank_times, rank_less, rank_same, product_occurs, occurs_product}
+use Rattle.monomial.proofs.candidate.Exponents.{rank_times, rank_less, rank_same, product_occurs, occurs_product}
 use Rattle.specification.specs.Space.{Space, Less}
 use Rattle.specification.specs.Polynomial.{Distinct}
 use Rattle.specification.specs.BasisOf.{standard_of, leads_of}
@@ -79,9 +79,9 @@ module _ (q m : ℕ) (order : Order) where
     pub positions : Positions D standard (product_at D standard k t) (λ v. get_or at v 0)
 
   -- what an answer says of the basis
-  abbrev pub Outcome : List (Point (suc q) m) → List (Monomial m) → List (Monomial m) → Candidate → List ℕ → Type 0
-  Outcome S standard leads Candidate.Nothing at = (standard ≡ standard_of D S) × (leads ≡ leads_of D S)
-  Outcome S standard leads (Candidate.Of k t r) at = Found S standard leads k t r at
+  abbrev pub Outcome : List (Point (suc q) m) → List (Monomial m) → List (Monomial m) → Option Candidate → List ℕ → Type 0
+  Outcome S standard leads None at = (standard ≡ standard_of D S) × (leads ≡ leads_of D S)
+  Outcome S standard leads (Some c) at = Found S standard leads c.variable c.standard c.rank at
 
   module _ (p : is_modulus (suc q) ≡ true) (l : m ≤ 8) (light : LightOrder order) (S : List (Point (suc q) m)) (d : Distinct D S) (n : length S ≤ 64)
       (standard leads : List (Monomial m)) (ranks steps : List ℕ) (R : Ranked standard ranks steps) (inc : Increasing D.cmp standard)
@@ -121,22 +121,17 @@ module _ (q m : ℕ) (order : Order) where
     To e = Outcome S standard leads e.answer e.positions
 
     module _ (at : List ℕ) (long : length at ≡ 8) (c : Monomial m) (W : Drawn D S standard leads c) (P : Positions D standard c (λ v. get_or at v 0)) where
-      at_none : least_of found ranks steps at m ≡ LeastRank.Nothing → (standard ≡ standard_of D S) × (leads ≡ leads_of D S)
+      at_none : least_of found ranks steps at m ≡ None → (standard ≡ standard_of D S) × (leads ≡ leads_of D S)
       at_none e = (drawn_standard D L S d standard leads c W over, drawn_leads D L S d standard leads c W over)
         where
           all : (v : ℕ) → v < m → get_or at v 0 ≡ found
           all v hv =
-              omega (
-                arith,
-                P.within v hv,
-                least_nothing found ranks steps at m e v hv
-                    (λ h. omega (arith, rank_product v (get_or at v 0) hv h, rank_small (prod v (get_or at v 0)).0 (rw (prod v (get_or at v 0)).1 l) order light (small v (get_or at v 0) hv h))),
-              )
+              omega (arith, P.within v hv, least_nothing found ranks steps at m e v hv)
 
           over : (k : ℕ) (s : Monomial m) → k < m → Among s standard → Less D c (D.x k s) → ¬ Undivided D leads (D.x k s)
           over k s hk mem h u = none_left D L standard inc c (λ v. get_or at v 0) P all k s hk mem h
 
-      module _ (r : ℕ) (e : least_of found ranks steps at m ≡ LeastRank.Of r) where
+      module _ (r : ℕ) (e : least_of found ranks steps at m ≡ Some r) where
         abbrev pr : Parents
         pr = parents_of found ranks steps r at m
 
@@ -224,14 +219,14 @@ module _ (q m : ℕ) (order : Order) where
 
       -- one turn: b is what is sought, or it is not of the basis and is done
       turn : (rest : List ℕ → Searched) →
-          ((r : ℕ) → least_of found ranks steps at m ≡ LeastRank.Of r → (b : Monomial m) → Drawn D S standard leads b →
+          ((r : ℕ) → least_of found ranks steps at m ≡ Some r → (b : Monomial m) → Drawn D S standard leads b →
           Positions D standard b (λ v. get_or (products_passed found ranks steps r at m) v 0) → To (rest (products_passed found ranks steps r at m))) →
           To (at_least m found table ranks steps (least_of found ranks steps at m) at rest)
       unfolding at_least
       turn rest again = go (least_of found ranks steps at m) refl
         where
-          pick : (r : ℕ) (e : least_of found ranks steps at m ≡ LeastRank.Of r) (w : Bool) → is_whole table (pr r e) ≡ w →
-              To (cond w (search_ends (Candidate.Of (k r e) (t r e) r) (at' r e)) (rest (at' r e)))
+          pick : (r : ℕ) (e : least_of found ranks steps at m ≡ Some r) (w : Bool) → is_whole table (pr r e) ≡ w →
+              To (cond w (search_ends (Some (record { variable = k r e; standard = t r e; rank = r })) (at' r e)) (rest (at' r e)))
           pick r e true f =
               record {
                 variable = (last r e).within;
@@ -249,9 +244,9 @@ module _ (q m : ℕ) (order : Order) where
               (drawing.pass D L S d standard leads c W (b r e) (next r e) (λ o. eqb-false _ _ f (counted r e (bordered D L S d standard leads c W (b r e) (next r e) o))))
               (positions r e)
 
-          go : (o : LeastRank) → least_of found ranks steps at m ≡ o → To (at_least m found table ranks steps o at rest)
-          go LeastRank.Nothing e = at_none e
-          go (LeastRank.Of r) e = pick r e (is_whole table (pr r e)) refl
+          go : (o : Option ℕ) → least_of found ranks steps at m ≡ o → To (at_least m found table ranks steps o at rest)
+          go None e = at_none e
+          go (Some r) e = pick r e (is_whole table (pr r e)) refl
 
     turns : (i : ℕ) (at : List ℕ) → length at ≡ 8 → (c : Monomial m) → Drawn D S standard leads c → Positions D standard c (λ v. get_or at v 0) →
         remaining found at m ≤ i → To (next_from m found table ranks steps (suc i) at)
@@ -267,7 +262,7 @@ module _ (q m : ℕ) (order : Order) where
   -- What `candidate::next` answers, of the points S, with the standard monomials and leads found and all up to c decided.
   pub next_candidate : is_modulus (suc q) ≡ true → m ≤ 8 → LightOrder order → (S : List (Point (suc q) m)) → Distinct D S → length S ≤ 64 → (standard leads : List (Monomial m)) (c : Monomial m) →
       Drawn D S standard leads c → (ranks steps : List ℕ) → Ranked standard ranks steps → (at : List ℕ) → length at ≡ 8 → Positions D standard c (λ v. get_or at v 0) →
-      (a : Candidate) (at' : List ℕ) → search_ends a at' ≡ next_of m (length standard) (table_of standard) ranks steps at → Outcome S standard leads a at'
+      (a : Option Candidate) (at' : List ℕ) → search_ends a at' ≡ next_of m (length standard) (table_of standard) ranks steps at → Outcome S standard leads a at'
   unfolding next_of
   next_candidate p l light S d n standard leads c W ranks steps R at long P a at' e =
       subst (λ (z : Searched). Outcome S standard leads z.answer z.positions) (sym e)

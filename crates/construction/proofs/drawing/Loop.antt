@@ -13,6 +13,7 @@ use Rattle.elimination.specs.Rows.{first_nonzero, pivot_row}
 use Rattle.elimination.proofs.reducing.Eliminated.{cancellations_most}
 use Rattle.monomial.specs.Monomial.{times_variable}
 use Rattle.monomial.specs.Order.{Order}
+use Rattle.std.specs.Prelude.{Option, Some, None}
 use Rattle.monomial.specs.declared.candidate.Candidate.{Candidate}
 use Rattle.monomial.specs.Rank.{steps_of}
 use Rattle.monomial.specs.Columns.{column_of}
@@ -206,15 +207,15 @@ module _ {s : Settings} {n : ℕ} {points : List ℕ} (given : PointsGiven s n p
             G.most,
           )
 
-      outcome : (a : Candidate) (at' : List ℕ) → search_ends a at' ≡ next_of m found standard ranks steps at → Outcome (p - 1) m o S h.std h.lds a at'
+      outcome : (a : Option Candidate) (at' : List ℕ) → search_ends a at' ≡ next_of m found standard ranks steps at → Outcome (p - 1) m o S h.std h.lds a at'
       outcome a at' e =
           next_candidate (p - 1) m o G.prime G.few G.light S G.distinct (omega (arith, G.count, G.most)) h.std h.lds h.decided.last h.decided.drawn ranks steps h.held.ranked at
           h.decided.long h.decided.positions a at' (e ∙ ap₂ (λ (k : ℕ) (t : List ℕ). next_of m k t ranks steps at) h.found_is h.held.standard_table_lem)
 
       -- nothing is left
-      module _ {a : Candidate} {at' : List ℕ} (z : a ≡ Candidate.Nothing) (e : search_ends a at' ≡ next_of m found standard ranks steps at) where
-        all_found : Outcome (p - 1) m o S h.std h.lds Candidate.Nothing at'
-        all_found = subst (λ (c : Candidate). Outcome (p - 1) m o S h.std h.lds c at') z (outcome a at' e)
+      module _ {a : Option Candidate} {at' : List ℕ} (z : a ≡ None) (e : search_ends a at' ≡ next_of m found standard ranks steps at) where
+        all_found : Outcome (p - 1) m o S h.std h.lds None at'
+        all_found = subst (λ (c : Option Candidate). Outcome (p - 1) m o S h.std h.lds c at') z (outcome a at' e)
 
         pub ends : DrawnUp s (points_in s n points) r standard leads coefficients rows pivots
         ends =
@@ -235,30 +236,30 @@ module _ {s : Settings} {n : ℕ} {points : List ℕ} (given : PointsGiven s n p
             passed_all (space_under s) L S G.distinct n G.count G.most h.std h.lds total rows pivots h.last h.passed all_found.0 all_found.1
 
       -- the next monomial
-      module _ {a : Candidate} {at' : List ℕ} {k t l : ℕ} (z : a ≡ Candidate.Of k t l) (e : search_ends a at' ≡ next_of m found standard ranks steps at) where
-        F : Found (p - 1) m o S h.std h.lds k t l at'
-        F = subst (λ (c : Candidate). Outcome (p - 1) m o S h.std h.lds c at') z (outcome a at' e)
+      module _ {a : Option Candidate} {at' : List ℕ} {c : Candidate} (z : a ≡ Some c) (e : search_ends a at' ≡ next_of m found standard ranks steps at) where
+        F : Found (p - 1) m o S h.std h.lds c.variable c.standard c.rank at'
+        F = subst (λ (c : Option Candidate). Outcome (p - 1) m o S h.std h.lds c at') z (outcome a at' e)
 
-        pub next_small : (k < 8) × (t < 64)
+        pub next_small : (c.variable < 8) × (c.standard < 64)
         next_small = few_found G h.held F
 
-        pub next_exponent : get_or standard (8 * t + k) 0 < 255
+        pub next_exponent : get_or standard (8 * c.standard + c.variable) 0 < 255
         next_exponent = exponent_small G h.held F
 
-        pub goes_on : {exponents own : List ℕ} → exponents ≡ times_variable k (take 8 (drop (8 * t) standard)) → own ≡ product_values p n (column_of k n points) (take 64 (drop (64 * t) values))
-            → Head s n points rows₀ pivots₀ found r total standard leads coefficients rows pivots values ranks steps at' exponents l own
+        pub goes_on : {exponents own : List ℕ} → exponents ≡ times_variable c.variable (take 8 (drop (8 * c.standard) standard)) → own ≡ product_values p n (column_of c.variable n points) (take 64 (drop (64 * c.standard) values))
+            → Head s n points rows₀ pivots₀ found r total standard leads coefficients rows pivots values ranks steps at' exponents c.rank own
         goes_on {exponents} {own} x y = record {
           std = h.std;
           lds = h.lds;
           css = h.css;
-          hand = product_at (space_under s) h.std k t;
+          hand = product_at (space_under s) h.std c.variable c.standard;
           found_is = h.found_is;
           r_is = h.r_is;
           held = h.held;
           in_hand =
-              next_hand G h.held F points (coordinate given k F.variable) x y;
+              next_hand G h.held F points (coordinate given c.variable F.variable) x y;
           ready =
-              ready_next (space_under s) L S G.distinct n G.count G.most h.std h.lds total rows pivots h.last h.passed F.last (product_at (space_under s) h.std k t)
+              ready_next (space_under s) L S G.distinct n G.count G.most h.std h.lds total rows pivots h.last h.passed F.last (product_at (space_under s) h.std c.variable c.standard)
               F.drawn F.next F.bordered;
           few = kept_few;
           rows_kept_lem = h.rows_kept_lem;

@@ -1,20 +1,27 @@
 -- What the search for the next product finds: the least rank, the products of a rank, and an end.
-use mathlib.Core.Path.{◌≡◌, refl, sym, ap, ◌∙◌}
+use mathlib.Core.Path.{◌≡◌, refl, sym, ap, subst, ◌∙◌}
 use mathlib.Core.Bool.{Bool, true, false, cond, ◌&&◌}
-use mathlib.Core.Logic.{◌⊎◌, inl, inr}
 use mathlib.Core.List.{List}
-use Prim.Native.Nat.{ℕ, zero, suc, ◌+◌, ◌-◌, ◌*◌, ◌^◌, ◌<◌, ◌≤◌}
+use Prim.Native.Nat.{ℕ, zero, suc, ◌+◌, ◌-◌, ◌*◌, min, ◌<◌, ◌≤◌}
 use native.Mathlib.Omega.{arith}
 use borrow.Author.Tests.{ltb-true, ltb-false, eqb-true, eqb-false, eq-eqb, ne_eqb}
 use lib.Dec.{eqb, ltb}
 use lib.ListN.{length, take, drop, get_or, set, length-set}
 use lib.Seq.{get_or-set_same, get_or-set_other}
 use Rattle.residue.proofs.Tests.{Decides, so, not_so}
-use Rattle.monomial.specs.declared.candidate.LeastRank.{LeastRank}
+use Rattle.std.specs.Prelude.{Option, Some, None}
+use native.Mathlib.Decide.{dec_lt, ℕ_discrete}
 use Rattle.monomial.specs.declared.candidate.Parents.{Parents}
-use Rattle.monomial.specs.declared.candidate.Candidate.{Candidate}
-use Rattle.monomial.specs.Candidate.{rank_at, lowest, least_of, is_of, products_passed, parents_of, occurring_in, Searched, search_ends, is_whole, at_least, next_from, next_of}
+use Rattle.monomial.specs.Candidate.{rank_at, lesser, least_of, is_of, products_passed, parents_of, occurring_in, Searched, search_ends, is_whole, at_least, next_from, next_of}
 use Rattle.monomial.proofs.candidate.Turns.{parents}
+
+-- what holds at i and below i
+each : (P : ℕ → Type 0) (i : ℕ) → P i → ((k : ℕ) → k < i → P k) → (k : ℕ) → k < suc i → P k
+each P i p f k h = go (ℕ_discrete k i)
+  where
+    go : Dec (k ≡ i) → P k
+    go (yes e) = subst P (sym e) p
+    go (no n) = f k (omega arith)
 
 -- how many products with the first k variables are not passed
 unfoldable pub remaining : ℕ → List ℕ → ℕ → ℕ
@@ -60,40 +67,6 @@ module _ (found : ℕ) (ranks steps : List ℕ) where
 
   -- the least rank
   module _ (at : List ℕ) where
-    abbrev low : ℕ → ℕ
-    low m = lowest found ranks steps at m
-
-    low_step : (i : ℕ) → (low (suc i) ≤ low i) × (get_or at i 0 < found → low (suc i) ≤ rank at i)
-    unfolding lowest
-    low_step i = go (ltb (get_or at i 0) found) refl (ltb (rank at i) (low i)) refl
-      where
-        go : (s : Bool) → ltb (get_or at i 0) found ≡ s → (t : Bool) → ltb (rank at i) (low i) ≡ t →
-            (cond (s && t) (rank at i) (low i) ≤ low i) × (get_or at i 0 < found → cond (s && t) (rank at i) (low i) ≤ rank at i)
-        go true e true f = let z : rank at i < low i = ltb-true _ _ f in (omega arith, λ h. omega arith)
-        go true e false f = let z : low i ≤ rank at i = ltb-false _ _ f in (omega arith, λ h. z)
-        go false e t f = let z : found ≤ get_or at i 0 = ltb-false _ _ e in (omega arith, λ h. omega arith)
-
-    low_least : (m k : ℕ) → k < m → get_or at k 0 < found → low m ≤ rank at k
-    low_least zero k l h = omega arith
-    low_least (suc i) k l h = go (eqb k i) refl (λ z. low_least i k z h)
-      where
-        go : (s : Bool) → eqb k i ≡ s → (k < i → low i ≤ rank at k) → low (suc i) ≤ rank at k
-        go true e f = rw (eqb-true k i e) ((low_step i).1 (rw (eqb-true k i e) at h))
-        go false e f = let d : ¬ (k ≡ i) = eqb-false k i e in omega (arith, (low_step i).0, f (omega arith))
-
-    low_at : (m : ℕ) → (low m ≡ 2 ^ 63) ⊎ ((k : ℕ) × (k < m) × Product (low m) at k)
-    unfolding lowest
-    low_at zero = inl refl
-    low_at (suc i) = go (ltb (get_or at i 0) found) refl (ltb (rank at i) (low i)) refl (low_at i)
-      where
-        go : (s : Bool) → ltb (get_or at i 0) found ≡ s → (t : Bool) → ltb (rank at i) (low i) ≡ t → (low i ≡ 2 ^ 63) ⊎ ((k : ℕ) × (k < i) × Product (low i) at k) →
-            (cond (s && t) (rank at i) (low i) ≡ 2 ^ 63) ⊎ ((k : ℕ) × (k < suc i) × Product (cond (s && t) (rank at i) (low i)) at k)
-        go true e true f w = inr (i, omega arith, (ltb-true _ _ e, refl))
-        go true e false f (inl z) = inl z
-        go true e false f (inr (k, l, h)) = inr (k, omega arith, h)
-        go false e t f (inl z) = inl z
-        go false e t f (inr (k, l, h)) = inr (k, omega arith, h)
-
     -- The least rank is that of a next product, and none has a smaller one.
     pub record Least (m r : ℕ) : Type 0 where
       pub variable : ℕ
@@ -101,28 +74,58 @@ module _ (found : ℕ) (ranks steps : List ℕ) where
       pub product : Product r at variable
       pub least : (k : ℕ) → k < m → get_or at k 0 < found → r ≤ rank at k
 
-    pub least_of_lem : (m r : ℕ) → least_of found ranks steps at m ≡ LeastRank.Of r → Least m r
+    -- what the search for it tells: nothing is left, or that
+    abbrev Told : ℕ → Option ℕ → Type 0
+    Told m None = (k : ℕ) → k < m → found ≤ get_or at k 0
+    Told m (Some r) = Least m r
+
+    told : (m : ℕ) → Told m (least_of found ranks steps at m)
     unfolding least_of
-    least_of_lem m r e = go (eqb (low m) (2 ^ 63)) refl e (low_at m)
+    told zero = λ k h. absurd (omega arith)
+    told (suc i) = go (ltb (get_or at i 0) found) refl (least_of found ranks steps at i) (told i)
       where
-        go : (b : Bool) → eqb (low m) (2 ^ 63) ≡ b → cond b LeastRank.Nothing (LeastRank.Of (low m)) ≡ LeastRank.Of r →
-            (low m ≡ 2 ^ 63) ⊎ ((k : ℕ) × (k < m) × Product (low m) at k) → Least m r
-        go true f h w = let z : ◌≡◌ {A = ℕ} 0 1 = cc in absurd (omega arith)
-        go false f h (inl w) = absurd (eqb-false (low m) (2 ^ 63) f w)
-        go false f h (inr (k, l, p)) =
-            let z : low m ≡ r = cc in
-            record { variable = k; within = l; product = rw z at p; least = λ i q u. rw z at (low_least m i q u) }
+        go : (s : Bool) → ltb (get_or at i 0) found ≡ s → (o : Option ℕ) → Told i o → Told (suc i) (cond s (Some (lesser o (rank at i))) o)
+        go false e None w = each (λ k. found ≤ get_or at k 0) i (ltb-false _ _ e) w
+        go false e (Some r) w =
+            record {
+              variable = w.variable;
+              within = omega (arith, w.within);
+              product = w.product;
+              least = each (λ k. get_or at k 0 < found → r ≤ rank at k) i (λ h. let z : found ≤ get_or at i 0 = ltb-false _ _ e in absurd (omega arith)) w.least;
+            }
+        go true e None w =
+            record {
+              variable = i;
+              within = omega arith;
+              product = (ltb-true _ _ e, refl);
+              least = each (λ k. get_or at k 0 < found → rank at i ≤ rank at k) i (λ h. omega arith) (λ k l h. absurd (omega (arith, w k l)));
+            }
+        go true e (Some r) w = pick (dec_lt (rank at i) r)
+          where
+            pick : Dec (rank at i < r) → Least (suc i) (min r (rank at i))
+            pick (yes h) =
+                let z : min r (rank at i) ≡ rank at i = omega arith in
+                record {
+                  variable = i;
+                  within = omega arith;
+                  product = (ltb-true _ _ e, sym z);
+                  least = each (λ k. get_or at k 0 < found → min r (rank at i) ≤ rank at k) i (λ u. omega (arith, z)) (λ k l u. omega (arith, z, h, w.least k l u));
+                }
+            pick (no h) =
+                let z : min r (rank at i) ≡ r = omega (arith, h) in
+                record {
+                  variable = w.variable;
+                  within = omega (arith, w.within);
+                  product = (w.product.0, w.product.1 ∙ sym z);
+                  least = each (λ k. get_or at k 0 < found → min r (rank at i) ≤ rank at k) i (λ u. omega (arith, z, h)) (λ k l u. omega (arith, z, w.least k l u));
+                }
+
+    pub least_of_lem : (m r : ℕ) → least_of found ranks steps at m ≡ Some r → Least m r
+    least_of_lem m r e = subst (Told m) e (told m)
 
     -- nothing is left
-    pub least_nothing : (m : ℕ) → least_of found ranks steps at m ≡ LeastRank.Nothing → (k : ℕ) → k < m → (get_or at k 0 < found → rank at k < 2 ^ 63) → found ≤ get_or at k 0
-    unfolding least_of
-    least_nothing m e k l u = go (eqb (low m) (2 ^ 63)) refl e (ltb (get_or at k 0) found) refl
-      where
-        go : (b : Bool) → eqb (low m) (2 ^ 63) ≡ b → cond b LeastRank.Nothing (LeastRank.Of (low m)) ≡ LeastRank.Nothing →
-            (s : Bool) → ltb (get_or at k 0) found ≡ s → found ≤ get_or at k 0
-        go true f h true g = let z = ltb-true _ _ g in absurd (omega (arith, u z, low_least m k l z, eqb-true (low m) (2 ^ 63) f))
-        go false f h true g = let z : ◌≡◌ {A = ℕ} 0 1 = cc in absurd (omega arith)
-        go b f h false g = ltb-false _ _ g
+    pub least_nothing : (m : ℕ) → least_of found ranks steps at m ≡ None → (k : ℕ) → k < m → found ≤ get_or at k 0
+    least_nothing m e = subst (Told m) e (told m)
 
   -- the products of rank r
   module _ (r : ℕ) (at : List ℕ) where
@@ -202,7 +205,7 @@ module _ (found : ℕ) (ranks steps : List ℕ) where
             record { within = omega (arith, w.within); product = w.product; standard = w.standard }
 
 -- passing the products of the least rank leaves fewer
-module _ (found : ℕ) (ranks steps : List ℕ) (m : ℕ) (at : List ℕ) (r : ℕ) (e : least_of found ranks steps at m ≡ LeastRank.Of r) where
+module _ (found : ℕ) (ranks steps : List ℕ) (m : ℕ) (at : List ℕ) (r : ℕ) (e : least_of found ranks steps at m ≡ Some r) where
   pub passed_fewer : (next : List ℕ) → next ≡ products_passed found ranks steps r at m → m ≤ length at → remaining found next m < remaining found at m
   passed_fewer next f l =
       let u = least_of_lem found ranks steps at m r e in
@@ -228,15 +231,15 @@ module _ (m found : ℕ) (standard ranks steps : List ℕ) where
   search_start at = record { turns = m * found; enough = remaining_most found at m; reached = refl }
 
   module _ (at : List ℕ) (end : Searched) (w : Searching at end) where
-    pub search_none : least_of found ranks steps at m ≡ LeastRank.Nothing → search_ends Candidate.Nothing at ≡ end
+    pub search_none : least_of found ranks steps at m ≡ None → search_ends None at ≡ end
     unfolding next_from at_least
     search_none e = rw e at w.reached
 
-    module _ (r : ℕ) (e : least_of found ranks steps at m ≡ LeastRank.Of r) where
+    module _ (r : ℕ) (e : least_of found ranks steps at m ≡ Some r) where
       -- what the turn has found, and how many variables occur
       module _ (p : Parents) (g : p ≡ parents_of found ranks steps r at m) (next : List ℕ) (f : next ≡ products_passed found ranks steps r at m) (n : ℕ)
           (o : n ≡ occurring_in (take 8 (drop (8 * p.standard) standard)) p.variable 8) where
-        pub search_found : p.count ≡ n → search_ends (Candidate.Of p.variable p.standard r) next ≡ end
+        pub search_found : p.count ≡ n → search_ends (Some (record { variable = p.variable; standard = p.standard; rank = r })) next ≡ end
         unfolding next_from at_least
         search_found h =
             let z : is_whole standard p ≡ true = eq-eqb _ _ (h ∙ o) in

@@ -1,44 +1,50 @@
 -- The search for the next product: what one turn of each loop does.
-use mathlib.Core.Path.{◌≡◌, refl, sym, ◌∙◌}
+use mathlib.Core.Path.{◌≡◌, refl, sym, ap, ◌∙◌}
+use mathlib.Core.Bool.{cond}
 use mathlib.Core.List.{List}
-use Prim.Native.Nat.{ℕ, ◌+◌, ◌^◌, ◌<◌, ◌≤◌}
-use native.Mathlib.Nat.{le_antisymm}
+use Prim.Native.Nat.{ℕ, min, ◌+◌, ◌<◌, ◌≤◌, Ordering}
 use native.Mathlib.Numerals.{add-one}
 use native.Mathlib.Omega.{arith}
 use borrow.Author.Tests.{lt-ltb, le-ltb, eq-eqb, ne_eqb}
 use lib.ListN.{length, get_or, set, length-set}
-use Rattle.monomial.specs.declared.candidate.LeastRank.TheVariants as LeastRank
+use Rattle.std.specs.Prelude.{Option, Some, None}
+use Rattle.std.specs.Option.{MatchOption}
+use Rattle.std.specs.Ordering.{ord_min, nat_cmp, is_lt}
+use Rattle.std.specs.Cmp.{nat_cmp_is}
+use Rattle.std.specs.declared.cmp.Ordering.TheVariants.{Less, Equal, Greater}
+use Rattle.monomial.proofs.Orders.Answers.{Says, less, same, more, says}
 use Rattle.monomial.specs.declared.candidate.Parents.{Parents}
-use Rattle.monomial.specs.Candidate.{rank_at, lowest, least_of, products_passed, parents_of, occurring_in}
+use Rattle.monomial.specs.Candidate.{rank_at, lesser, least_of, products_passed, parents_of, occurring_in}
 
 abbrev pub parents : ℕ → ℕ → ℕ → Parents
 parents c k t = record { count = c; variable = k; standard = t }
+
+-- the library's lesser of two numbers
+pub ord_min_is : (b r : ℕ) → ord_min nat_cmp b r ≡ min b r
+ord_min_is b r = go (says r b)
+  where
+    go : {o : Ordering} → Says r b o → ord_min nat_cmp b r ≡ min b r
+    go (less h) = ap (λ o. cond (is_lt o) r b) (sym (nat_cmp_is r b Less h)) ∙ omega arith
+    go (same h) = ap (λ o. cond (is_lt o) r b) (sym (nat_cmp_is r b Equal h)) ∙ omega arith
+    go (more h) = ap (λ o. cond (is_lt o) r b) (sym (nat_cmp_is r b Greater h)) ∙ omega arith
+
+pub lesser_is : (o : Option ℕ) (r x : ℕ) {P : ℕ → Type 0} → MatchOption o (x ≡ r) P → ((b : ℕ) → P b → x ≡ min b r) → x ≡ lesser o r
+lesser_is None r x h f = h
+lesser_is (Some b) r x h f = f b h
 
 module _ (found : ℕ) (ranks steps : List ℕ) where
   abbrev rank : List ℕ → ℕ → ℕ
   rank at k = rank_at ranks steps at k
 
   -- the least rank
-  module _ (at : List ℕ) (k b : ℕ) (e : b ≡ lowest found ranks steps at k) where
-    pub lowest_shut : found ≤ get_or at k 0 → b ≡ lowest found ranks steps at (k + 1)
-    unfolding lowest
-    lowest_shut h = e ∙ sym (rw (add-one k, le-ltb (get_or at k 0) found h))
-
-    pub lowest_left : get_or at k 0 < found → b ≤ rank at k → b ≡ lowest found ranks steps at (k + 1)
-    unfolding lowest
-    lowest_left h l = e ∙ sym (rw (add-one k, lt-ltb (get_or at k 0) found h, le-ltb (rank at k) (lowest found ranks steps at k) (rw e at l)))
-
-    pub lowest_taken : get_or at k 0 < found → rank at k < b → rank at k ≡ lowest found ranks steps at (k + 1)
-    unfolding lowest
-    lowest_taken h l = sym (rw (add-one k, lt-ltb (get_or at k 0) found h, lt-ltb (rank at k) (lowest found ranks steps at k) (rw e at l)))
-
-    pub least_none : (m : ℕ) → m ≤ k → k ≤ m → b ≡ 2 ^ 63 → LeastRank.Nothing ≡ least_of found ranks steps at m
+  module _ (at : List ℕ) (k : ℕ) {b : Option ℕ} (e : b ≡ least_of found ranks steps at k) where
+    pub least_shut : found ≤ get_or at k 0 → b ≡ least_of found ranks steps at (k + 1)
     unfolding least_of
-    least_none m p q h = sym (rw (le_antisymm p q, ← e, eq-eqb b (2 ^ 63) h))
+    least_shut h = e ∙ sym (rw (add-one k, le-ltb (get_or at k 0) found h))
 
-    pub least_some : (m : ℕ) → m ≤ k → k ≤ m → ¬ (b ≡ 2 ^ 63) → LeastRank.Of b ≡ least_of found ranks steps at m
+    pub least_open : {x : ℕ} → get_or at k 0 < found → x ≡ lesser b (rank at k) → Some x ≡ least_of found ranks steps at (k + 1)
     unfolding least_of
-    least_some m p q h = sym (rw (le_antisymm p q, ← e, ne_eqb b (2 ^ 63) h))
+    least_open h f = rw (f, e) (sym (rw (add-one k, lt-ltb (get_or at k 0) found h)))
 
   -- the loop that passes the products of rank r has looked at the first k variables
   pub record Passing (r : ℕ) (at₀ : List ℕ) (k : ℕ) (at : List ℕ) (c v t : ℕ) : Type 0 where

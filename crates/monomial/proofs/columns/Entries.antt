@@ -21,13 +21,15 @@ module _ (k n : ℕ) (points : List ℕ) where
   unfolding column_of
   column_long = length-map (groups 8 n points) _ ∙ length_groups 8 n points
 
+  -- of point i
+  pub coordinate_at : (i : ℕ) → i < n → k < 8 → get_or (get_or (groups 8 n points) i []) k 0 ≡ get_or points (8 * i + k) 0
+  coordinate_at i h l =
+      ap (λ (P : List ℕ). get_or P k 0) (groups_at 8 n i points [] h) ∙ get_or-take 8 (drop (8 * i) points) k 0 l ∙ get_or-drop (8 * i) points k 0
+
   pub column_at : (i : ℕ) → i < n → k < 8 → get_or (column_of k n points) i 0 ≡ get_or points (8 * i + k) 0
   unfolding column_of
   column_at i h l =
-      map_at (λ P. get_or P k 0) (groups 8 n points) [] 0 i (rw (length_groups 8 n points) h)
-      ∙ ap (λ (P : List ℕ). get_or P k 0) (groups_at 8 n i points [] h)
-      ∙ get_or-take 8 (drop (8 * i) points) k 0 l
-      ∙ get_or-drop (8 * i) points k 0
+      map_at (λ P. get_or P k 0) (groups 8 n points) [] 0 i (rw (length_groups 8 n points) h) ∙ coordinate_at i h l
 
   pub column_below : (p : ℕ) → Below p points → k < 8 → 8 * n ≤ length points → Below p (column_of k n points)
   column_below p b l h i z = let e = column_long in rw (column_at i (omega arith) l) (b (8 * i + k) (omega arith))

@@ -4,24 +4,23 @@ use native.Mathlib.Omega.{arith}
 use Rattle.residue.proofs.level.Moduli.{modulus_range}
 use Rattle.residue.proofs.Replaced.{zeros_long}
 use Rattle.construction.proofs.drawing.Grounds.{points_long, points_below}
-use Rattle.construction.proofs.drawing.Loop.{head_start, own_below, cost_fits, kept_few, ends, ends_rows, costs, next_small, next_exponent, goes_on, head_sized, exponents_long, worked_long, worked_below, room_lead, keeps_lead, room_standard, keeps_standard, kept_sized}
+use Rattle.construction.proofs.drawing.Loop.{head_start, own_below, cost_fits, kept_few, ends, ends_rows, costs, next_small, next_exponent, goes_on, head_sized, worked_long, worked_below, room_lead, keeps_lead, room_standard, keeps_standard, kept_sized}
 use mathlib.Core.Logic.{⊎_elim}
 use mathlib.Core.List.{List}
 use Prim.Native.Nat.{ℕ, ◌+◌, ◌*◌, ◌<◌, ◌≤◌}
 use lib.ListN.{length, take, drop}
 use Rattle.residue.specs.Vector.{Below}
-use Rattle.residue.specs.Layout.{length_fill}
 use Rattle.elimination.proofs.rows.Zeros.{first_most}
 use Rattle.monomial.specs.Order.{order_of}
 use Rattle.monomial.specs.Columns.{column_of}
 use Rattle.monomial.specs.Rank.{rank_bound}
-use Rattle.monomial.proofs.rank.Steps.{steps_long, steps_below}
+use Rattle.monomial.proofs.rank.Steps.{steps_below}
 use Rattle.monomial.proofs.columns.Entries.{column_below, column_in}
 use Rattle.specification.proofs.agreement.Refusals.{light_under}
 use Rattle.construction.specs.Drawing.{product_values, PointsGiven}
 use Rattle.construction.proofs.drawing.LoopState.{DrawingSized, Kept, kept_as}
 use Rattle.construction.proofs.drawing.draw.Goals as goal
-use Rattle.construction.proofs.drawing.draw.Goals.{After-first_nonzero-q, After-keep, After-keep_lead, After-keep_standard, After-next, After-put_columns, After-put_exponents, After-put_steps_under, After-reduce-cancellations, After-struct_known-1, At-loop-exponents, Else-q-n, In-Of, Joined-q-n, Start, Then-q-n}
+use Rattle.construction.proofs.drawing.draw.Goals.{After-first_nonzero-q, After-keep, After-keep_lead, After-keep_standard, After-next, After-put_columns, After-exponents_of-exponents, After-put_steps_under, After-reduce-cancellations, After-struct_known-1, At-loop-exponents, Else-q-n, In-Some, Joined-q-n, Start, Then-q-n}
 
 -- what the sizes leave room for: the values of n points in a working row, one pivot row more, and as many monomials as there are points
 pub row_room : {n l : ℕ} → n ≤ 64 → l ≡ 128 → n ≤ l
@@ -50,9 +49,6 @@ module _ (l : At-loop-exponents) where
 
   pub head_sizes : DrawingSized start.args.settings.modulus start.args.n l.loop-exponents.found l.loop-exponents.standard l.loop-exponents.leads l.loop-exponents.coefficients l.loop-exponents.rows l.loop-exponents.pivots l.loop-exponents.values l.loop-exponents.ranks
   head_sizes = head_sized given l.loop-exponents.invariant
-
-  pub exponents_8 : length l.loop-exponents.exponents ≡ 8
-  exponents_8 = exponents_long given l.loop-exponents.invariant
 
   pub range : (2 ≤ start.args.settings.modulus) × (start.args.settings.modulus ≤ 61)
   range = modulus_range start.args.settings.modulus given.settings.modulus
@@ -139,14 +135,8 @@ module _ (j : Joined-q-n) where
   pub sizes : DrawingSized (start above).args.settings.modulus (start above).args.n j.if-q-n.found j.if-q-n.standard j.if-q-n.leads j.if-q-n.coefficients j.if-q-n.rows j.if-q-n.pivots j.if-q-n.values j.if-q-n.ranks
   sizes = kept_sized (given above) kept
 
-  pub steps_8 : length steps ≡ 8
-  steps_8 = ap length ranked.put_steps_under.ensures ∙ steps_long (order_of (start above).args.settings.order (start above).args.settings.weights)
-
   pub steps_small : Below rank_bound steps
   steps_small = subst (Below rank_bound) (sym ranked.put_steps_under.ensures) (steps_below (order_of (start above).args.settings.order (start above).args.settings.weights) (light_under (start above).args.settings (given above).settings.weights))
-
-  pub columns_512 : length columns ≡ 512
-  columns_512 = ap length gathered.put_columns.ensures ∙ length_fill 512 _
 
   module _ (k : ℕ) (h : k < 8) where
     column : take (start above).args.n (drop (64 * k) columns) ≡ column_of k (start above).args.n (start above).args.points.now
@@ -166,85 +156,55 @@ abbrev pub joined : After-next → Joined-q-n
 joined c = (goal.at.After-next c).Joined-q-n
 
 -- it is x_(k+1) times standard monomial t
-module _ (c : In-Of) where
+module _ (c : In-Some) where
   abbrev pub sought : After-next
-  sought = (goal.at.In-Of c).After-next
+  sought = (goal.at.In-Some c).After-next
 
   abbrev pub onward : Joined-q-n
   onward = joined sought
 
 -- and its exponents are written
-abbrev pub chosen : After-put_exponents → In-Of
-chosen c = (goal.at.After-put_exponents c).In-Of
+abbrev pub chosen : After-exponents_of-exponents → In-Some
+chosen c = (goal.at.After-exponents_of-exponents c).In-Some
 
 pub overflow_cast-p : goal.overflow_cast-p
 overflow_cast-p c = let g = (opened (goal.at.overflow_cast-p c).After-struct_known-1).requires.points_given in omega (arith, modulus_range _ g.settings.modulus)
-
-pub put_steps_under-requires : goal.put_steps_under-requires
-put_steps_under-requires c = ((opened (goal.at.put_steps_under-requires c).After-struct_known-1).requires.points_given.settings.order, refl)
-
-pub put_columns-requires : goal.put_columns-requires
-put_columns-requires c = let g = (opened (stepped (goal.at.put_columns-requires c).After-put_steps_under)).requires.points_given in record { points_len = (points_long g, g.most); columns_value = refl }
 
 pub loop-exponents-init : goal.loop-exponents-init
 loop-exponents-init c = let w = c in
     let s = opened (stepped (goal.at.loop-exponents-init w).After-put_steps_under) in
     head_start s.requires.points_given s.requires.standard_value.0 s.requires.standard_value.1.0 s.requires.standard_value.1.1 s.requires.rows_long.0 s.requires.rows_long.1 w.put_steps_under.ensures
 
-pub slice_bounds-reduce-end : goal.slice_bounds-reduce-end
-slice_bounds-reduce-end c = sym c.loop-exponents.invariant.in_hand.own_long
-
 pub reduce-cancellations-requires : goal.reduce-cancellations-requires
 reduce-cancellations-requires c = let l = c in
-    let z = head_sizes (goal.at.reduce-cancellations-requires l).At-loop-exponents in record { le_p = (range (goal.at.reduce-cancellations-requires l).At-loop-exponents, ((given (goal.at.reduce-cancellations-requires l).At-loop-exponents).most, z.found_room)); own_len = (l.loop-exponents.invariant.in_hand.own_long, (z.rows_long, z.pivots_long)); below = (own_below (given (goal.at.reduce-cancellations-requires l).At-loop-exponents) l.loop-exponents.invariant, z.rows_multiplied); by_index = z.pivots_inside; zero_behind = z.rows_zero; work_value = refl }
+    let z = head_sizes (goal.at.reduce-cancellations-requires l).At-loop-exponents in record { le_p = (range (goal.at.reduce-cancellations-requires l).At-loop-exponents, ((given (goal.at.reduce-cancellations-requires l).At-loop-exponents).most, z.found_room)); rows_long = (z.rows_long, z.pivots_long); below = (own_below (given (goal.at.reduce-cancellations-requires l).At-loop-exponents) l.loop-exponents.invariant, z.rows_multiplied); by_index = z.pivots_inside; zero_behind = z.rows_zero; work_value = refl }
 
 pub overflow_add-cancellations : goal.overflow_add-cancellations
 overflow_add-cancellations c = let e = c in
     let l = top (goal.at.overflow_add-cancellations e).After-reduce-cancellations in
     omega (arith, cost_fits (given l) l.loop-exponents.invariant e.reduce-cancellations.ensures.work_after e.reduce-cancellations.ensures.value)
 
-pub slice_bounds-first_nonzero-end : goal.slice_bounds-first_nonzero-end
-slice_bounds-first_nonzero-end c = sym (work_128 (goal.at.slice_bounds-first_nonzero-end c).After-reduce-cancellations)
-
 pub first_nonzero-q-requires : goal.first_nonzero-q-requires
 first_nonzero-q-requires c = let e = c in row_room (given (top (goal.at.first_nonzero-q-requires e).After-reduce-cancellations)).most (work_128 (goal.at.first_nonzero-q-requires e).After-reduce-cancellations)
-
-pub slice_bounds-keep_lead-end : goal.slice_bounds-keep_lead-end
-slice_bounds-keep_lead-end c = sym (exponents_8 (head (goal.at.slice_bounds-keep_lead-end c).After-first_nonzero-q))
-
-pub slice_bounds-keep_lead-end-then-q-n : goal.slice_bounds-keep_lead-end-then-q-n
-slice_bounds-keep_lead-end-then-q-n c = sym (work_128 (reduced (goal.at.slice_bounds-keep_lead-end-then-q-n c).After-first_nonzero-q))
 
 pub keep_lead-requires : goal.keep_lead-requires
 keep_lead-requires c = let t = c in
     let l = head (goal.at.keep_lead-requires t).After-first_nonzero-q in
-    let z = head_sizes l in record { n_bound = ((given l).most, (z.found_room, lead_fits (goal.at.keep_lead-requires t).After-first_nonzero-q t.if-q-n.true)); exponents_len = (exponents_8 l, (z.leads_long, z.coefficients_long)); work_len = work_128 (reduced (goal.at.keep_lead-requires t).After-first_nonzero-q) }
+    let z = head_sizes l in record { n_bound = ((given l).most, (z.found_room, lead_fits (goal.at.keep_lead-requires t).After-first_nonzero-q t.if-q-n.true)); leads_len = (z.leads_long, z.coefficients_long); work_len = work_128 (reduced (goal.at.keep_lead-requires t).After-first_nonzero-q) }
 
 pub overflow_add-r : goal.overflow_add-r
 overflow_add-r c = let t = as_lead (goal.at.overflow_add-r c).After-keep_lead in omega (arith, lead_fits (goal.at.Then-q-n t).After-first_nonzero-q t.if-q-n.true)
 
-pub slice_bounds-keep_standard-end : goal.slice_bounds-keep_standard-end
-slice_bounds-keep_standard-end c = sym (exponents_8 (head (goal.at.slice_bounds-keep_standard-end c).After-first_nonzero-q))
-
-pub slice_bounds-keep_standard-end-else-q-n : goal.slice_bounds-keep_standard-end-else-q-n
-slice_bounds-keep_standard-end-else-q-n c = sym (head (goal.at.slice_bounds-keep_standard-end-else-q-n c).After-first_nonzero-q).loop-exponents.invariant.in_hand.own_long
-
-pub slice_bounds-keep_standard-end-else-q-n-2 : goal.slice_bounds-keep_standard-end-else-q-n-2
-slice_bounds-keep_standard-end-else-q-n-2 c = sym (head_sizes (head (goal.at.slice_bounds-keep_standard-end-else-q-n-2 c).After-first_nonzero-q)).values_long
-
 pub keep_standard-requires : goal.keep_standard-requires
 keep_standard-requires c = let e = c in
     let l = head (goal.at.keep_standard-requires e).After-first_nonzero-q in
-    let z = head_sizes l in record { found_bound = found_64 (goal.at.keep_standard-requires e).Else-q-n; exponents_len = (exponents_8 l, l.loop-exponents.invariant.in_hand.own_long); standard_len = (z.standard_long, z.values_long) }
+    let z = head_sizes l in record { found_bound = found_64 (goal.at.keep_standard-requires e).Else-q-n; standard_len = (z.standard_long, z.values_long) }
 
 pub offset_bounds-ranks-found : goal.offset_bounds-ranks-found
 offset_bounds-ranks-found c = omega (arith, found_64 (as_standard (goal.at.offset_bounds-ranks-found c).After-keep_standard))
 
 pub bounds-ranks-found : goal.bounds-ranks-found
 bounds-ranks-found c = let e = as_standard (goal.at.bounds-ranks-found c).After-keep_standard in omega (arith, found_64 e, (head_sizes (head (goal.at.Else-q-n e).After-first_nonzero-q)).ranks_long)
-
-pub slice_bounds-keep-end : goal.slice_bounds-keep-end
-slice_bounds-keep-end c = sym (work_128 (reduced (goal.at.Else-q-n (as_standard (goal.at.slice_bounds-keep-end c).After-keep_standard)).After-first_nonzero-q))
 
 pub keep-requires : goal.keep-requires
 keep-requires c = let e = as_standard (goal.at.keep-requires c).After-keep_standard in
@@ -254,20 +214,6 @@ keep-requires c = let e = as_standard (goal.at.keep-requires c).After-keep_stand
 
 pub overflow_add-found : goal.overflow_add-found
 overflow_add-found c = omega (arith, found_64 (as_standard (with_values (goal.at.overflow_add-found c).After-keep)))
-
-pub slice_bounds-next-end : goal.slice_bounds-next-end
-slice_bounds-next-end c = sym (sizes (goal.at.slice_bounds-next-end c).Joined-q-n).ranks_long
-
-pub slice_bounds-next-end-in-loop-exponents : goal.slice_bounds-next-end-in-loop-exponents
-slice_bounds-next-end-in-loop-exponents c = sym (steps_8 (goal.at.slice_bounds-next-end-in-loop-exponents c).Joined-q-n)
-
-pub slice_bounds-next-end-in-loop-exponents-2 : goal.slice_bounds-next-end-in-loop-exponents-2
-slice_bounds-next-end-in-loop-exponents-2 c = sym (above (goal.at.slice_bounds-next-end-in-loop-exponents-2 c).Joined-q-n).loop-exponents.invariant.in_hand.long
-
-pub next-requires : goal.next-requires
-next-requires c = let j = c in
-    let z = sizes (goal.at.next-requires j).Joined-q-n in
-    let g = given (above (goal.at.next-requires j).Joined-q-n) in record { m_bound = (g.settings.few, within_64 z.found_room g.most); standard_len = (z.standard_long, z.ranks_long, steps_8 (goal.at.next-requires j).Joined-q-n, (above (goal.at.next-requires j).Joined-q-n).loop-exponents.invariant.in_hand.long); below = z.ranks_below; below_2 = steps_small (goal.at.next-requires j).Joined-q-n }
 
 pub shape_of-standard-in_default : goal.shape_of-standard-in_default
 shape_of-standard-in_default c = let j = joined (goal.at.shape_of-standard-in_default c).After-next in
@@ -299,39 +245,52 @@ returns-in_default c = let s = c in
     let k = kept (joined (goal.at.returns-in_default s).After-next) in
     let z = c.in_default.is in record { drawn_up = ends g k z s.next.ensures; cancellations_value = costs g k z s.next.ensures; pivots_after = ends_rows g k z s.next.ensures }
 
-pub slice_bounds-put_exponents-end : goal.slice_bounds-put_exponents-end
-slice_bounds-put_exponents-end c = sym (exponents_8 (above (onward (goal.at.slice_bounds-put_exponents-end c).In-Of)))
-
-pub put_exponents-requires : goal.put_exponents-requires
-put_exponents-requires c = let u = c in
-    let j = onward (goal.at.put_exponents-requires u).In-Of in
-    let z = u.in-Of.is in
-    let e = (sought (goal.at.put_exponents-requires u).In-Of).next.ensures in
-    let f = next_small (given (above j)) (kept j) z e in record { k_bound = (f.0, (f.1, ((sizes j).standard_long, exponents_8 (above j)))); k_bound_2 = next_exponent (given (above j)) (kept j) z e }
-
-pub slice_bounds-put_values-end : goal.slice_bounds-put_values-end
-slice_bounds-put_values-end c = sym (columns_512 (onward (chosen (goal.at.slice_bounds-put_values-end c).After-put_exponents)))
-
-pub slice_bounds-put_values-end-in-loop-exponents : goal.slice_bounds-put_values-end-in-loop-exponents
-slice_bounds-put_values-end-in-loop-exponents c = sym (sizes (onward (chosen (goal.at.slice_bounds-put_values-end-in-loop-exponents c).After-put_exponents))).values_long
-
-pub slice_bounds-put_values-end-in-loop-exponents-2 : goal.slice_bounds-put_values-end-in-loop-exponents-2
-slice_bounds-put_values-end-in-loop-exponents-2 c = sym (above (onward (chosen (goal.at.slice_bounds-put_values-end-in-loop-exponents-2 c).After-put_exponents))).loop-exponents.invariant.in_hand.own_long
-
-pub put_values-requires : goal.put_values-requires
-put_values-requires c = let u = chosen (goal.at.put_values-requires c).After-put_exponents in
-    let j = onward u in
-    let l = above j in
-    let f = next_small (given l) (kept j) u.in-Of.is (sought u).next.ensures in record { le_p = (range l, ((given l).most, (f.0, f.1))); columns_len = (columns_512 j, ((sizes j).values_long, l.loop-exponents.invariant.in_hand.own_long)); below = (column_small j _ f.0, (sizes j).values_below) }
-
 pub loop-exponents-smaller : goal.loop-exponents-smaller
-loop-exponents-smaller c = let j = onward (chosen (goal.at.loop-exponents-smaller c).After-put_exponents) in
+loop-exponents-smaller c = let j = onward (chosen (goal.at.loop-exponents-smaller c).After-exponents_of-exponents) in
     omega (arith, one_more j, kept_few (given (above j)) (kept j))
 
 pub loop-exponents-preserved : goal.loop-exponents-preserved
 loop-exponents-preserved c = let w = c in
-    let u = chosen (goal.at.loop-exponents-preserved w).After-put_exponents in
+    let u = chosen (goal.at.loop-exponents-preserved w).After-exponents_of-exponents in
     let j = onward u in
-    let z = u.in-Of.is in
+    let z = u.in-Some.is in
     let e = (sought u).next.ensures in
-    goes_on (given (above j)) (kept j) z e w.put_exponents.ensures (values_are j _ (next_small (given (above j)) (kept j) z e).0 _ c.put_values.ensures)
+    goes_on (given (above j)) (kept j) z e w.exponents_of-exponents.ensures (values_are j _ (next_small (given (above j)) (kept j) z e).0 _ c.put_values.ensures)
+
+pub put_columns-requires-clause-points_len : goal.put_columns-requires-clause-points_len
+put_columns-requires-clause-points_len c = (points_long c.requires.points_given, c.requires.points_given.most)
+
+pub next-requires-clause-m_bound : goal.next-requires-clause-m_bound
+next-requires-clause-m_bound c = (c.requires.points_given.settings.few, within_64 (sizes (goal.at.next-requires-clause-m_bound c).Joined-q-n).found_room c.requires.points_given.most)
+
+pub next-requires-clause-below : goal.next-requires-clause-below
+next-requires-clause-below c = (sizes (goal.at.next-requires-clause-below c).Joined-q-n).ranks_below
+
+pub next-requires-clause-below_2 : goal.next-requires-clause-below_2
+next-requires-clause-below_2 c = steps_small (goal.at.next-requires-clause-below_2 c).Joined-q-n
+
+-- the product found is of the space, and its exponents are bytes
+small : (c : In-Some) → (c.in-Some.product.variable < 8) × (c.in-Some.product.standard < 64)
+small c = let j = onward c in next_small (given (above j)) (kept j) c.in-Some.is c.next.ensures
+
+pub exponents_of-exponents-requires-clause-product_bound : goal.exponents_of-exponents-requires-clause-product_bound
+exponents_of-exponents-requires-clause-product_bound c =
+    let u = (goal.at.exponents_of-exponents-requires-clause-product_bound c).In-Some in
+    let f = small u in
+    (f.0, (f.1, (sizes (onward u)).standard_long))
+
+pub exponents_of-exponents-requires-clause-exponent_bound : goal.exponents_of-exponents-requires-clause-exponent_bound
+exponents_of-exponents-requires-clause-exponent_bound c =
+    let j = onward (goal.at.exponents_of-exponents-requires-clause-exponent_bound c).In-Some in
+    next_exponent (given (above j)) (kept j) c.in-Some.is c.next.ensures
+
+pub put_values-requires-clause-le_p : goal.put_values-requires-clause-le_p
+put_values-requires-clause-le_p c =
+    let u = (goal.at.put_values-requires-clause-le_p c).In-Some in
+    let l = above (onward u) in
+    (range l, ((given l).most, small u))
+
+pub put_values-requires-clause-below : goal.put_values-requires-clause-below
+put_values-requires-clause-below c =
+    let u = (goal.at.put_values-requires-clause-below c).In-Some in
+    (column_small (onward u) _ (small u).0, (sizes (onward u)).values_below)

@@ -49,9 +49,6 @@ module _ (c : After-slice_known-5-1) where
       c.copy.ensures refl c.copy-2.ensures
       ∙ ap (λ (z : List ℕ). fill 64 (inserted_at s.args.place s.args.factor z)) e
 
-pub add_scaled-requires : goal.add_scaled-requires
-add_scaled-requires c = let s = c in record { le_p = s.requires.le_p; dst_len = s.requires.gone_len.1 ∙ sym s.requires.gone_len.0; below = s.requires.below_2; c_lt_p = s.requires.place_bound.1; below_2 = s.requires.below }
-
 pub slice_bounds-copy-end-2 : goal.slice_bounds-copy-end-2
 slice_bounds-copy-end-2 c = let s = c in
     sym (length-take-le s.args.place c.add_scaled.new.dst (omega (arith, long (goal.at.slice_bounds-copy-end-2 s).Start _ c.add_scaled.ensures)))
@@ -75,9 +72,6 @@ copy-requires-2 c = let s = c in
     let whole : length (set row s.args.place s.args.factor) ≡ 64 = simp length-set (omega (arith, c.copy.auto.to)) in
     let part = length-take-le n (drop (s.args.place + 1) (set row s.args.place s.args.factor)) (simp length-drop (omega arith)) in
     omega (arith, length-take (63 - s.args.place) (drop s.args.place S))
-
-pub shape_of-coefficients : goal.shape_of-coefficients
-shape_of-coefficients c = c.add_scaled.auto.dst
 
 pub shape_of-row : goal.shape_of-row
 shape_of-row c = ap length (whole (goal.at.shape_of-row c).After-slice_known-5-1) ∙ length_corrected _ _ _ _ _ ∙ sym (start (goal.at.shape_of-row c).After-slice_known-5-1).requires.gone_len.2

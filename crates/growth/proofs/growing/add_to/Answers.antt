@@ -1,7 +1,8 @@
 -- `growing::add_to` meets its contract.
-use mathlib.Core.Path.{sym, subst}
-use Prim.Native.Nat.{◌≤◌}
+use mathlib.Core.Path.{refl, sym, ap, subst, ◌∙◌}
+use Prim.Native.Nat.{◌≤◌, ◌<◌}
 use native.Mathlib.Omega.{arith}
+use Rattle.std.specs.Option.{unwrap_or}
 use Rattle.residue.specs.Vector.{Below}
 use Rattle.residue.specs.Layout.{groups}
 use Rattle.residue.proofs.level.Moduli.{modulus_range}
@@ -10,66 +11,79 @@ use Rattle.monomial.specs.Monomial.{monomial_at}
 use Rattle.construction.proofs.drawing.Grounds.{points_long, points_below}
 use Rattle.growth.proofs.Added.{Sound, sound, inside, added}
 use Rattle.growth.proofs.growing.add_to.Goals as goal
-use Rattle.growth.proofs.growing.add_to.Goals.{After-first_row-j, After-values_at, Start}
+use Rattle.growth.proofs.growing.add_to.Goals.{After-values_at, After-first_row, Start}
 
--- the calls, one from the next
-abbrev start : After-values_at → Start
-start d = (goal.at.After-values_at d).Start
+module _ (c : Start) where
+  fine : Sound c.requires.points_given c.requires.drawn_up c.requires.n_bound c.requires.new_point
+  fine = sound c.requires.points_given c.requires.drawn_up c.requires.n_bound c.requires.new_point
 
-abbrev valued : After-first_row-j → After-values_at
-valued d = (goal.at.After-first_row-j d).After-values_at
-
-module _ (s : Start) where
-  fine : Sound s.requires.points_given s.requires.drawn_up s.requires.n_bound s.requires.new_point
-  fine = sound s.requires.points_given s.requires.drawn_up s.requires.n_bound s.requires.new_point
-
-  low : 2 ≤ s.args.settings.modulus
-  low = omega (arith, modulus_range s.args.settings.modulus s.requires.points_given.settings.modulus)
-
-  high : s.args.settings.modulus ≤ 61
-  high = omega (arith, modulus_range s.args.settings.modulus s.requires.points_given.settings.modulus)
+  range : (2 ≤ c.args.settings.modulus) × (c.args.settings.modulus ≤ 61)
+  range = modulus_range c.args.settings.modulus c.requires.points_given.settings.modulus
 
 -- the values are residues
-small : (d : After-values_at) → Below (start d).args.settings.modulus d.values_at.new.values
-small d =
-    let s = start d in
-    subst (Below s.args.settings.modulus) (sym d.values_at.ensures) (remainders_below s.args.settings.modulus (monomial_at s.args.point.now) (groups 8 s.args.n s.args.standard.now) 64 (omega (arith, low s)))
+small : (c : After-values_at) → Below c.args.settings.modulus c.values_at.new.values
+small c =
+    let s = c.args in
+    let p = s.settings.modulus in
+    let m = range (goal.at.After-values_at c).Start in
+    subst (Below p) (sym c.values_at.ensures) (remainders_below p (monomial_at s.point.now) (groups 8 s.n s.standard.now) 64 (omega (arith, m.0)))
+
+-- a row is not 0 at the point
+found : (c : After-first_row) → unwrap_or c.first_row.result c.args.r < c.args.r
+found c = rw c.first_row.ensures (inside c.requires.points_given c.requires.drawn_up c.requires.n_bound c.requires.new_point _ c.values_at.ensures _ refl)
 
 pub overflow_cast-p : goal.overflow_cast-p
-overflow_cast-p c = omega (arith, high (goal.at.overflow_cast-p c).Start)
+overflow_cast-p c = omega (arith, range (goal.at.overflow_cast-p c).Start)
 
-pub values_at-requires : goal.values_at-requires
-values_at-requires c = let s = c in
-    let h = fine (goal.at.values_at-requires s).Start in record { le_p = (low (goal.at.values_at-requires s).Start, high (goal.at.values_at-requires s).Start); k_in_bounds = (omega (arith, s.requires.n_bound, h.standard_size_lem), omega (arith, s.requires.n_bound)); point_len = (h.point_size, s.requires.new_point.below) }
+pub values_at-requires-clause-le_p : goal.values_at-requires-clause-le_p
+values_at-requires-clause-le_p c = range (goal.at.values_at-requires-clause-le_p c).Start
 
-pub slice_bounds-first_row-end : goal.slice_bounds-first_row-end
-slice_bounds-first_row-end c = sym c.values_at.auto.values
+pub values_at-requires-clause-k_in_bounds : goal.values_at-requires-clause-k_in_bounds
+values_at-requires-clause-k_in_bounds c = (omega (arith, (fine (goal.at.values_at-requires-clause-k_in_bounds c).Start).standard_size_lem), omega arith)
 
-pub first_row-j-requires : goal.first_row-j-requires
-first_row-j-requires c = let d = c in
-    let s = start (goal.at.first_row-j-requires d).After-values_at in
-    let h = fine s in record { le_p = (low s, high s, omega (arith, s.requires.n_bound)); point_len = (h.point_size, omega (arith, s.requires.n_bound, d.values_at.auto.values)); r_in_bounds = (omega (arith, h.most, h.leads_size_lem), omega (arith, h.most, h.rows_size)); below = s.requires.new_point.below; below_2 = (small (goal.at.first_row-j-requires d).After-values_at, h.residues) }
+pub values_at-requires-clause-point_len : goal.values_at-requires-clause-point_len
+values_at-requires-clause-point_len c = ((fine (goal.at.values_at-requires-clause-point_len c).Start).point_size, c.requires.new_point.below)
 
-pub slice_bounds-grow-end : goal.slice_bounds-grow-end
-slice_bounds-grow-end c = sym c.values_at.auto.values
+pub first_row-requires-clause-le_p : goal.first_row-requires-clause-le_p
+first_row-requires-clause-le_p c = let m = range (goal.at.first_row-requires-clause-le_p c).Start in (m.0, m.1, omega arith)
 
-pub grow-requires : goal.grow-requires
-grow-requires c = let r = c in
-    let d = valued (goal.at.grow-requires r).After-first_row-j in
-    let s = start d in
-    let h = fine s in record { accepted = (s.requires.points_given.settings, s.requires.n_bound); j_lt_r = (inside s.requires.points_given s.requires.drawn_up s.requires.n_bound s.requires.new_point _ d.values_at.ensures _ r.first_row-j.ensures, h.most, h.few, points_long s.requires.points_given, s.requires.drawn_up.pivot_rows.long_rows); standard_len = (h.standard_size_lem, h.leads_size_lem, h.rows_size, h.point_size, d.values_at.auto.values); below = (points_below s.requires.points_given, h.residues, h.multiplied, s.requires.new_point.below, small d); pivots_len = (s.requires.drawn_up.pivot_rows.long_pivots, h.within); by_index = h.exponents; new_standard_value = s.requires.new_standard_value }
+pub first_row-requires-clause-point_len : goal.first_row-requires-clause-point_len
+first_row-requires-clause-point_len c = ((fine (goal.at.first_row-requires-clause-point_len c).Start).point_size, omega (arith, c.values_at.auto.values))
 
-pub shape_of-new_standard : goal.shape_of-new_standard
-shape_of-new_standard c = c.grow.auto.new_standard
+pub first_row-requires-clause-r_in_bounds : goal.first_row-requires-clause-r_in_bounds
+first_row-requires-clause-r_in_bounds c =
+    let h = fine (goal.at.first_row-requires-clause-r_in_bounds c).Start in
+    (omega (arith, h.most, h.leads_size_lem), omega (arith, h.most, h.rows_size))
 
-pub shape_of-new_leads : goal.shape_of-new_leads
-shape_of-new_leads c = c.grow.auto.new_leads
+pub first_row-requires-clause-below_2 : goal.first_row-requires-clause-below_2
+first_row-requires-clause-below_2 c = (small (goal.at.first_row-requires-clause-below_2 c).After-values_at, (fine (goal.at.first_row-requires-clause-below_2 c).Start).residues)
 
-pub shape_of-new_coefficients : goal.shape_of-new_coefficients
-shape_of-new_coefficients c = c.grow.auto.new_coefficients
+pub returns-in_default : goal.returns-in_default
+returns-in_default c = let f = found (goal.at.returns-in_default c).After-first_row in absurd (omega (arith, ap (λ o. unwrap_or o c.args.r) c.in_default.is))
+
+pub grow-requires-clause-j_lt_r : goal.grow-requires-clause-j_lt_r
+grow-requires-clause-j_lt_r c =
+    let h = fine (goal.at.grow-requires-clause-j_lt_r c).Start in
+    let f = found (goal.at.grow-requires-clause-j_lt_r c).After-first_row in
+    (omega (arith, ap (λ o. unwrap_or o c.args.r) c.in-Some.is), h.most, h.few, points_long c.requires.points_given, c.requires.drawn_up.pivot_rows.long_rows)
+
+pub grow-requires-clause-standard_len : goal.grow-requires-clause-standard_len
+grow-requires-clause-standard_len c =
+    let h = fine (goal.at.grow-requires-clause-standard_len c).Start in
+    (h.standard_size_lem, h.leads_size_lem, h.rows_size, h.point_size, c.values_at.auto.values)
+
+pub grow-requires-clause-below : goal.grow-requires-clause-below
+grow-requires-clause-below c =
+    let h = fine (goal.at.grow-requires-clause-below c).Start in
+    (points_below c.requires.points_given, h.residues, h.multiplied, c.requires.new_point.below, small (goal.at.grow-requires-clause-below c).After-values_at)
+
+pub grow-requires-clause-pivots_len : goal.grow-requires-clause-pivots_len
+grow-requires-clause-pivots_len c = (c.requires.drawn_up.pivot_rows.long_pivots, (fine (goal.at.grow-requires-clause-pivots_len c).Start).within)
+
+pub grow-requires-clause-by_index : goal.grow-requires-clause-by_index
+grow-requires-clause-by_index c = (fine (goal.at.grow-requires-clause-by_index c).Start).exponents
 
 pub returns : goal.returns
-returns c = let r = c in
-    let d = valued (goal.at.returns r).After-first_row-j in
-    let s = start d in
-    added s.requires.points_given s.requires.drawn_up s.requires.n_bound s.requires.new_point _ d.values_at.ensures _ r.first_row-j.ensures _ _ _ _ c.grow.ensures.new_standard_after c.grow.ensures.new_coefficients_after
+returns c =
+    added c.requires.points_given c.requires.drawn_up c.requires.n_bound c.requires.new_point _ c.values_at.ensures _
+    (sym (ap (λ o. unwrap_or o c.args.r) c.in-Some.is) ∙ c.first_row.ensures) _ _ _ _ c.grow.ensures.new_standard_after c.grow.ensures.new_coefficients_after

@@ -1,12 +1,11 @@
 -- `products::add_products` meets its contract. The products with the first v variables are put in.
 use mathlib.Core.Path.{◌≡◌}
-use Prim.Native.Nat.{◌-◌, ◌≤◌}
 use Rattle.growth.specs.Growing.{grown, products_put}
 use Rattle.specification.specs.Tables.{order_under}
 use Rattle.growth.proofs.products.add_products.Given as goal
 
 abbrev pub invariant-loop-v : goal.invariant-loop-v
-invariant-loop-v l = (l.v ≤ l.m) × (grown l.count l.leads l.coefficients ≡ products_put l.settings.modulus (order_under l.settings) l.n l.points l.rows l.pivots l.place l.inverse l.gone l.point l.values l.k l.others l.lead l.v (grown l.k l.initial.leads l.initial.coefficients))
-
-abbrev pub decreases-loop-v : goal.decreases-loop-v
-decreases-loop-v l = l.m - l.v
+invariant-loop-v l =
+    let x = l.addition in
+    grown l.count l.leads l.coefficients
+    ≡ products_put x.p (order_under l.settings) x.n x.points.now x.rows.now x.pivots.now x.place x.inverse x.gone.now x.point.now x.values.now l.k l.others l.lead l.v (grown l.k l.initial.leads l.initial.coefficients)

@@ -1,5 +1,5 @@
 -- `products::put_row` meets its contract.
-use mathlib.Core.Path.{◌≡◌, sym, ap, subst, ◌∙◌, refl}
+use mathlib.Core.Path.{◌≡◌, sym, ap, subst, ◌∙◌}
 use mathlib.Core.List.{List, [], ◌∷◌, map}
 use Prim.Native.Nat.{ℕ, zero, suc, ◌+◌, ◌*◌, ◌-◌, ◌%◌, ◌<◌, ◌≤◌}
 use native.Mathlib.Omega.{arith}
@@ -17,7 +17,7 @@ use Rattle.monomial.proofs.insert.Writes.{row_in_lem}
 use Rattle.growth.specs.Growing.{corrected_row, reduced_row}
 use Rattle.growth.proofs.NewRows.{one_term}
 use Rattle.growth.proofs.products.put_row.Goals as goal
-use Rattle.growth.proofs.products.put_row.Goals.{After-correct, After-eliminate, After-move_on, After-put_term_values, After-slice_known-3-1, After-work-1, After-work-3-1, After-work-5-1, Start}
+use Rattle.growth.proofs.products.put_row.Goals.{After-put_term_values, After-eliminate}
 
 -- 1 is a residue
 one : {p : ℕ} (i : ℕ) → i < 1 → 2 ≤ p → get_or (1 ∷ []) i 0 < p
@@ -44,84 +44,37 @@ left_is p n points rows pivots a values left ev el =
 left_residues : (p n : ℕ) (rows pivots values : List ℕ) {left : List ℕ} → 2 ≤ p → n < 64 → length rows ≡ 73728 → length values ≡ 128 → Below p values → left ≡ eliminated p rows pivots n values → Below p left
 left_residues p n rows pivots values h k l e b el = subst (Below p) (sym el) (eliminated_below p rows pivots values e (omega arith) b n (omega arith))
 
--- the places, one from the next: the values are put, and reduced
-abbrev opened : After-work-1 → Start
-opened d = (goal.at.After-work-1 d).Start
-
-abbrev start : After-put_term_values → Start
-start d = opened (goal.at.After-put_term_values d).After-work-1
-
-abbrev valued : After-work-3-1 → After-put_term_values
-valued d = (goal.at.After-work-3-1 d).After-put_term_values
-
--- room is made, and the row is corrected in it
-abbrev reduced : After-move_on → After-eliminate
-reduced d = (goal.at.After-move_on d).After-eliminate
-
-abbrev moved : After-work-5-1 → After-move_on
-moved d = (goal.at.After-work-5-1 d).After-move_on
-
-abbrev corrected : After-slice_known-3-1 → After-correct
-corrected d = (goal.at.After-slice_known-3-1 d).After-correct
-
 -- the values are those of the monomial, zeros behind: residues
+module _ (c : After-put_term_values) where
+  loaded : c.put_term_values.new.work ≡ over (map (λ point. monomial_at point c.args.a.now % c.args.addition.now.p) (groups 8 c.args.addition.now.n c.args.addition.now.points.now)) (replicate 128 0)
+  loaded =
+      let x = c.args.addition.now in
+      c.put_term_values.ensures ∙ ap (λ (l : List ℕ). over l (replicate 128 0)) (one_term x.p x.n c.args.a.now x.points.now (omega arith))
 
-module _ (d : After-put_term_values) where
-  abbrev s : Start
-  s = start d
-
-  abbrev work : List ℕ
-  work = d.put_term_values.new.work
-
-  loaded : work ≡ over (map (λ point. monomial_at point s.args.a.now % s.args.p) (groups 8 s.args.n s.args.points.now)) (replicate 128 0)
-  loaded = d.put_term_values.ensures ∙ ap (λ (l : List ℕ). over l (replicate 128 0)) (one_term s.args.p s.args.n s.args.a.now s.args.points.now s.requires.gone_len.3)
-
-  below : Below s.args.p work
-  below = subst (Below s.args.p) (sym loaded) (remainders_below s.args.p (λ point. monomial_at point s.args.a.now) (groups 8 s.args.n s.args.points.now) 128 (omega (arith, s.requires.le_p)))
+  below : Below c.args.addition.now.p c.put_term_values.new.work
+  below =
+      let x = c.args.addition.now in
+      subst (Below x.p) (sym loaded) (remainders_below x.p (λ point. monomial_at point c.args.a.now) (groups 8 x.n x.points.now) 128 (omega arith))
 
 -- what elimination leaves of them
-module _ (e : After-eliminate) where
-  abbrev put : After-put_term_values
-  put = valued (goal.at.After-eliminate e).After-work-3-1
+left_below : (c : After-eliminate) → Below c.args.addition.now.p c.eliminate.new.work
+left_below c =
+    let x = c.args.addition.now in
+    left_residues x.p x.n x.rows.now x.pivots.now c.put_term_values.new.work (omega arith) (omega arith) (omega arith) c.put_term_values.auto.work
+    (below (goal.at.After-eliminate c).After-put_term_values) c.eliminate.ensures.work_after
 
-  abbrev o : Start
-  o = start put
+pub eliminate-requires-clause-multiplied : goal.eliminate-requires-clause-multiplied
+eliminate-requires-clause-multiplied c = (c.args.addition.now.residues.1, below (goal.at.eliminate-requires-clause-multiplied c).After-put_term_values)
 
-  abbrev left : List ℕ
-  left = e.eliminate.new.work
-
-  left_long : length left ≡ 128
-  left_long = e.eliminate.auto.work ∙ put.put_term_values.auto.work
-
-  left_below : Below o.args.p left
-  left_below = left_residues o.args.p o.args.n o.args.rows.now o.args.pivots.now (work put) o.requires.le_p.0 o.requires.le_p.2 o.requires.points_len.1 put.put_term_values.auto.work (below put) e.eliminate.ensures.work_after
-
-pub put_term_values-requires : goal.put_term_values-requires
-put_term_values-requires c = let s = opened (goal.at.put_term_values-requires c).After-work-1 in record { le_p = (s.requires.le_p.0, s.requires.le_p.1); below = (λ i h. one i h s.requires.le_p.0); exponents_len = s.requires.gone_len.3; n_bound = (omega arith, (s.requires.points_len.0, s.requires.below.0)); work_value = refl }
-
-pub slice_bounds-eliminate-end : goal.slice_bounds-eliminate-end
-slice_bounds-eliminate-end c = sym (valued (goal.at.slice_bounds-eliminate-end c).After-work-3-1).put_term_values.auto.work
-
-pub eliminate-requires : goal.eliminate-requires
-eliminate-requires c = let d = valued (goal.at.eliminate-requires c).After-work-3-1 in
-    let s = start d in record { le_p = (s.requires.le_p.0, s.requires.le_p.1, omega arith); zero_behind = λ t j h l m. absurd (omega arith); work_len = d.put_term_values.auto.work; found_in_bounds = (omega arith, omega arith); multiplied = (s.requires.below.1, below d); by_index = λ t h. omega (arith, s.requires.by_index t (omega (arith, h))) }
-
-pub overflow_add-from : goal.overflow_add-from
-overflow_add-from c = omega (arith, (o (reduced (moved (goal.at.overflow_add-from c).After-work-5-1))).requires.i_le_k)
-
-pub slice_bounds-correct-end : goal.slice_bounds-correct-end
-slice_bounds-correct-end c = omega (arith, (o (reduced (moved (goal.at.slice_bounds-correct-end c).After-work-5-1))).requires.i_le_k)
-
-pub correct-requires : goal.correct-requires
-correct-requires c = let m = moved (goal.at.correct-requires c).After-work-5-1 in
-    let e = reduced m in
-    let s = o e in record { le_p = (s.requires.le_p.0, s.requires.le_p.1, s.requires.le_p.3, s.requires.le_p.4); point_len = (s.requires.gone_len.1, s.requires.gone_len.3, s.requires.gone_len.2); gone_len = (s.requires.gone_len.0, left_64 s.args.n (left e) s.requires.le_p.2 (left_long e), place_64 s.args.k s.args.i s.args.table.now _ s.requires.i_le_k.0 s.requires.i_le_k.2 m.move_on.auto.table); below = (s.requires.below.3, s.requires.below.4); below_2 = (s.requires.below.2, below_take s.args.p (s.args.n + 64 - s.args.n) (drop s.args.n (left e)) (below_drop s.args.p s.args.n (left e) (left_below e))) }
+pub correct-requires-clause-below : goal.correct-requires-clause-below
+correct-requires-clause-below c =
+    let x = c.args.addition.now in
+    let left = c.eliminate.new.work in
+    below_take x.p (x.n + 64 - x.n) (drop x.n left) (below_drop x.p x.n left (left_below (goal.at.correct-requires-clause-below c).After-eliminate))
 
 pub returns : goal.returns
-returns c = let k = corrected (goal.at.returns c).After-slice_known-3-1 in
-    let m = moved (goal.at.After-correct k).After-work-5-1 in
-    let e = reduced m in
-    let s = o e in
-    row_in_lem 64 s.args.k s.args.i _ _ s.args.table.now m.move_on.new.table k.correct.new.row (mul-le-mul_left 64 s.requires.i_le_k.0) s.requires.i_le_k.2 (width (64 * s.args.i) 64) m.move_on.ensures
-    (k.correct.ensures.row_after ∙ ap (corrected_row s.args.p s.args.place s.args.inverse s.args.gone.now s.args.point.now s.args.values.now s.args.a.now)
-    (left_is s.args.p s.args.n s.args.points.now s.args.rows.now s.args.pivots.now s.args.a.now (work (put e)) (left e) (loaded (put e)) e.eliminate.ensures.work_after))
+returns c =
+    let x = c.args.addition.now in
+    row_in_lem 64 c.args.k c.args.i _ _ c.args.table.now c.move_on.new.table c.correct.new.row (mul-le-mul_left 64 c.requires.0) c.requires.2 (width (64 * c.args.i) 64) c.move_on.ensures
+    (c.correct.ensures.row_after ∙ ap (corrected_row x.p x.place x.inverse x.gone.now x.point.now x.values.now c.args.a.now)
+    (left_is x.p x.n x.points.now x.rows.now x.pivots.now c.args.a.now c.put_term_values.new.work c.eliminate.new.work (loaded (goal.at.returns c).After-put_term_values) c.eliminate.ensures.work_after))

@@ -1,35 +1,39 @@
--- `candidate::least` meets its contract. The best rank so far is the least of the first k variables' next products.
-use mathlib.Core.Path.{◌∙◌}
-use mathlib.Core.Logic.{⊎_elim}
+-- `candidate::least` meets its contract. The best rank so far is the least of the next products of the variables looked at.
+use mathlib.Core.Path.{refl, ap₂, ◌∙◌}
+use Prim.Native.Nat.{ℕ, ◌+◌, ◌<◌}
 use borrow.Author.Rules.{rules}
 use native.Mathlib.Omega.{arith}
-use lib.ListN.{get_or}
-use Rattle.monomial.specs.Candidate.{lowest}
-use Rattle.monomial.proofs.candidate.Turns.{lowest_shut, lowest_left, lowest_taken, least_none, least_some}
+use lib.ListN.{length, get_or, take, length-take}
+use lib.Seq.{get_or-take}
+use Rattle.std.proofs.lemmas.List.{length_push}
+use Rattle.std.proofs.lemmas.Slice.Zip.{zip_turn}
+use Rattle.monomial.specs.Candidate.{lesser, least_of}
+use Rattle.monomial.proofs.candidate.Turns.{least_shut, least_open, lesser_is, ord_min_is}
 use Rattle.monomial.proofs.candidate.least.Goals as goal
 
-pub loop-k-init : goal.loop-k-init
-unfolding lowest
-loop-k-init c = search rules
+pub loop-passed-init : goal.loop-passed-init
+unfolding least_of
+loop-passed-init c = refl
 
-pub overflow_cast-t : goal.overflow_cast-t
-overflow_cast-t c = omega (arith, c.shared_slice_known-1.given c.loop-k.k)
+pub loop-passed-preserved-then-t-found : goal.loop-passed-preserved-then-t-found
+loop-passed-preserved-then-t-found c =
+    let s = c.args in
+    let l = c.loop-passed in
+    let n : ℕ = length l.yielded in
+    let t = zip_turn (take s.m s.at.now) s.steps.now l.yielded _ _ c.next.new.self _ (cc) (cc) l.yielded_by _ c.in-Some.is c.next.ensures.steps in
+    let k : n < s.m = omega (arith, t.0, length-take s.m s.at.now) in
+    let e = t.2 0 ∙ get_or-take s.m s.at.now n 0 k in
+    rw (length_push l.yielded (c.in-Some.passed, c.in-Some.step))
+    (least_open s.found s.ranks.now s.steps.now s.at.now n l.invariant (omega (arith, e))
+    (lesser_is l.best _ c.map_or.result c.map_or.ensures (λ b h. search rules ∙ ord_min_is b _)
+    ∙ ap₂ (λ (i x : ℕ). lesser l.best (get_or s.ranks.now i 0 + x)) e (t.3 0)))
 
-pub overflow_add-rank : goal.overflow_add-rank
-overflow_add-rank c = let l = c in
-    let s = l in
-    omega (arith, s.requires.below (get_or s.args.at.now l.loop-k.k 0) (omega arith), s.requires.below_2 l.loop-k.k (omega arith))
-
-pub loop-k-preserved : goal.loop-k-preserved
-loop-k-preserved c = let h = c.loop-k.invariant.1 in (
-  omega arith,
-  ⊎_elim (λ w. w.best-is ∙ lowest_taken _ _ _ _ _ _ h w.if-t-found.true w.if-rank-best.true)
-      (⊎_elim (λ w. w.best-is ∙ lowest_left _ _ _ _ _ _ h w.if-t-found.true w.if-rank-best.false) (λ w. w.best-is ∙ lowest_shut _ _ _ _ _ _ h w.if-t-found.false))
-      c.if-t-found.branch-raw,
-)
-
-pub returns-then-best : goal.returns-then-best
-returns-then-best c = least_none _ _ _ _ _ _ c.loop-k.invariant.1 _ (omega arith) (omega arith) c.if-best.true
-
-pub returns : goal.returns
-returns c = least_some _ _ _ _ _ _ c.loop-k.invariant.1 _ (omega arith) (omega arith) c.if-best.false
+pub loop-passed-preserved : goal.loop-passed-preserved
+loop-passed-preserved c =
+    let s = c.args in
+    let l = c.loop-passed in
+    let n : ℕ = length l.yielded in
+    let t = zip_turn (take s.m s.at.now) s.steps.now l.yielded _ _ c.next.new.self _ (cc) (cc) l.yielded_by _ c.in-Some.is c.next.ensures.steps in
+    let k : n < s.m = omega (arith, t.0, length-take s.m s.at.now) in
+    let e = t.2 0 ∙ get_or-take s.m s.at.now n 0 k in
+    rw (length_push l.yielded (c.in-Some.passed, c.in-Some.step)) (least_shut s.found s.ranks.now s.steps.now s.at.now n l.invariant (omega (arith, e)))

@@ -1,11 +1,8 @@
 -- `candidate::occurring` meets its contract. The count so far is that of the first i variables.
 use mathlib.Core.Path.{◌≡◌}
-use Prim.Native.Nat.{◌≤◌, ◌-◌}
+use Prim.Native.Nat.{◌≤◌}
 use Rattle.monomial.specs.Candidate.{occurring_in}
 use Rattle.monomial.proofs.candidate.occurring.Given as goal
 
 abbrev pub invariant-loop-i : goal.invariant-loop-i
-invariant-loop-i l = (l.i ≤ 8) × ((l.count ≤ l.i) × (l.count ≡ occurring_in l.a l.k l.i))
-
-abbrev pub decreases-loop-i : goal.decreases-loop-i
-decreases-loop-i l = 8 - l.i
+invariant-loop-i l = (l.count ≤ l.i) × (l.count ≡ occurring_in l.a l.k l.i)

@@ -9,9 +9,6 @@ use Rattle.monomial.proofs.candidate.pass.Goals as goal
 pub loop-k-init : goal.loop-k-init
 loop-k-init c = (omega arith, pass_start _ _ _ _ _)
 
-pub overflow_cast-t : goal.overflow_cast-t
-overflow_cast-t c = omega (arith, c.slice_known-1.given c.loop-k.k)
-
 pub overflow_add-ranks : goal.overflow_add-ranks
 overflow_add-ranks c = let l = c in
     let s = l in

@@ -1,12 +1,11 @@
 -- `exponents::weigh` meets its contract: what is summed and the weight of what is left make the weight.
 use mathlib.Core.Path.{◌≡◌}
-use Prim.Native.Nat.{◌+◌, ◌*◌, ◌-◌, ◌≤◌}
-use lib.ListN.{drop}
+use Prim.Native.Nat.{◌+◌, ◌*◌, ◌≤◌}
+use lib.ListN.{length, drop}
 use Rattle.monomial.specs.Order.{weigh}
 use Rattle.monomial.proofs.exponents.weigh.Given as goal
 
-abbrev pub invariant-loop-i : goal.invariant-loop-i
-invariant-loop-i l = (l.i ≤ 8) × (l.sum ≤ 65025 * l.i) × (l.sum + weigh (drop l.i l.weights) (drop l.i l.a) ≡ weigh l.weights l.a)
-
-abbrev pub decreases-loop-i : goal.decreases-loop-i
-decreases-loop-i l = 8 - l.i
+abbrev pub invariant-loop-w : goal.invariant-loop-w
+invariant-loop-w l =
+    (l.sum ≤ 65025 * length l.yielded)
+    × (l.sum + weigh (drop (length l.yielded) l.weights) (drop (length l.yielded) l.a) ≡ weigh l.weights l.a)

@@ -1,5 +1,5 @@
 -- `rank::put_steps` meets its contract. The loop has written the entries before its index.
-use mathlib.Core.Path.{◌≡◌, sym, ◌∙◌}
+use mathlib.Core.Path.{◌≡◌, ◌∙◌}
 use native.Mathlib.Omega.{arith}
 use lib.ListN.{length}
 use Rattle.residue.proofs.vector.Filled.{filled_none, kept_length, filled_more, filled_all}
@@ -10,7 +10,7 @@ use Rattle.monomial.proofs.rank.put_steps.Goals as goal
 use Rattle.monomial.proofs.rank.put_steps.Goals.{At-loop-k}
 
 long : (l : At-loop-k) → length l.loop-k.steps ≡ 8
-long l = let s = l in kept_length (variable_rank (order_of s.args.order s.args.weights.now)) l.loop-k.k s.args.steps.now l.loop-k.steps l.loop-k.invariant.1 ∙ s.requires.1.1
+long l = kept_length (variable_rank (order_of l.args.order l.args.weights.now)) l.loop-k.k l.args.steps.now l.loop-k.steps l.loop-k.invariant.1 ∙ omega arith
 
 pub loop-k-init : goal.loop-k-init
 loop-k-init c = (omega arith, filled_none _ _)
@@ -23,12 +23,9 @@ loop-k-preserved c = let l = c in
     let s = l in
     (omega arith, filled_more (variable_rank (order_of s.args.order s.args.weights.now)) l.loop-k.k s.args.steps.now l.loop-k.steps l.loop-k.invariant.1 _ (omega arith) c.variable_rank.ensures)
 
-pub shape_of-steps : goal.shape_of-steps
-shape_of-steps c = long (goal.at.shape_of-steps c).At-loop-k ∙ sym c.requires.1.1
-
 pub returns : goal.returns
 returns c = let l = c in
     let s = l in
     let o = order_of s.args.order s.args.weights.now in
     l.loop-k.invariant.1
-    ∙ filled_all (variable_rank o) l.loop-k.k (steps_of o) s.args.steps.now 0 (omega arith) (steps_long o ∙ sym s.requires.1.1) (λ i h. steps_at o i (omega arith))
+    ∙ filled_all (variable_rank o) l.loop-k.k (steps_of o) s.args.steps.now 0 (omega arith) (omega (arith, steps_long o)) (λ i h. steps_at o i (omega arith))

@@ -45,15 +45,9 @@ heavy : (w : List ℕ) (n k : ℕ) → n ≡ 3 → k < 8 → get_or w k 0 * 3186
 unfolding order_of
 heavy w n k e h = rw (e, weighted_variable w k h, first_entry k h)
 
-pub overflow_cast-result : goal.overflow_cast-result
-overflow_cast-result c = omega (arith, c.shared_slice_known-1.given c.args.k)
-
-pub overflow_mul-result : goal.overflow_mul-result
-overflow_mul-result c = omega (arith, c.shared_slice_known-1.given c.args.k)
-
 pub overflow_add-result : goal.overflow_add-result
 unfolding table variable_rank rank_of key
-overflow_add-result c = omega (arith, c.shared_slice_known-1.given c.args.k, first_small c.args.k (omega arith))
+overflow_add-result c = omega (arith, first_small c.args.k (omega arith))
 
 pub returns-then-order-eq3 : goal.returns-then-order-eq3
 unfolding table variable_rank rank_of key

@@ -34,7 +34,7 @@ pub slice_bounds-multiply_monomial-end : goal.slice_bounds-multiply_monomial-end
 slice_bounds-multiply_monomial-end c = let s = c in sym (ap length (ones (goal.at.slice_bounds-multiply_monomial-end s).Start) ∙ length-replicate {A = ℕ} s.args.n 1)
 
 pub multiply_monomial-requires : goal.multiply_monomial-requires
-multiply_monomial-requires c = let s = c in record { le_p = (s.requires.le_p.0, s.requires.le_p.1.0); a_len = s.requires.a_len; values_value = ones (goal.at.multiply_monomial-requires s).Start }
+multiply_monomial-requires c = let s = c in record { le_p = (s.requires.le_p.0, s.requires.le_p.1.0); points_len = s.requires.points_len; values_value = ones (goal.at.multiply_monomial-requires s).Start }
 
 pub slice_bounds-term-end-2 : goal.slice_bounds-term-end-2
 slice_bounds-term-end-2 c = let m = c in front_room (start (goal.at.slice_bounds-term-end-2 m).After-multiply_monomial).args.n (made (goal.at.slice_bounds-term-end-2 m).After-multiply_monomial) (drop {A = ℕ} (start (goal.at.slice_bounds-term-end-2 m).After-multiply_monomial).args.n (replicate 64 1)) (ap length m.multiply_monomial.ensures ∙ long (start (goal.at.slice_bounds-term-end-2 m).After-multiply_monomial))

@@ -1,66 +1,49 @@
--- `terms::put_term_values` meets its contract. The working row begins with the values of the terms before i.
-use mathlib.Core.Path.{◌≡◌, sym, ap, ap₂, subst, ◌∙◌}
-use mathlib.Core.List.{List}
-use Prim.Native.Nat.{ℕ, ◌+◌, ◌*◌, ◌-◌}
+-- `terms::put_term_values` meets its contract. The working row begins with the values of the terms taken so far.
+use mathlib.Core.Path.{◌≡◌, refl, sym, ap, ap₂, subst, ◌∙◌}
+use mathlib.Core.List.{List, []}
+use Prim.Native.Nat.{ℕ}
 use native.Mathlib.Omega.{arith}
-use lib.ListN.{length, take, drop, length-drop, length-replicate}
-use lib.Seq.{length-take-le}
-use Rattle.residue.specs.Vector.{Below}
+use lib.ListN.{length, get_or, take}
+use Rattle.std.proofs.lemmas.List.{length_push}
+use Rattle.std.proofs.lemmas.Slice.Zip.{zip_turn, zip_end}
+use Rattle.residue.specs.Vector.{Below, add_scaled}
 use Rattle.residue.specs.Layout.{over}
-use Rattle.residue.proofs.Layouts.{length_over, take_over}
-use Rattle.monomial.proofs.terms.TermRows.{sums, sums_long, sums_below, sums_none, sums_all, row_more}
+use Rattle.residue.proofs.Layouts.{take_over}
+use Rattle.residue.proofs.Places.{groups_at}
+use Rattle.monomial.proofs.terms.TermRows.{sums, sums_long, sums_below, sums_none, sums_all, row_more, monomial_row}
 use Rattle.monomial.proofs.terms.put_term_values.Goals as goal
-use Rattle.monomial.proofs.terms.put_term_values.Goals.{At-loop-i, Start}
 
--- at the loop's head
-module _ (l : At-loop-i) where
-  abbrev start : Start
-  start = (goal.at.At-loop-i l).Start
+pub loop-c-init : goal.loop-c-init
+loop-c-init c =
+    let s = c.args in
+    sums_none s.p s.n s.coefficients.now s.exponents.now s.points.now 128 s.work.now (omega arith) c.requires.work_value
 
-  abbrev so_far : List ℕ
-  so_far = sums start.args.p start.args.n start.args.coefficients.now start.args.exponents.now start.args.points.now l.loop-i.i
+pub add_term-requires-clause-values_len : goal.add_term-requires-clause-values_len
+add_term-requires-clause-values_len c =
+    let s = c.args in
+    let i : ℕ = length c.loop-c.yielded in
+    let so_far = sums s.p s.n s.coefficients.now s.exponents.now s.points.now i in
+    let long = sums_long s.p s.n s.coefficients.now s.exponents.now s.points.now i in
+    let front : take s.n c.loop-c.work ≡ so_far = ap₂ (λ (k : ℕ) (w : List ℕ). take k w) (sym long) c.loop-c.invariant ∙ take_over so_far s.work.now in
+    (ap length front ∙ long, subst (Below s.p) (sym front) (sums_below s.p s.n s.coefficients.now s.exponents.now s.points.now (omega arith) i))
 
-  so_far_long : length so_far ≡ start.args.n
-  so_far_long = sums_long start.args.p start.args.n start.args.coefficients.now start.args.exponents.now start.args.points.now l.loop-i.i
-
-  given_long : length start.args.work.now ≡ 128
-  given_long = ap length start.requires.work_value ∙ length-replicate {A = ℕ} 128 0
-
-  long : length l.loop-i.work ≡ 128
-  long = ap length l.loop-i.invariant.1 ∙ length_over so_far start.args.work.now (omega (arith, so_far_long, given_long)) ∙ given_long
-
-  front : take start.args.n l.loop-i.work ≡ so_far
-  front = ap₂ (λ (k : ℕ) (w : List ℕ). take k w) (sym so_far_long) l.loop-i.invariant.1 ∙ take_over so_far start.args.work.now
-
-pub loop-i-init : goal.loop-i-init
-loop-i-init c = let s = c in
-    (omega arith, sums_none s.args.p s.args.n s.args.coefficients.now s.args.exponents.now s.args.points.now 128 s.args.work.now (omega arith) s.requires.work_value)
-
-pub slice_bounds-add_term-end-in-loop-i : goal.slice_bounds-add_term-end-in-loop-i
-slice_bounds-add_term-end-in-loop-i c = omega (arith, long (goal.at.slice_bounds-add_term-end-in-loop-i c).At-loop-i)
-
-pub slice_bounds-add_term-end-in-loop-i-2 : goal.slice_bounds-add_term-end-in-loop-i-2
-slice_bounds-add_term-end-in-loop-i-2 c = let l = c in sym (ap length (front (goal.at.slice_bounds-add_term-end-in-loop-i-2 l).At-loop-i) ∙ so_far_long (goal.at.slice_bounds-add_term-end-in-loop-i-2 l).At-loop-i)
-
-pub add_term-requires : goal.add_term-requires
-add_term-requires c = let l = c in
-    let s = start (goal.at.add_term-requires l).At-loop-i in
-    let i : ℕ = l.loop-i.i in
-    let e : 8 * i + 8 - 8 * i ≡ 8 = omega arith in
-    let eight = length-take-le (8 * i + 8 - 8 * i) (drop (8 * i) s.args.exponents.now) (omega (arith, length-drop (8 * i) s.args.exponents.now)) ∙ e in record { le_p = (s.requires.le_p, (omega arith, s.requires.below i (omega arith))); a_len = (eight, s.requires.n_bound.1); values_len = (ap length (front (goal.at.add_term-requires l).At-loop-i) ∙ so_far_long (goal.at.add_term-requires l).At-loop-i, subst (Below s.args.p) (sym (front (goal.at.add_term-requires l).At-loop-i)) (sums_below s.args.p s.args.n s.args.coefficients.now s.args.exponents.now s.args.points.now (omega arith) i)) }
-
-pub loop-i-preserved : goal.loop-i-preserved
-loop-i-preserved c = let d = c in
-    let l = d in
-    let s = start (goal.at.loop-i-preserved l).At-loop-i in
-    let i : ℕ = l.loop-i.i in
-    let e : 8 * i + 8 - 8 * i ≡ 8 = omega arith in
-    (omega arith, row_more s.args.p s.args.n s.args.coefficients.now s.args.exponents.now s.args.points.now i (8 * i + 8 - 8 * i) l.loop-i.work s.args.work.now _ (omega arith) e l.loop-i.invariant.1 d.add_term.ensures)
-
-pub shape_of-work : goal.shape_of-work
-shape_of-work c = long (goal.at.shape_of-work c).At-loop-i ∙ sym (given_long (goal.at.shape_of-work c).At-loop-i)
+pub loop-c-preserved : goal.loop-c-preserved
+loop-c-preserved c =
+    let s = c.args in
+    let l = c.loop-c in
+    let cs = s.coefficients.now in
+    let t = zip_turn cs c.rows-monomials.result.now l.yielded _ _ c.next.new.self _ (cc) (cc) l.yielded_by _ c.in-Some.is c.next.ensures.steps in
+    let i : ℕ = length l.yielded in
+    let row = t.3 [] ∙ ap (λ (rows : List (List ℕ)). get_or rows i []) c.rows-monomials.ensures.value ∙ groups_at 8 (length cs) i s.exponents.now [] t.0 in
+    rw (length_push l.yielded (c.in-Some.c, c.in-Some.a))
+    (row_more s.p s.n cs s.exponents.now s.points.now i 8 l.work s.work.now _ t.0 refl l.invariant
+    (c.add_term.ensures ∙ ap₂ (λ (x : ℕ) (a : List ℕ). add_scaled s.p x (take s.n l.work) (monomial_row s.p s.n a s.points.now)) (t.2 0) row))
 
 pub returns : goal.returns
-returns c = let l = c in
-    let s = start (goal.at.returns l).At-loop-i in
-    l.loop-i.invariant.1 ∙ ap (λ (v : List ℕ). over v s.args.work.now) (sums_all s.args.p s.args.n s.args.coefficients.now s.args.exponents.now s.args.points.now l.loop-i.i (omega arith))
+returns c =
+    let s = c.args in
+    let l = c.loop-c in
+    let e = zip_end s.coefficients.now c.rows-monomials.result.now l.yielded _ _ c.next.new.self _ (cc) (cc) l.yielded_by c.in-None.is c.next.ensures.steps in
+    let n = c.rows-monomials.ensures.len in
+    l.invariant
+    ∙ ap (λ (v : List ℕ). over v s.work.now) (sums_all s.p s.n s.coefficients.now s.exponents.now s.points.now (length l.yielded) (omega arith))

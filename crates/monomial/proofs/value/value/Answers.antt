@@ -1,38 +1,23 @@
 -- `value::value` meets its contract: the product is the value of the exponents passed, modulo p.
-use Prim.Native.Nat.{◌<◌}
-use native.Mathlib.Nat.{one-mul, mod-lt}
+use mathlib.Core.Path.{ap₂, ◌∙◌}
+use Prim.Native.Nat.{ℕ, ◌^◌, ◌%◌}
+use native.Mathlib.Nat.{mod-lt}
 use native.Mathlib.Omega.{arith}
-use Rattle.residue.proofs.Congruence.{of}
-use Rattle.monomial.specs.Monomial.{monomial_at}
-use Rattle.monomial.proofs.Loops.{value_again, value_end}
+use lib.ListN.{length}
+use Rattle.std.proofs.lemmas.List.{length_push}
+use Rattle.std.proofs.lemmas.Slice.Zip.{zip_turn}
+use Rattle.monomial.proofs.Loops.{value_again}
 use Rattle.monomial.proofs.value.value.Goals as goal
-use Rattle.monomial.proofs.value.value.Goals.{At-loop-i, Start}
 
-abbrev start : At-loop-i → Start
-start l = (goal.at.At-loop-i l).Start
-
-pub loop-i-init : goal.loop-i-init
-loop-i-init c = let s = c in
-    (omega arith, omega arith, of (one-mul (monomial_at s.args.point.now s.args.a.now)))
-
-pub power-requires : goal.power-requires
-power-requires c = let l = c in
-    let s = start (goal.at.power-requires l).At-loop-i in record { le_p = (s.requires.le_p.0, s.requires.le_p.1); x_lt_p = s.requires.below l.loop-i.i (omega arith) }
-
-pub mul-product-requires : goal.mul-product-requires
-mul-product-requires c = let l = c in
-    let h : c.power.result < (start (goal.at.mul-product-requires l).At-loop-i).args.p = rw c.power.ensures (mod-lt _ (omega arith)) in record { p_bound = omega arith; x_lt_p = (omega arith, h) }
-
-pub loop-i-preserved : goal.loop-i-preserved
-loop-i-preserved c = let l = c in
-    let s = start (goal.at.loop-i-preserved l).At-loop-i in (
-      omega arith,
+pub loop-x-preserved : goal.loop-x-preserved
+loop-x-preserved c =
+    let P = c.args.point.now in
+    let a = c.args.a.now in
+    let l = c.loop-x in
+    let t = zip_turn P a l.yielded _ _ c.next.new.self _ (cc) (cc) l.yielded_by _ c.in-Some.is c.next.ensures.steps in
+    let e = length_push l.yielded (c.in-Some.x, c.in-Some.e) in (
       rw c.mul-product.ensures (mod-lt _ (omega arith)),
-      rw c.mul-product.ensures
-          (value_again s.args.p s.args.point.now s.args.a.now l.loop-i.i l.loop-i.product l.loop-i.invariant.2 (omega arith) (omega arith) c.power.ensures),
+      rw (c.mul-product.ensures, e)
+          (value_again c.args.p P a (length l.yielded) l.product l.invariant.1 t.0 t.1
+          (c.power.ensures ∙ ap₂ (λ (x k : ℕ). (x ^ k) % c.args.p) (t.2 0) (t.3 0))),
     )
-
-pub returns : goal.returns
-returns c = let l = c in
-    let s = start (goal.at.returns l).At-loop-i in
-    value_end s.args.p s.args.point.now s.args.a.now l.loop-i.i l.loop-i.product l.loop-i.invariant.2 (omega arith) l.loop-i.invariant.1

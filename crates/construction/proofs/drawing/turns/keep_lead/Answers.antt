@@ -24,7 +24,7 @@ start c = (goal.at.After-slice_known-4-1 c).Start
 pub copy-requires-2 : goal.copy-requires-2
 copy-requires-2 c = let s = c in
     let h = s.requires.n_bound in
-    let l = s.requires.exponents_len.1 in
+    let l = s.requires.leads_len in
     row_fits s.args.n s.args.found s.args.r s.args.work.now s.args.coefficients.now h.0 h.1.0 h.1.1 s.requires.work_len l.1
 
 pub shape_of-leads : goal.shape_of-leads

@@ -26,7 +26,7 @@ second c = (goal.at.After-values-1 c).After-copy-2
 
 pub copy-requires-2 : goal.copy-requires-2
 copy-requires-2 c = let s = start (goal.at.copy-requires-2 c).After-copy in
-    omega (arith, s.requires.exponents_len.1, part_long (64 * s.args.found) (64 * s.args.found + 64 - 64 * s.args.found) 64 s.args.values.now (add-sub_cancel_left (64 * s.args.found) 64) (row_fits s.args.found s.args.values.now s.requires.found_bound s.requires.standard_len.1))
+    omega (arith, part_long (64 * s.args.found) (64 * s.args.found + 64 - 64 * s.args.found) 64 s.args.values.now (add-sub_cancel_left (64 * s.args.found) 64) (row_fits s.args.found s.args.values.now s.requires.found_bound s.requires.standard_len.1))
 
 pub shape_of-standard : goal.shape_of-standard
 shape_of-standard c = let f = first (second (goal.at.shape_of-standard c).After-values-1) in

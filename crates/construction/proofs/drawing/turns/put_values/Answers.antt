@@ -19,13 +19,13 @@ module _ (r : After-copy) where
   abbrev start : Start
   start = (goal.at.After-copy r).Start
 
-  row : r.copy.new.to ≡ take 64 (drop (64 * start.args.t) start.args.values.now)
+  row : r.copy.new.to ≡ take 64 (drop (64 * start.args.product.now.standard) start.args.values.now)
   row =
       let a = start.args in
-      r.copy.ensures ∙ read_whole (64 * a.t) (64 * a.t + 64 - 64 * a.t) 64 a.values.now a.own.now (omega arith) (omega arith) start.requires.columns_len.1.1
+      r.copy.ensures ∙ read_whole (64 * a.product.now.standard) (64 * a.product.now.standard + 64 - 64 * a.product.now.standard) 64 a.values.now a.own.now (omega arith) (omega arith) (omega arith)
 
   row_long : length r.copy.new.to ≡ 64
-  row_long = let a = start.args in ap length (row) ∙ part_long (64 * a.t) 64 64 a.values.now (omega arith) (omega arith)
+  row_long = let a = start.args in ap length (row) ∙ part_long (64 * a.product.now.standard) 64 64 a.values.now (omega arith) (omega arith)
 
   front_long : length (take start.args.n r.copy.new.to) ≡ start.args.n
   front_long = length-take-le start.args.n r.copy.new.to (omega (arith, row_long))
@@ -33,13 +33,13 @@ module _ (r : After-copy) where
 -- those of the variable
 module _ (s : Start) where
   abbrev column : List ℕ
-  column = take s.args.n (drop (64 * s.args.k) s.args.columns.now)
+  column = take s.args.n (drop (64 * s.args.product.now.variable) s.args.columns.now)
 
-  column_is : take (64 * s.args.k + s.args.n - 64 * s.args.k) (drop (64 * s.args.k) s.args.columns.now) ≡ column
-  column_is = ap (λ (j : ℕ). take j (drop (64 * s.args.k) s.args.columns.now)) (add-sub_cancel_left (64 * s.args.k) s.args.n)
+  column_is : take (64 * s.args.product.now.variable + s.args.n - 64 * s.args.product.now.variable) (drop (64 * s.args.product.now.variable) s.args.columns.now) ≡ column
+  column_is = ap (λ (j : ℕ). take j (drop (64 * s.args.product.now.variable) s.args.columns.now)) (add-sub_cancel_left (64 * s.args.product.now.variable) s.args.n)
 
   column_long : length column ≡ s.args.n
-  column_long = part_long (64 * s.args.k) s.args.n s.args.n s.args.columns.now refl (omega arith)
+  column_long = part_long (64 * s.args.product.now.variable) s.args.n s.args.n s.args.columns.now refl (omega arith)
 
 pub slice_bounds-multiply-end-2 : goal.slice_bounds-multiply-end-2
 slice_bounds-multiply-end-2 c = sym (front_long (goal.at.slice_bounds-multiply-end-2 c).After-copy)
@@ -51,7 +51,7 @@ multiply-requires c = let r = c in
       le_p = s.requires.le_p.0;
       dst_len = front_long (goal.at.multiply-requires r).After-copy ∙ sym (ap length (column_is s) ∙ column_long s);
       below = below_take a.p a.n r.copy.new.to
-          (subst (Below a.p) (sym (row (goal.at.multiply-requires r).After-copy)) (below_take a.p 64 (drop (64 * a.t) a.values.now) (below_drop a.p (64 * a.t) a.values.now s.requires.below.1)));
+          (subst (Below a.p) (sym (row (goal.at.multiply-requires r).After-copy)) (below_take a.p 64 (drop (64 * a.product.now.standard) a.values.now) (below_drop a.p (64 * a.product.now.standard) a.values.now s.requires.below.1)));
       below_2 = subst (Below a.p) (sym (column_is s)) s.requires.below.0;
     }
 

@@ -1,0 +1,2 @@
+-- Lemmas of the module exponents.
+mod Divisors
