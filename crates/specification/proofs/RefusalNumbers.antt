@@ -1,5 +1,6 @@
--- The numbers of refusals: each has one, and 0 is none of them.
+-- The numbers of refusals: 1 to 19, so that 0 is none of them.
 use mathlib.Core.Path.{◌≡◌}
+use Prim.Native.Nat.{◌<◌, ◌≤◌}
 use native.Mathlib.Omega.{arith}
 use Rattle.specification.specs.Answers.{number_of}
 use Rattle.specification.specs.declared.refusals.Refusal.{Refusal}
@@ -7,23 +8,26 @@ use Rattle.specification.specs.declared.refusals.Refusal.TheVariants.{LongText, 
 use Rattle.specification.specs.declared.refusals.Refusal.TheVariants.{NoBasis, NotThere, TooOften, OtherValue, Weights, Variable, OtherSuccessor}
 use Rattle.specification.specs.declared.refusals.Refusal.TheVariants.{NoCourse, Json}
 
-pub numbered : (r : Refusal) → number_of r ≡ 0 → ⊥
+pub within : (r : Refusal) → (0 < number_of r) × (number_of r ≤ 19)
 unfolding number_of
-numbered LongText e = omega (arith, e)
-numbered Form e = omega (arith, e)
-numbered Modulus e = omega (arith, e)
-numbered Variables e = omega (arith, e)
-numbered Order e = omega (arith, e)
-numbered ShortBuffer e = omega (arith, e)
-numbered Length e = omega (arith, e)
-numbered TooMany e = omega (arith, e)
-numbered OutOfRange e = omega (arith, e)
-numbered NoBasis e = omega (arith, e)
-numbered NotThere e = omega (arith, e)
-numbered TooOften e = omega (arith, e)
-numbered OtherValue e = omega (arith, e)
-numbered Weights e = omega (arith, e)
-numbered Variable e = omega (arith, e)
-numbered OtherSuccessor e = omega (arith, e)
-numbered NoCourse e = omega (arith, e)
-numbered Json e = omega (arith, e)
+within LongText = (omega arith, omega arith)
+within Form = (omega arith, omega arith)
+within Modulus = (omega arith, omega arith)
+within Variables = (omega arith, omega arith)
+within Order = (omega arith, omega arith)
+within ShortBuffer = (omega arith, omega arith)
+within Length = (omega arith, omega arith)
+within TooMany = (omega arith, omega arith)
+within OutOfRange = (omega arith, omega arith)
+within NoBasis = (omega arith, omega arith)
+within NotThere = (omega arith, omega arith)
+within TooOften = (omega arith, omega arith)
+within OtherValue = (omega arith, omega arith)
+within Weights = (omega arith, omega arith)
+within Variable = (omega arith, omega arith)
+within OtherSuccessor = (omega arith, omega arith)
+within NoCourse = (omega arith, omega arith)
+within Json = (omega arith, omega arith)
+
+pub numbered : (r : Refusal) → number_of r ≡ 0 → ⊥
+numbered r e = omega (arith, e, within r)
