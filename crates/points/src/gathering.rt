@@ -1,16 +1,18 @@
 // The distinct points of a list and how often each occurs.
-ghost use Rattle.std.specs.Prelude.{◌≡◌, ◌&&◌, [], suc, ◌+◌, ◌*◌, ◌%◌, ◌<◌, ◌≤◌, length, get_or, set, replicate, T, eqb, ltb};
+ghost use Rattle.std.specs.Prelude.{◌≡◌, ◌&&◌, [], ℕ, suc, ◌+◌, ◌*◌, ◌%◌, ◌<◌, ◌≤◌, length, get_or, set, replicate, T, eqb, ltb};
 ghost use Rattle.residue.specs.Sizes.{states_size, counts_size};
 ghost use Rattle.residue.specs.Lists.{key_of};
 ghost use Rattle.residue.specs.Layout.{groups, row_at};
 ghost use Rattle.specification.specs.Levels.{residues, no_repeat};
 ghost use Rattle.specification.specs.Refusal.{first_of};
+ghost use Rattle.specification.specs.Answers.{refusal_of};
 ghost use Rattle.specification.specs.Counted.{place_in, gathered, overfull};
 ghost use Rattle.points.specs.Gathering.{Hinted, hint_of, points_entered, counts_entered, EnteredAs, entered_while_room, TabledAs};
 
 use crate::levels::put_point;
 use crate::places::{key, place_of};
 use residue::bytes;
+use specification::refusals::Refusal;
 
 // How many hints there are. By 233 points of small grids share fewer remainders than by chance.
 pub const HINTS: usize = 233;
@@ -34,20 +36,10 @@ fn hint_holds(n: usize, points: &[u8], own: u64, guess: usize) -> bool
     own == key(&points[place..place + 8])
 }
 
-// The place that a search finds, written as a hint.
-fn search(n: usize, points: &[u8], point: &[u8], remainder: usize, hints: &mut [u8]) -> usize
-    requires { (n ≤ 64) × (8 * n ≤ length points.now) × (length point.now ≡ 8) × (remainder < length hints.old) }
-    ensures value { result ≡ place_in point.now (groups 8 n points.now) }
-    ensures hints_after { hints.new ≡ set hints.old remainder (suc result) }
-{
-    let at = place_of(n, points, point);
-    hints[remainder] = at as u8 + 1;
-    at
-}
-
 // Where a point whose key is known stands among the first n of a table, none of which repeats, or n. A hint is one more than where a point with the same
 // remainder of its key was found last, or 0 where there is none: then the point is new, without a search and without a look at its bytes. The reader of text
 // has just written them one by one, and a load of all at once would wait for them.
+#[inline(always)]
 fn find_by(n: usize, points: &[u8], point: &[u8], own: u64, hints: &mut [u8]) -> usize
     requires n_bound { (n ≤ 64) × (8 * n ≤ length points.now) × (length point.now ≡ 8) × (own ≡ key_of 8 point.now) }
     requires t { T (no_repeat (groups 8 n points.now)) × Hinted n points.now hints.old }
@@ -55,41 +47,22 @@ fn find_by(n: usize, points: &[u8], point: &[u8], own: u64, hints: &mut [u8]) ->
     ensures hints_after { hints.new ≡ set hints.old (hint_of point.now) (suc result) }
 {
     let remainder = hint_place(own);
-    let hint = hints[remainder] as usize;
-    if hint == 0 {
+    let Some(guess) = (hints[remainder] as usize).checked_sub(1) else {
         hints[remainder] = n as u8 + 1;
         return n;
-    }
-    let guess = hint - 1;
+    };
     if hint_holds(n, points, own, guess) {
         return guess;
     }
-    search(n, points, point, remainder, hints)
-}
-
-// The same of a point whose key is not known. It does not call `find_by`, which with two callers would be a call of its own, for each of the points.
-fn find(n: usize, points: &[u8], point: &[u8], hints: &mut [u8]) -> usize
-    requires n_bound { (n ≤ 64) × (8 * n ≤ length points.now) × (length point.now ≡ 8) }
-    requires t { T (no_repeat (groups 8 n points.now)) × Hinted n points.now hints.old }
-    ensures value { result ≡ place_in point.now (groups 8 n points.now) }
-    ensures hints_after { hints.new ≡ set hints.old (hint_of point.now) (suc result) }
-{
-    let own = key(point);
-    let remainder = hint_place(own);
-    let hint = hints[remainder] as usize;
-    if hint == 0 {
-        hints[remainder] = n as u8 + 1;
-        return n;
-    }
-    let guess = hint - 1;
-    if hint_holds(n, points, own, guess) {
-        return guess;
-    }
-    search(n, points, point, remainder, hints)
+    let at = place_of(n, points, point);
+    hints[remainder] = at as u8 + 1;
+    at
 }
 
 // Enters a point whose place among the first n of a table is known, n where it is new: a new one behind them, with count 1, unless 64 are there; one that is
 // there is counted, unless its count is 255. Says whether it is.
+#[inline(always)]
+#[tactic(auto, using(residue::proofs::Replaced::put_place), unfolding(crate::specs::Gathering::points_entered, crate::specs::Gathering::counts_entered))]
 fn enter_at(n: usize, at: usize, points: &mut [u8], counts: &mut [u8], point: &[u8]) -> bool
     requires n_bound { (n ≤ 64) × (at ≤ n) }
     requires points_len { (length points.old ≡ states_size) × (length counts.old ≡ counts_size) × (length point.now ≡ 8) }
@@ -98,11 +71,10 @@ fn enter_at(n: usize, at: usize, points: &mut [u8], counts: &mut [u8], point: &[
     ensures counts_after { counts.new ≡ counts_entered n at counts.old }
 {
     if at < n {
-        let count = counts[at];
-        if count == 255 {
+        let Some(count) = counts[at].checked_add(1) else {
             return true;
-        }
-        counts[at] = count + 1;
+        };
+        counts[at] = count;
         return false;
     }
     if n < 64 {
@@ -120,7 +92,9 @@ pub struct Entered {
     pub over: bool,
 }
 
-// Enters a point, whose key is known, among the first n of a table, none of which repeats.
+// Enters a point, whose key is known, among the first n of a table, none of which repeats. Inlined: a call for each of the points would take its time.
+#[inline(always)]
+#[tactic(auto, using(crate::proofs::places::PointPlaces::place_few))]
 pub fn enter(
     n: usize,
     points: &mut [u8],
@@ -140,16 +114,8 @@ pub fn enter(
     Entered { at, over }
 }
 
-// How many points were gathered, or why they are refused.
-#[derive(Drop)]
-pub struct Gathered {
-    pub refusal: u8,
-    pub n: usize,
-}
-
-// The distinct points of levels, m a point, in a table of zeros, with their counts: refused with 8 at the 65th, with 13 where one occurs more than 255 times.
-// Of refused ones the table has the points before the 65th, and a count stays at 255.
-// The parts of `enter` are called one by one: with two callers it would be a call of its own, for each of the points.
+// The distinct points of levels, m a point, in a table of zeros, with their counts, and how many they are: the 65th is too many, and one that occurs more than
+// 255 times too often. Of refused ones the table has the points before the 65th, and a count stays at 255.
 pub fn gather(
     p: u8,
     m: usize,
@@ -157,11 +123,13 @@ pub fn gather(
     levels: &[i8],
     points: &mut [u8],
     counts: &mut [u8],
-) -> Gathered
+) -> Result<usize, Refusal>
     requires m_bound { (m ≤ 8) × (length levels.now ≡ m * count) }
     requires points_value { (points.old ≡ replicate states_size 0) × (counts.old ≡ replicate counts_size 0) }
-    ensures refusal_value { result.refusal ≡ first_of 0 (overfull (gathered (groups m count (residues p levels.now)))) }
-    ensures tabled_as { TabledAs (entered_while_room (groups m count (residues p levels.now)) []) result.n points.new counts.new }
+    ensures refusal_value { refusal_of result ≡ first_of 0 (overfull (gathered (groups m count (residues p levels.now)))) }
+    ensures n_value { (n : ℕ) → result ≡ Ok n → n ≡ length (entered_while_room (groups m count (residues p levels.now)) []) }
+    ensures tabled_as { TabledAs (entered_while_room (groups m count (residues p levels.now)) [])
+        (length (entered_while_room (groups m count (residues p levels.now)) [])) points.new counts.new }
 {
     let mut hints = [0u8; HINTS];
     let mut n = 0;
@@ -169,18 +137,17 @@ pub fn gather(
     for i in 0..count {
         let mut point = [0u8; 8];
         put_point(p, m, m * i, levels, &mut point);
-        let at = find(n, points, &point, &mut hints);
-        let full = enter_at(n, at, points, counts, &point);
-        if at == 64 {
-            return Gathered { refusal: 8, n };
+        let met = enter(n, points, counts, &mut hints, &point, key(&point));
+        if met.at == 64 {
+            return Err(Refusal::TooMany);
         }
-        if at == n {
+        if met.at == n {
             n += 1;
         }
-        over = over | full;
+        over = over | met.over;
     }
     if over {
-        return Gathered { refusal: 13, n };
+        return Err(Refusal::TooOften);
     }
-    Gathered { refusal: 0, n }
+    Ok(n)
 }

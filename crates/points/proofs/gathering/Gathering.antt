@@ -178,6 +178,9 @@ unfolding count_byte
 held_as {n = n} {points = points} {counts = counts} h e =
     subst (λ (K : Counted). TabledAs K n points counts) e (record { number = h.count; states = h.table; times = h.bytes })
 
+pub as_long : {L : Counted} {n : ℕ} {points counts : List ℕ} → TabledAs L n points counts → TabledAs L (length L) points counts
+as_long t = record { number = refl; states = t.states; times = t.times }
+
 -- Points that are not refused are all entered, and no count is above 255.
 all_room : (S : List (List ℕ)) (L : Counted) → length (entered_all S L) ≤ 64 → entered_while_room S L ≡ entered_all S L
 unfolding entered_all entered_while_room

@@ -37,10 +37,8 @@ hint_told P t n i own f g long room once u e =
     ∙ true_of same (and_right (ltb i n) same (of_true e)))
 
 -- a hint that holds is written as it was
-pub hint_again : (hints : List ℕ) (k : ℕ) → (get_or hints k 0 ≡ 0 → ⊥) → hints ≡ set hints k (suc (get_or hints k 0 - 1))
-hint_again hints k z =
-    let again : suc (get_or hints k 0 - 1) ≡ get_or hints k 0 = omega (arith, z) in
-    sym (ap (set hints k) again ∙ set-get_or hints k 0)
+pub hint_again : (hints : List ℕ) (k i : ℕ) → get_or hints k 0 ≡ suc i → hints ≡ set hints k (suc i)
+hint_again hints k i e = sym (ap (set hints k) (sym e) ∙ set-get_or hints k 0)
 
 -- no hints at all
 pub hinted_none : (points : List ℕ) → Hinted 0 points (replicate 233 0)

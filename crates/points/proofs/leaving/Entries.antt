@@ -17,10 +17,13 @@ use Rattle.residue.proofs.Places.{groups_step, length_groups, no_places}
 use Rattle.residue.proofs.Replaced.{part_long}
 use Rattle.monomial.specs.Insert.{taken_out, removed_at}
 use Rattle.monomial.proofs.insert.Tables.{bytes_out, removed_long}
+use Rattle.specification.specs.declared.refusals.Refusal.{Refusal}
+use Rattle.specification.specs.Answers.{number_of}
 use Rattle.specification.specs.Levels.{is_among}
 use Rattle.specification.specs.Counted.{Counted, points_of, counts_of, place_in}
 use Rattle.specification.specs.Tables.{states_table}
 use Rattle.specification.specs.LeaveOut.{without_variable}
+use Rattle.specification.proofs.Refused.{number_above_0}
 use Rattle.specification.proofs.ideal.Lists.{snoc_of}
 use Rattle.specification.proofs.counted.Entered.{Positive}
 use Rattle.specification.proofs.counted.Held.{zip_counts}
@@ -135,14 +138,22 @@ module _ (m k n : ℕ) (states times : List ℕ) where
         above : beyond next ≡ ltb 255 (get_or counts at 0 + c)
         above = raised_beyond P c 64 b.list fits (sym b.holds.flag) ∙ ap (ltb 255) (sym summed)
 
-        pub refused_sum : ltb 255 (get_or counts at 0 + c) ≡ true → 13 ≡ cond {A = ℕ} (some (ltb 255) (counts_of (without_variable k L))) 13 0
-        refused_sum h = ap (λ (o : Bool). cond {A = ℕ} o 13 0) (sym (ap beyond (sym whole) ∙ beyond_all k _ next (above ∙ h)))
+        pub refused_sum : (e : Refusal) → number_of e ≡ cond (ltb 255 (get_or counts at 0 + c)) 13 0
+            → number_of e ≡ cond {A = ℕ} (some (ltb 255) (counts_of (without_variable k L))) 13 0
+        refused_sum e h = go (ltb 255 (get_or counts at 0 + c)) refl h
+          where
+            go : (b : Bool) → ltb 255 (get_or counts at 0 + c) ≡ b → number_of e ≡ cond b 13 0 → number_of e ≡ cond {A = ℕ} (some (ltb 255) (counts_of (without_variable k L))) 13 0
+            go true f z = z ∙ ap (λ (o : Bool). cond {A = ℕ} o 13 0) (sym (ap beyond (sym whole) ∙ beyond_all k _ next (above ∙ f)))
+            go false f z = absurd (number_above_0 e z)
 
-        module _ (h : ltb 255 (get_or counts at 0 + c) ≡ false) {table bytes : List ℕ}
-            (put : table ≡ cond (ltb at left) points (with_place 8 left (fill 8 P) points)) (counted : bytes ≡ set counts at (get_or counts at 0 + c)) where
-          none : beyond next ≡ false
-          none = above ∙ h
+        none : 0 ≡ cond {A = ℕ} (ltb 255 (get_or counts at 0 + c)) 13 0 → beyond next ≡ false
+        none h = above ∙ go (ltb 255 (get_or counts at 0 + c)) h
+          where
+            go : (b : Bool) → 0 ≡ cond {A = ℕ} b 13 0 → b ≡ false
+            go true z = absurd (omega arith)
+            go false z = refl
 
+        module _ (h : 0 ≡ cond {A = ℕ} (ltb 255 (get_or counts at 0 + c)) 13 0) {table bytes : List ℕ} (counted : bytes ≡ set counts at (get_or counts at 0 + c)) where
           holds_next : {now : ℕ} → now ≡ length (points_of next) → now ≤ 64 → table ≡ states_table (points_of next)
               → ((Q : List ℕ) → Among Q (points_of next) → length Q ≡ m - 1) → Holds (m - 1) next now table bytes false
           holds_next many most is long = record {
@@ -150,26 +161,27 @@ module _ (m k n : ℕ) (states times : List ℕ) where
             few = most;
             table = is;
             bytes = counted ∙ ap₂ (λ (l : List ℕ) (j : ℕ). set l j (get_or l j 0 + c)) bytes_are placed ∙ sym (raised_bytes P c 64 b.list fits)
-                ∙ ap (fill 64) (sym (none_capped (counts_of next) none));
-            flag = sym none;
+                ∙ ap (fill 64) (sym (none_capped (counts_of next) (none h)));
+            flag = sym (none h);
             long = long;
           }
 
-          holds_new : at ≡ left → Holds (m - 1) next (left + 1) table bytes false
-          holds_new e =
+          holds_new : at ≡ left → table ≡ with_place 8 left (fill 8 P) points → Holds (m - 1) next (left + 1) table bytes false
+          holds_new e put =
               let w = raised_new P c b.list (sym among ∙ le-ltb at left (omega (arith, e))) in
               let wide = length-append (points_of b.list) (P ∷ []) in
               holds_next (omega (arith, ap length w, wide, held_many b.holds)) (omega (arith, b.few, t.more, t.most))
-              (put ∙ rw (le-ltb at left (omega (arith, e))) (table_put b.holds (omega (arith, b.few, t.more, t.most)) P ∙ ap states_table (sym w)))
+              (put ∙ table_put b.holds (omega (arith, b.few, t.more, t.most)) P ∙ ap states_table (sym w))
               (λ Q mem. elim (snoc_of (points_of b.list) P Q (subst (Among Q) w mem)) [ inl z ↦ b.holds.long Q z | inr z ↦ ap length z ∙ own ])
 
-          holds_there : at < left → Holds (m - 1) next left table bytes false
-          holds_there z =
+          holds_there : at < left → table ≡ points → Holds (m - 1) next left table bytes false
+          holds_there z same =
               let w = raised_there P c b.list (sym among ∙ lt-ltb at left z) in
-              holds_next (sym (ap length w ∙ held_many b.holds)) b.holds.few (put ∙ rw (lt-ltb at left z) (b.holds.table ∙ ap states_table (sym w)))
+              holds_next (sym (ap length w ∙ held_many b.holds)) b.holds.few (same ∙ b.holds.table ∙ ap states_table (sym w))
               (λ Q mem. b.holds.long Q (subst (Among Q) w mem))
 
-          pub before_next : (now : ℕ) → ((at ≡ left) × (now ≡ left + 1)) ⊎ ((at ≡ left → ⊥) × (now ≡ left)) → Before m k n states times (i + 1) now table bytes
-          before_next now (inl z) = record { list = next; rest = whole; few = omega (arith, z.1, b.few); holds = rw z.1 (holds_new z.0) }
+          pub before_next : (now : ℕ) → ((at ≡ left) × (now ≡ left + 1) × (table ≡ with_place 8 left (fill 8 P) points)) ⊎ ((at ≡ left → ⊥) × (now ≡ left) × (table ≡ points))
+              → Before m k n states times (i + 1) now table bytes
+          before_next now (inl z) = record { list = next; rest = whole; few = omega (arith, z.1, b.few); holds = rw z.1 (holds_new z.0 z.2) }
           before_next now (inr z) =
-              record { list = next; rest = whole; few = omega (arith, z.1, b.few); holds = rw z.1 (holds_there (omega (arith, inside, z.0))) }
+              record { list = next; rest = whole; few = omega (arith, z.1, b.few); holds = rw z.1 (holds_there (omega (arith, inside, z.0)) z.2) }

@@ -56,6 +56,9 @@ place_le P (Q ∷ S) = go (same_list P Q) (place_le P S)
     go true h = omega arith
     go false h = omega arith
 
+pub place_few : (P t : List ℕ) (n : ℕ) → place_in P (groups 8 n t) ≤ n
+place_few P t n = omega (arith, place_le P (groups 8 n t), length_groups 8 n t)
+
 -- a place before the end has the point
 pub place_has : (P : List ℕ) (S : List (List ℕ)) → place_in P S < length S → P ≡ get_or S (place_in P S) []
 unfolding place_in
