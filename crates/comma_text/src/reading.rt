@@ -42,13 +42,14 @@ fn in_header(refusal: Refusal) -> Fault
 }
 
 // What the settings decide, and whether a lent buffer is too short.
+#[tactic(auto, unfolding(crate::specs::reading::Answers::fault_of, crate::specs::reading::Text::header_cases, specification::specs::Answers::number_of, specification::specs::Refusal::first_of))]
 pub fn check_settings(settings: Settings, short: bool) -> Result<(), Fault>
     ensures { fault_of result ≡ first_of not_refused (header_cases settings short) }
 {
     if !residue::level::is_modulus(settings.modulus) {
         return Err(in_header(Refusal::Modulus));
     }
-    if settings.variables < 1 || 8 < settings.variables {
+    if !(1..=8).contains(&settings.variables) {
         return Err(in_header(Refusal::Variables));
     }
     if !right_weights(settings) {

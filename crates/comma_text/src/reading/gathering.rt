@@ -65,6 +65,7 @@ fn at_entry(refusal: Refusal, place: usize) -> Fault
 }
 
 // 8 before 13 before 14, by the places from 1 at which they were met; 0 where one was not.
+#[tactic(auto, unfolding(crate::specs::reading::Answers::gathered_of, crate::specs::reading::Points::answered, specification::specs::Answers::number_of, specification::specs::Refusal::first_of))]
 fn decided(n: usize, full: usize, often: usize, other: usize) -> Result<u8, Fault>
     requires { (n ≤ 64) × (full ≤ 16384) × (often ≤ 16384) × (other ≤ 16384) }
     ensures { gathered_of result ≡ answered (first_of not_refused (entry_case 8 full ∷ entry_case 13 often ∷ entry_case 14 other ∷ [])) n }
