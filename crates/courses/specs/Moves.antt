@@ -1,12 +1,13 @@
 -- Moves as the code finds them among records in two tables. No public promise names these: they serve the contracts of the functions that gather moves.
-use Rattle.std.specs.Prelude.{◌≡◌, Bool, cond, ◌&&◌, not, List, [], ◌∷◌, ℕ, suc, ◌+◌, ◌<◌, length, get_or, take, eqb, ltb}
+use Rattle.std.specs.Prelude.{◌≡◌, Bool, cond, ◌&&◌, not, List, [], ◌∷◌, ℕ, suc, ◌+◌, ◌<◌, length, get_or, take, eqb, ltb, Result, Ok, Err}
 use Rattle.residue.specs.Lists.{same_list}
 use Rattle.residue.specs.Layout.{fill, row_at}
 use Rattle.specification.specs.Refusal.{first_of}
+use Rattle.specification.specs.declared.refusals.Fault.{Fault}
+use Rattle.specification.specs.Answers.{number_of}
 use Rattle.specification.specs.Counted.{points_of}
 use Rattle.points.specs.Gathering.{TabledAs}
 use Rattle.courses.specs.TimeCourse.{Timed, Move, move, moves_of, points_of_moves, moves_cases, successor_of}
-use Rattle.courses.specs.declared.moves.Gathered.{Gathered}
 
 -- record i, from 0: its state, its course, and whether it has a successor
 abbrev pub state_at : ℕ → List Timed → List ℕ
@@ -40,6 +41,16 @@ pub record FirstsOf (ms : List Move) (count : ℕ) (records firsts : List ℕ) :
   pub behind : (j : ℕ) → j < length (points_of_moves ms) → suc (get_or firsts j 0) < count
   pub next : (j : ℕ) → j < length (points_of_moves ms)
       → row_at 8 (suc (get_or firsts j 0)) records ≡ fill 8 (successor_of (get_or (points_of (points_of_moves ms)) j []) ms)
+
+-- The refusal with the record at fault and no points, or 0 with the number of distinct points.
+pub record Gathered : Type 0 where
+  pub refusal : ℕ
+  pub at : ℕ
+  pub n : ℕ
+
+unfoldable pub gathered_of : Result ℕ Fault → Gathered
+gathered_of (Ok n) = record { refusal = 0; at = 0; n = n }
+gathered_of (Err f) = record { refusal = number_of f.refusal; at = f.at; n = 0 }
 
 -- What gathering answers and leaves: 17, 8, 13 or 0 with its record, and where it is 0 the points with their counts and a record for each.
 pub record MovesGathered (l : List Timed) (records : List ℕ) (g : Gathered) (points counts firsts : List ℕ) : Type 0 where

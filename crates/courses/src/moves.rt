@@ -1,14 +1,15 @@
 // The moves of records: the distinct states that have a successor, how often each has one, and a record where it has.
-ghost use Rattle.std.specs.Prelude.{◌≡◌, cond, ◌&&◌, ◌||◌, List, [], ℕ, suc, ◌+◌, ◌*◌, ◌<◌, ◌≤◌, eqb, length, get_or, set, take, replicate};
+ghost use Rattle.std.specs.Prelude.{◌≡◌, cond, ◌&&◌, ◌||◌, List, [], ℕ, suc, ◌+◌, ◌*◌, ◌<◌, ◌≤◌, eqb, length, get_or, set, take, replicate, Err};
 ghost use Rattle.residue.specs.Sizes.{most_points, states_size, counts_size};
 ghost use Rattle.residue.specs.Lists.{same_list};
 ghost use Rattle.residue.specs.Layout.{row_at};
 ghost use Rattle.courses.specs.TimeCourse.{Timed, moves_of, first_move, other_next};
 ghost use Rattle.courses.specs.Records.{most_records, records_size, HeldIn};
-ghost use Rattle.courses.specs.Moves.{has_next, move_at, moves_before, next_in, other_in, many_answer, MovesGathered, place_of_course};
+ghost use Rattle.courses.specs.Moves.{has_next, move_at, moves_before, next_in, other_in, gathered_of, many_answer, MovesGathered, place_of_course};
 
 use points::gathering::{HINTS, enter};
 use points::places::key;
+use specification::refusals::{Fault, Refusal};
 
 // Whether record i has a successor: there is a next one, of its course.
 fn has_next(i: usize, count: usize, numbers: &[u8]) -> bool
@@ -122,41 +123,31 @@ fn first_record(found: u16, fault: bool, i: usize) -> u16
     0
 }
 
-// The refusal with the record at fault and no points, or 0 with the number of distinct points.
-#[derive(Drop)]
-pub struct Gathered {
-    pub refusal: u8,
-    pub at: u16,
-    pub n: usize,
-}
-
 // A refusal at record i of the list; the header is record 1.
-fn refused_at(refusal: u8, i: usize) -> Gathered
+fn at_record(refusal: Refusal, i: usize) -> Fault
     requires { i < most_records }
-    ensures { result ≡ record { refusal = refusal; at = i + 2; n = 0 } }
+    ensures { result ≡ record { refusal = refusal; at = i + 2 } }
 {
-    Gathered {
+    Fault {
         refusal,
         at: i as u16 + 2,
-        n: 0,
     }
 }
 
 // Record i of the list would be the 65th point: 8, unless a state stands with another successor anywhere.
-fn too_many(count: usize, i: usize, records: &[u8], numbers: &[u8]) -> Gathered
+fn too_many(count: usize, i: usize, records: &[u8], numbers: &[u8]) -> Fault
     requires { (i < count) × (count ≤ most_records) × (count ≤ length numbers.now) × (8 * count ≤ length records.now) }
     ensures { (m : ℕ) (l : List Timed) → HeldIn m l records.now numbers.now → length l ≡ count
-        → result ≡ many_answer (first_move other_next [] (moves_of l)) i }
+        → gathered_of (Err result) ≡ many_answer (first_move other_next [] (moves_of l)) i }
 {
     let other = first_other(count, records, numbers);
     if other != 0 {
-        return Gathered {
-            refusal: 17,
+        return Fault {
+            refusal: Refusal::OtherSuccessor,
             at: other,
-            n: 0,
         };
     }
-    refused_at(8, i)
+    at_record(Refusal::TooMany, i)
 }
 
 // The distinct states with a successor of records, in tables of zeros, with their counts and a record for each, or the refusal that comes first. A state that
@@ -168,11 +159,11 @@ pub fn gather_moves(
     points: &mut [u8],
     counts: &mut [u8],
     firsts: &mut [u16],
-) -> Gathered
+) -> Result<usize, Fault>
     requires count_le_most_records { (count ≤ most_records) × (length records.now ≡ records_size) × (length numbers.now ≡ most_records) }
     requires points_value { (points.old ≡ replicate states_size 0) × (counts.old ≡ replicate counts_size 0) × (length firsts.old ≡ most_points) }
     ensures { (m : ℕ) (l : List Timed) → HeldIn m l records.now numbers.now → length l ≡ count
-        → MovesGathered l records.now result points.new counts.new firsts.new }
+        → MovesGathered l records.now (gathered_of result) points.new counts.new firsts.new }
 {
     let mut hints = [0u8; HINTS];
     let mut n = 0;
@@ -185,27 +176,22 @@ pub fn gather_moves(
         let state = &records[from..from + 8];
         let met = enter(n, points, counts, &mut hints, state, key(state));
         if met.at == 64 {
-            return too_many(count, i, records, numbers);
+            return Err(too_many(count, i, records, numbers));
         }
         let kept = keep_first(n, met.at, i, records, firsts);
         if !kept.same {
-            return refused_at(17, i);
+            return Err(at_record(Refusal::OtherSuccessor, i));
         }
         often = first_record(often, met.over, i);
         n = kept.n;
     }
     if often != 0 {
-        return Gathered {
-            refusal: 13,
+        return Err(Fault {
+            refusal: Refusal::TooOften,
             at: often,
-            n: 0,
-        };
+        });
     }
-    Gathered {
-        refusal: 0,
-        at: 0,
-        n,
-    }
+    Ok(n)
 }
 
 // Where the first record of a course stands, `count` where no record has its number.

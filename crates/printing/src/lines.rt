@@ -1,11 +1,13 @@
 // The lines of a basis. As in `appending`, each function answers the place behind what it wrote.
 ghost use Rattle.std.specs.Prelude.{◌≡◌, ◌*◌, ◌≤◌, length, map, take};
 ghost use Rattle.residue.specs.Sizes.{most_rows};
+ghost use Rattle.specification.specs.Answers.{number_of};
 ghost use Rattle.writing.specs.Appending.{Room, Put};
 ghost use Rattle.printing.specs.Lines.{spaced, spaced_numbers, labelled, line, first_line, refusal_line};
 ghost use Rattle.writing.specs.Rows.{in_table};
 ghost use Rattle.printing.specs.Lines.{standard_lines, row_line, row_lines, basis_lines};
 
+use specification::refusals::Fault;
 use writing::appending::{put_byte, put_word};
 use writing::decimal::put_digits;
 use writing::tables::rows;
@@ -68,12 +70,13 @@ fn put_row(out: &mut [u8], at: usize, lead: &[u8], coefficients: &[u8]) -> usize
     put_line(out, end, b" :", coefficients)
 }
 
-pub fn put_refusal(out: &mut [u8], at: usize, refusal: u8, record: u16) -> usize
-    requires { Room at (refusal_line refusal «record») out.old }
-    ensures { Put at (refusal_line refusal «record») out.old out.new result }
+// The number of a refusal, and the record at fault.
+pub fn put_refusal(out: &mut [u8], at: usize, fault: Fault) -> usize
+    requires { Room at (refusal_line (number_of fault.refusal) fault.at) out.old }
+    ensures { Put at (refusal_line (number_of fault.refusal) fault.at) out.old out.new result }
 {
-    let next = put_labelled(out, at, b"refused", refusal as u16);
-    let end = put_number(out, next, record);
+    let next = put_labelled(out, at, b"refused", fault.refusal.number() as u16);
+    let end = put_number(out, next, fault.at);
     put_byte(out, end, b'\n')
 }
 

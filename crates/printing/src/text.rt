@@ -92,11 +92,10 @@ pub fn print_text(text: &[u8], out: &mut [u8]) -> usize
     let mut values = [0u8; sizes::POINTS];
     let mut counts = [0u8; sizes::COUNTS];
     let mut weights = [0u8; 8];
-    let read = read_text(text, &mut states, &mut values, &mut counts, &mut weights);
-    let refusal = read.refusal;
-    if refusal != 0 {
-        return put_refusal(out, 0, refusal, read.at);
-    }
+    let read = match read_text(text, &mut states, &mut values, &mut counts, &mut weights) {
+        Ok(read) => read,
+        Err(fault) => return put_refusal(out, 0, fault),
+    };
     let n = read.n as usize;
     let settings = Settings {
         modulus: read.modulus as u64,

@@ -14,8 +14,7 @@ use Rattle.specification.proofs.counted.Saturated.{beyond}
 use Rattle.points.proofs.gathering.Gathering.{Holds, held_as}
 use Rattle.courses.specs.TimeCourse.{Timed, Move, moves_of, points_of_moves, first_move, other_next, many_points, often_counted, move_case, moves_cases}
 use Rattle.courses.specs.TimeCourse.{course_cases, course_refusal}
-use Rattle.courses.specs.Moves.{many_answer, MovesGathered}
-use Rattle.courses.specs.declared.moves.Gathered.{Gathered}
+use Rattle.courses.specs.Moves.{Gathered, many_answer, MovesGathered}
 use Rattle.courses.proofs.moves.FirstMoves.{never_many}
 use Rattle.courses.proofs.moves.MovesGathered.{Gathering}
 

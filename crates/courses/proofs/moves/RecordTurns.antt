@@ -12,8 +12,7 @@ use Rattle.residue.specs.Layout.{fill, row_at}
 use Rattle.points.specs.Gathering.{EnteredAs}
 use Rattle.courses.specs.TimeCourse.{Timed, Move, moves_of, first_move, other_next, many_points}
 use Rattle.courses.specs.Records.{HeldIn}
-use Rattle.courses.specs.Moves.{state_at, has_next, move_at, moves_before, next_in, many_answer, MovesGathered}
-use Rattle.courses.specs.declared.moves.Gathered.{Gathered}
+use Rattle.courses.specs.Moves.{state_at, has_next, move_at, moves_before, next_in, Gathered, many_answer, MovesGathered}
 use Rattle.courses.proofs.moves.MovesBefore.{before_next, before_same, before_none, before_all, before_at}
 use Rattle.courses.proofs.moves.FirstMoves.{never_many}
 use Rattle.courses.proofs.moves.HeldRecords.{row_is, state_long, next_known, next_below}

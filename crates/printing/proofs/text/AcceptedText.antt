@@ -27,7 +27,7 @@ use Rattle.specification.specs.Settings.{no_weights, Accepted}
 use Rattle.specification.proofs.counted.Gathered.{among_gathered, once_gathered}
 use Rattle.construction.specs.Drawing.{PointsGiven}
 use Rattle.construction.proofs.drawing.Given as G
-use Rattle.comma_text.specs.declared.reading.Refusal.{Refusal}
+use Rattle.comma_text.specs.reading.Answers.{Refusal}
 use Rattle.notation.specs.Fields.{records_of}
 use Rattle.comma_text.specs.reading.Text.{Contents, Valued, TextOutcome, header_in, no_header, form_fault, contents_of, entry_point, entry_value, valued_point, valued_points}
 use Rattle.comma_text.specs.reading.Text.{first_outside, first_value, first_values, settings_by, short_buffers, read_cases, not_refused}

@@ -1,16 +1,19 @@
 -- `moves::gather_moves` meets its contract: the moves of the first i records are gathered, and none of them has a state of another successor.
-use mathlib.Core.Path.{◌≡◌, sym, ◌∙◌}
+use mathlib.Core.Path.{◌≡◌, sym, ap, ◌∙◌}
 use mathlib.Core.Bool.{true}
 use mathlib.Core.List.{List}
 use Prim.Native.Nat.{◌+◌, ◌*◌, ◌-◌, ◌<◌, ◌≤◌}
 use native.Mathlib.Omega.{arith}
 use lib.ListN.{length, take, drop}
 use borrow.Author.Tests.{not-true, not-false}
+use Rattle.std.specs.Prelude.{Err}
+use Rattle.specification.specs.Answers.{number_of}
+use Rattle.specification.specs.declared.refusals.Fault.{Fault}
 use Rattle.residue.proofs.Replaced.{part_long, zeros_long}
 use Rattle.points.proofs.gathering.Gathering.{holds_sizes}
 use Rattle.courses.specs.TimeCourse.{Timed}
 use Rattle.courses.specs.Records.{HeldIn}
-use Rattle.courses.specs.Moves.{moves_before}
+use Rattle.courses.specs.Moves.{moves_before, gathered_of}
 use Rattle.courses.proofs.moves.SmallRecords.{lt_le, next_le, one_less, fits_64, not_64}
 use Rattle.courses.proofs.moves.HeldRecords.{timed_in, timed_many, timed_held}
 use Rattle.courses.proofs.moves.MovesBefore.{before_at}
@@ -160,8 +163,8 @@ keep_first-kept-requires c = let e = entered (goal.at.keep_first-kept-requires c
     let at = turn_place (full_held s) (full_many s) (head w).loop-i.i g w.has_next.ensures (has w) e.enter-met.ensures in
     let first = turn_kept (full_held s) (full_many s) (head w).loop-i.i g w.has_next.ensures (has w) e.enter-met.ensures in record { at_bound = (not_64 at g.holds.few c.if-met-eq64.false, at, g.holds.few, lt_le (small w) s.requires.count_le_most_records.0, g.sized); records_len = (s.requires.count_le_most_records.1, λ l. lt_le (first l) s.requires.count_le_most_records.0) }
 
-pub refused_at-requires : goal.refused_at-requires
-refused_at-requires c = let w = within (entered (goal.at.Else-met-eq64 (had_room (kept (goal.at.refused_at-requires c).After-struct_known-in-loop-i-1))).After-struct_known-1) in
+pub at_record-requires : goal.at_record-requires
+at_record-requires c = let w = within (entered (goal.at.Else-met-eq64 (had_room (kept (goal.at.at_record-requires c).After-struct_known-in-loop-i-1))).After-struct_known-1) in
     lt_le w.loop-i-test.true (start (head w)).requires.count_le_most_records.0
 
 pub shape_of-points-then-not-kept : goal.shape_of-points-then-not-kept
@@ -174,12 +177,13 @@ pub shape_of-firsts-then-not-kept : goal.shape_of-firsts-then-not-kept
 shape_of-firsts-then-not-kept c = let k = kept (goal.at.shape_of-firsts-then-not-kept c).After-struct_known-in-loop-i-1 in k.keep_first-kept.auto.firsts ∙ same_firsts (head (within (entered (goal.at.Else-met-eq64 (had_room k)).After-struct_known-1)))
 
 pub returns-then-not-kept : goal.returns-then-not-kept
+unfolding gathered_of number_of
 returns-then-not-kept c = let k = kept (goal.at.returns-then-not-kept c).After-struct_known-in-loop-i-1 in
     let e = entered (goal.at.Else-met-eq64 (had_room k)).After-struct_known-1 in
     let w = within e in
     λ m l h q.
     turn_other h q (head w).loop-i.i ((head w).loop-i.invariant.1 m l h q) w.has_next.ensures (has w) e.enter-met.ensures k.keep_first-kept.ensures.fact_2
-    (not-true _ c.if-not-kept.true) c.refused_at.ensures _ _ _
+    (not-true _ c.if-not-kept.true) (ap (λ (f : Fault). gathered_of (Err f)) c.at_record.ensures) _ _ _
 
 -- Any other record.
 pub first_record-often-requires : goal.first_record-often-requires
@@ -214,6 +218,7 @@ pub shape_of-firsts-then-often-ne0 : goal.shape_of-firsts-then-often-ne0
 shape_of-firsts-then-often-ne0 c = same_firsts (goal.at.shape_of-firsts-then-often-ne0 c).At-loop-i
 
 pub returns-then-often-ne0 : goal.returns-then-often-ne0
+unfolding gathered_of number_of
 returns-then-often-ne0 c = let l = c in
     λ m k h e. ends_often h e l.loop-i.i (l.loop-i.invariant.1 m k h e) c.loop-i-test.false c.if-often-ne0.true
 
@@ -227,5 +232,6 @@ pub shape_of-firsts : goal.shape_of-firsts
 shape_of-firsts c = same_firsts (goal.at.shape_of-firsts c).At-loop-i
 
 pub returns : goal.returns
+unfolding gathered_of
 returns c = let l = c in
     λ m k h e. ends_well h e l.loop-i.i (l.loop-i.invariant.1 m k h e) c.loop-i-test.false c.if-often-ne0.false
