@@ -2,9 +2,7 @@
 use mathlib.Core.Path.{◌≡◌, ap, ◌∙◌}
 use mathlib.Core.List.{List}
 use Prim.Native.Nat.{ℕ}
-use Rattle.specification.specs.declared.answers.Answer.{Answer}
-use Rattle.specification.specs.declared.answers.Drawn.{Drawn}
-use Rattle.specification.specs.declared.answers.Wired.{Wired}
+use Rattle.specification.specs.Answers.{Answer, Drawn, Wired}
 use Rattle.specification.specs.Adding.{Outcome, ended, DrawOutcome, draw_ended}
 use Rattle.specification.specs.Solving.{Listed, listed}
 use Rattle.comma_text.specs.declared.reading.Read.{Read}
@@ -13,9 +11,7 @@ use Rattle.comma_text.specs.reading.Text.{TextOutcome, text_ended}
 use Rattle.forward.specs.declared.running.Course.{Course}
 use Rattle.forward.specs.Outcome.{CourseOutcome}
 use Rattle.misqafur.specs.Packing.{packed_answer, packed_drawn, packed_wired, packed_read, left, packed_outcome, packed_drawing, left_list, packed_list, left_reading, packed_reading}
-use Rattle.json_sheets.specs.declared.write.Written.{Written}
-use Rattle.json_sheets.specs.declared.read.Taken.{Taken}
-use Rattle.json_sheets.specs.Calls.{WrittenText, wrote, Received, received}
+use Rattle.json_sheets.specs.Calls.{Written, Taken, WrittenText, wrote, Received, received}
 use Rattle.misqafur.specs.Packing.{packed_course, left_course, packed_run, packed_written, packed_text, packed_taken, left_sheet, packed_sheet}
 
 pub packs : {a : Answer} {b c d e f : List ℕ} {o : Outcome} {k : ℕ} → ended a b c d e f ≡ o → k ≡ packed_answer a → left k b c d e f ≡ packed_outcome o

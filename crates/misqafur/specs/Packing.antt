@@ -2,9 +2,7 @@
 use Rattle.std.specs.Prelude.{cond, List, [], ◌∷◌, ℕ, ◌+◌, ◌*◌, ◌≤◌, eqb}
 use Rattle.residue.specs.Words.{bytes_of}
 use Rattle.specification.specs.declared.settings.Settings.{Settings}
-use Rattle.specification.specs.declared.answers.Answer.{Answer}
-use Rattle.specification.specs.declared.answers.Drawn.{Drawn}
-use Rattle.specification.specs.declared.answers.Wired.{Wired}
+use Rattle.specification.specs.Answers.{Answer, Drawn, Wired}
 use Rattle.specification.specs.Tables.{Tables, five_tables}
 use Rattle.specification.specs.Adding.{Outcome, DrawOutcome}
 use Rattle.specification.specs.Solving.{Listed}
@@ -12,9 +10,7 @@ use Rattle.comma_text.specs.declared.reading.Read.{Read}
 use Rattle.comma_text.specs.reading.Text.{TextOutcome}
 use Rattle.forward.specs.declared.running.Course.{Course}
 use Rattle.forward.specs.Outcome.{CourseOutcome}
-use Rattle.json_sheets.specs.declared.write.Written.{Written}
-use Rattle.json_sheets.specs.declared.read.Taken.{Taken}
-use Rattle.json_sheets.specs.Calls.{WrittenText, Received}
+use Rattle.json_sheets.specs.Calls.{Written, Taken, WrittenText, Received}
 
 -- Numbers in one, each 256 times higher than the one before it.
 abbrev pub packed : List ℕ → ℕ
