@@ -28,8 +28,9 @@ impl TablesRef<'_> {
     ghost use Rattle.specification.specs.Lent.{lent};
 
     // Whether one of them is shorter than its size.
+    #[tactic(auto, unfolding(crate::specs::Tables::too_short, crate::specs::Tables::short_lengths))]
     pub fn too_short(self) -> bool
-        ensures { result ≡ too_short (lent self) }
+        ensures { result ≡ too_short (lent self.entry) }
     {
         self.states.len() < sizes::STATES
             || self.standard.len() < sizes::STANDARD
