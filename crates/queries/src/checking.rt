@@ -1,25 +1,18 @@
 // Checking lent tables.
 ghost use Rattle.std.specs.Prelude.{◌≡◌};
-ghost use Rattle.specification.specs.Tables.{five_tables};
+ghost use Rattle.specification.specs.Answers.{refusal_of};
+ghost use Rattle.specification.specs.Lent.{lent};
 ghost use Rattle.specification.specs.Solving.{check_refusal};
 
 use recognition::looking::{Faults, look};
 use residue::sizes;
+use specification::refusals::Refusal;
 use specification::settings::Settings;
+use specification::tables::TablesRef;
 
 // Checking lent tables: the look at them alone.
-pub fn check(
-    settings: Settings,
-    n: u64,
-    r: u64,
-    states: &[u8],
-    standard: &[u8],
-    leads: &[u8],
-    coefficients: &[u8],
-    counts: &[u8],
-) -> u8
-    ensures { result ≡ check_refusal settings n r
-        (five_tables states.now standard.now leads.now coefficients.now counts.now) }
+pub fn check(settings: Settings, n: u64, r: u64, tables: TablesRef<'_>) -> Result<(), Refusal>
+    ensures { refusal_of result ≡ check_refusal settings n r (lent tables.entry) }
 {
     let mut points = [0u8; sizes::STATES];
     let mut rows = [0u8; sizes::PIVOT_ROWS];
@@ -33,11 +26,7 @@ pub fn check(
         settings,
         n,
         r,
-        states,
-        standard,
-        leads,
-        coefficients,
-        counts,
+        tables,
         faults,
         &[],
         &[],

@@ -1,30 +1,28 @@
 // The remainder of a polynomial, from the basis of lent tables.
 ghost use Rattle.std.specs.Prelude.{◌≡◌};
-ghost use Rattle.specification.specs.Tables.{five_tables};
+ghost use Rattle.specification.specs.Answers.{refusal_of};
+ghost use Rattle.specification.specs.Lent.{lent};
 ghost use Rattle.specification.specs.Solving.{answering, remainder_outcome};
 
 use interpolation::solving;
 use recognition::looking::{Faults, look};
 use residue::sizes;
+use specification::refusals::Refusal;
 use specification::settings::Settings;
+use specification::tables::TablesRef;
 
 // The remainder of a polynomial, term after term a coefficient and 8 exponents.
 pub fn remainder(
     settings: Settings,
     n: u64,
     r: u64,
-    states: &[u8],
-    standard: &[u8],
-    leads: &[u8],
-    coefficients: &[u8],
-    counts: &[u8],
+    tables: TablesRef<'_>,
     term_coefficients: &[i8],
     exponents: &[u8],
     out: &mut [u8],
-) -> u8
-    ensures { answering result out.new
-        ≡ remainder_outcome settings n r
-        (five_tables states.now standard.now leads.now coefficients.now counts.now)
+) -> Result<(), Refusal>
+    ensures { answering (refusal_of result) out.new
+        ≡ remainder_outcome settings n r (lent tables.entry)
         term_coefficients.now exponents.now out.old }
 {
     let mut points = [0u8; sizes::STATES];
@@ -37,25 +35,18 @@ pub fn remainder(
         wrong: !whole,
         many: 256 < terms,
     };
-    let refusal = look(
+    look(
         settings,
         n,
         r,
-        states,
-        standard,
-        leads,
-        coefficients,
-        counts,
+        tables,
         faults,
         term_coefficients,
         exponents,
         &mut points,
         &mut rows,
         &mut pivots,
-    );
-    if refusal != 0 {
-        return refusal;
-    }
+    )?;
     solving::solve_terms(
         settings.modulus as u8,
         term_coefficients,
@@ -66,5 +57,5 @@ pub fn remainder(
         &pivots,
         out,
     );
-    0
+    Ok(())
 }

@@ -1,31 +1,28 @@
 // The calls that answer from the basis of lent tables and values at its points: interpolant and wiring list.
 ghost use Rattle.std.specs.Prelude.{◌≡◌};
-ghost use Rattle.specification.specs.Tables.{five_tables};
+ghost use Rattle.specification.specs.Answers.{refusal_of, wired_of};
+ghost use Rattle.specification.specs.Lent.{lent};
 ghost use Rattle.specification.specs.Solving.{answering, interpolate_outcome, listed, wiring_outcome};
 
 use interpolation::{pairs, solving};
 use points::levels;
 use recognition::looking::{Faults, look};
 use residue::{bytes, sizes};
-use specification::answers::Wired;
+use specification::refusals::Refusal;
 use specification::settings::Settings;
+use specification::tables::TablesRef;
 
 // The interpolant of n values, in the order of the points.
 pub fn interpolate(
     settings: Settings,
     n: u64,
     r: u64,
-    states: &[u8],
-    standard: &[u8],
-    leads: &[u8],
-    coefficients: &[u8],
-    counts: &[u8],
+    tables: TablesRef<'_>,
     values: &[i8],
     out: &mut [u8],
-) -> u8
-    ensures { answering result out.new
-        ≡ interpolate_outcome settings n r
-        (five_tables states.now standard.now leads.now coefficients.now counts.now)
+) -> Result<(), Refusal>
+    ensures { answering (refusal_of result) out.new
+        ≡ interpolate_outcome settings n r (lent tables.entry)
         values.now out.old }
 {
     let mut points = [0u8; sizes::STATES];
@@ -36,25 +33,18 @@ pub fn interpolate(
         wrong: values.len() as u64 != n,
         many: false,
     };
-    let refusal = look(
+    look(
         settings,
         n,
         r,
-        states,
-        standard,
-        leads,
-        coefficients,
-        counts,
+        tables,
         faults,
         values,
         &[],
         &mut points,
         &mut rows,
         &mut pivots,
-    );
-    if refusal != 0 {
-        return refusal;
-    }
+    )?;
     solving::solve_values(
         settings.modulus as u8,
         n as usize,
@@ -63,7 +53,7 @@ pub fn interpolate(
         &pivots,
         out,
     );
-    0
+    Ok(())
 }
 
 // The wiring list: on which variables every function depends that has these n values at the points. It does not ask for the interpolant.
@@ -71,17 +61,12 @@ pub fn wiring(
     settings: Settings,
     n: u64,
     r: u64,
-    states: &[u8],
-    standard: &[u8],
-    leads: &[u8],
-    coefficients: &[u8],
-    counts: &[u8],
+    tables: TablesRef<'_>,
     values: &[i8],
     out: &mut [u8],
-) -> Wired
-    ensures { listed result out.new
-        ≡ wiring_outcome settings n r
-        (five_tables states.now standard.now leads.now coefficients.now counts.now)
+) -> Result<u8, Refusal>
+    ensures { listed (wired_of result) out.new
+        ≡ wiring_outcome settings n r (lent tables.entry)
         values.now out.old }
 {
     let mut points = [0u8; sizes::STATES];
@@ -92,25 +77,18 @@ pub fn wiring(
         wrong: values.len() as u64 != n,
         many: false,
     };
-    let refusal = look(
+    look(
         settings,
         n,
         r,
-        states,
-        standard,
-        leads,
-        coefficients,
-        counts,
+        tables,
         faults,
         values,
         &[],
         &mut points,
         &mut rows,
         &mut pivots,
-    );
-    if refusal != 0 {
-        return Wired { refusal, count: 0 };
-    }
+    )?;
     let mut residues = [0u8; sizes::POINTS];
     levels::put_residues(settings.modulus as u8, values, &mut residues);
     let mut names = [0u8; 8];
@@ -122,5 +100,5 @@ pub fn wiring(
         &mut names,
     );
     bytes::copy(&names, out);
-    Wired { refusal: 0, count }
+    Ok(count)
 }

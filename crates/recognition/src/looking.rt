@@ -1,21 +1,24 @@
 // The look at lent tables with which a call begins that is lent them: what refuses it up to 10.
-ghost use Rattle.std.specs.Prelude.{◌≡◌, cond, ◌*◌, ◌≤◌, length, replicate};
+ghost use Rattle.std.specs.Prelude.{◌≡◌, ◌*◌, ◌≤◌, length, replicate};
 ghost use Rattle.residue.specs.Sizes.{states_size};
 ghost use Rattle.residue.specs.Layout.{groups};
+ghost use Rattle.specification.specs.Answers.{refusal_of};
+ghost use Rattle.specification.specs.Lent.{lent};
 ghost use Rattle.specification.specs.Refusal.{first_of};
-ghost use Rattle.specification.specs.Tables.{five_tables};
 ghost use Rattle.specification.specs.Solving.{within_variables};
 ghost use Rattle.construction.specs.Drawing.{RowsLong};
 ghost use Rattle.recognition.specs.Looking.{look_cases, Looked};
 
 use crate::recognising::recognise;
-use crate::settings::{by_sizes, too_short};
+use crate::settings::by_sizes;
 use points::levels::in_range;
 use residue::bytes;
+use specification::refusals::Refusal;
 use specification::settings::Settings;
+use specification::tables::TablesRef;
 
 // What a call finds in the lengths of what it is lent besides the tables: another buffer is too short (6), a length is wrong (7), there are too many terms (8).
-#[derive(Drop)]
+#[derive(Clone, Copy)]
 pub struct Faults {
     pub short: bool,
     pub wrong: bool,
@@ -38,72 +41,38 @@ fn within_variables(m: usize, k: usize, exponents: &[u8]) -> bool
     true
 }
 
-// The refusal of tables that are not the basis of their points.
-fn judged(known: bool) -> u8
-    ensures { result ≡ cond known 0 10 }
-{
-    if known {
-        return 0;
-    }
-    10
-}
-
-// What refuses a call up to 10, or 0. The numbers and exponents are those that it is handed, of points, values or a polynomial; a call without any hands over
+// What refuses a call up to 10. The numbers and exponents are those that it is handed, of points, values or a polynomial; a call without any hands over
 // empty slices. Where the tables are judged, their points and pivot rows are left in working arrays.
 pub fn look(
     settings: Settings,
     n: u64,
     r: u64,
-    states: &[u8],
-    standard: &[u8],
-    leads: &[u8],
-    coefficients: &[u8],
-    counts: &[u8],
+    tables: TablesRef<'_>,
     faults: Faults,
     numbers: &[i8],
     exponents: &[u8],
     points: &mut [u8],
     rows: &mut [u8],
     pivots: &mut [u8],
-) -> u8
+) -> Result<(), Refusal>
     requires { (points.old ≡ replicate states_size 0) × RowsLong rows.old pivots.old }
-    ensures value { result ≡ first_of 0 (look_cases settings n r
-        (five_tables states.now standard.now leads.now coefficients.now counts.now)
-        faults numbers.now exponents.now) }
-    ensures looked { Looked settings n states.now result points.old rows.old pivots.old
+    ensures value { refusal_of result ≡ first_of 0 (look_cases settings n r (lent tables.entry) faults numbers.now exponents.now) }
+    ensures looked { Looked settings n tables.entry.states.now (refusal_of result) points.old rows.old pivots.old
         points.new rows.new pivots.new }
 {
-    let short = too_short(
-        states.len(),
-        standard.len(),
-        leads.len(),
-        coefficients.len(),
-        counts.len(),
-    );
-    let refusal = by_sizes(
+    by_sizes(
         settings,
-        faults.short | short,
+        faults.short || tables.too_short(),
         faults.wrong,
-        faults.many | (64 < n),
-    );
-    if refusal != 0 {
-        return refusal;
+        faults.many || 64 < n,
+    )?;
+    let inside = within_variables(settings.variables as usize, exponents.len() / 8, exponents)
+        && in_range(settings.modulus as u8, numbers);
+    if !inside {
+        return Err(Refusal::OutOfRange);
     }
-    let within = within_variables(settings.variables as usize, exponents.len() / 8, exponents);
-    if !(within & in_range(settings.modulus as u8, numbers)) {
-        return 9;
+    if !recognise(settings, n as usize, r, tables, points, rows, pivots) {
+        return Err(Refusal::NoBasis);
     }
-    judged(recognise(
-        settings,
-        n as usize,
-        r,
-        states,
-        standard,
-        leads,
-        coefficients,
-        counts,
-        points,
-        rows,
-        pivots,
-    ))
+    Ok(())
 }

@@ -6,13 +6,15 @@ ghost use Rattle.residue.specs.Layout.{fill, in_places, begins};
 ghost use Rattle.specification.specs.Refusal.{first_of};
 ghost use Rattle.specification.specs.Settings.{settings_cases};
 ghost use Rattle.specification.specs.Counted.{is_count};
-ghost use Rattle.specification.specs.Tables.{five_tables, points_in, recognised, too_short};
+ghost use Rattle.specification.specs.Lent.{lent};
+ghost use Rattle.specification.specs.Tables.{points_in, recognised, too_short};
 ghost use Rattle.construction.specs.Drawing.{RowsLong, Solves, pivot_bytes, pivot_rows_left};
 
 use construction::drawing::draw;
 use points::{levels, places};
 use residue::{bytes, sizes};
 use specification::settings::Settings;
+use specification::tables::TablesRef;
 
 // Whether each of the first n bytes is a count, which of bytes 0 alone is not.
 fn are_counts(n: usize, counts: &[u8]) -> bool
@@ -46,36 +48,25 @@ fn agree(
     new_standard: &[u8],
     new_leads: &[u8],
     new_coefficients: &[u8],
-    states: &[u8],
-    standard: &[u8],
-    leads: &[u8],
-    coefficients: &[u8],
-    counts: &[u8],
+    tables: TablesRef<'_>,
 ) -> bool
     requires n_le_counts_size { n ≤ counts_size }
     requires new_states_len { (length new_states.now ≡ states_size)
         × ((length new_standard.now ≡ standard_size)
         × ((length new_leads.now ≡ leads_size) × (length new_coefficients.now ≡ coefficients_size))) }
-    requires counts_value { too_short (five_tables states.now standard.now leads.now coefficients.now counts.now) ≡ false }
-    ensures { result ≡ (begins new_states.now states.now
-        && (begins new_standard.now standard.now
-        && (begins new_leads.now leads.now
-        && (begins new_coefficients.now coefficients.now
-        && (every is_count (fill n counts.now) && begins (fill counts_size (fill n counts.now)) counts.now))))) }
+    requires counts_value { too_short (lent tables) ≡ false }
+    ensures { result ≡ (begins new_states.now tables.entry.states.now
+        && (begins new_standard.now tables.entry.standard.now
+        && (begins new_leads.now tables.entry.leads.now
+        && (begins new_coefficients.now tables.entry.coefficients.now
+        && (every is_count (fill n tables.entry.counts.now)
+        && begins (fill counts_size (fill n tables.entry.counts.now)) tables.entry.counts.now))))) }
 {
-    if !bytes::begins(new_states, states) {
-        return false;
-    }
-    if !bytes::begins(new_standard, standard) {
-        return false;
-    }
-    if !bytes::begins(new_leads, leads) {
-        return false;
-    }
-    if !bytes::begins(new_coefficients, coefficients) {
-        return false;
-    }
-    counts_fit(n, counts)
+    bytes::begins(new_states, tables.states)
+        && bytes::begins(new_standard, tables.standard)
+        && bytes::begins(new_leads, tables.leads)
+        && bytes::begins(new_coefficients, tables.coefficients)
+        && counts_fit(n, tables.counts)
 }
 
 // Whether lent tables are the basis of their points. The points are left as a table, and where none repeats their pivot rows.
@@ -83,26 +74,21 @@ pub(crate) fn recognise(
     settings: Settings,
     n: usize,
     r: u64,
-    states: &[u8],
-    standard: &[u8],
-    leads: &[u8],
-    coefficients: &[u8],
-    counts: &[u8],
+    tables: TablesRef<'_>,
     points: &mut [u8],
     rows: &mut [u8],
     pivots: &mut [u8],
 ) -> bool
     requires settings_value { (first_of 0 (settings_cases settings) ≡ 0) × (n ≤ 64) }
-    requires counts_value { too_short (five_tables states.now standard.now leads.now coefficients.now counts.now) ≡ false }
+    requires counts_value { too_short (lent tables) ≡ false }
     requires points_value { (points.old ≡ replicate states_size 0) × RowsLong rows.old pivots.old }
-    ensures value { result ≡ recognised settings n r
-        (five_tables states.now standard.now leads.now coefficients.now counts.now) }
-    ensures points_after { points.new ≡ fill states_size (in_places 8 (points_in settings n states.now)) }
-    ensures solves { result ≡ true → Solves settings (points_in settings n states.now) rows.new pivots.new }
+    ensures value { result ≡ recognised settings n r (lent tables.entry) }
+    ensures points_after { points.new ≡ fill states_size (in_places 8 (points_in settings n tables.entry.states.now)) }
+    ensures solves { result ≡ true → Solves settings (points_in settings n tables.entry.states.now) rows.new pivots.new }
     ensures pivots_after { pivot_bytes rows.new pivots.new
-        ≡ pivot_rows_left settings (points_in settings n states.now) rows.old pivots.old }
+        ≡ pivot_rows_left settings (points_in settings n tables.entry.states.now) rows.old pivots.old }
 {
-    levels::read_points(settings, n, states, points);
+    levels::read_points(settings, n, tables.states, points);
     if !places::no_repeat(n, points) {
         return false;
     }
@@ -128,10 +114,6 @@ pub(crate) fn recognise(
         &new_standard,
         &new_leads,
         &new_coefficients,
-        states,
-        standard,
-        leads,
-        coefficients,
-        counts,
+        tables,
     )
 }

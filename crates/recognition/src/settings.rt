@@ -1,123 +1,66 @@
-// The refusals that look at the settings and at lengths and counts alone, 3 to 8 and 15, and the answer of a refused call.
+// The refusals that look at the settings and at lengths and counts alone, 3 to 8 and 15.
 ghost use Rattle.std.specs.Prelude.{◌≡◌, not, false, [], ◌∷◌, ◌++◌, ◌%◌, eqb};
+ghost use Rattle.specification.specs.Answers.{refusal_of};
 ghost use Rattle.specification.specs.Refusal.{first_of};
 ghost use Rattle.specification.specs.Settings.{settings_cases};
-ghost use Rattle.specification.specs.Tables.{short_lengths};
 
 use points::weights::right_weights;
-use residue::{level, sizes};
-use specification::answers::{Answer, Drawn};
+use residue::level;
+use specification::refusals::Refusal;
 use specification::settings::Settings;
 
-// The answer of a refused call.
-pub fn refused(refusal: u8) -> Answer
-    ensures { result ≡ record { refusal = refusal; n = 0; r = 0 } }
-{
-    Answer {
-        refusal,
-        n: 0,
-        r: 0,
-    }
-}
-
-// And of a drawing up that is refused.
-pub fn refused_drawing(refusal: u8) -> Drawn
-    ensures { result ≡ record { refusal = refusal; n = 0; r = 0; cancellations = 0 } }
-{
-    Drawn {
-        refusal,
-        n: 0,
-        r: 0,
-        cancellations: 0,
-    }
-}
-
 // The refusals that look at the settings alone.
-pub fn settings_refusal(settings: Settings) -> u8
-    ensures { result ≡ first_of 0 (settings_cases settings) }
+#[tactic(auto, unfolding(specification::specs::Answers::refusal_of, specification::specs::Answers::number_of, specification::specs::Refusal::first_of, specification::specs::Settings::settings_cases))]
+pub fn check_settings(settings: Settings) -> Result<(), Refusal>
+    ensures { refusal_of result ≡ first_of 0 (settings_cases settings) }
 {
-    if level::is_modulus(settings.modulus) {
-        if settings.variables < 1 {
-            return 4;
-        }
-        if 8 < settings.variables {
-            return 4;
-        }
-        if 3 < settings.order {
-            return 5;
-        }
-        if right_weights(settings) {
-            return 0;
-        }
-        return 15;
+    if !level::is_modulus(settings.modulus) {
+        return Err(Refusal::Modulus);
     }
-    3
-}
-
-// Whether one of the lent tables, of these lengths, is shorter than its size.
-pub fn too_short(
-    states: usize,
-    standard: usize,
-    leads: usize,
-    coefficients: usize,
-    counts: usize,
-) -> bool
-    ensures { result ≡ short_lengths states standard leads coefficients counts }
-{
-    if states < sizes::STATES {
-        return true;
+    if !(1..=8).contains(&settings.variables) {
+        return Err(Refusal::Variables);
     }
-    if standard < sizes::STANDARD {
-        return true;
+    if 3 < settings.order {
+        return Err(Refusal::Order);
     }
-    if leads < sizes::LEADS {
-        return true;
+    if !right_weights(settings) {
+        return Err(Refusal::Weights);
     }
-    if coefficients < sizes::COEFFICIENTS {
-        return true;
-    }
-    counts < sizes::COUNTS
+    Ok(())
 }
 
 // A table or buffer is too short, a length is wrong, there are too many points or terms.
-pub(crate) fn by_sizes(settings: Settings, short: bool, wrong: bool, many: bool) -> u8
-    ensures { result ≡ first_of 0 (settings_cases settings ++ ((short, 6) ∷ (wrong, 7) ∷ (many, 8) ∷ [])) }
+#[tactic(auto, using(specification::proofs::agreement::Refusals::settings_pass, crate::proofs::settings::ByNumber::settings_stop), unfolding(specification::specs::Answers::refusal_of, specification::specs::Answers::number_of, specification::specs::Refusal::first_of))]
+pub(crate) fn by_sizes(
+    settings: Settings,
+    short: bool,
+    wrong: bool,
+    many: bool,
+) -> Result<(), Refusal>
+    ensures { refusal_of result ≡ first_of 0 (settings_cases settings ++ ((short, 6) ∷ (wrong, 7) ∷ (many, 8) ∷ [])) }
 {
-    let k = settings_refusal(settings);
-    if k != 0 {
-        return k;
-    }
+    check_settings(settings)?;
     if short {
-        return 6;
+        return Err(Refusal::ShortBuffer);
     }
     if wrong {
-        return 7;
+        return Err(Refusal::Length);
     }
     if many {
-        return 8;
+        return Err(Refusal::TooMany);
     }
-    0
-}
-
-// The remainder of a division as the definitions have it, by 0 too: lengths are judged before the settings are known to be good.
-fn modulo(k: usize, m: u64) -> usize
-    ensures { result ≡ k % m }
-{
-    if m == 0 {
-        return k;
-    }
-    k % m as usize
+    Ok(())
 }
 
 // Drawing up from this many levels, of any number of points; `short` is whether a lent table is too short. 8 counts the distinct ones, and comes later.
-pub fn draw_sizes(settings: Settings, short: bool, levels: usize) -> u8
-    ensures { result ≡ first_of 0 (settings_cases settings
+pub fn draw_sizes(settings: Settings, short: bool, levels: usize) -> Result<(), Refusal>
+    ensures { refusal_of result ≡ first_of 0 (settings_cases settings
         ++ ((short, 6) ∷ (not (eqb (levels % settings.variables) 0), 7) ∷ (false, 8) ∷ [])) }
 {
     by_sizes(
         settings,
         short,
-        modulo(levels, settings.variables) != 0,
+        !levels.is_multiple_of(settings.variables as usize),
         false,
     )
 }

@@ -10,7 +10,9 @@ use lib.Dec.{ltb}
 use borrow.Author.Tests.{ne_eqb, ltb-false, not-false}
 use Rattle.residue.specs.Layout.{groups, fill, in_places}
 use Rattle.residue.proofs.Tests.{neither, of_true, true_of, and_left, and_right}
+use Rattle.specification.specs.declared.refusals.Refusal.{Refusal}
 use Rattle.specification.specs.declared.settings.Settings.{Settings}
+use Rattle.specification.specs.Answers.{number_of}
 use Rattle.specification.specs.Refusal.{Case, first_of}
 use Rattle.specification.specs.Settings.{Accepted, settings_cases}
 use Rattle.specification.specs.Levels.{in_range}
@@ -22,6 +24,7 @@ use Rattle.specification.proofs.agreement.Refusals.{accepted, settings_pass}
 use Rattle.construction.specs.Drawing.{Solves, PivotBytes, pivot_bytes, pivot_rows_left}
 use Rattle.recognition.specs.Looking.{look_cases, looked_at, Looked}
 use Rattle.recognition.specs.declared.looking.Faults.{Faults}
+use Rattle.recognition.proofs.settings.ByNumber.{number_above_0}
 use Rattle.recognition.proofs.settings.BySize.{sizes, sizes_not_10, by_size, by_rest}
 
 -- The arrays, as they were lent and by the number k.
@@ -91,10 +94,11 @@ module _ (s : Settings) (n r : ℕ) (t : Tables) (f : Faults) (numbers : List �
     Told k points rows pivots =
         (k ≡ first_of 0 (look_cases s n r t f numbers exponents)) × Looked s n t.states k points₀ rows₀ pivots₀ points rows pivots
 
-    pub told_size : (k : ℕ) → k ≡ look_sizes → (k ≡ 0 → ⊥) → Told k points₀ rows₀ pivots₀
+    pub told_size : (e : Refusal) → number_of e ≡ look_sizes → Told (number_of e) points₀ rows₀ pivots₀
     unfolding look_cases
-    told_size k e z =
-        (by_size s short f.wrong many behind k e z, unlooked s n t.states points₀ rows₀ pivots₀ k z (λ y. sizes_not_10 s short f.wrong many (sym e ∙ y)))
+    told_size e h =
+        let z = number_above_0 e in
+        (by_size s short f.wrong many behind (number_of e) h z, unlooked s n t.states points₀ rows₀ pivots₀ (number_of e) z (λ y. sizes_not_10 s short f.wrong many (sym h ∙ y)))
 
     module _ (e : look_sizes ≡ 0) where
       pub told_outside : inside ≡ false → Told 9 points₀ rows₀ pivots₀

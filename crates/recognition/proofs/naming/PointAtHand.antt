@@ -1,16 +1,17 @@
 -- What is at hand where nothing refuses a call that names a point: the points of the tables and their pivot rows, the point and its place.
-use mathlib.Core.Path.{◌≡◌, sym, ap, ap₂, subst, ◌∙◌}
-use mathlib.Core.Bool.{cond}
+use mathlib.Core.Path.{◌≡◌, refl, sym, ap, ap₂, subst, ◌∙◌}
+use Rattle.std.specs.Prelude.{Ok}
 use mathlib.Core.List.{List, []}
 use Prim.Native.Nat.{ℕ, ◌≤◌}
 use native.Mathlib.Omega.{arith}
 use lib.IntN.{ℤ}
 use lib.ListN.{length}
-use lib.Dec.{eqb, ltb}
+use lib.Dec.{ltb}
 use borrow.Author.Tests.{eqb-true, not-false}
 use Rattle.residue.specs.Layout.{groups, fill, in_places}
 use Rattle.residue.proofs.Places.{table_groups}
 use Rattle.specification.specs.declared.settings.Settings.{Settings}
+use Rattle.specification.specs.Answers.{refusal_of}
 use Rattle.specification.specs.Levels.{residues, is_among}
 use Rattle.specification.specs.Counted.{points_of, place_in}
 use Rattle.specification.specs.Tables.{Tables, points_in, held_in}
@@ -23,7 +24,6 @@ use Rattle.construction.specs.Drawing.{PointsGiven, Solves}
 use Rattle.construction.proofs.drawing.Given.{given, table_points}
 use Rattle.points.proofs.places.PointPlaces.{place_filled, among_place}
 use Rattle.recognition.specs.Naming.{naming_faults, naming_refusal, LocatedAs}
-use Rattle.recognition.specs.declared.naming.Located.{Located}
 use Rattle.recognition.proofs.looking.Looks.{Open, open_of, points_there}
 
 module _ (s : Settings) (n r : ℕ) (t : Tables) (levels : List ℤ) (e : naming_refusal s n r t levels ≡ 0) where
@@ -66,15 +66,15 @@ module _ (s : Settings) (n r : ℕ) (t : Tables) (levels : List ℤ) (e : naming
     pub solves : Solves s S rows pivots
     pub residue : point ≡ fill 8 P
 
-  pub at_hand : {points₀ rows₀ pivots₀ point₀ : List ℕ} {a : Located} {points rows pivots point : List ℕ} → LocatedAs s n r t levels points₀ rows₀ pivots₀ point₀ a points rows pivots point
-      → AtHand a.place points rows pivots point
-  at_hand {point₀ = point₀} {a} {points} L =
-      let none : a.refusal ≡ 0 = L.refusal ∙ e in
-      let table : points ≡ fill 512 (in_places 8 S) = points_there L.looked none in
+  pub at_hand : {points₀ rows₀ pivots₀ point₀ : List ℕ} {place : ℕ} {points rows pivots point : List ℕ}
+      → LocatedAs s n r t levels points₀ rows₀ pivots₀ point₀ (Ok place) points rows pivots point → AtHand place points rows pivots point
+  unfolding refusal_of
+  at_hand {place = place} {points} L =
+      let table : points ≡ fill 512 (in_places 8 S) = points_there L.looked refl in
       record {
-        placed = L.place ∙ ap (λ (k : ℕ). cond (eqb k 0) (place_in P S) 0) none;
+        placed = L.place place refl;
         again = ap₂ (points_in s) (sym count) table ∙ table_points s opened.settings S old_points;
         given_points = subst (λ (k : ℕ). PointsGiven s k points) count (subst (PointsGiven s (length S)) (sym table) (given s opened.settings S old_points));
-        solves = L.looked.solves none;
-        residue = L.residue ∙ ap (λ (k : ℕ). cond (eqb k 0) (fill 8 P) point₀) none;
+        solves = L.looked.solves refl;
+        residue = L.residue;
       }

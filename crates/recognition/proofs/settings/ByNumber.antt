@@ -1,27 +1,61 @@
 -- The outcome of a call by its number.
-use mathlib.Core.Path.{◌≡◌, refl, ap₂}
+use mathlib.Core.Path.{◌≡◌, refl, ap₂, ◌∙◌}
+use native.Mathlib.Omega.{arith}
+use Rattle.std.specs.Prelude.{Err}
 use mathlib.Core.Bool.{cond}
-use mathlib.Core.List.{List}
+use mathlib.Core.List.{List, ◌++◌}
 use Prim.Native.Nat.{ℕ}
 use lib.Dec.{eqb}
 use borrow.Author.Tests.{ne_eqb}
 use Rattle.residue.specs.Layout.{over}
-use Rattle.specification.specs.declared.answers.Answer.{Answer}
-use Rattle.specification.specs.declared.answers.Drawn.{Drawn}
+use Rattle.specification.specs.declared.refusals.Refusal.{Refusal}
+use Rattle.specification.specs.declared.refusals.Refusal.TheVariants.{LongText, Form, Modulus, Variables, Order, ShortBuffer, Length, TooMany, OutOfRange}
+use Rattle.specification.specs.declared.refusals.Refusal.TheVariants.{NoBasis, NotThere, TooOften, OtherValue, Weights, Variable, OtherSuccessor}
+use Rattle.specification.specs.declared.refusals.Refusal.TheVariants.{NoCourse, Json}
+use Rattle.specification.specs.Answers.{number_of, answer_of, drawn_of}
+use Rattle.specification.specs.declared.settings.Settings.{Settings}
+use Rattle.specification.specs.Refusal.{Case, first_of}
+use Rattle.specification.specs.Settings.{settings_cases}
 use Rattle.specification.specs.Tables.{Tables}
-use Rattle.specification.specs.Adding.{Outcome, refused, by_refusal, DrawOutcome, costing}
+use Rattle.specification.proofs.Cases.{first_stop}
+use Rattle.specification.specs.Adding.{Outcome, ended, refused, by_refusal, draw_ended, costing}
 use Rattle.specification.specs.Solving.{Filled, filling}
 
+-- a refusal's number is not 0
+pub number_above_0 : (e : Refusal) → number_of e ≡ 0 → ⊥
+unfolding number_of
+number_above_0 LongText z = omega arith
+number_above_0 Form z = omega arith
+number_above_0 Modulus z = omega arith
+number_above_0 Variables z = omega arith
+number_above_0 Order z = omega arith
+number_above_0 ShortBuffer z = omega arith
+number_above_0 Length z = omega arith
+number_above_0 TooMany z = omega arith
+number_above_0 OutOfRange z = omega arith
+number_above_0 NoBasis z = omega arith
+number_above_0 NotThere z = omega arith
+number_above_0 TooOften z = omega arith
+number_above_0 OtherValue z = omega arith
+number_above_0 Weights z = omega arith
+number_above_0 Variable z = omega arith
+number_above_0 OtherSuccessor z = omega arith
+number_above_0 NoCourse z = omega arith
+number_above_0 Json z = omega arith
+
+-- the settings are refused
+pub settings_stop : (s : Settings) (l : List Case) (e : Refusal) → number_of e ≡ first_of 0 (settings_cases s) → number_of e ≡ first_of 0 (settings_cases s ++ l)
+settings_stop s l e h = h ∙ first_stop (settings_cases s) l (λ z. number_above_0 e (h ∙ z))
+
 -- a refusal alone, with the tables as they were
-pub alone : {a : Answer} {k : ℕ} → a ≡ record { refusal = k; n = 0; r = 0 } → (t : Tables) → ◌≡◌ {A = Outcome} (record { answer = a; tables = t }) (refused k t)
-unfolding refused
-alone e t = rw e
+pub alone : (e : Refusal) (t : Tables) → ended (answer_of (Err e)) t ≡ refused (number_of e) t
+unfolding refused answer_of
+alone e t = refl
 
 -- and that of drawing up
-pub drawn_alone : {a : Drawn} {k : ℕ} → a ≡ record { refusal = k; n = 0; r = 0; cancellations = 0 } → (t : Tables)
-    → ◌≡◌ {A = DrawOutcome} (record { answer = a; tables = t }) (costing 0 (refused k t))
-unfolding refused
-drawn_alone e t = rw e
+pub drawn_alone : (e : Refusal) (t : Tables) → draw_ended (drawn_of (Err e)) t ≡ costing 0 (refused (number_of e) t)
+unfolding refused drawn_of
+drawn_alone e t = refl
 
 -- the outcome of a call that writes tables
 module _ (t : Tables) (new : Outcome) (k : ℕ) where

@@ -1,6 +1,6 @@
--- `checking::check` meets its contract: its number is that of the look at the tables.
+-- `checking::check` meets its contract: its refusal is that of the look at the tables.
 use mathlib.Core.Path.{refl, ◌∙◌}
-use Rattle.specification.specs.Tables.{five_tables}
+use Rattle.specification.specs.Lent.{lent}
 use Rattle.queries.proofs.Refusals.{check_cases}
 use Rattle.queries.proofs.checking.check.Goals as goal
 
@@ -8,7 +8,4 @@ pub look-requires : goal.look-requires
 look-requires c = (refl, (refl, refl))
 
 pub returns : goal.returns
-returns c = let d = c in
-    let s = d in
-    d.look.ensures.value
-    ∙ check_cases s.args.settings s.args.n s.args.r (five_tables s.args.states.now s.args.standard.now s.args.leads.now s.args.coefficients.now s.args.counts.now)
+returns c = c.look.ensures.value ∙ check_cases c.args.settings c.args.n c.args.r (lent c.args.tables)

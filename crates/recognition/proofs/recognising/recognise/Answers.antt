@@ -10,7 +10,8 @@ use Rattle.residue.proofs.level.Moduli.{modulus_range}
 use Rattle.residue.proofs.Tests.{of_true}
 use Rattle.specification.specs.declared.settings.Settings.{Settings}
 use Rattle.specification.specs.Levels.{no_repeat}
-use Rattle.specification.specs.Tables.{Tables, five_tables, states_table, standard_table, leads_table, coefficients_table, points_in}
+use Rattle.specification.specs.Tables.{Tables, states_table, standard_table, leads_table, coefficients_table, points_in}
+use Rattle.specification.specs.Lent.{lent}
 use Rattle.specification.specs.Points.{Points}
 use Rattle.specification.specs.Settings.{Accepted}
 use Rattle.specification.proofs.agreement.Refusals.{accepted, large_of}
@@ -34,7 +35,7 @@ module _ (s : Settings) (S : List (List ℕ)) (rows pivots : List ℕ) where
 
 -- the lent tables
 abbrev tables : Start → Tables
-tables s = five_tables s.args.states.now s.args.standard.now s.args.leads.now s.args.coefficients.now s.args.counts.now
+tables s = lent s.args.tables
 
 -- the points are in their table
 module _ (w : After-read_points) where
@@ -42,7 +43,7 @@ module _ (w : After-read_points) where
   start = (goal.at.After-read_points w).Start
 
   abbrev S : List (List ℕ)
-  S = points_in start.args.settings start.args.n start.args.states.now
+  S = points_in start.args.settings start.args.n start.args.tables.states.now
 
   abbrev table : List ℕ
   table = w.read_points.new.points
@@ -55,8 +56,8 @@ module _ (w : After-read_points) where
 
   count : length S ≡ start.args.n
   count =
-      ap length (sym (points_in_lem start.args.settings start.args.n start.args.states.now))
-      ∙ length_points start.args.settings.modulus start.args.settings.variables start.args.n start.args.states.now
+      ap length (sym (points_in_lem start.args.settings start.args.n start.args.tables.states.now))
+      ∙ length_points start.args.settings.modulus start.args.settings.variables start.args.n start.args.tables.states.now
 
   long : length table ≡ 512
   long = ap length is_table ∙ length_fill 512 (in_places 8 S)
@@ -65,7 +66,7 @@ asked : (k : After-no_repeat) → k.no_repeat.result ≡ no_repeat (S (goal.at.A
 asked k =
     let w = k in
     k.no_repeat.ensures ∙ ap₂ (λ (j : ℕ) (t : List ℕ). no_repeat (groups 8 j t)) (sym (count (goal.at.After-no_repeat w).After-read_points)) (is_table (goal.at.After-no_repeat w).After-read_points)
-    ∙ table_repeat (start (goal.at.After-no_repeat w).After-read_points).args.settings (good (goal.at.After-no_repeat w).After-read_points) (S (goal.at.After-no_repeat w).After-read_points) (read_each (start (goal.at.After-no_repeat w).After-read_points).args.settings (good (goal.at.After-no_repeat w).After-read_points) (start (goal.at.After-no_repeat w).After-read_points).args.n (start (goal.at.After-no_repeat w).After-read_points).args.states.now) (omega (arith, count (goal.at.After-no_repeat w).After-read_points, (start (goal.at.After-no_repeat w).After-read_points).requires.settings_value.1))
+    ∙ table_repeat (start (goal.at.After-no_repeat w).After-read_points).args.settings (good (goal.at.After-no_repeat w).After-read_points) (S (goal.at.After-no_repeat w).After-read_points) (read_each (start (goal.at.After-no_repeat w).After-read_points).args.settings (good (goal.at.After-no_repeat w).After-read_points) (start (goal.at.After-no_repeat w).After-read_points).args.n (start (goal.at.After-no_repeat w).After-read_points).args.tables.states.now) (omega (arith, count (goal.at.After-no_repeat w).After-read_points, (start (goal.at.After-no_repeat w).After-read_points).requires.settings_value.1))
 
 -- no point repeats
 module _ (g : Else-not-no_repeat) where
@@ -82,7 +83,7 @@ module _ (g : Else-not-no_repeat) where
   once = sym (asked (goal.at.Else-not-no_repeat g).After-no_repeat) ∙ g.if-not-no_repeat.false
 
   points : Points s.args.settings (S w)
-  points = read s.args.settings ok s.args.n s.args.states.now s.requires.settings_value.1 (of_true once)
+  points = read s.args.settings ok s.args.n s.args.tables.states.now s.requires.settings_value.1 (of_true once)
 
   ready : PointsGiven s.args.settings s.args.n (table w)
   ready =
