@@ -5,6 +5,7 @@ pub mod records;
 
 ghost use Rattle.std.specs.Prelude.{◌≡◌, ◌≤◌, length, drop};
 ghost use Rattle.specification.specs.Refusal.{first_of};
+ghost use Rattle.comma_text.specs.reading.Answers.{fault_of, read_of};
 ghost use Rattle.comma_text.specs.reading.Text.{short_buffers, header_cases, not_refused, text_ended, read_outcome};
 ghost use Rattle.comma_text.specs.reading.Records.{entries_at, counted_entries};
 ghost use Rattle.comma_text.specs.reading.Points.{entries_outcome};
@@ -13,20 +14,12 @@ ghost use Rattle.comma_text.specs.declared.reading.records.Entries.TheVariants.{
 use crate::reading::records::{Entries, HeaderAt};
 use points::weights::right_weights;
 use residue::{bytes, sizes};
+use specification::refusals::{Fault, Refusal};
 use specification::settings::Settings;
 
-// The number of a refusal, or 0, with the record at fault.
-#[derive(Drop)]
-pub struct Refusal {
-    pub refusal: u8,
-    pub at: u16,
-}
-
-// The refusal with the record at fault, the header being 1; or 0 with the settings and the number of points.
-#[derive(Drop)]
+// The settings of a text and the number of its points.
+#[derive(Clone, Copy, Debug, PartialEq, Eq)]
 pub struct Read {
-    pub refusal: u8,
-    pub at: u16,
     pub modulus: u16,
     pub variables: u8,
     pub order: u8,
@@ -34,55 +27,40 @@ pub struct Read {
 }
 
 // Whether a buffer lent for states, values, counts or weights, of these lengths, is too short.
+#[tactic(auto, unfolding(crate::specs::reading::Text::short_buffers))]
 fn short_buffers(states: usize, values: usize, counts: usize, weights: usize) -> bool
     ensures { result ≡ short_buffers states values counts weights }
 {
-    if states < sizes::STATES {
-        return true;
-    }
-    if values < sizes::POINTS {
-        return true;
-    }
-    if counts < sizes::COUNTS {
-        return true;
-    }
-    weights < 8
+    states < sizes::STATES || values < sizes::POINTS || counts < sizes::COUNTS || weights < 8
+}
+
+// A refusal of the header, which is record 1.
+fn in_header(refusal: Refusal) -> Fault
+    ensures { result ≡ record { refusal = refusal; at = 1 } }
+{
+    Fault { refusal, at: 1 }
 }
 
 // What the settings decide, and whether a lent buffer is too short.
-pub fn settings_refusal(settings: Settings, short: bool) -> Refusal
-    ensures { result ≡ first_of not_refused (header_cases settings short) }
+pub fn check_settings(settings: Settings, short: bool) -> Result<(), Fault>
+    ensures { fault_of result ≡ first_of not_refused (header_cases settings short) }
 {
     if !residue::level::is_modulus(settings.modulus) {
-        return Refusal { refusal: 3, at: 1 };
+        return Err(in_header(Refusal::Modulus));
     }
-    if settings.variables < 1 {
-        return Refusal { refusal: 4, at: 1 };
-    }
-    if 8 < settings.variables {
-        return Refusal { refusal: 4, at: 1 };
+    if settings.variables < 1 || 8 < settings.variables {
+        return Err(in_header(Refusal::Variables));
     }
     if !right_weights(settings) {
-        return Refusal { refusal: 15, at: 1 };
+        return Err(in_header(Refusal::Weights));
     }
     if short {
-        return Refusal { refusal: 6, at: 0 };
+        return Err(Fault {
+            refusal: Refusal::ShortBuffer,
+            at: 0,
+        });
     }
-    Refusal { refusal: 0, at: 0 }
-}
-
-// A refusal comes with its record alone.
-fn refused(refusal: u8, at: u16) -> Read
-    ensures { result ≡ record { refusal = refusal; at = at; modulus = 0; variables = 0; order = 0; n = 0 } }
-{
-    Read {
-        refusal,
-        at,
-        modulus: 0,
-        variables: 0,
-        order: 0,
-        n: 0,
-    }
+    Ok(())
 }
 
 // The entries from `from` on, so many, under these settings. Every refusal is decided before a lent byte is written.
@@ -95,24 +73,20 @@ fn read_entries(
     values: &mut [u8],
     counts: &mut [u8],
     weights: &mut [u8],
-) -> Read
+) -> Result<Read, Fault>
     requires from_in_bounds { (from ≤ length text.now) × (length text.now ≤ 16384) }
     requires order_bound { (settings.order ≤ 3) × (length settings.weights ≡ 8) }
     requires text_value { counted_entries 0 (entries_at settings.variables (drop from text.now)) ≡ Count entries }
-    ensures { text_ended result states.new values.new counts.new weights.new
+    ensures { text_ended (read_of result) states.new values.new counts.new weights.new
         ≡ entries_outcome settings (drop from text.now) states.old values.old counts.old weights.old }
 {
     let short = short_buffers(states.len(), values.len(), counts.len(), weights.len());
-    let first = settings_refusal(settings, short);
-    let refusal = first.refusal;
-    if refusal != 0 {
-        return refused(refusal, first.at);
-    }
+    check_settings(settings, short)?;
     let p = settings.modulus as u8;
     let mut rows = [0u8; sizes::STATES];
     let mut times = [0u8; sizes::COUNTS];
     let mut residues = [0u8; sizes::POINTS];
-    let all = gathering::gather_entries(
+    let n = gathering::gather_entries(
         text,
         from,
         p,
@@ -121,24 +95,18 @@ fn read_entries(
         &mut rows,
         &mut times,
         &mut residues,
-    );
-    let beyond = all.refusal;
-    if beyond != 0 {
-        return refused(beyond, all.at);
-    }
+    )?;
     bytes::copy(&rows, states);
     bytes::copy(&residues, values);
     bytes::copy(&times, counts);
     let said = settings.weights;
     bytes::copy(&said, weights);
-    Read {
-        refusal: 0,
-        at: 0,
+    Ok(Read {
         modulus: p as u16,
         variables: settings.variables as u8,
         order: settings.order as u8,
-        n: all.n,
-    }
+        n,
+    })
 }
 
 // The settings of a text and the number of its distinct points; the points, the values of their first records, their counts and the settings' weights into the
@@ -149,12 +117,15 @@ pub fn read_text(
     values: &mut [u8],
     counts: &mut [u8],
     weights: &mut [u8],
-) -> Read
-    ensures { text_ended result states.new values.new counts.new weights.new
+) -> Result<Read, Fault>
+    ensures { text_ended (read_of result) states.new values.new counts.new weights.new
         ≡ read_outcome text.now states.old values.old counts.old weights.old }
 {
     if 16384 < text.len() {
-        return refused(1, 0);
+        return Err(Fault {
+            refusal: Refusal::LongText,
+            at: 0,
+        });
     }
     let mut said = [0u8; 8];
     let HeaderAt::Header {
@@ -164,10 +135,13 @@ pub fn read_text(
         next,
     } = records::read_header(text, &mut said)
     else {
-        return refused(2, 1);
+        return Err(in_header(Refusal::Form));
     };
     match records::check_entries(text, next, variables) {
-        Entries::Refused { refusal, at } => refused(refusal, at as u16),
+        Entries::Refused { refusal: _, at } => Err(Fault {
+            refusal: Refusal::Form,
+            at: at as u16,
+        }),
         Entries::Count(n) => {
             let settings = Settings {
                 modulus: modulus as u64,

@@ -19,7 +19,7 @@ use Rattle.specification.specs.Refusal.{first_of}
 use Rattle.specification.specs.Settings.{right_weights}
 use Rattle.notation.specs.Fields.{records_of}
 use Rattle.notation.specs.Forms.{Header}
-use Rattle.comma_text.specs.declared.reading.Refusal.{Refusal}
+use Rattle.comma_text.specs.reading.Answers.{Refusal}
 use Rattle.comma_text.specs.reading.Text.{header_in, form_fault, Contents, Valued, valued_points, is_outside, first_outside, first_after}
 use Rattle.comma_text.specs.reading.Text.{too_many, too_often, other_value, not_refused}
 use Rattle.comma_text.specs.reading.Text.{settings_by, short_buffers, header_cases, points_cases, entries_cases, read_cases}

@@ -17,8 +17,7 @@ use Rattle.specification.specs.Refusal.{first_of}
 use Rattle.comma_text.specs.reading.Text.{TextCase, TextOutcome, valued_point, valued_points, short_buffers, header_cases, entry_case, not_refused, refusal_at}
 use Rattle.comma_text.specs.reading.Text.{text_ended, text_accepted, text_refused, text_decided}
 use Rattle.comma_text.specs.reading.Points.{levels_at, saying, answered, EntriesTabled}
-use Rattle.comma_text.specs.declared.reading.Refusal.{Refusal}
-use Rattle.comma_text.specs.declared.reading.gathering.Gathered.{Gathered}
+use Rattle.comma_text.specs.reading.Answers.{Refusal, Gathered}
 
 module _ (s : Settings) (short : Bool) where
   pub refuse_3 : is_modulus s.modulus ≡ false → refusal_at 3 1 ≡ first_of not_refused (header_cases s short)

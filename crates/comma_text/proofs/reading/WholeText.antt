@@ -1,5 +1,5 @@
 -- The whole text: what its header and its entries say of the outcome.
-use mathlib.Core.Path.{◌≡◌, refl, sym, ap, ap₂, ◌∙◌, subst}
+use mathlib.Core.Path.{◌≡◌, refl, sym, ap, ◌∙◌, subst}
 use mathlib.Core.Bool.{Bool, true, false, cond}
 use mathlib.Core.Logic.{◌≢◌}
 use mathlib.Core.List.{List, [], ◌∷◌, ◌++◌, map}
@@ -21,7 +21,7 @@ use Rattle.comma_text.specs.reading.Text.{settings_by, short_buffers, header_cas
 use Rattle.comma_text.specs.reading.Text.{text_accepted, text_refused, text_decided, read_outcome}
 use Rattle.comma_text.specs.reading.Records.{reads, header_part, entries_at, counted_entries}
 use Rattle.comma_text.specs.reading.Points.{levels_at, saying, entries_outcome}
-use Rattle.comma_text.specs.declared.reading.Refusal.{Refusal}
+use Rattle.comma_text.specs.reading.Answers.{Refusal}
 use Rattle.comma_text.specs.declared.reading.records.Entries.TheVariants as N
 use Rattle.notation.proofs.fields.EnoughTurns.{records_unroll}
 use Rattle.comma_text.proofs.reading.entries.EntriesRead.{all_entries}
@@ -178,13 +178,13 @@ module _ (t s v n w : List ℕ) where
               text_decided (first_of not_refused (read_cases t (further (first_fault is_none es)) f short)) (text_accepted f s v n w) s v n w
 
       pub entry_broken : (r a : ℕ) → N.Refused r a ≡ counted_entries 0 (entries_at k.variables rest)
-          → text_refused (refusal_at r a) s v n w ≡ read_outcome t s v n w
+          → text_refused (refusal_at 2 a) s v n w ≡ read_outcome t s v n w
       entry_broken r a c =
           let f = counted_refused 0 r a (entries_at k.variables rest) c in
           let g = further_some (first_fault is_none (entries_at k.variables rest)) f.found in
           let q = f.at in
           let i : place ≡ a = omega arith in
-          ap₂ (λ (x y : ℕ). text_refused (refusal_at x y) s v n w) f.refusal (sym i)
+          ap (λ (x : ℕ). text_refused (refusal_at 2 x) s v n w) (sym i)
           ∙ text_refused_lem _ _ s v n w _ (refuse_2 t place says short h (λ z. omega arith)) (λ z. omega arith)
           ∙ sym outcome
 

@@ -14,11 +14,10 @@ use Rattle.specification.specs.Refusal.{first_of}
 use Rattle.comma_text.specs.reading.Text.{Contents, Valued, TextOutcome, entry_value, valued_point, first_values, text_accepted, text_decided}
 use Rattle.comma_text.specs.reading.Text.{not_refused, short_buffers, header_cases, entries_cases}
 use Rattle.comma_text.specs.reading.Records.{entry_part, entries_at}
-use Rattle.comma_text.specs.declared.reading.Refusal.{Refusal}
+use Rattle.comma_text.specs.reading.Answers.{Refusal, Gathered}
 use Rattle.comma_text.specs.declared.reading.entries.Placed.{Placed}
 use Rattle.comma_text.specs.declared.reading.entries.Point.{Point}
 use Rattle.comma_text.specs.declared.reading.entries.Filled.{Filled}
-use Rattle.comma_text.specs.declared.reading.gathering.Gathered.{Gathered}
 
 -- the level in a field that has one, and the text behind it
 unfoldable pub level_in : Field ℤ → ℤ

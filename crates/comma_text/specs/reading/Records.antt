@@ -7,7 +7,7 @@ use Rattle.notation.specs.Fields.{Field, field, broken, unquoted, quoted, field_
 use Rattle.notation.specs.Forms.{level_of, entry_of, Header, header_of}
 use Rattle.comma_text.specs.reading.Text.{refusal_at, not_refused, broken_at, entry_in, last_level}
 use Rattle.notation.specs.Said.{with_sign}
-use Rattle.comma_text.specs.declared.reading.Refusal.{Refusal}
+use Rattle.comma_text.specs.reading.Answers.{Refusal}
 use Rattle.comma_text.specs.declared.reading.records.LevelAt.{LevelAt}
 use Rattle.comma_text.specs.declared.reading.records.LevelAt.TheVariants as L
 use Rattle.comma_text.specs.declared.reading.records.HeaderAt.{HeaderAt}

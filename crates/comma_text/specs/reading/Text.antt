@@ -13,8 +13,7 @@ use Rattle.specification.specs.Levels.{in_range, residues}
 use Rattle.specification.specs.Counted.{points_of, counts_of, gathered}
 use Rattle.specification.specs.Tables.{states_table}
 use Rattle.specification.specs.Refusal.{first_of}
-use Rattle.comma_text.specs.declared.reading.Refusal.{Refusal}
-use Rattle.comma_text.specs.declared.reading.Read.{Read}
+use Rattle.comma_text.specs.reading.Answers.{Refusal, Read}
 use Rattle.notation.specs.Fields.{records_of}
 use Rattle.notation.specs.Forms.{Header, header_of, entry_of}
 

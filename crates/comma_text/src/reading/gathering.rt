@@ -3,6 +3,7 @@ ghost use Rattle.std.specs.Prelude.{◌≡◌, cond, ◌||◌, [], ◌∷◌, su
 ghost use Rattle.residue.specs.Sizes.{most_points, states_size, counts_size};
 ghost use Rattle.residue.specs.Layout.{fill};
 ghost use Rattle.specification.specs.Refusal.{first_of};
+ghost use Rattle.comma_text.specs.reading.Answers.{gathered_of};
 ghost use Rattle.comma_text.specs.reading.Text.{not_refused, entry_case};
 ghost use Rattle.comma_text.specs.reading.Records.{entries_at, counted_entries};
 ghost use Rattle.comma_text.specs.reading.Points.{levels_at, earlier_place, answered, GatheredAs};
@@ -10,6 +11,7 @@ ghost use Rattle.comma_text.specs.declared.reading.records.Entries.TheVariants.{
 
 use crate::reading::entries::fill_entry;
 use points::gathering::{HINTS, enter};
+use specification::refusals::{Fault, Refusal};
 
 // The number of points, and whether the value is the one that is kept with its point.
 #[derive(Drop)]
@@ -51,45 +53,32 @@ fn first_place(found: usize, inside: bool, place: usize) -> usize
     place
 }
 
-// The refusal with the record at fault and no points, or 0 with the number of distinct points.
-#[derive(Drop)]
-pub struct Gathered {
-    pub refusal: u8,
-    pub at: u16,
-    pub n: u8,
-}
-
 // A refusal at the entry of this place, from 1; the header is record 1.
-fn refused_at(refusal: u8, place: usize) -> Gathered
+fn at_entry(refusal: Refusal, place: usize) -> Fault
     requires { place ≤ 16384 }
-    ensures { result ≡ record { refusal = refusal; at = suc place; n = 0 } }
+    ensures { result ≡ record { refusal = refusal; at = suc place } }
 {
-    Gathered {
+    Fault {
         refusal,
         at: place as u16 + 1,
-        n: 0,
     }
 }
 
 // 8 before 13 before 14, by the places from 1 at which they were met; 0 where one was not.
-fn decided(n: usize, full: usize, often: usize, other: usize) -> Gathered
+fn decided(n: usize, full: usize, often: usize, other: usize) -> Result<u8, Fault>
     requires { (n ≤ 64) × (full ≤ 16384) × (often ≤ 16384) × (other ≤ 16384) }
-    ensures { result ≡ answered (first_of not_refused (entry_case 8 full ∷ entry_case 13 often ∷ entry_case 14 other ∷ [])) n }
+    ensures { gathered_of result ≡ answered (first_of not_refused (entry_case 8 full ∷ entry_case 13 often ∷ entry_case 14 other ∷ [])) n }
 {
     if full != 0 {
-        return refused_at(8, full);
+        return Err(at_entry(Refusal::TooMany, full));
     }
     if often != 0 {
-        return refused_at(13, often);
+        return Err(at_entry(Refusal::TooOften, often));
     }
     if other != 0 {
-        return refused_at(14, other);
+        return Err(at_entry(Refusal::OtherValue, other));
     }
-    Gathered {
-        refusal: 0,
-        at: 0,
-        n: n as u8,
-    }
+    Ok(n as u8)
 }
 
 // The distinct points of the entries from `at` on, in tables of zeros, with their counts and first values, or the refusal that comes first.
@@ -104,11 +93,11 @@ pub fn gather_entries(
     points: &mut [u8],
     counts: &mut [u8],
     values: &mut [u8],
-) -> Gathered
+) -> Result<u8, Fault>
     requires at_in_bounds { (at ≤ length text.now) × (1 ≤ variables) × (variables ≤ 8) × (entries ≤ 16384) × (p ≤ 128) }
     requires text_value { counted_entries 0 (entries_at variables (drop at text.now)) ≡ Count entries }
     requires points_value { (points.old ≡ fill states_size []) × (counts.old ≡ fill counts_size []) × (values.old ≡ fill most_points []) }
-    ensures { GatheredAs p variables (levels_at variables (drop at text.now)) result
+    ensures { GatheredAs p variables (levels_at variables (drop at text.now)) (gathered_of result)
         points.new counts.new values.new }
 {
     let mut hints = [0u8; HINTS];
@@ -121,7 +110,7 @@ pub fn gather_entries(
         let mut point = [0u8; 8];
         let entry = fill_entry(text, from, p, variables, &mut point);
         if !entry.inside {
-            return refused_at(9, i + 1);
+            return Err(at_entry(Refusal::OutOfRange, i + 1));
         }
         from = entry.next;
         if full != 0 {

@@ -25,9 +25,8 @@ use Rattle.points.proofs.gathering.Gathering.{holds_sizes}
 use Rattle.comma_text.specs.reading.Text.{Valued, first_fault, is_outside, first_after, too_many, too_often, other_value, entry_point, entry_value, valued_point, valued_points, first_outside, refusal_at, not_refused, entry_case, points_cases, entries_cases}
 use Rattle.comma_text.specs.reading.Records.{entry_part}
 use Rattle.comma_text.specs.reading.Points.{levels_in, FilledAs, earlier_place, answered, GatheredAs}
-use Rattle.comma_text.specs.declared.reading.Refusal.{Refusal}
+use Rattle.comma_text.specs.reading.Answers.{Refusal, Gathered}
 use Rattle.comma_text.specs.declared.reading.entries.Filled.{Filled}
-use Rattle.comma_text.specs.declared.reading.gathering.Gathered.{Gathered}
 use Rattle.comma_text.proofs.reading.FirstPlaces.{after_le}
 use Rattle.comma_text.proofs.reading.TextCases.{passed, place_refuses, place_passes, answer_refusal, answer_no_points}
 use Rattle.comma_text.proofs.reading.EntryLengths.{point_long}

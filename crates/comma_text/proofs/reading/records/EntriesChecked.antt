@@ -11,7 +11,7 @@ use lib.ListN.{length, drop, length-drop, drop_of_length-le}
 use Rattle.notation.specs.Fields.{field, broken, Part, part, faulty, kept, with_first, record_of, behind_record, records_from, records_of}
 use Rattle.notation.specs.Forms.{entry_of}
 use Rattle.comma_text.specs.reading.Text.{refusal_at, broken_at, entry_in}
-use Rattle.comma_text.specs.declared.reading.Refusal.{Refusal}
+use Rattle.comma_text.specs.reading.Answers.{Refusal}
 use Rattle.comma_text.specs.reading.Records.{level_field, reads, entry_part, entries_at, ends, refuses, checked, counted_entries}
 use Rattle.comma_text.specs.reading.Text.{last_level}
 use Rattle.comma_text.specs.declared.reading.records.Entries.TheVariants as N

@@ -6,10 +6,14 @@ use Prim.Native.Nat.{◌+◌, ◌<◌}
 use native.Mathlib.Omega.{arith}
 use lib.IntN.{ℤ}
 use lib.ListN.{length, take, drop}
+use Rattle.std.specs.Prelude.{Err}
 use borrow.Author.Tests.{not-true, not-false}
 use Rattle.residue.specs.Lists.{key_of}
 use Rattle.residue.specs.Layout.{length_fill}
+use Rattle.specification.specs.Answers.{number_of}
+use Rattle.specification.specs.declared.refusals.Fault.{Fault}
 use Rattle.points.proofs.gathering.Gathering.{holds_sizes}
+use Rattle.comma_text.specs.reading.Answers.{gathered_of}
 use Rattle.comma_text.specs.reading.Text.{first_fault, is_outside}
 use Rattle.comma_text.specs.reading.Points.{levels_at}
 use Rattle.comma_text.proofs.reading.entries.EntriesRead.{ReadOn, begun, entry_there, read_on}
@@ -90,8 +94,8 @@ fill_entry-entry-requires c = let l = c in record { at_in_bounds = (l.loop-i.inv
 pub overflow_add-i : goal.overflow_add-i
 overflow_add-i c = record { fits = fits_64 (place_small (looked (goal.at.overflow_add-i c).After-struct_known-1)) }
 
-pub refused_at-requires : goal.refused_at-requires
-refused_at-requires c = next_le (place_small (looked (goal.at.refused_at-requires c).After-struct_known-1))
+pub at_entry-requires : goal.at_entry-requires
+at_entry-requires c = next_le (place_small (looked (goal.at.at_entry-requires c).After-struct_known-1))
 
 -- The lent tables keep their lengths.
 module _ (l : At-loop-i) where
@@ -114,10 +118,11 @@ pub shape_of-values-then-not-entry : goal.shape_of-values-then-not-entry
 shape_of-values-then-not-entry c = same_values (turn (looked (goal.at.shape_of-values-then-not-entry c).After-struct_known-1))
 
 pub returns-then-not-entry : goal.returns-then-not-entry
+unfolding gathered_of number_of
 returns-then-not-entry c = let f = looked (goal.at.returns-then-not-entry c).After-struct_known-1 in
     let l = turn f in
     outside_refused _ _ (entries l) (omega arith) (outside_here _ (entries l) l.loop-i.invariant.0 (taken f) l.loop-i.invariant.2 f.fill_entry-entry.result.inside (range_said (entries l) l.loop-i.invariant.0 (taken f) f.fill_entry-entry.ensures.fact_1) (not-true _ c.if-not-entry.true))
-    _ c.refused_at.ensures _ _ _
+    _ (ap (λ (x : Fault). gathered_of (Err x)) c.at_entry.ensures) _ _ _
 
 -- Behind the 65th point.
 pub overflow_step-i : goal.overflow_step-i
@@ -213,4 +218,4 @@ shape_of-values c = same_values (goal.at.shape_of-values c).At-loop-i
 pub returns : goal.returns
 returns c = let l = c in
     let h = c.loop-i-test.false in
-    all_gathered _ _ (entries (goal.at.returns l).At-loop-i) l.loop-i.invariant.0 h l.loop-i.invariant.1 (all_inside _ (entries (goal.at.returns l).At-loop-i) l.loop-i.invariant.0 h l.loop-i.invariant.2) c.decided.result c.decided.ensures
+    all_gathered _ _ (entries (goal.at.returns l).At-loop-i) l.loop-i.invariant.0 h l.loop-i.invariant.1 (all_inside _ (entries (goal.at.returns l).At-loop-i) l.loop-i.invariant.0 h l.loop-i.invariant.2) (gathered_of c.decided.result) c.decided.ensures
