@@ -21,7 +21,7 @@ pub(crate) fn judge(
     short: bool,
 ) -> Result<(), Refusal>
     ensures { refusal_of result ≡ first_of 0 (sheet_cases settings
-        (short || too_short (lent tables)) n r (lent tables)) }
+        (short || too_short (lent tables.entry)) n r (lent tables.entry)) }
 {
     let mut points = [0u8; sizes::STATES];
     let mut rows = [0u8; sizes::PIVOT_ROWS];

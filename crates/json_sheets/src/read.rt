@@ -1,7 +1,6 @@
 // Reading a sheet from JSON. Every refusal is decided before a lent byte is written.
-ghost use Rattle.std.specs.Prelude.{◌≡◌, ◌≤◌, length};
-ghost use Rattle.specification.specs.Lent.{lent, lent_mut, left_in};
-ghost use Rattle.specification.specs.Tables.{written};
+ghost use Rattle.std.specs.Prelude.{◌≡◌};
+ghost use Rattle.specification.specs.Lent.{lent_mut, left_in};
 ghost use Rattle.json_sheets.specs.Calls.{taken_of, received, read_outcome};
 
 use crate::judging::judge;
@@ -24,20 +23,6 @@ pub struct Archived {
     pub order: u8,
     pub n: u8,
     pub r: u16,
-}
-
-// Five tables of their sizes over the lent ones.
-fn copy_tables(new: TablesRef<'_>, tables: TablesMut<'_>)
-    requires states_in_bounds { (length new.states.now ≤ length tables.entry.states.now) × (length new.standard.now ≤ length tables.entry.standard.now)
-        × (length new.leads.now ≤ length tables.entry.leads.now) }
-    requires coefficients_in_bounds { (length new.coefficients.now ≤ length tables.entry.coefficients.now) × (length new.counts.now ≤ length tables.entry.counts.now) }
-    ensures { left_in tables.exit ≡ written (lent new) (lent_mut tables.entry) }
-{
-    bytes::copy(new.states, tables.states);
-    bytes::copy(new.standard, tables.standard);
-    bytes::copy(new.leads, tables.leads);
-    bytes::copy(new.coefficients, tables.coefficients);
-    bytes::copy(new.counts, tables.counts);
 }
 
 // The sheet of a text into the lent tables, and the weights of its settings.
@@ -76,15 +61,19 @@ pub fn read_json(
         coefficients: &coefficients,
         counts: &counts,
     };
-    let short = tables.read().too_short() | (weights.len() < WEIGHTS);
     let settings = Settings {
         modulus: shape.modulus as u64,
         variables: shape.variables as u64,
         order: shape.order as u64,
         weights: said,
     };
+    let short = tables.read().too_short() | (weights.len() < WEIGHTS);
     judge(settings, shape.n as u64, shape.r as u64, new, short)?;
-    copy_tables(new, tables);
+    bytes::copy(&states, tables.states);
+    bytes::copy(&standard, tables.standard);
+    bytes::copy(&leads, tables.leads);
+    bytes::copy(&coefficients, tables.coefficients);
+    bytes::copy(&counts, tables.counts);
     bytes::copy(&said, weights);
     Ok(Archived {
         modulus: shape.modulus,

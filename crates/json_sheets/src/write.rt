@@ -21,7 +21,7 @@ pub fn write_json(
     tables: TablesRef<'_>,
     out: &mut [u8],
 ) -> Result<u32, Refusal>
-    ensures { wrote (written_of result) out.new ≡ write_outcome settings n r (lent tables) out.old }
+    ensures { wrote (written_of result) out.new ≡ write_outcome settings n r (lent tables.entry) out.old }
 {
     judge(settings, n, r, tables, out.len() < TEXT)?;
     let shape = Shape {
