@@ -3,10 +3,10 @@ use Rattle.std.specs.Prelude.{cond, List, [], ◌∷◌, ℕ, ◌+◌, ◌*◌, 
 use Rattle.residue.specs.Words.{bytes_of}
 use Rattle.specification.specs.declared.settings.Settings.{Settings}
 use Rattle.specification.specs.Answers.{Answer, Drawn, Wired}
-use Rattle.specification.specs.Tables.{Tables, five_tables}
+use Rattle.specification.specs.Tables.{Tables}
 use Rattle.specification.specs.Adding.{Outcome, DrawOutcome}
 use Rattle.specification.specs.Solving.{Listed}
-use Rattle.comma_text.specs.declared.reading.Read.{Read}
+use Rattle.comma_text.specs.reading.Answers.{Read}
 use Rattle.comma_text.specs.reading.Text.{TextOutcome}
 use Rattle.forward.specs.declared.running.Course.{Course}
 use Rattle.forward.specs.Outcome.{CourseOutcome}
@@ -67,8 +67,8 @@ pub record Left : Type 0 where
   pub number : ℕ
   pub tables : Tables
 
-abbrev pub left : ℕ → List ℕ → List ℕ → List ℕ → List ℕ → List ℕ → Left
-left a states standard leads coefficients counts = record { number = a; tables = five_tables states standard leads coefficients counts }
+abbrev pub left : ℕ → Tables → Left
+left a tables = record { number = a; tables = tables }
 
 unfoldable pub packed_outcome : Outcome → Left
 packed_outcome o = record { number = packed_answer o.answer; tables = o.tables }

@@ -1,7 +1,7 @@
 // What C hands over and gets back in one number: the weights of the settings, and the parts of an answer or the number of a refusal.
 ghost use Rattle.std.specs.Prelude.{◌≡◌, ◌+◌, ◌*◌, ◌≤◌};
 ghost use Rattle.specification.specs.Answers.{number_of, refusal_of, answer_of, drawn_of, wired_of};
-ghost use Rattle.comma_text.specs.reading.Text.{read_of};
+ghost use Rattle.comma_text.specs.reading.Answers.{read_of};
 ghost use Rattle.forward.specs.Outcome.{course_of};
 ghost use Rattle.json_sheets.specs.Calls.{written_of, taken_of};
 ghost use Rattle.misqafur.specs.Packing.{settings_given, packed_answer, packed_drawn, packed_wired, packed_read};

@@ -30,7 +30,7 @@ pub extern "C" fn misqafur_add_point(
     counts: &mut [u8],
     levels: &[i8],
 ) -> u32
-    ensures { left result states.new standard.new leads.new coefficients.new counts.new
+    ensures { left result (five_tables states.new standard.new leads.new coefficients.new counts.new)
         ≡ packed_outcome (add_outcome (settings_given modulus variables order weights) n r
         (five_tables states.old standard.old leads.old coefficients.old counts.old)
         levels.now) }
@@ -62,7 +62,7 @@ pub extern "C" fn misqafur_withdraw_point(
     counts: &mut [u8],
     levels: &[i8],
 ) -> u32
-    ensures { left result states.new standard.new leads.new coefficients.new counts.new
+    ensures { left result (five_tables states.new standard.new leads.new coefficients.new counts.new)
         ≡ packed_outcome (withdraw_outcome (settings_given modulus variables order weights) n r
         (five_tables states.old standard.old leads.old coefficients.old counts.old)
         levels.now) }
@@ -92,7 +92,7 @@ pub extern "C" fn misqafur_draw_up(
     counts: &mut [u8],
     levels: &[i8],
 ) -> u64
-    ensures { left result states.new standard.new leads.new coefficients.new counts.new
+    ensures { left result (five_tables states.new standard.new leads.new coefficients.new counts.new)
         ≡ packed_drawing (draw_outcome (settings_given modulus variables order weights)
         (five_tables states.old standard.old leads.old coefficients.old counts.old)
         levels.now) }
@@ -122,7 +122,7 @@ pub extern "C" fn misqafur_draw_up_packed(
     counts: &mut [u8],
     levels: &[i8],
 ) -> u32
-    ensures { left result states.new standard.new leads.new coefficients.new counts.new
+    ensures { left result (five_tables states.new standard.new leads.new coefficients.new counts.new)
         ≡ packed_outcome (draw_packed_outcome (settings_given modulus variables order weights)
         (five_tables states.old standard.old leads.old coefficients.old counts.old)
         levels.now) }
@@ -159,8 +159,8 @@ pub extern "C" fn misqafur_leave_out(
     new_coefficients: &mut [u8],
     new_counts: &mut [u8],
 ) -> u32
-    ensures { left result new_states.new new_standard.new new_leads.new
-        new_coefficients.new new_counts.new
+    ensures { left result (five_tables new_states.new new_standard.new new_leads.new
+        new_coefficients.new new_counts.new)
         ≡ packed_outcome (leave_out_outcome (settings_given modulus variables order weights) n r
         (five_tables states.now standard.now leads.now coefficients.now counts.now)
         variable
