@@ -6,14 +6,16 @@ mod answered;
 mod buffers;
 mod counts;
 mod stored;
+mod tables;
 mod written;
 
+use crate::counts::Counts;
 use std::fs::File;
 use std::io;
 use std::rt::Files;
 
 // The cases of the file `cases`.
-fn run_file(rt: &(impl Files + Print + Eprint), counts: &mut [u64; 16]) -> io::Result<()> {
+fn run_file(rt: &(impl Files + Print + Eprint), counts: &mut Counts) -> io::Result<()> {
     match File::open(rt, "cases") {
         Ok(mut file) => stored::run(rt, &mut file, counts),
         Err(error) => eprintln!(rt; "cases: {error}"),
@@ -21,10 +23,10 @@ fn run_file(rt: &(impl Files + Print + Eprint), counts: &mut [u64; 16]) -> io::R
 }
 
 fn main(rt: HostRuntime) -> io::Result<()> {
-    let mut counts = [0u64; 16];
+    let mut counts = Counts::new();
     stored::run(&rt, &mut rt.stdin(), &mut counts)?;
-    if counts::is_empty(&counts) {
+    if counts.is_empty() {
         run_file(&rt, &mut counts)?;
     }
-    counts::print_all(&rt, &counts)
+    counts.print(&rt)
 }

@@ -13,7 +13,7 @@ use Rattle.specification.specs.Refusal.{first_of}
 use Rattle.specification.specs.Settings.{settings_cases}
 use Rattle.specification.specs.Tables.{Tables}
 use Rattle.specification.proofs.Numbers.{never, at_most}
-use Rattle.json_sheets.specs.declared.read.Taken.{Taken}
+use Rattle.json_sheets.specs.Calls.{Taken}
 use Rattle.json_sheets.specs.Sheets.{settings_in, state_count, row_count_in}
 use Rattle.json_sheets.specs.Calls.{WrittenText, wrote, writing, sheet_cases, write_cases, write_outcome, Received, read_refused, sheet_taken, document_cases, read_cases, read_outcome}
 use Rattle.json_sheets.proofs.SheetDocuments.{Checked, few_leads}

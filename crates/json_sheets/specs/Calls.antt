@@ -1,16 +1,17 @@
 -- The two calls of request M-112: what each answers and leaves in the lent buffers, refused or not.
-use Rattle.std.specs.Prelude.{Bool, not, cond, ◌||◌, List, [], ◌∷◌, ◌++◌, ℕ, length, eqb, ltb}
+use Rattle.std.specs.Prelude.{Bool, not, cond, ◌||◌, List, [], ◌∷◌, ◌++◌, ℕ, length, eqb, ltb, Result, Ok, Err}
 use Rattle.std.proofs.Math.Option.{get_or}
 use Rattle.residue.specs.Layout.{over}
 use Rattle.specification.specs.declared.settings.Settings.{Settings}
+use Rattle.specification.specs.declared.refusals.Refusal.{Refusal}
 use Rattle.specification.specs.Refusal.{Case, first_of}
+use Rattle.specification.specs.Answers.{number_of}
 use Rattle.specification.specs.Settings.{settings_cases}
 use Rattle.specification.specs.Tables.{Tables, too_short, recognised}
 use Rattle.specification.specs.Tables.{written as writtenOver}
 use Rattle.json_text.specs.Documents.{Document, written}
 use Rattle.json_text.specs.Reading.{read, is_none}
-use Rattle.json_sheets.specs.declared.write.Written.{Written}
-use Rattle.json_sheets.specs.declared.read.Taken.{Taken}
+use Rattle.json_sheets.specs.declared.read.Archived.{Archived}
 use Rattle.json_sheets.specs.Sheets.{document_of, settings_in, state_count, row_count_in, tables_in}
 
 -- 'The buffer lent is 131,072 bytes'
@@ -22,6 +23,14 @@ unfoldable pub sheet_cases : Settings → Bool → ℕ → ℕ → Tables → Li
 sheet_cases s short n r t = settings_cases s ++ ((short, 6) ∷ (ltb 64 n, 8) ∷ (not (recognised s n r t), 10) ∷ [])
 
 -- Writing: the refusal alone, or 0 with the text's length; the text stands at the front of the buffer, and bytes after it are untouched.
+pub record Written : Type 0 where
+  pub refusal : ℕ
+  pub count : ℕ
+
+unfoldable pub written_of : Result ℕ Refusal → Written
+written_of (Ok count) = record { refusal = 0; count = count }
+written_of (Err e) = record { refusal = number_of e; count = 0 }
+
 pub record WrittenText : Type 0 where
   pub answer : Written
   pub buffer : List ℕ
@@ -39,6 +48,18 @@ unfoldable pub write_outcome : Settings → ℕ → ℕ → Tables → List ℕ 
 write_outcome s n r t buffer = writing (first_of 0 (write_cases s n r t buffer)) (written (document_of s n r t)) buffer
 
 -- Reading: the refusal alone, or 0 with the settings, n and r; five tables and eight bytes of weights are written to their sizes.
+pub record Taken : Type 0 where
+  pub refusal : ℕ
+  pub modulus : ℕ
+  pub variables : ℕ
+  pub order : ℕ
+  pub n : ℕ
+  pub r : ℕ
+
+unfoldable pub taken_of : Result Archived Refusal → Taken
+taken_of (Ok a) = record { refusal = 0; modulus = a.modulus; variables = a.variables; order = a.order; n = a.n; r = a.r }
+taken_of (Err e) = record { refusal = number_of e; modulus = 0; variables = 0; order = 0; n = 0; r = 0 }
+
 pub record Received : Type 0 where
   pub answer : Taken
   pub tables : Tables

@@ -1,55 +1,29 @@
 // Writing a sheet as JSON. Every refusal is decided before a lent byte is written.
 ghost use Rattle.std.specs.Prelude.{◌≡◌};
-ghost use Rattle.specification.specs.Tables.{five_tables};
-ghost use Rattle.json_sheets.specs.Calls.{wrote, write_outcome};
+ghost use Rattle.specification.specs.Lent.{lent};
+ghost use Rattle.json_sheets.specs.Calls.{written_of, wrote, write_outcome};
 
 use crate::judging::judge;
 use json_text::document_text::put_document;
 use json_text::documents::Shape;
+use specification::refusals::Refusal;
 use specification::settings::Settings;
+use specification::tables::TablesRef;
 
 // How many bytes the buffer has that is lent for a text.
 const TEXT: usize = 131072;
-
-// The refusal, or 0 with the length of the text.
-#[derive(Drop)]
-pub struct Written {
-    pub refusal: u8,
-    pub count: u32,
-}
 
 // The text of a sheet at the front of the lent buffer, and its length.
 pub fn write_json(
     settings: Settings,
     n: u64,
     r: u64,
-    states: &[u8],
-    standard: &[u8],
-    leads: &[u8],
-    coefficients: &[u8],
-    counts: &[u8],
+    tables: TablesRef<'_>,
     out: &mut [u8],
-) -> Written
-    ensures { wrote result out.new
-        ≡ write_outcome settings n r
-        (five_tables states.now standard.now leads.now coefficients.now counts.now)
-        out.old }
+) -> Result<u32, Refusal>
+    ensures { wrote (written_of result) out.new ≡ write_outcome settings n r (lent tables.entry) out.old }
 {
-    let refusal = judge(
-        settings,
-        n,
-        r,
-        states,
-        standard,
-        leads,
-        coefficients,
-        counts,
-        out.len() < TEXT,
-    );
-    if refusal != 0 {
-        return Written { refusal, count: 0 };
-    }
-    let weights = settings.weights;
+    judge(settings, n, r, tables, out.len() < TEXT)?;
     let shape = Shape {
         modulus: settings.modulus as u8,
         variables: settings.variables as u8,
@@ -60,15 +34,12 @@ pub fn write_json(
     let count = put_document(
         out,
         shape,
-        coefficients,
-        counts,
-        leads,
-        states,
-        standard,
-        &weights,
+        tables.coefficients,
+        tables.counts,
+        tables.leads,
+        tables.states,
+        tables.standard,
+        &settings.weights,
     );
-    Written {
-        refusal: 0,
-        count: count as u32,
-    }
+    Ok(count as u32)
 }

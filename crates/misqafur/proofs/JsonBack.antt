@@ -6,9 +6,7 @@ use Prim.Native.Nat.{ℕ, ◌+◌, ◌*◌, ◌≤◌}
 use native.Mathlib.Omega.{arith}
 use Rattle.specification.specs.declared.settings.Settings.{Settings}
 use Rattle.specification.specs.Tables.{Tables}
-use Rattle.json_sheets.specs.declared.write.Written.{Written}
-use Rattle.json_sheets.specs.declared.read.Taken.{Taken}
-use Rattle.json_sheets.specs.Calls.{write_outcome, read_outcome}
+use Rattle.json_sheets.specs.Calls.{Written, Taken, write_outcome, read_outcome}
 use Rattle.json_sheets.proofs.Numbers.{write_few, write_never_eleven, read_fits, read_never_eleven}
 use Rattle.misqafur.specs.Packing.{packed, packed_written, packed_taken}
 use Rattle.misqafur.specs.Unpacking.{refusal_from, points_from, count_from, modulus_from, variables_from, order_from, course_elements_from}

@@ -2,29 +2,28 @@
 use mathlib.Core.Path.{◌≡◌, ap, ◌∙◌}
 use mathlib.Core.List.{List}
 use Prim.Native.Nat.{ℕ}
-use Rattle.specification.specs.declared.answers.Answer.{Answer}
-use Rattle.specification.specs.declared.answers.Drawn.{Drawn}
-use Rattle.specification.specs.declared.answers.Wired.{Wired}
+use Rattle.specification.specs.Answers.{Answer, Drawn, Wired}
 use Rattle.specification.specs.Adding.{Outcome, ended, DrawOutcome, draw_ended}
-use Rattle.specification.specs.Solving.{Listed, listed}
-use Rattle.comma_text.specs.declared.reading.Read.{Read}
+use Rattle.specification.specs.Solving.{Filled, answering, Listed, listed}
+use Rattle.comma_text.specs.reading.Answers.{Read}
 use Rattle.specification.specs.Tables.{Tables}
 use Rattle.comma_text.specs.reading.Text.{TextOutcome, text_ended}
 use Rattle.forward.specs.declared.running.Course.{Course}
 use Rattle.forward.specs.Outcome.{CourseOutcome}
 use Rattle.misqafur.specs.Packing.{packed_answer, packed_drawn, packed_wired, packed_read, left, packed_outcome, packed_drawing, left_list, packed_list, left_reading, packed_reading}
-use Rattle.json_sheets.specs.declared.write.Written.{Written}
-use Rattle.json_sheets.specs.declared.read.Taken.{Taken}
-use Rattle.json_sheets.specs.Calls.{WrittenText, wrote, Received, received}
+use Rattle.json_sheets.specs.Calls.{Written, Taken, WrittenText, wrote, Received, received}
 use Rattle.misqafur.specs.Packing.{packed_course, left_course, packed_run, packed_written, packed_text, packed_taken, left_sheet, packed_sheet}
 
-pub packs : {a : Answer} {b c d e f : List ℕ} {o : Outcome} {k : ℕ} → ended a b c d e f ≡ o → k ≡ packed_answer a → left k b c d e f ≡ packed_outcome o
+pub packs : {a : Answer} {t : Tables} {o : Outcome} {k : ℕ} → ended a t ≡ o → k ≡ packed_answer a → left k t ≡ packed_outcome o
 unfolding packed_outcome
-packs {b = b} {c = c} {d = d} {e = e} {f = f} h n = ap (λ (k : ℕ). left k b c d e f) n ∙ ap packed_outcome h
+packs {t = t} h n = ap (λ (k : ℕ). left k t) n ∙ ap packed_outcome h
 
-pub packs_drawn : {a : Drawn} {b c d e f : List ℕ} {o : DrawOutcome} {k : ℕ} → draw_ended a b c d e f ≡ o → k ≡ packed_drawn a → left k b c d e f ≡ packed_drawing o
+pub packs_drawn : {a : Drawn} {t : Tables} {o : DrawOutcome} {k : ℕ} → draw_ended a t ≡ o → k ≡ packed_drawn a → left k t ≡ packed_drawing o
 unfolding packed_drawing
-packs_drawn {b = b} {c = c} {d = d} {e = e} {f = f} h n = ap (λ (k : ℕ). left k b c d e f) n ∙ ap packed_drawing h
+packs_drawn {t = t} h n = ap (λ (k : ℕ). left k t) n ∙ ap packed_drawing h
+
+pub packs_answer : {k j : ℕ} {b : List ℕ} {o : Filled} → answering k b ≡ o → j ≡ k → answering j b ≡ o
+packs_answer {b = b} h n = ap (λ (k : ℕ). answering k b) n ∙ h
 
 pub packs_list : {w : Wired} {b : List ℕ} {o : Listed} {k : ℕ} → listed w b ≡ o → k ≡ packed_wired w → left_list k b ≡ packed_list o
 unfolding packed_list

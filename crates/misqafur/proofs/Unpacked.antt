@@ -12,8 +12,7 @@ use lib.Dec.{T, eqb, eqb→eq}
 use Rattle.residue.specs.Lists.{all_zero}
 use Rattle.residue.proofs.Tests.{and_left, and_right}
 use Rattle.specification.specs.declared.settings.Settings.{Settings}
-use Rattle.specification.specs.declared.answers.Answer.{Answer}
-use Rattle.specification.specs.declared.answers.Drawn.{Drawn}
+use Rattle.specification.specs.Answers.{Answer, Drawn}
 use Rattle.specification.specs.Refusal.{first_of}
 use Rattle.specification.specs.Settings.{settings_cases}
 use Rattle.specification.specs.Counted.{Counted, points_of, gathered}

@@ -2,19 +2,15 @@
 use Rattle.std.specs.Prelude.{cond, List, [], ◌∷◌, ℕ, ◌+◌, ◌*◌, ◌≤◌, eqb}
 use Rattle.residue.specs.Words.{bytes_of}
 use Rattle.specification.specs.declared.settings.Settings.{Settings}
-use Rattle.specification.specs.declared.answers.Answer.{Answer}
-use Rattle.specification.specs.declared.answers.Drawn.{Drawn}
-use Rattle.specification.specs.declared.answers.Wired.{Wired}
-use Rattle.specification.specs.Tables.{Tables, five_tables}
+use Rattle.specification.specs.Answers.{Answer, Drawn, Wired}
+use Rattle.specification.specs.Tables.{Tables}
 use Rattle.specification.specs.Adding.{Outcome, DrawOutcome}
 use Rattle.specification.specs.Solving.{Listed}
-use Rattle.comma_text.specs.declared.reading.Read.{Read}
+use Rattle.comma_text.specs.reading.Answers.{Read}
 use Rattle.comma_text.specs.reading.Text.{TextOutcome}
 use Rattle.forward.specs.declared.running.Course.{Course}
 use Rattle.forward.specs.Outcome.{CourseOutcome}
-use Rattle.json_sheets.specs.declared.write.Written.{Written}
-use Rattle.json_sheets.specs.declared.read.Taken.{Taken}
-use Rattle.json_sheets.specs.Calls.{WrittenText, Received}
+use Rattle.json_sheets.specs.Calls.{Written, Taken, WrittenText, Received}
 
 -- Numbers in one, each 256 times higher than the one before it.
 abbrev pub packed : List ℕ → ℕ
@@ -71,8 +67,8 @@ pub record Left : Type 0 where
   pub number : ℕ
   pub tables : Tables
 
-abbrev pub left : ℕ → List ℕ → List ℕ → List ℕ → List ℕ → List ℕ → Left
-left a states standard leads coefficients counts = record { number = a; tables = five_tables states standard leads coefficients counts }
+abbrev pub left : ℕ → Tables → Left
+left a tables = record { number = a; tables = tables }
 
 unfoldable pub packed_outcome : Outcome → Left
 packed_outcome o = record { number = packed_answer o.answer; tables = o.tables }

@@ -4,9 +4,10 @@ ghost use Rattle.specification.specs.Tables.{five_tables};
 ghost use Rattle.specification.specs.Solving.{answering, interpolate_outcome, remainder_outcome, wiring_outcome};
 ghost use Rattle.misqafur.specs.Packing.{settings_given, left_list, packed_list};
 
-use crate::packing::{pack_wired, settings_given};
+use crate::packing::{pack_refusal, pack_wired, settings_given};
 use queries::remainders::remainder;
 use queries::values::{interpolate, wiring};
+use specification::tables::TablesRef;
 
 // The interpolant of n values, in the order of the points.
 #[unsafe(no_mangle)]
@@ -30,19 +31,15 @@ pub extern "C" fn misqafur_interpolate(
         (five_tables states.now standard.now leads.now coefficients.now counts.now)
         values.now out.old }
 {
-    let settings = settings_given(modulus, variables, order, weights);
-    interpolate(
-        settings,
-        n,
-        r,
+    let tables = TablesRef {
         states,
         standard,
         leads,
         coefficients,
         counts,
-        values,
-        out,
-    ) as u32
+    };
+    let settings = settings_given(modulus, variables, order, weights);
+    pack_refusal(interpolate(settings, n, r, tables, values, out))
 }
 
 // The remainder of a polynomial, term after term a coefficient and 8 exponents.
@@ -68,20 +65,15 @@ pub extern "C" fn misqafur_remainder(
         (five_tables states.now standard.now leads.now coefficients.now counts.now)
         term_coefficients.now exponents.now out.old }
 {
-    let settings = settings_given(modulus, variables, order, weights);
-    remainder(
-        settings,
-        n,
-        r,
+    let tables = TablesRef {
         states,
         standard,
         leads,
         coefficients,
         counts,
-        term_coefficients,
-        exponents,
-        out,
-    ) as u32
+    };
+    let settings = settings_given(modulus, variables, order, weights);
+    pack_refusal(remainder(settings, n, r, tables, term_coefficients, exponents, out))
 }
 
 // The wiring list: on which variables every function depends that has these n values at the points.
@@ -106,17 +98,13 @@ pub extern "C" fn misqafur_wiring(
         (five_tables states.now standard.now leads.now coefficients.now counts.now)
         values.now out.old) }
 {
-    let settings = settings_given(modulus, variables, order, weights);
-    pack_wired(wiring(
-        settings,
-        n,
-        r,
+    let tables = TablesRef {
         states,
         standard,
         leads,
         coefficients,
         counts,
-        values,
-        out,
-    ))
+    };
+    let settings = settings_given(modulus, variables, order, weights);
+    pack_wired(wiring(settings, n, r, tables, values, out))
 }

@@ -7,6 +7,7 @@ ghost use Rattle.misqafur.specs.Packing.{settings_given, left_list, packed_text,
 use crate::packing::{pack_taken, pack_written, settings_given};
 use json_sheets::read::read_json;
 use json_sheets::write::write_json;
+use specification::tables::{TablesMut, TablesRef};
 
 // The JSON text of a sheet at the front of the lent buffer, and its length.
 #[unsafe(no_mangle)]
@@ -29,18 +30,15 @@ pub extern "C" fn misqafur_write_json(
         (five_tables states.now standard.now leads.now coefficients.now counts.now)
         out.old) }
 {
-    let settings = settings_given(modulus, variables, order, weights);
-    pack_written(write_json(
-        settings,
-        n,
-        r,
+    let tables = TablesRef {
         states,
         standard,
         leads,
         coefficients,
         counts,
-        out,
-    ))
+    };
+    let settings = settings_given(modulus, variables, order, weights);
+    pack_written(write_json(settings, n, r, tables, out))
 }
 
 // The sheet of a JSON text, its settings' weights and its tables into the lent buffers.
@@ -61,5 +59,12 @@ pub extern "C" fn misqafur_read_json(
         (five_tables states.old standard.old leads.old coefficients.old counts.old)
         weights.old) }
 {
-    pack_taken(read_json(text, states, standard, leads, coefficients, counts, weights))
+    let tables = TablesMut {
+        states,
+        standard,
+        leads,
+        coefficients,
+        counts,
+    };
+    pack_taken(read_json(text, tables, weights))
 }

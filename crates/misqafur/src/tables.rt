@@ -8,10 +8,11 @@ ghost use Rattle.specification.specs.LeaveOut.{leave_out_outcome};
 ghost use Rattle.specification.specs.Solving.{check_refusal};
 ghost use Rattle.misqafur.specs.Packing.{settings_given, left, packed_outcome, packed_drawing};
 
-use crate::packing::{pack_answer, pack_drawn, settings_given};
+use crate::packing::{pack_answer, pack_drawn, pack_refusal, settings_given};
 use addition::adding;
 use basis::{drawing, leaving, withdrawing};
 use queries::checking;
+use specification::tables::{TablesMut, TablesRef};
 
 // Adding one point to the n points of the tables.
 #[unsafe(no_mangle)]
@@ -29,24 +30,20 @@ pub extern "C" fn misqafur_add_point(
     counts: &mut [u8],
     levels: &[i8],
 ) -> u32
-    ensures { left result states.new standard.new leads.new coefficients.new counts.new
+    ensures { left result (five_tables states.new standard.new leads.new coefficients.new counts.new)
         ≡ packed_outcome (add_outcome (settings_given modulus variables order weights) n r
         (five_tables states.old standard.old leads.old coefficients.old counts.old)
         levels.now) }
 {
-    let settings = settings_given(modulus, variables, order, weights);
-    let a = adding::add_point(
-        settings,
-        n,
-        r,
+    let tables = TablesMut {
         states,
         standard,
         leads,
         coefficients,
         counts,
-        levels,
-    );
-    pack_answer(a)
+    };
+    let settings = settings_given(modulus, variables, order, weights);
+    pack_answer(adding::add_point(settings, n, r, tables, levels))
 }
 
 // Withdrawing one of the n points of the tables.
@@ -65,24 +62,20 @@ pub extern "C" fn misqafur_withdraw_point(
     counts: &mut [u8],
     levels: &[i8],
 ) -> u32
-    ensures { left result states.new standard.new leads.new coefficients.new counts.new
+    ensures { left result (five_tables states.new standard.new leads.new coefficients.new counts.new)
         ≡ packed_outcome (withdraw_outcome (settings_given modulus variables order weights) n r
         (five_tables states.old standard.old leads.old coefficients.old counts.old)
         levels.now) }
 {
-    let settings = settings_given(modulus, variables, order, weights);
-    let a = withdrawing::withdraw_point(
-        settings,
-        n,
-        r,
+    let tables = TablesMut {
         states,
         standard,
         leads,
         coefficients,
         counts,
-        levels,
-    );
-    pack_answer(a)
+    };
+    let settings = settings_given(modulus, variables, order, weights);
+    pack_answer(withdrawing::withdraw_point(settings, n, r, tables, levels))
 }
 
 // Drawing up from all points at once.
@@ -99,22 +92,20 @@ pub extern "C" fn misqafur_draw_up(
     counts: &mut [u8],
     levels: &[i8],
 ) -> u64
-    ensures { left result states.new standard.new leads.new coefficients.new counts.new
+    ensures { left result (five_tables states.new standard.new leads.new coefficients.new counts.new)
         ≡ packed_drawing (draw_outcome (settings_given modulus variables order weights)
         (five_tables states.old standard.old leads.old coefficients.old counts.old)
         levels.now) }
 {
-    let settings = settings_given(modulus, variables, order, weights);
-    let a = drawing::draw_up(
-        settings,
+    let tables = TablesMut {
         states,
         standard,
         leads,
         coefficients,
         counts,
-        levels,
-    );
-    pack_drawn(a)
+    };
+    let settings = settings_given(modulus, variables, order, weights);
+    pack_drawn(drawing::draw_up(settings, tables, levels))
 }
 
 // Drawing up with words where the modulus is 2: the tables of drawing up, and no cancellations.
@@ -131,22 +122,20 @@ pub extern "C" fn misqafur_draw_up_packed(
     counts: &mut [u8],
     levels: &[i8],
 ) -> u32
-    ensures { left result states.new standard.new leads.new coefficients.new counts.new
+    ensures { left result (five_tables states.new standard.new leads.new coefficients.new counts.new)
         ≡ packed_outcome (draw_packed_outcome (settings_given modulus variables order weights)
         (five_tables states.old standard.old leads.old coefficients.old counts.old)
         levels.now) }
 {
-    let settings = settings_given(modulus, variables, order, weights);
-    let a = packed::call::draw_up_packed(
-        settings,
+    let tables = TablesMut {
         states,
         standard,
         leads,
         coefficients,
         counts,
-        levels,
-    );
-    pack_answer(a)
+    };
+    let settings = settings_given(modulus, variables, order, weights);
+    pack_answer(packed::call::draw_up_packed(settings, tables, levels))
 }
 
 // Leaving one of the variables, by its number from 1, out of the basis in the first five tables, which are only read; the result goes to the other five.
@@ -170,32 +159,30 @@ pub extern "C" fn misqafur_leave_out(
     new_coefficients: &mut [u8],
     new_counts: &mut [u8],
 ) -> u32
-    ensures { left result new_states.new new_standard.new new_leads.new
-        new_coefficients.new new_counts.new
+    ensures { left result (five_tables new_states.new new_standard.new new_leads.new
+        new_coefficients.new new_counts.new)
         ≡ packed_outcome (leave_out_outcome (settings_given modulus variables order weights) n r
         (five_tables states.now standard.now leads.now coefficients.now counts.now)
         variable
         (five_tables new_states.old new_standard.old new_leads.old
         new_coefficients.old new_counts.old)) }
 {
-    let settings = settings_given(modulus, variables, order, weights);
-    let a = leaving::leave_out(
-        settings,
-        n,
-        r,
+    let tables = TablesRef {
         states,
         standard,
         leads,
         coefficients,
         counts,
-        variable,
-        new_states,
-        new_standard,
-        new_leads,
-        new_coefficients,
-        new_counts,
-    );
-    pack_answer(a)
+    };
+    let left = TablesMut {
+        states: new_states,
+        standard: new_standard,
+        leads: new_leads,
+        coefficients: new_coefficients,
+        counts: new_counts,
+    };
+    let settings = settings_given(modulus, variables, order, weights);
+    pack_answer(leaving::leave_out(settings, n, r, tables, variable, left))
 }
 
 // Checking lent tables.
@@ -217,16 +204,13 @@ pub extern "C" fn misqafur_check(
         ≡ check_refusal (settings_given modulus variables order weights) n r
         (five_tables states.now standard.now leads.now coefficients.now counts.now) }
 {
-    let settings = settings_given(modulus, variables, order, weights);
-    let refusal = checking::check(
-        settings,
-        n,
-        r,
+    let tables = TablesRef {
         states,
         standard,
         leads,
         coefficients,
         counts,
-    );
-    refusal as u32
+    };
+    let settings = settings_given(modulus, variables, order, weights);
+    pack_refusal(checking::check(settings, n, r, tables))
 }

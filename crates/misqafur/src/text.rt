@@ -8,6 +8,7 @@ ghost use Rattle.misqafur.specs.Packing.{left_reading, packed_reading, left_cour
 use crate::packing::{pack_course, pack_read};
 use comma_text::reading::read_text;
 use forward::running::time_course;
+use specification::tables::TablesMut;
 
 // The settings of a text and the number of its distinct points; the points, their values, their counts and the weights of the settings into the lent buffers.
 #[unsafe(no_mangle)]
@@ -45,15 +46,12 @@ pub extern "C" fn misqafur_time_course(
         (five_tables states.old standard.old leads.old coefficients.old counts.old)
         interpolants.old weights.old) }
 {
-    pack_course(time_course(
-        text,
-        course,
+    let tables = TablesMut {
         states,
         standard,
         leads,
         coefficients,
         counts,
-        interpolants,
-        weights,
-    ))
+    };
+    pack_course(time_course(text, course, tables, interpolants, weights))
 }

@@ -6,7 +6,7 @@ use lib.ListN.{length}
 use Rattle.residue.proofs.Words.{bytes_length}
 use Rattle.specification.specs.declared.settings.Settings.{Settings}
 use Rattle.specification.specs.Tables.{five_tables}
-use Rattle.json_sheets.specs.Calls.{WrittenText}
+use Rattle.json_sheets.specs.Calls.{WrittenText, written_of}
 use Rattle.json_sheets.proofs.Numbers.{write_count}
 use Rattle.misqafur.proofs.Packed.{packs_text}
 use Rattle.misqafur.proofs.archive.misqafur_write_json.Goals as goal
@@ -23,7 +23,7 @@ module _ (a : After-write_json) where
   eight : length g.settings_given-settings.result.weights ≡ 8
   eight = ap (λ (x : Settings). length x.weights) g.settings_given-settings.ensures ∙ bytes_length 8 s.args.weights
 
-  counted : a.write_json.result.count ≤ 103534
+  counted : (written_of a.write_json.result).count ≤ 103534
   counted = subst (λ (o : WrittenText). o.answer.count ≤ 103534) (sym a.write_json.ensures)
       (write_count g.settings_given-settings.result s.args.n s.args.r
       (five_tables s.args.states.now s.args.standard.now s.args.leads.now s.args.coefficients.now s.args.counts.now) s.args.out.now eight)

@@ -1,5 +1,6 @@
 -- `tables::misqafur_check` meets its contract.
+use mathlib.Core.Path.{◌∙◌}
 use Rattle.misqafur.proofs.tables.misqafur_check.Goals as goal
 
 pub returns : goal.returns
-returns c = let a = c in rw (← a.settings_given-settings.ensures) a.check-refusal.ensures
+returns c = rw (← c.settings_given-settings.ensures) (c.pack_refusal.ensures ∙ c.check.ensures)

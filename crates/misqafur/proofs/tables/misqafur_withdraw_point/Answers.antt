@@ -3,5 +3,4 @@ use Rattle.misqafur.proofs.Packed.{packs}
 use Rattle.misqafur.proofs.tables.misqafur_withdraw_point.Goals as goal
 
 pub returns : goal.returns
-returns c = let a = c in
-    rw (← a.settings_given-settings.ensures) (packs a.withdraw_point-a.ensures c.pack_answer.ensures)
+returns c = rw (← c.settings_given-settings.ensures) (packs c.withdraw_point.ensures c.pack_answer.ensures)
