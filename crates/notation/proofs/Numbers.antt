@@ -5,6 +5,7 @@ use mathlib.Core.List.{List}
 use mathlib.Core.Option.{Option}
 use Prim.Native.Nat.{ℕ}
 use lib.ListN.{length, take, drop}
+use Rattle.std.specs.Prelude.{Option as Answer, Some, None}
 use Rattle.notation.specs.Digits.{is_digit, decimal_number}
 use Rattle.notation.specs.Fields.{Field, front}
 use Rattle.notation.specs.Forms.{Ordered, Header}
@@ -12,7 +13,6 @@ use Rattle.notation.specs.Said.{form_number, leading_said, leading_number, Leadi
 use Rattle.notation.specs.Said.{order_said, order_number, OrderRead, last_said, last_number, LastRead}
 use Rattle.notation.specs.Spans.{field_number, ended_by, end_number, EndWithin, ending_in, EndRead, spanned, span_number, SpanWithin, SpanAt, SpanRead}
 use Rattle.notation.specs.declared.digits.Leading.{Leading}
-use Rattle.notation.specs.declared.digits.Leading.TheVariants as G
 use Rattle.notation.specs.declared.forms.Word.{Word}
 use Rattle.notation.specs.declared.forms.Word.TheVariants as W
 use Rattle.notation.specs.declared.forms.Last.{Last}
@@ -22,12 +22,12 @@ use Rattle.notation.specs.declared.fields.End.TheVariants as E
 use Rattle.notation.specs.declared.fields.Span.{Span}
 use Rattle.notation.specs.declared.fields.Span.TheVariants as S
 
-leading_number_lem : (r : Leading) → leading_number r ≡ form_number (leading_said r)
+leading_number_lem : (r : Answer Leading) → leading_number r ≡ form_number (leading_said r)
 unfolding leading_number form_number leading_said
-leading_number_lem (G.Number size count) = refl
-leading_number_lem G.Broken = refl
+leading_number_lem (Some l) = refl
+leading_number_lem None = refl
 
-pub leading_says : {t : List ℕ} {r : Leading} → leading_said r ≡ decimal_number (take (front is_digit t) t) → LeadingEnds (front is_digit t) r → LeadingRead t r
+pub leading_says : {t : List ℕ} {r : Answer Leading} → leading_said r ≡ decimal_number (take (front is_digit t) t) → LeadingEnds (front is_digit t) r → LeadingRead t r
 leading_says {t} {r} e f = record { said = e; number = leading_number_lem r ∙ ap form_number e; ends = f }
 
 order_number_lem : (weights : List ℕ) (r : Word) → order_number r ≡ form_number (order_said weights r)

@@ -1,12 +1,12 @@
 -- What the readers of a field's content answer, in the terms of the definitions of forms: for each case of an answer its number in docs/SCOPE.md's list of
 -- refusals and its values. What was read is not refused; what breaks the rules of the text is, with 2.
-use Rattle.std.specs.Prelude.{◌≡◌, Bool, true, false, cond, List, ℕ, ◌≤◌, ℤ, pos, take, drop, eqb}
+-- `Answer` is the code's Option, with Some and None; the definitions' own has some and none.
+use Rattle.std.specs.Prelude.{◌≡◌, Bool, true, false, cond, List, ℕ, ◌≤◌, ℤ, pos, take, drop, eqb, Option as Answer, Some, None}
 use Rattle.std.proofs.Math.Option.{Option, some, none}
 use Rattle.notation.specs.Digits.{is_digit, decimal_number}
 use Rattle.notation.specs.Fields.{front, Part, part, faulty}
 use Rattle.notation.specs.Forms.{negative, Ordered, Header}
 use Rattle.notation.specs.declared.digits.Leading.{Leading}
-use Rattle.notation.specs.declared.digits.Leading.TheVariants as G
 use Rattle.notation.specs.declared.forms.Weight.{Weight}
 use Rattle.notation.specs.declared.forms.Weight.TheVariants as Wt
 use Rattle.notation.specs.declared.forms.Word.{Word}
@@ -20,22 +20,22 @@ form_number (some a) = 0
 form_number none = 2
 
 -- the number that the digits at the front write, one to three of them, and how many they are
-unfoldable pub leading_of : ℕ → ℕ → Leading
-leading_of size count = cond (eqb count 0) G.Broken (G.Number size count)
+unfoldable pub leading_of : ℕ → ℕ → Answer Leading
+leading_of size count = cond (eqb count 0) None (Some (record { size = size; count = count }))
 
-unfoldable pub leading_said : Leading → Option ℕ
-leading_said (G.Number size count) = some size
-leading_said G.Broken = none
+unfoldable pub leading_said : Answer Leading → Option ℕ
+leading_said (Some l) = some l.size
+leading_said None = none
 
-unfoldable pub leading_number : Leading → ℕ
-leading_number (G.Number size count) = 0
-leading_number G.Broken = 2
+unfoldable pub leading_number : Answer Leading → ℕ
+leading_number (Some l) = 0
+leading_number None = 2
 
-abbrev pub LeadingEnds : ℕ → Leading → Type 0
-LeadingEnds k (G.Number size count) = count ≡ k
-LeadingEnds k G.Broken = Unit {0}
+abbrev pub LeadingEnds : ℕ → Answer Leading → Type 0
+LeadingEnds k (Some l) = l.count ≡ k
+LeadingEnds k None = Unit {0}
 
-pub record LeadingRead (content : List ℕ) (r : Leading) : Type 0 where
+pub record LeadingRead (content : List ℕ) (r : Answer Leading) : Type 0 where
   pub said : leading_said r ≡ decimal_number (take (front is_digit content) content)
   pub number : leading_number r ≡ form_number (decimal_number (take (front is_digit content) content))
   pub ends : LeadingEnds (front is_digit content) r

@@ -1,49 +1,36 @@
 // Numbers in decimal, read.
 ghost use Rattle.std.specs.Prelude.{◌≡◌};
-ghost use Rattle.notation.specs.Digits.{is_digit};
 ghost use Rattle.notation.specs.Said.{leading_of, LeadingRead};
 
-fn is_digit(b: u8) -> bool
-    ensures { result ≡ is_digit b }
-{
-    if b < 48 {
-        return false;
-    }
-    b <= 57
-}
-
 // The number that the digits at the front write, and how many they are.
-#[derive(Drop)]
-pub enum Leading {
-    Number { size: u16, count: usize },
-    Broken,
+#[derive(Clone, Copy)]
+pub struct Leading {
+    pub size: u16,
+    pub count: usize,
 }
 
-fn leading_of(size: u16, count: usize) -> Leading
+fn leading_of(size: u16, count: usize) -> Option<Leading>
     ensures { result ≡ leading_of size count }
 {
     if count == 0 {
-        return Leading::Broken;
+        return None;
     }
-    Leading::Number { size, count }
+    Some(Leading { size, count })
 }
 
 // The one to three digits at the front, which no other follows: found and read at once.
-pub fn read_leading(content: &[u8]) -> Leading
+pub fn read_leading(content: &[u8]) -> Option<Leading>
     ensures { LeadingRead content.now result }
 {
-    let mut size: u16 = 0;
-    let mut i = 0;
-    while i < content.len() {
-        let b = content[i];
-        if !is_digit(b) {
+    let mut size = 0;
+    for (i, b) in content.iter().enumerate() {
+        if !b.is_ascii_digit() {
             return leading_of(size, i);
         }
         if i == 3 {
-            return Leading::Broken;
+            return None;
         }
-        size = 10 * size + (b - 48) as u16;
-        i += 1;
+        size = 10 * size + u16::from(b - b'0');
     }
-    leading_of(size, i)
+    leading_of(size, content.len())
 }

@@ -4,7 +4,7 @@ ghost use Rattle.std.proofs.Math.Option.{map};
 ghost use Rattle.notation.specs.Forms.{weight_first, weights_of, weighted, order_word, modulus_and_order, last_field};
 ghost use Rattle.notation.specs.Said.{weight_said, WeightWithin, OrderRead, LastRead};
 
-use crate::digits::{Leading, read_leading};
+use crate::digits::read_leading;
 use residue::bytes::same;
 
 #[derive(Drop)]
@@ -26,15 +26,15 @@ fn read_weight(content: &[u8], at: usize) -> Weight
         return Weight::Broken;
     }
     let from = at + 1;
-    let Leading::Number { size, count } = read_leading(&content[from..]) else {
+    let Some(number) = read_leading(&content[from..]) else {
         return Weight::Broken;
     };
-    if 2 < count {
+    if 2 < number.count {
         return Weight::Broken;
     }
     Weight::At {
-        weight: size as u8,
-        next: from + count,
+        weight: number.size as u8,
+        next: from + number.count,
     }
 }
 
@@ -112,14 +112,14 @@ fn read_settings(content: &[u8], names: usize, weights: &mut [u8]) -> Last
     requires { weights.old ≡ replicate 8 0 }
     ensures { LastRead names (modulus_and_order names content.now) weights.new result }
 {
-    let Leading::Number { size, count } = read_leading(content) else {
+    let Some(number) = read_leading(content) else {
         return Last::Broken;
     };
-    let Word::Order(order) = read_order(&content[count..], names, weights) else {
+    let Word::Order(order) = read_order(&content[number.count..], names, weights) else {
         return Last::Broken;
     };
     Last::Settings {
-        modulus: size,
+        modulus: number.size,
         order,
     }
 }

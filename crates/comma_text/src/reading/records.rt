@@ -4,7 +4,6 @@ ghost use Rattle.notation.specs.Forms.{level_of};
 ghost use Rattle.comma_text.specs.reading.Records.{reading, field_from, size_field, level_at_said, LevelWithin, LevelRead};
 ghost use Rattle.comma_text.specs.reading.Records.{HeaderRead, EntryRead, entries_at, counted_entries};
 
-use notation::digits::Leading;
 use notation::fields::{End, Span};
 use notation::forms::Last;
 use notation::{digits, fields, forms};
@@ -26,15 +25,15 @@ fn sized_level(text: &[u8], at: usize, quotes: bool, negative: bool) -> LevelAt
     ensures fact_1 { level_at_said text.now result ≡ size_field quotes negative (drop at text.now) }
     ensures fact_2 { LevelWithin (length text.now) result }
 {
-    let Leading::Number { size, count } = digits::read_leading(&text[at..]) else {
+    let Some(number) = digits::read_leading(&text[at..]) else {
         return LevelAt::Broken;
     };
-    let End::At { more, next } = fields::content_end(text, at + count, quotes) else {
+    let End::At { more, next } = fields::content_end(text, at + number.count, quotes) else {
         return LevelAt::Broken;
     };
     LevelAt::Level {
         negative,
-        size,
+        size: number.size,
         more,
         next,
     }

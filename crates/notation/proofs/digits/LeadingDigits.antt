@@ -9,11 +9,11 @@ use native.Mathlib.Omega.{arith}
 use lib.ListN.{length, get_or, take, drop}
 use lib.Seq.{drop-cons, length-take-le}
 use lib.Dec.{eqb-suc-zero}
+use Rattle.std.specs.Prelude.{Option as Answer, None}
 use Rattle.notation.specs.Digits.{is_digit, digits_from}
 use Rattle.notation.specs.Fields.{front}
 use Rattle.notation.specs.Said.{leading_of, leading_said, LeadingRead}
 use Rattle.notation.specs.declared.digits.Leading.{Leading}
-use Rattle.notation.specs.declared.digits.Leading.TheVariants as G
 use Rattle.notation.proofs.digits.NumberDigits.{number_none, number_long, number_few}
 use Rattle.notation.proofs.fields.FieldSpans.{front_le}
 use Rattle.notation.proofs.Numbers.{leading_says}
@@ -42,9 +42,9 @@ leading_read t v (suc i) h e d =
     rw (eqb-suc-zero i) (leading_says (sym d ∙ number_few (digits t) (omega (arith, digits_count t, e)) (omega (arith, digits_count t, e, h))) e)
 
 pub leading_done : (t : List ℕ) (v i : ℕ) → i ≤ 3 → i ≡ i + front is_digit (drop i t) → i + front is_digit (drop i t) ≡ front is_digit t
-    → digits_from v (digits (drop i t)) ≡ digits_from 0 (digits t) → {r : Leading} → r ≡ leading_of v i → LeadingRead t r
+    → digits_from v (digits (drop i t)) ≡ digits_from 0 (digits t) → {r : Answer Leading} → r ≡ leading_of v i → LeadingRead t r
 leading_done t v i h e f d g = subst (LeadingRead t) (sym g) (leading_read t v i h (e ∙ f) (sym d ∙ digits_over t v i e))
 
-pub leading_long : (t : List ℕ) → 3 < front is_digit t → LeadingRead t G.Broken
+pub leading_long : (t : List ℕ) → 3 < front is_digit t → LeadingRead t None
 unfolding leading_said
 leading_long t h = leading_says (sym (number_long (digits t) (omega (arith, digits_count t, h)))) tt

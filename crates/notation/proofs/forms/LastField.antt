@@ -7,12 +7,13 @@ use Prim.Native.Nat.{ℕ, ◌-◌, ◌<◌}
 use native.Mathlib.Omega.{arith}
 use lib.ListN.{length, take, drop, replicate, length-take}
 use Rattle.residue.specs.Lists.{same_list}
+use Rattle.std.specs.Prelude.{Some, None}
 use Rattle.notation.specs.Fields.{front}
 use Rattle.notation.specs.Digits.{is_digit}
 use Rattle.notation.specs.Forms.{mod_word, lex_word, grlex_word, grevlex_word, weight_word, weights_of, Ordered, unweighted, weighted}
 use Rattle.notation.specs.Forms.{default_order, order_word, header, modulus_and_order, last_field}
 use Rattle.notation.specs.Said.{leading_said, LeadingRead}
-use Rattle.notation.specs.declared.digits.Leading.TheVariants as G
+use Rattle.notation.specs.declared.digits.Leading.{Leading}
 use Rattle.residue.proofs.bytes.Equality.{same_length}
 use Rattle.notation.proofs.fields.FieldSpans.{all_behind}
 
@@ -59,14 +60,14 @@ module _ (m : ℕ) (l : List ℕ) (n : length l ≡ 0 → ⊥) (e : same_list l 
 
 -- digits, read or not, and what stands behind them
 module _ (m : ℕ) (l : List ℕ) where
-  pub no_digits : LeadingRead l G.Broken → none ≡ modulus_and_order m l
+  pub no_digits : LeadingRead l None → none ≡ modulus_and_order m l
   unfolding header leading_said modulus_and_order
   no_digits d = ap (λ (p : Option ℕ). header m p (order_word m (drop (front is_digit l) l))) d.said
 
-  pub digits_and : (p k : ℕ) (word : Option Ordered) → LeadingRead l (G.Number p k) → word ≡ order_word m (take (length l - k) (drop k l))
-      → header m (some p) word ≡ modulus_and_order m l
+  pub digits_and : (n : Leading) (word : Option Ordered) → LeadingRead l (Some n) → word ≡ order_word m (take (length l - n.count) (drop n.count l))
+      → header m (some n.size) word ≡ modulus_and_order m l
   unfolding leading_said modulus_and_order
-  digits_and p k word d e = ap₂ (header m) d.said (e ∙ ap (order_word m) (all_behind l k ∙ ap (λ (j : ℕ). drop j l) d.ends))
+  digits_and n word d e = ap₂ (header m) d.said (e ∙ ap (order_word m) (all_behind l n.count ∙ ap (λ (j : ℕ). drop j l) d.ends))
 
 -- `mod `
 module _ (m : ℕ) (l : List ℕ) where

@@ -13,11 +13,12 @@ use borrow.Author.Tests.{eq-eqb, ne_eqb, le-leb, lt-leb}
 use Rattle.residue.specs.Layout.{fill}
 use Rattle.residue.proofs.Layouts.{fill_zeros}
 use Rattle.notation.specs.Digits.{is_digit, decimal_number}
+use Rattle.std.specs.Prelude.{Some, None}
 use Rattle.notation.specs.Fields.{front, part, faulty, kept}
 use Rattle.notation.specs.Forms.{weight_of, weight_first, behind_weight, weights_of, Ordered, weighted}
 use Rattle.notation.specs.FormGrammar.{IsNumber, one, two, three}
 use Rattle.notation.specs.Said.{leading_said, LeadingRead}
-use Rattle.notation.specs.declared.digits.Leading.TheVariants as G
+use Rattle.notation.specs.declared.digits.Leading.{Leading}
 use Rattle.notation.proofs.digits.LeadingDigits.{digits, digits_count}
 use Rattle.notation.proofs.fields.FieldSpans.{front_le, all_behind}
 use Rattle.notation.proofs.Grammar.LevelForm.{number_found}
@@ -52,7 +53,7 @@ module _ (t : List ℕ) (at : ℕ) where
       unfolding kept
       no_weight n = ap (λ (o : Option ℕ). kept o (drop (front is_digit behind) behind)) (sym n) ∙ first_space
 
-      pub first_none : LeadingRead behind G.Broken → faulty ≡ weight_first (drop at t)
+      pub first_none : LeadingRead behind None → faulty ≡ weight_first (drop at t)
       unfolding weight_of leading_said
       first_none d = no_weight (pick (leb (length (digits behind)) 2))
         where
@@ -60,28 +61,28 @@ module _ (t : List ℕ) (at : ℕ) where
           pick true = sym d.said
           pick false = refl
 
-      module _ (w k : ℕ) (d : LeadingRead behind (G.Number w k)) where
-        pub first_long : 2 < k → faulty ≡ weight_first (drop at t)
+      module _ (n : Leading) (d : LeadingRead behind (Some n)) where
+        pub first_long : 2 < n.count → faulty ≡ weight_first (drop at t)
         unfolding weight_of
         first_long l = no_weight (simp (lt-leb (length (digits behind)) 2 (omega (arith, digits_count behind, d.ends))))
 
-        pub first_within : at + 1 + k ≤ length t
+        pub first_within : at + 1 + n.count ≤ length t
         first_within = omega (arith, d.ends, front_le is_digit behind, ap length (all_behind t (at + 1)), length-drop (at + 1) t)
 
-        module _ (s : k ≤ 2) where
-          pub first_small : w ≤ 99
+        module _ (s : n.count ≤ 2) where
+          pub first_small : n.size ≤ 99
           unfolding leading_said
-          first_small = number_small (number_found (digits behind) w (sym d.said)) (omega (arith, digits_count behind, d.ends))
+          first_small = number_small (number_found (digits behind) n.size (sym d.said)) (omega (arith, digits_count behind, d.ends))
 
-          pub first_read : part w (drop (at + 1 + k) t) ≡ weight_first (drop at t)
+          pub first_read : part n.size (drop (at + 1 + n.count) t) ≡ weight_first (drop at t)
           unfolding weight_of kept leading_said
           first_read = ap₂ kept f g ∙ first_space
             where
-              f : some w ≡ weight_of (digits behind)
+              f : some n.size ≡ weight_of (digits behind)
               f = d.said ∙ sym (simp (le-leb (length (digits behind)) 2 (omega (arith, digits_count behind, d.ends))))
 
-              g : drop (at + 1 + k) t ≡ drop (front is_digit behind) behind
-              g = sym (drop-drop k (at + 1) t) ∙ ap₂ drop d.ends (sym (all_behind t (at + 1)))
+              g : drop (at + 1 + n.count) t ≡ drop (front is_digit behind) behind
+              g = sym (drop-drop n.count (at + 1) t) ∙ ap₂ drop d.ends (sym (all_behind t (at + 1)))
 
 -- weights kept from a place on, one after the other
 unfoldable pub put : ℕ → List ℕ → List ℕ → List ℕ

@@ -4,11 +4,11 @@ use mathlib.Core.List.{List}
 use Prim.Native.Nat.{ℕ, ◌<◌}
 use native.Mathlib.Omega.{arith}
 use lib.ListN.{length}
+use Rattle.std.specs.Prelude.{Some}
 use Rattle.notation.specs.Said.{LeadingRead, weight_said}
-use Rattle.notation.specs.declared.digits.Leading.TheVariants as G
 use Rattle.notation.proofs.forms.WeightsRead.{behind, first_end, first_other, first_none, first_long, first_within, first_small, first_read}
 use Rattle.notation.proofs.forms.read_weight.Goals as goal
-use Rattle.notation.proofs.forms.read_weight.Goals.{After-read_leading, Else-content-at-ne32, In-Number, Start}
+use Rattle.notation.proofs.forms.read_weight.Goals.{After-read_leading, Else-content-at-ne32, In-Some, Start}
 
 -- The places: a space stands there, and the digits behind it were looked for and found. Each names the one before it.
 abbrev space : After-read_leading → Else-content-at-ne32
@@ -23,15 +23,15 @@ content e = (start e).args.content.now
 abbrev at : Else-content-at-ne32 → ℕ
 at e = (start e).args.at
 
-abbrev looked : In-Number → After-read_leading
-looked k = (goal.at.In-Number k).After-read_leading
+abbrev looked : In-Some → After-read_leading
+looked k = (goal.at.In-Some k).After-read_leading
 
 inside : (e : Else-content-at-ne32) → at e < length (content e)
 inside e = omega (arith, (start e).requires, e.if-at-content.false)
 
-found : (k : In-Number) → let e = space (looked k) in
-    LeadingRead (behind (content e) (at e) (inside e)) (G.Number k.in-Number.size k.in-Number.count)
-found k = subst (LeadingRead _) k.in-Number.is (looked k).read_leading.ensures
+found : (k : In-Some) → let e = space (looked k) in
+    LeadingRead (behind (content e) (at e) (inside e)) (Some k.in-Some.number)
+found k = subst (LeadingRead _) k.in-Some.is (looked k).read_leading.ensures
 
 pub returns-then-at-content : goal.returns-then-at-content
 unfolding weight_said
@@ -45,14 +45,14 @@ pub returns-in_default : goal.returns-in_default
 unfolding weight_said
 returns-in_default c = let r = c in record { fact_1 = first_none _ _ (inside (space (goal.at.returns-in_default r).After-read_leading)) (space (goal.at.returns-in_default r).After-read_leading).if-content-at-ne32.false (subst (LeadingRead _) c.in_default.is r.read_leading.ensures); fact_2 = tt }
 
-pub returns-then-count-gt2 : goal.returns-then-count-gt2
+pub returns-then-number-gt2 : goal.returns-then-number-gt2
 unfolding weight_said
-returns-then-count-gt2 c = let e = space (looked (goal.at.returns-then-count-gt2 c).In-Number) in record { fact_1 = first_long (content e) (at e) (inside e) e.if-content-at-ne32.false _ _ (found (goal.at.returns-then-count-gt2 c).In-Number) c.if-count-gt2.true; fact_2 = tt }
+returns-then-number-gt2 c = let e = space (looked (goal.at.returns-then-number-gt2 c).In-Some) in record { fact_1 = first_long (content e) (at e) (inside e) e.if-content-at-ne32.false _ (found (goal.at.returns-then-number-gt2 c).In-Some) c.if-number-gt2.true; fact_2 = tt }
 
 pub overflow_cast-result : goal.overflow_cast-result
-overflow_cast-result c = let e = space (looked (goal.at.overflow_cast-result c).In-Number) in
-    omega (arith, first_small (content e) (at e) (inside e) e.if-content-at-ne32.false _ _ (found (goal.at.overflow_cast-result c).In-Number) c.if-count-gt2.false)
+overflow_cast-result c = let e = space (looked (goal.at.overflow_cast-result c).In-Some) in
+    omega (arith, first_small (content e) (at e) (inside e) e.if-content-at-ne32.false _ (found (goal.at.overflow_cast-result c).In-Some) c.if-number-gt2.false)
 
 pub returns : goal.returns
 unfolding weight_said
-returns c = let e = space (looked (goal.at.returns c).In-Number) in record { fact_1 = first_read (content e) (at e) (inside e) e.if-content-at-ne32.false _ _ (found (goal.at.returns c).In-Number) c.if-count-gt2.false; fact_2 = first_within (content e) (at e) (inside e) e.if-content-at-ne32.false _ _ (found (goal.at.returns c).In-Number) }
+returns c = let e = space (looked (goal.at.returns c).In-Some) in record { fact_1 = first_read (content e) (at e) (inside e) e.if-content-at-ne32.false _ (found (goal.at.returns c).In-Some) c.if-number-gt2.false; fact_2 = first_within (content e) (at e) (inside e) e.if-content-at-ne32.false _ (found (goal.at.returns c).In-Some) }
