@@ -1,5 +1,5 @@
 -- The loop that writes an array into a lent buffer: the bracket, run after run, the other bracket. A run is an item, behind a comma but for the first.
-use mathlib.Core.Path.{◌≡◌, refl, sym, ◌∙◌, ap, subst}
+use mathlib.Core.Path.{◌≡◌, refl, sym, ap, subst}
 use mathlib.Core.List.{List, [], ◌∷◌, ◌++◌, map, flatten, append-nil}
 use Prim.Native.Nat.{ℕ, zero, suc, ◌+◌, ◌≤◌, ◌<◌}
 use native.Mathlib.Nat.{not-suc-le-zero, le_of_suc-le-suc}
@@ -10,7 +10,7 @@ use borrow.Author.Tests.{eq-eqb, ne_eqb}
 use Rattle.writing.specs.Appending.{Room, Put}
 use Rattle.residue.proofs.vector.Vectors.{map_at}
 use Rattle.json_text.specs.Writing.{separated, before, array}
-use Rattle.writing.proofs.appending.Appends.{first_room, put_more, put_room, put_length, turn_room, turn, turns_all, turn_length}
+use Rattle.writing.proofs.appending.Appends.{first_room, put_more, put_room, turn_room, turn, turns_all}
 
 pub runs : List (List ℕ) → List (List ℕ)
 runs [] = []
@@ -61,9 +61,6 @@ module _ (l : List (List ℕ)) (at : ℕ) (o : List ℕ) (room : Room at (array 
   all = first_room first (flatten (runs l)) (93 ∷ []) opened behind
 
   module _ {next : ℕ} {mid : List ℕ} (i : ℕ) (q : Put first (flatten (take i (runs l))) opened mid next) where
-    pub array_length : length mid ≡ length o
-    array_length = turn_length (runs l) i all q ∙ put_length p (open_room l at o room)
-
     -- an item more
     pub item_room : i < length l → Room next (before i ++ get_or l i []) mid
     item_room h = turn_room (runs l) i (before i ++ get_or l i []) (omega (arith, runs_length l)) (run_at l i h) q all

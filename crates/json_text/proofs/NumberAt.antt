@@ -8,13 +8,12 @@ use native.Mathlib.Omega.{arith}
 use lib.ListN.{length, get_or, take, drop, length-drop, length-take}
 use lib.Dec.{eqb}
 use borrow.Author.Tests.{le-leb, lt-leb, eq-eqb, ne_eqb}
-use Rattle.std.proofs.Common.{Some, None, Result, Ok, Err}
+use Rattle.std.proofs.Common.{Option, Some, None, Result, Ok, Err}
 use Rattle.std.specs.Result.{OkIff, result_ok}
 use Rattle.notation.specs.Digits.{is_digit, decimal_number}
 use Rattle.notation.specs.Fields.{front}
 use Rattle.notation.specs.Said.{leading_said, LeadingRead}
 use Rattle.notation.specs.declared.digits.Leading.{Leading}
-use Rattle.notation.specs.declared.digits.Leading.TheVariants as G
 use Rattle.notation.proofs.fields.FieldSpans.{front_le, all_behind}
 use Rattle.json_text.specs.Documents.{is_byte}
 use Rattle.json_text.specs.Places.{found, broken, here, number_found, number_at}
@@ -38,20 +37,20 @@ module _ (text : List ℕ) (at : ℕ) where
   abbrev digits_at : List ℕ
   digits_at = take (front is_digit (drop at text)) (drop at text)
 
-  there : (r : Leading) → LeadingRead lent r → LeadingRead (drop at text) r
+  there : (r : Option Leading) → LeadingRead lent r → LeadingRead (drop at text) r
   there r d = subst (λ (l : List ℕ). LeadingRead l r) (all_behind text at) d
 
-  pub number_none : LeadingRead lent G.Broken → broken ≡ number_at text at
+  pub number_none : LeadingRead lent None → broken ≡ number_at text at
   unfolding number_at number_found leading_said
-  number_none d = rw (sym (there G.Broken d).said)
+  number_none d = rw (sym (there None d).said)
 
-  module _ (v count : ℕ) (d : LeadingRead lent (G.Number v count)) where
+  module _ (v count : ℕ) (d : LeadingRead lent (Some (record { size = v; count = count }))) where
     ends : count ≡ front is_digit (drop at text)
-    ends = (there (G.Number v count) d).ends
+    ends = (there (Some (record { size = v; count = count })) d).ends
 
     said : decimal_number digits_at ≡ some v
     unfolding leading_said
-    said = sym (there (G.Number v count) d).said
+    said = sym (there (Some (record { size = v; count = count })) d).said
 
     pub number_inside : (1 ≤ count) × (at + count ≤ length text)
     number_inside =

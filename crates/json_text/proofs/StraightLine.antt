@@ -1,11 +1,9 @@
 -- A straight line of calls that write a text into a lent buffer, part after part: what is written, and what is still to come.
-use mathlib.Core.Path.{◌≡◌, sym, ◌∙◌, ap, subst}
+use mathlib.Core.Path.{◌≡◌, sym, ◌∙◌, subst}
 use mathlib.Core.List.{List, [], ◌++◌, append_assoc, append-nil}
 use Prim.Native.Nat.{ℕ}
-use native.Mathlib.Omega.{arith}
-use lib.ListN.{length, length-append}
 use Rattle.writing.specs.Appending.{Room, Put}
-use Rattle.writing.proofs.appending.Appends.{put_nothing, put_front, put_more, put_length, first_room}
+use Rattle.writing.proofs.appending.Appends.{put_nothing, put_front, put_more, first_room}
 
 pub record Going (at : ℕ) (text o rest mid : List ℕ) (next : ℕ) : Type 0 where
   pub written : List ℕ
@@ -37,7 +35,3 @@ module _ {at next : ℕ} {text o mid : List ℕ} (x rest : List ℕ) (g : Going 
 -- all of it
 pub going_end : {at next : ℕ} {text o mid : List ℕ} → Going at text o [] mid next → Put at text o mid next
 going_end {at} {next} {text} {o} {mid} g = subst (λ (z : List ℕ). Put at z o mid next) (sym (g.same ∙ append-nil g.written)) g.put
-
-pub going_length : {at next : ℕ} {text o rest mid : List ℕ} → Going at text o rest mid next → length mid ≡ length o
-going_length {at} {next} {text} {o} {rest} {mid} g =
-    put_length g.put (omega (arith, g.room, ap (λ (z : List ℕ). length z) g.same, length-append g.written rest))

@@ -24,9 +24,7 @@ pub fn read_number(text: &[u8], at: usize) -> Option<Number>
     requires { at ≤ length text.now }
     ensures { number_said result ≡ number_at text.now at }
 {
-    let Leading::Number { size, count } = digits::read_leading(&text[at..]) else {
-        return None;
-    };
+    let Leading { size, count } = digits::read_leading(&text[at..])?;
     let value = u8::try_from(size).ok()?;
     if count > 1 && is_here(text, at, b'0') {
         return None;

@@ -104,6 +104,3 @@ module _ {at next : ℕ} {o mid : List ℕ} (L : List (List ℕ)) (i : ℕ) (x :
 
 pub turns_all : {at next : ℕ} {o mid : List ℕ} (L : List (List ℕ)) (i : ℕ) → length L ≤ i → Put at (flatten (take i L)) o mid next → Put at (flatten L) o mid next
 turns_all L i h p = rw (take_all i L h) at p
-
-pub turn_length : {at next : ℕ} {o mid : List ℕ} (L : List (List ℕ)) (i : ℕ) → Room at (flatten L) o → Put at (flatten (take i L)) o mid next → length mid ≡ length o
-turn_length L i h p = put_length p (omega (arith, within L i))

@@ -2,9 +2,8 @@
 use mathlib.Core.Path.{◌≡◌, sym, ◌∙◌, ap, subst}
 use mathlib.Core.List.{List, [], ◌∷◌, ◌++◌, map}
 use native.Mathlib.Omega.{arith}
-use Prim.Native.Nat.{ℕ, ◌≤◌}
-use lib.ListN.{length, take}
-use lib.Seq.{length-take-le}
+use Prim.Native.Nat.{ℕ}
+use lib.ListN.{take}
 use Rattle.residue.specs.Layout.{groups}
 use Rattle.writing.specs.Appending.{Room, Put}
 use Rattle.writing.specs.Rows.{in_table}
@@ -16,7 +15,7 @@ use Rattle.json_text.specs.Documents.{coefficients_name, counts_name, leads_name
 use Rattle.json_text.specs.Documents.{points_name, standard_name, variables_name, weights_name}
 use Rattle.json_text.specs.Tables.{document_in, Holds}
 use Rattle.json_text.proofs.DocumentTexts.{from1, from2, from3, from4, from5, from6, from7, from8, from9, written_laid}
-use Rattle.json_text.proofs.StraightLine.{Going, start, going_room, going_on, going_end, going_length}
+use Rattle.json_text.proofs.StraightLine.{Going, start, going_room, going_on, going_end}
 use Rattle.json_text.proofs.document_text.put_document.Goals as goal
 use Rattle.json_text.proofs.document_text.put_document.Goals.{After-put_byte, After-put_list_member-next, After-put_list_member-next-2, After-put_number_member-next, After-put_number_member-next-2, After-put_number_member-next-3, After-put_rows_member-next, After-put_rows_member-next-2, After-put_rows_member-next-3, After-put_rows_member-next-4, After-weights_in-w, Start}
 
@@ -73,9 +72,6 @@ module _ (p : After-weights_in-w) where
   abbrev held : let a = entry.args in
       Holds a.shape a.coefficients.now a.counts.now a.leads.now a.points.now a.standard.now a.weights.now
   held = entry.requires.holds
-
-  weighed : p.weights_in-w.result ≤ length entry.args.weights.now
-  weighed = subst (λ (w : ℕ). w ≤ length entry.args.weights.now) (sym p.weights_in-w.ensures) held.weighed
 
 -- Behind each member: where it began, and what is left.
 module _ (c : After-put_rows_member-next) where
@@ -149,9 +145,6 @@ put_rows_member-next-requires c = let p = (goal.at.put_rows_member-next-requires
     let d = due p in let a = (entry p).args in
     (omega arith, ((held p).few, roomy 64 a.shape.r a.shape.n a.coefficients.now c.rows.ensures.value (123 ∷ key coefficients_name) _ _ (going_room ((123 ∷ key coefficients_name) ++ rows_text d.coefficients) (from2 d []) (left1 p))))
 
-pub slice_bounds-put_list_member-end-4 : goal.slice_bounds-put_list_member-end-4
-slice_bounds-put_list_member-end-4 c = sym (length-take-le _ _ (weighed (begun8 (goal.at.slice_bounds-put_list_member-end-4 c).After-put_number_member-next-3)))
-
 pub put_list_member-next-requires : goal.put_list_member-next-requires
 put_list_member-next-requires c = let q = (goal.at.put_list_member-next-requires c).After-put_rows_member-next in
     let d = due (begun1 q) in
@@ -197,9 +190,6 @@ put_list_member-next-requires-2 c = let q = (goal.at.put_list_member-next-requir
 
 pub put_byte-requires : goal.put_byte-requires
 put_byte-requires c = going_room (125 ∷ []) [] (left10 (goal.at.put_byte-requires c).After-put_list_member-next-2)
-
-pub shape_of-out : goal.shape_of-out
-shape_of-out c = going_length (left11 (goal.at.shape_of-out c).After-put_byte)
 
 pub returns : goal.returns
 returns c = going_end (left11 (goal.at.returns c).After-put_byte)

@@ -1,5 +1,5 @@
 -- `lists::put_list` meets its contract.
-use mathlib.Core.Path.{◌≡◌, ◌∙◌}
+use mathlib.Core.Path.{◌≡◌}
 use mathlib.Core.List.{List, [], ◌∷◌, map, flatten}
 use Prim.Native.Nat.{ℕ, ◌<◌, ◌≤◌}
 use native.Mathlib.Omega.{arith}
@@ -9,7 +9,7 @@ use Rattle.writing.specs.Appending.{Room, Put}
 use Rattle.writing.specs.Decimal.{decimal}
 use Rattle.json_text.specs.Writing.{array, list_text}
 use Rattle.writing.proofs.appending.Appends.{put_nothing}
-use Rattle.json_text.proofs.ArrayRuns.{open_room, array_length, item_room, item_put, close_room, array_put}
+use Rattle.json_text.proofs.ArrayRuns.{open_room, item_room, item_put, close_room, array_put}
 use Rattle.json_text.proofs.lists.put_list.Goals as goal
 use Rattle.json_text.proofs.lists.put_list.Goals.{At-loop-i, Start}
 
@@ -65,10 +65,6 @@ loop-i-preserved c = let l = (goal.at.loop-i-preserved c).At-loop-i in
 pub put_byte-requires : goal.put_byte-requires
 put_byte-requires c = let l = (goal.at.put_byte-requires c).At-loop-i in
     close_room (items l) (at l) (lent l) (room l) (opened l) c.loop-i.i c.loop-i.invariant (ended l (omega arith))
-
-pub shape_of-out : goal.shape_of-out
-shape_of-out c = let l = (goal.at.shape_of-out c).At-loop-i in
-    c.put_byte.auto.out ∙ array_length (items l) (at l) (lent l) (room l) (opened l) c.loop-i.i c.loop-i.invariant
 
 pub returns : goal.returns
 unfolding list_text

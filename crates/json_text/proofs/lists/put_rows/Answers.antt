@@ -7,7 +7,7 @@ use lib.ListN.{length, get_or, take, length-map}
 use Rattle.residue.proofs.vector.Vectors.{map_at}
 use Rattle.json_text.specs.Writing.{list_text, rows_text}
 use Rattle.writing.proofs.appending.Appends.{put_nothing}
-use Rattle.json_text.proofs.ArrayRuns.{open_room, array_length, item_room, item_put, close_room, array_put}
+use Rattle.json_text.proofs.ArrayRuns.{open_room, item_room, item_put, close_room, array_put}
 use Rattle.json_text.proofs.lists.put_rows.Goals as goal
 
 -- the text of each row's first m numbers
@@ -47,11 +47,6 @@ pub put_byte-requires : goal.put_byte-requires
 unfolding rows_text
 put_byte-requires g c =
     close_room (items c.args.m c.args.rows.now) c.args.at c.args.out.now c.requires.room c.put_byte-next.ensures c.loop-i.i c.loop-i.invariant (omega (arith, count c.args.m c.args.rows.now))
-
-pub shape_of-out : goal.shape_of-out
-unfolding rows_text
-shape_of-out g c =
-    c.put_byte.auto.out ∙ array_length (items c.args.m c.args.rows.now) c.args.at c.args.out.now c.requires.room c.put_byte-next.ensures c.loop-i.i c.loop-i.invariant
 
 pub returns : goal.returns
 unfolding rows_text

@@ -6,7 +6,7 @@ use native.Mathlib.Omega.{arith}
 use lib.ListN.{length, set, length-append}
 use Rattle.json_text.specs.Places.{found, number_at}
 use Rattle.json_text.proofs.Places.{here_inside}
-use Rattle.json_text.proofs.Stored.{stored, stored_none, stored_length, stored_put}
+use Rattle.json_text.proofs.Stored.{stored, stored_none, stored_put}
 use Rattle.json_text.proofs.ListLoops.{Rest, list_none, list_empty, list_opens, list_broken, list_place, list_closed, list_comma, list_neither}
 use Rattle.json_text.specs.Said.{number_said}
 use Rattle.json_text.proofs.reading.read_list.Goals as goal
@@ -59,39 +59,21 @@ module _ (k : In_ok-value) where
 pub returns-then-not-is_here : goal.returns-then-not-is_here
 returns-then-not-is_here c = list_none _ _ (sym c.is_here.ensures ∙ c.if-not-is_here.true)
 
-pub overflow_add-i : goal.overflow_add-i
-overflow_add-i c = let h = here_inside 91 _ _ (sym c.is_here.ensures ∙ c.if-not-is_here.false) in record { fits = omega arith }
-
-pub overflow_add-result : goal.overflow_add-result
-overflow_add-result c = let h = here_inside 93 _ _ (sym c.is_here-2.ensures ∙ c.if-is_here.true) in record { fits = omega arith }
-
 pub returns-then-is_here : goal.returns-then-is_here
 returns-then-is_here c = ([], list_empty _ _ (sym c.is_here.ensures ∙ c.if-not-is_here.false) (sym c.is_here-2.ensures ∙ c.if-is_here.true), refl, stored_none _)
 
 pub loop-value-init : goal.loop-value-init
 loop-value-init c = let e = sym c.is_here.ensures ∙ c.if-not-is_here.false in let h = here_inside 91 _ _ e in ([], omega arith, refl, omega arith, list_opens _ _ e (sym c.is_here-2.ensures ∙ c.if-is_here.false), stored_none _)
 
-pub shape_of-out-in_err-value : goal.shape_of-out-in_err-value
-shape_of-out-in_err-value c = ap length c.loop-value.invariant.5 ∙ stored_length c.args.out.now c.loop-value.invariant.0
-
 pub returns-in_err-value : goal.returns-in_err-value
 unfolding number_said
 returns-in_err-value c = rw c.from_residual.ensures (list_broken _ _ c.loop-value.invariant.0 _ c.loop-value.invariant.1 c.loop-value.invariant.4 (sym (ap number_said c.in_err-value.was) ∙ c.read_number.ensures))
 
-pub overflow_add-count : goal.overflow_add-count
-overflow_add-count c = let p = place (goal.at.overflow_add-count c).In_ok-value in let q = c.loop-value.invariant.3 in record { fits = omega arith }
-
 pub overflow_add-result-then-is_here-2 : goal.overflow_add-result-then-is_here-2
 overflow_add-result-then-is_here-2 c = let h = here_inside 93 _ _ (sym c.is_here-in-loop-value.ensures ∙ c.if-is_here-2.true) in record { fits = omega arith }
 
-pub shape_of-out-then-is_here-2 : goal.shape_of-out-then-is_here-2
-shape_of-out-then-is_here-2 c = let k = (goal.at.shape_of-out-then-is_here-2 c).In_ok-value in ap length (kept k _ c.store.ensures) ∙ stored_length (lent k) (items k ++ (value k ∷ []))
-
 pub returns-then-is_here-2 : goal.returns-then-is_here-2
 returns-then-is_here-2 c = let k = (goal.at.returns-then-is_here-2 c).In_ok-value in (items k ++ (value k ∷ []), list_closed (text k) (at k) (items k) (i k) (here_text k) (rest k) (value k) (next k) (number k) (sym c.is_here-in-loop-value.ensures ∙ c.if-is_here-2.true), more k, kept k _ c.store.ensures)
-
-pub shape_of-out-then-not-is_here-2 : goal.shape_of-out-then-not-is_here-2
-shape_of-out-then-not-is_here-2 c = let k = (goal.at.shape_of-out-then-not-is_here-2 c).In_ok-value in ap length (kept k _ c.store.ensures) ∙ stored_length (lent k) (items k ++ (value k ∷ []))
 
 pub returns-then-not-is_here-2 : goal.returns-then-not-is_here-2
 returns-then-not-is_here-2 c = let k = (goal.at.returns-then-not-is_here-2 c).In_ok-value in list_neither (text k) (at k) (items k) (i k) (here_text k) (rest k) (value k) (next k) (number k) (sym c.is_here-in-loop-value.ensures ∙ c.if-is_here-2.false) (sym c.is_here-in-loop-value-2.ensures ∙ c.if-not-is_here-2.true)

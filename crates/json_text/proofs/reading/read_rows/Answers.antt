@@ -4,7 +4,7 @@ use mathlib.Core.List.{List, [], ◌∷◌, ◌++◌}
 use Prim.Native.Nat.{ℕ, ◌+◌, ◌*◌, ◌≤◌, ◌<◌}
 use native.Mathlib.Omega.{arith}
 use lib.ListN.{length, replicate, length-append}
-use Rattle.residue.specs.Layout.{fill, in_places, length_fill}
+use Rattle.residue.specs.Layout.{fill, in_places}
 use Rattle.residue.proofs.Places.{no_places}
 use Rattle.json_text.specs.Places.{list_at}
 use Rattle.json_text.proofs.Places.{here_inside}
@@ -69,21 +69,12 @@ module _ (k : In_ok-size) where
   columns_kept : (columns : Option ℕ) → ((L : List (List ℕ)) (l : List ℕ) → k.loop-size.count ≡ length L → k.loop-size.columns ≡ common_length L → size ≡ length l → columns ≡ common_length (L ++ (l ∷ []))) → columns ≡ common_length (rows ++ (line ∷ []))
   columns_kept columns e = e rows line k.loop-size.invariant.2 k.loop-size.invariant.5 row.2
 
-  lengths : length left ≡ length k.args.out.now
-  lengths = ap length kept ∙ length_fill (width * places) _ ∙ k.requires.places_value
-
 -- no row yet: the table as it was lent
 no_rows : (s : Start) → s.args.out.now ≡ fill (s.args.width * s.args.places) (in_places s.args.width [])
 no_rows s = s.requires.out_value ∙ ap (λ (n : ℕ). replicate n 0) (sym s.requires.places_value) ∙ no_places s.args.width (s.args.width * s.args.places)
 
 pub returns-then-not-is_here : goal.returns-then-not-is_here
 returns-then-not-is_here c = rows_none _ _ (sym c.is_here.ensures ∙ c.if-not-is_here.true)
-
-pub overflow_add-i : goal.overflow_add-i
-overflow_add-i c = let h = here_inside 91 _ _ (sym c.is_here.ensures ∙ c.if-not-is_here.false) in record { fits = omega arith }
-
-pub overflow_add-result : goal.overflow_add-result
-overflow_add-result c = let h = here_inside 93 _ _ (sym c.is_here-2.ensures ∙ c.if-is_here.true) in record { fits = omega arith }
 
 pub returns-then-is_here : goal.returns-then-is_here
 unfolding columns_of common_length lengths_of
@@ -96,23 +87,11 @@ loop-size-init c = let e = sym c.is_here.ensures ∙ c.if-not-is_here.false in
     let h = here_inside 91 _ _ e in
     ([], omega arith, refl, omega arith, rows_opens _ _ e (sym c.is_here-2.ensures ∙ c.if-is_here.false), refl, no_rows (goal.at.loop-size-init c).Start)
 
-pub read_row-requires : goal.read_row-requires
-read_row-requires c = record { at_in_bounds = c.loop-size.invariant.1; places_value = sym (ap length c.loop-size.invariant.6 ∙ length_fill _ _) }
-
-pub shape_of-out-in_err-size : goal.shape_of-out-in_err-size
-shape_of-out-in_err-size c = c.read_row.auto.out ∙ ap length c.loop-size.invariant.6 ∙ length_fill _ _ ∙ c.requires.places_value
-
 pub returns-in_err-size : goal.returns-in_err-size
 returns-in_err-size c = rw c.from_residual.ensures (rows_broken _ _ c.loop-size.invariant.0 _ c.loop-size.invariant.1 c.loop-size.invariant.4 (sym (subst (RowRead c.args.width c.args.places c.loop-size.count (list_at c.args.text.now c.loop-size.i) c.loop-size.out c.read_row.new.out) c.in_err-size.was c.read_row.ensures)))
 
-pub overflow_add-count : goal.overflow_add-count
-overflow_add-count c = let p = place (goal.at.overflow_add-count c).In_ok-size in let q = c.loop-size.invariant.3 in record { fits = omega arith }
-
 pub overflow_add-result-then-is_here-2 : goal.overflow_add-result-then-is_here-2
 overflow_add-result-then-is_here-2 c = let h = here_inside 93 _ _ (sym c.is_here-in-loop-size.ensures ∙ c.if-is_here-2.true) in record { fits = omega arith }
-
-pub shape_of-out-then-is_here-2 : goal.shape_of-out-then-is_here-2
-shape_of-out-then-is_here-2 c = lengths (goal.at.shape_of-out-then-is_here-2 c).In_ok-size
 
 pub returns-then-is_here-2 : goal.returns-then-is_here-2
 returns-then-is_here-2 c = let k = (goal.at.returns-then-is_here-2 c).In_ok-size in (
@@ -121,9 +100,6 @@ returns-then-is_here-2 c = let k = (goal.at.returns-then-is_here-2 c).In_ok-size
   lengths_told (rows k ++ (line k ∷ [])) _ _ (more k) (columns_kept k c.common_length-columns.result c.common_length-columns.ensures),
   kept k,
 )
-
-pub shape_of-out-then-not-is_here-2 : goal.shape_of-out-then-not-is_here-2
-shape_of-out-then-not-is_here-2 c = lengths (goal.at.shape_of-out-then-not-is_here-2 c).In_ok-size
 
 pub returns-then-not-is_here-2 : goal.returns-then-not-is_here-2
 returns-then-not-is_here-2 c = let k = (goal.at.returns-then-not-is_here-2 c).In_ok-size in

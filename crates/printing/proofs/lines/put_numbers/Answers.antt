@@ -6,7 +6,7 @@ use native.Mathlib.Omega.{arith}
 use lib.ListN.{length, get_or, length-map}
 use Rattle.residue.proofs.vector.Vectors.{map_at}
 use Rattle.printing.specs.Lines.{spaced, spaced_numbers}
-use Rattle.writing.proofs.appending.Appends.{put_nothing, turn_room, turn, turns_all, turn_length}
+use Rattle.writing.proofs.appending.Appends.{put_nothing, turn_room, turn, turns_all}
 use Rattle.printing.proofs.lines.put_numbers.Goals as goal
 
 spaced_at : (l : List ℕ) (i v : ℕ) → i < length l → v ≡ get_or l i 0 → get_or (map spaced l) i [] ≡ spaced v
@@ -23,10 +23,6 @@ put_number-next-requires c = turn_room (map spaced c.args.list.now) c.loop-v.v-i
 pub loop-v-preserved : goal.loop-v-preserved
 unfolding spaced_numbers
 loop-v-preserved c = turn (map spaced c.args.list.now) c.loop-v.v-index _ (omega (arith, length-map c.args.list.now spaced)) (spaced_at c.args.list.now c.loop-v.v-index c.from.result c.loop-v-test.true c.from.ensures) c.loop-v.invariant c.requires c.put_number-next.ensures
-
-pub shape_of-out : goal.shape_of-out
-unfolding spaced_numbers
-shape_of-out c = turn_length (map spaced c.args.list.now) c.loop-v.v-index c.requires c.loop-v.invariant
 
 pub returns : goal.returns
 unfolding spaced_numbers

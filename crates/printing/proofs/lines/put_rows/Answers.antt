@@ -5,7 +5,7 @@ use lib.ListN.{length, take}
 use Rattle.std.proofs.lemmas.List.{length_push}
 use Rattle.std.proofs.lemmas.Slice.Zip.{zip_turn, zip_end}
 use Rattle.printing.specs.Lines.{row_line, row_lines}
-use Rattle.writing.proofs.appending.Appends.{put_nothing, turn_room, turn, turns_all, turn_length}
+use Rattle.writing.proofs.appending.Appends.{put_nothing, turn_room, turn, turns_all}
 use Rattle.printing.proofs.lines.TableLines.{rows_length, rows_at}
 use Rattle.printing.proofs.lines.put_rows.Goals as goal
 
@@ -27,10 +27,6 @@ loop-lead-preserved c =
     rw (length_push c.loop-lead.yielded (c.in-Some.lead, c.in-Some.row))
     (turn (zip_with row_line (map (take c.args.m) c.args.leads.now) (map (take c.args.n) c.args.coefficients.now)) (length c.loop-lead.yielded) _ (omega (arith, t.0, rows_length c.args.m c.args.n c.args.leads.now c.args.coefficients.now c.requires.as_many))
     (rows_at c.args.m c.args.n c.args.leads.now c.args.coefficients.now c.requires.as_many (length c.loop-lead.yielded) c.in-Some.lead.now c.in-Some.row.now t.0 (t.2 _) (t.3 _)) c.loop-lead.invariant c.requires.room c.put_row-next.ensures)
-
-pub shape_of-out : goal.shape_of-out
-unfolding row_lines
-shape_of-out c = turn_length (zip_with row_line (map (take c.args.m) c.args.leads.now) (map (take c.args.n) c.args.coefficients.now)) (length c.loop-lead.yielded) c.requires.room c.loop-lead.invariant
 
 pub returns : goal.returns
 unfolding row_lines

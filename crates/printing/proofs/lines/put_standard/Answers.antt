@@ -4,7 +4,7 @@ use native.Mathlib.Omega.{arith}
 use lib.ListN.{take}
 use Rattle.std.proofs.lemmas.List.{get_or_default}
 use Rattle.printing.specs.Lines.{standard_word, line, standard_lines}
-use Rattle.writing.proofs.appending.Appends.{put_nothing, turn_room, turn, turns_all, turn_length}
+use Rattle.writing.proofs.appending.Appends.{put_nothing, turn_room, turn, turns_all}
 use Rattle.printing.proofs.lines.TableLines.{lines_length, lines_at}
 use Rattle.printing.proofs.lines.put_standard.Goals as goal
 
@@ -25,10 +25,6 @@ loop-monomial-preserved c =
     let l = c.args.standard.now in
     let i = c.loop-monomial.monomial-index in
     turn (map (line standard_word) (map (take c.args.m) l)) i _ (omega (arith, lines_length standard_word c.args.m l)) (lines_at standard_word c.args.m l i _ c.loop-monomial-test.true (get_or_default l i _ _ c.loop-monomial-test.true)) c.loop-monomial.invariant c.requires.room c.put_line-next.ensures
-
-pub shape_of-out : goal.shape_of-out
-unfolding standard_lines
-shape_of-out c = turn_length (map (line standard_word) (map (take c.args.m) c.args.standard.now)) c.loop-monomial.monomial-index c.requires.room c.loop-monomial.invariant
 
 pub returns : goal.returns
 unfolding standard_lines
