@@ -13,7 +13,8 @@ use crate::drawing::turns::{exponents_of, keep_lead, keep_standard, put_values, 
 use elimination::rows;
 use monomial::candidate::next;
 use monomial::columns::put_columns;
-use monomial::rank::put_steps;
+use monomial::order::Order;
+use monomial::rank::variable_ranks;
 use residue::{bytes, sizes};
 use specification::settings::Settings;
 
@@ -25,11 +26,10 @@ pub struct Counts {
 }
 
 // The ranks of the variables under the settings.
-fn put_steps_under(settings: Settings, steps: &mut [u64; 8])
-    requires { settings.order ≤ 3 }
-    ensures { steps.new ≡ steps_of (order_under settings) }
+fn variable_ranks_under(settings: Settings) -> [u64; 8]
+    ensures { result ≡ steps_of (order_under settings) }
 {
-    put_steps(settings.order as u8, &settings.weights, steps);
+    variable_ranks(&Order::of(settings.order, settings.weights))
 }
 
 // Fills the tables of the points' basis and its pivot rows.
@@ -53,8 +53,7 @@ pub fn draw(
         ≡ pivot_rows_under settings (points_in settings n points.now) rows.old pivots.old }
 {
     let p = settings.modulus as u8;
-    let mut steps = [0u64; 8];
-    put_steps_under(settings, &mut steps);
+    let steps = variable_ranks_under(settings);
     let mut columns = [0u8; sizes::COLUMNS];
     put_columns(n, points, &mut columns);
     let mut values = [0u8; sizes::VALUES];

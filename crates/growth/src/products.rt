@@ -14,18 +14,18 @@ use crate::addition::Addition;
 use crate::correcting;
 use elimination::reducing::eliminate;
 use monomial::insert;
+use monomial::order::Order;
 use monomial::terms::put_term_values;
 use residue::{bytes, sizes};
 use specification::settings::Settings;
 
 // Puts a monomial in at its place among the k increasing ones of a table, and answers the place. An addition reads the settings' order and weights here alone.
 pub(crate) fn put_under(settings: Settings, k: usize, table: &mut [u8], a: &[u8; 8]) -> usize
-    requires order_bound { settings.order ≤ 3 }
-    requires k_in_bounds { (8 * k + 8 ≤ length table.old) × (k ≤ 448) }
+    requires { (8 * k + 8 ≤ length table.old) × (k ≤ 448) }
     ensures value { result ≡ place_of (cmp (order_under settings)) a.now (groups 8 k table.old) }
     ensures table_after { table.new ≡ with_row_at 8 k result a.now table.old }
 {
-    insert::put_in(settings.order as u8, &settings.weights, k, table, a)
+    insert::put_in(&Order::of(settings.order, settings.weights), k, table, a)
 }
 
 // The row of a monomial put into the table of coefficients before row i of k: its values at the n points are eliminated, and what they leave is corrected.
@@ -67,8 +67,7 @@ fn add_product(
     leads: &mut [u8],
     coefficients: &mut [u8],
 ) -> usize
-    requires accepted { settings.order ≤ 3 }
-    requires k_in_bounds { (8 * k ≤ length others.now) × (count ≤ 448) × (length leads.old ≡ leads_size) × (length coefficients.old ≡ coefficients_size) }
+    requires { (8 * k ≤ length others.now) × (count ≤ 448) × (length leads.old ≡ leads_size) × (length coefficients.old ≡ coefficients_size) }
     ensures { let x = addition.now in grown result leads.new coefficients.new
         ≡ product_put x.p (order_under settings) x.n x.points.now x.rows.now x.pivots.now x.place x.inverse x.gone.now x.point.now x.values.now k others.now a.now
         (grown count leads.old coefficients.old) }

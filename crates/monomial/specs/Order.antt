@@ -62,10 +62,3 @@ LightOrder lex = Unit {0}
 LightOrder grlex = Unit {0}
 LightOrder grevlex = Unit {0}
 LightOrder (weighted w) = Light w
-
--- what is compared before the variables, in orders 1 to 3. No public promise names it.
-unfoldable pub grade : Order → List ℕ → ℕ
-grade lex a = degree a
-grade grlex a = degree a
-grade grevlex a = degree a
-grade (weighted w) a = weigh w a

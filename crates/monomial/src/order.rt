@@ -1,10 +1,33 @@
 // The monomial orders: 0 lex, 1 grlex, 2 grevlex, 3 by weights.
 ghost use Rattle.std.specs.Prelude.{◌≡◌};
-ghost use Rattle.monomial.specs.Order.{order_of, by_first, by_last, cmp, grade};
-ghost use Rattle.monomial.specs.Comparison.{comparison_of};
+ghost use Rattle.monomial.specs.Order.{order_of, by_first, by_last, cmp};
+ghost use Rattle.monomial.specs.Comparison.{comparison_of, meant};
 
-use crate::exponents;
+use crate::exponents::{degree, weigh};
 use std::cmp::Ordering;
+
+// A monomial order; order 3 has the weights of the variables, x1's first.
+#[derive(Drop)]
+pub enum Order {
+    Lex,
+    Grlex,
+    Grevlex,
+    Weighted([u8; 8]),
+}
+
+impl Order {
+    // The order of a number and of the settings' weights. A number above 3 is refused before it is read here.
+    pub fn of(number: u64, weights: [u8; 8]) -> Order
+        ensures { meant result ≡ order_of number weights }
+    {
+        match number {
+            0 => Order::Lex,
+            1 => Order::Grlex,
+            2 => Order::Grevlex,
+            _ => Order::Weighted(weights),
+        }
+    }
+}
 
 // The first variable that differs decides; the larger exponent is greater.
 fn by_first(a: &[u8; 8], b: &[u8; 8]) -> Ordering
@@ -20,26 +43,16 @@ fn by_last(a: &[u8; 8], b: &[u8; 8]) -> Ordering
     b.iter().rev().cmp(a.iter().rev())
 }
 
-// What orders 1 to 3 compare before the variables: the total degree, or the sum of weight times exponent.
-fn grade(order: u8, weights: &[u8; 8], a: &[u8; 8]) -> u64
-    ensures { result ≡ grade (order_of order weights.now) a.now }
+// How a stands to b.
+pub fn compare(order: &Order, a: &[u8; 8], b: &[u8; 8]) -> Ordering
+    ensures { result ≡ comparison_of (cmp (meant order.now) a.now b.now) }
 {
-    if order < 3 {
-        return exponents::degree(a);
+    match order {
+        Order::Lex => by_first(a, b),
+        Order::Grlex => degree(a).cmp(&degree(b)).then_with(|| by_first(a, b)),
+        Order::Grevlex => degree(a).cmp(&degree(b)).then_with(|| by_last(a, b)),
+        Order::Weighted(weights) => weigh(weights, a)
+            .cmp(&weigh(weights, b))
+            .then_with(|| by_first(a, b)),
     }
-    exponents::weigh(weights, a)
-}
-
-// How a stands to b in the order of that number; order 3 by these weights.
-pub fn compare(order: u8, weights: &[u8; 8], a: &[u8; 8], b: &[u8; 8]) -> Ordering
-    ensures { result ≡ comparison_of (cmp (order_of order weights.now) a.now b.now) }
-{
-    if order == 0 {
-        return by_first(a, b);
-    }
-    let by_grade = grade(order, weights, a).cmp(&grade(order, weights, b));
-    if order == 2 {
-        return by_grade.then_with(|| by_last(a, b));
-    }
-    by_grade.then_with(|| by_first(a, b))
 }

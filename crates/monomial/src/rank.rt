@@ -1,10 +1,13 @@
 // Ranks: one number for a monomial, whose order is the monomial order as long as the total degree is below 65.
-ghost use Rattle.std.specs.Prelude.{◌≡◌, ◌<◌, ◌≤◌};
-ghost use Rattle.monomial.specs.Order.{order_of};
-ghost use Rattle.monomial.specs.Rank.{variable_rank, steps_of};
+ghost use Rattle.std.specs.Prelude.{◌≡◌};
+ghost use Rattle.monomial.specs.Comparison.{meant};
+ghost use Rattle.monomial.specs.Order.{weighted};
+ghost use Rattle.monomial.specs.Rank.{steps_of};
 
-// The ranks of x1 to x8, order after order, for orders 0 to 2.
-const VARIABLES: [u64; 24] = [
+use crate::order::Order;
+
+// The ranks of x1 to x8.
+const LEX: [u64; 8] = [
     4902227890625,
     75418890625,
     1160290625,
@@ -13,6 +16,9 @@ const VARIABLES: [u64; 24] = [
     4225,
     65,
     1,
+];
+
+const GRLEX: [u64; 8] = [
     4977646781250,
     4903388181250,
     4902245741250,
@@ -21,6 +27,9 @@ const VARIABLES: [u64; 24] = [
     4902227890690,
     4902227890626,
     4902227890625,
+];
+
+const GREVLEX: [u64; 8] = [
     4978825201416,
     4978825201415,
     4978825201350,
@@ -31,23 +40,24 @@ const VARIABLES: [u64; 24] = [
     4902227890625,
 ];
 
-// The rank of x_(k+1). Under weights it is that in lex, and 65 to the power 8 for each unit of its weight.
-fn variable_rank(order: u8, weights: &[u8; 8], k: usize) -> u64
-    requires { (order ≤ 3) × (k < 8) }
-    ensures { result ≡ variable_rank (order_of order weights.now) k }
+// The ranks of the variables. Under weights they are those in lex, and 65 to the power 8 for each unit of weight.
+pub fn variable_ranks(order: &Order) -> [u64; 8]
+    ensures { result ≡ steps_of (meant order.now) }
 {
-    if order == 3 {
-        return weights[k] as u64 * 318644812890625 + VARIABLES[k];
+    match order {
+        Order::Lex => LEX,
+        Order::Grlex => GRLEX,
+        Order::Grevlex => GREVLEX,
+        Order::Weighted(weights) => weighted_ranks(weights),
     }
-    VARIABLES[8 * order as usize + k]
 }
 
-// The ranks of the variables.
-pub fn put_steps(order: u8, weights: &[u8; 8], steps: &mut [u64; 8])
-    requires { order ≤ 3 }
-    ensures { steps.new ≡ steps_of (order_of order weights.now) }
+fn weighted_ranks(weights: &[u8; 8]) -> [u64; 8]
+    ensures { result ≡ steps_of (weighted weights.now) }
 {
-    for k in 0..8 {
-        steps[k] = variable_rank(order, weights, k);
+    let mut ranks = LEX;
+    for (k, weight) in weights.iter().enumerate() {
+        ranks[k] += *weight as u64 * 318644812890625;
     }
+    ranks
 }

@@ -103,9 +103,6 @@ module _ {s : Settings} {n : ℕ} {points : List ℕ} (given : PointsGiven s n p
       pub head_sized : DrawingSized p n found standard leads coefficients rows pivots values ranks
       head_sized = sized h.found_is h.held
 
-      pub exponents_long : length exponents ≡ 8
-      exponents_long = ap length h.in_hand.exponents_are ∙ length_fill 8 _
-
       pub own_below : Below p own
       own_below = residues_of own h.in_hand.own_below
 

@@ -20,7 +20,7 @@ use Rattle.specification.proofs.agreement.Refusals.{light_under}
 use Rattle.construction.specs.Drawing.{product_values, PointsGiven}
 use Rattle.construction.proofs.drawing.LoopState.{DrawingSized, Kept, kept_as}
 use Rattle.construction.proofs.drawing.draw.Goals as goal
-use Rattle.construction.proofs.drawing.draw.Goals.{After-first_nonzero-q, After-keep, After-keep_lead, After-keep_standard, After-next, After-put_columns, After-exponents_of-exponents, After-put_steps_under, After-reduce-cancellations, After-struct_known-1, At-loop-exponents, Else-q-n, In-Some, Joined-q-n, Start, Then-q-n}
+use Rattle.construction.proofs.drawing.draw.Goals.{After-first_nonzero-q, After-keep, After-keep_lead, After-keep_standard, After-next, After-put_columns, After-exponents_of-exponents, After-variable_ranks_under-steps, After-reduce-cancellations, After-struct_known-1, At-loop-exponents, Else-q-n, In-Some, Joined-q-n, Start, Then-q-n}
 
 -- what the sizes leave room for: the values of n points in a working row, one pivot row more, and as many monomials as there are points
 pub row_room : {n l : ℕ} → n ≤ 64 → l ≡ 128 → n ≤ l
@@ -36,13 +36,13 @@ within_64 h k = omega arith
 abbrev pub opened : After-struct_known-1 → Start
 opened c = (goal.at.After-struct_known-1 c).Start
 
-abbrev pub stepped : After-put_steps_under → After-struct_known-1
-stepped c = (goal.at.After-put_steps_under c).After-struct_known-1
+abbrev pub stepped : After-variable_ranks_under-steps → After-struct_known-1
+stepped c = (goal.at.After-variable_ranks_under-steps c).After-struct_known-1
 
 -- at the loop's head
 module _ (l : At-loop-exponents) where
   abbrev pub start : Start
-  start = opened (stepped (goal.at.At-loop-exponents l).After-put_steps_under)
+  start = opened (stepped (goal.at.At-loop-exponents l).After-variable_ranks_under-steps)
 
   pub given : PointsGiven start.args.settings start.args.n start.args.points.now
   given = start.requires.points_given
@@ -107,11 +107,11 @@ module _ (j : Joined-q-n) where
   abbrev gathered : After-put_columns
   gathered = (goal.at.At-loop-exponents above).After-put_columns
 
-  abbrev ranked : After-put_steps_under
-  ranked = (goal.at.After-put_columns gathered).After-put_steps_under
+  abbrev ranked : After-variable_ranks_under-steps
+  ranked = (goal.at.After-put_columns gathered).After-variable_ranks_under-steps
 
   abbrev pub steps : List ℕ
-  steps = ranked.put_steps_under.new.steps
+  steps = ranked.variable_ranks_under-steps.result
 
   abbrev pub columns : List ℕ
   columns = gathered.put_columns.new.columns
@@ -136,7 +136,7 @@ module _ (j : Joined-q-n) where
   sizes = kept_sized (given above) kept
 
   pub steps_small : Below rank_bound steps
-  steps_small = subst (Below rank_bound) (sym ranked.put_steps_under.ensures) (steps_below (order_of (start above).args.settings.order (start above).args.settings.weights) (light_under (start above).args.settings (given above).settings.weights))
+  steps_small = subst (Below rank_bound) (sym ranked.variable_ranks_under-steps.ensures) (steps_below (order_of (start above).args.settings.order (start above).args.settings.weights) (light_under (start above).args.settings (given above).settings.weights))
 
   module _ (k : ℕ) (h : k < 8) where
     column : take (start above).args.n (drop (64 * k) columns) ≡ column_of k (start above).args.n (start above).args.points.now
@@ -172,8 +172,8 @@ overflow_cast-p c = let g = (opened (goal.at.overflow_cast-p c).After-struct_kno
 
 pub loop-exponents-init : goal.loop-exponents-init
 loop-exponents-init c = let w = c in
-    let s = opened (stepped (goal.at.loop-exponents-init w).After-put_steps_under) in
-    head_start s.requires.points_given s.requires.standard_value.0 s.requires.standard_value.1.0 s.requires.standard_value.1.1 s.requires.rows_long.0 s.requires.rows_long.1 w.put_steps_under.ensures
+    let s = opened (stepped (goal.at.loop-exponents-init w).After-variable_ranks_under-steps) in
+    head_start s.requires.points_given s.requires.standard_value.0 s.requires.standard_value.1.0 s.requires.standard_value.1.1 s.requires.rows_long.0 s.requires.rows_long.1 w.variable_ranks_under-steps.ensures
 
 pub reduce-cancellations-requires : goal.reduce-cancellations-requires
 reduce-cancellations-requires c = let l = c in

@@ -21,9 +21,9 @@ sized l =
 pub loop-v-init : goal.loop-v-init
 loop-v-init c = sym (products_none _ _ _ _ _ _ _ _ _ _ _ _ _ _ _)
 
-pub add_product-count-requires-clause-k_in_bounds : goal.add_product-count-requires-clause-k_in_bounds
-add_product-count-requires-clause-k_in_bounds c =
-    let z = sized (goal.at.add_product-count-requires-clause-k_in_bounds c).At-loop-v in
+pub add_product-count-requires : goal.add_product-count-requires
+add_product-count-requires c =
+    let z = sized (goal.at.add_product-count-requires c).At-loop-v in
     (omega (arith, c.copy.auto.to), omega (arith, z.most), z.leads, z.coefficients)
 
 pub loop-v-preserved : goal.loop-v-preserved
