@@ -68,15 +68,17 @@ pub fn draw(
     loop {
         let mut work = [0u8; sizes::WORK];
         cancellations += reduce(p, n, found, &own, rows, pivots, &mut work);
-        let q = rows::first_nonzero(&work, n);
-        if q == n {
-            keep_lead(n, found, r, &exponents, &work, leads, coefficients);
-            r += 1;
-        } else {
-            keep_standard(found, &exponents, &own, standard, &mut values);
-            ranks[found] = rank;
-            rows::keep(p, n, found, q, &mut work, rows, pivots);
-            found += 1;
+        match rows::first_nonzero(&work, n) {
+            None => {
+                keep_lead(n, found, r, &exponents, &work, leads, coefficients);
+                r += 1;
+            }
+            Some(q) => {
+                keep_standard(found, &exponents, &own, standard, &mut values);
+                ranks[found] = rank;
+                rows::keep(p, n, found, q, &mut work, rows, pivots);
+                found += 1;
+            }
         }
         let m = settings.variables as usize;
         let Some(product) = next(m, found, standard, &ranks, &steps, &mut at) else {

@@ -7,6 +7,7 @@ ghost use Rattle.elimination.specs.Elimination.{cancelled, eliminated, counted, 
 
 use residue::arithmetic::add;
 use residue::sizes;
+use residue::vector::each_with;
 
 // Adds a row, which is 0 from `width` on.
 pub(crate) fn gain(p: u8, width: usize, dst: &mut [u8], row: &[u8])
@@ -16,9 +17,7 @@ pub(crate) fn gain(p: u8, width: usize, dst: &mut [u8], row: &[u8])
     requires zero_from { ZeroFrom width row.now }
     ensures { dst.new ≡ add_scaled p 1 dst.old row.now }
 {
-    for i in 0..width {
-        dst[i] = add(p, dst[i], row[i]);
-    }
+    each_with(&mut dst[..width], &row[..width], |x, y| add(p, x, y));
 }
 
 // Adds three rows, so that the row that gains is read and written once.
@@ -86,10 +85,7 @@ fn whole(end: usize) -> usize
     requires { end < 2 ^ 63 }
     ensures { result ≡ whole_width end }
 {
-    if 112 < end {
-        return sizes::WORK;
-    }
-    (end + 15) / 16 * 16
+    sizes::WORK.min(end.div_ceil(16) * 16)
 }
 
 // The row meets the pivot rows in the order in which they were found; each cancels its entry at that row's pivot. Pivot row t is 0 behind entry n + t.

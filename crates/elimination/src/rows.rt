@@ -1,6 +1,6 @@
 // Working rows. Each has n values at the points, then one coefficient for each standard monomial found, and is 128 bytes long. A pivot row is kept with its
 // multiples, in a block of 1152 bytes.
-ghost use Rattle.std.specs.Prelude.{◌≡◌, ◌+◌, ◌*◌, ◌<◌, ◌≤◌, length, get_or, set};
+ghost use Rattle.std.specs.Prelude.{◌≡◌, ◌+◌, ◌*◌, ◌<◌, ◌≤◌, length, get_or, set, MatchOption};
 ghost use Rattle.residue.specs.Sizes.{work_size, block_size};
 ghost use Rattle.residue.specs.Inverse.{inverse_of};
 ghost use Rattle.residue.specs.Vector.{Below};
@@ -14,22 +14,16 @@ use residue::inverse::inverse;
 use residue::sizes;
 use residue::vector::scale;
 
-// The first of the n values that is not 0, or n. For most monomials, the leads, all are 0, and that is seen first.
-pub fn first_nonzero(work: &[u8], n: usize) -> usize
+// The place of the first of the n values that is not 0. For most monomials, the leads, there is none, and that is seen first.
+pub fn first_nonzero(work: &[u8], n: usize) -> Option<usize>
     requires { n ≤ length work.now }
-    ensures { result ≡ first_nonzero n work.now }
+    ensures { MatchOption result (first_nonzero n work.now ≡ n) (λ q. (q < n) × (q ≡ first_nonzero n work.now)) }
 {
-    if all_zero(&work[..n]) {
-        return n;
+    let values = &work[..n];
+    if all_zero(values) {
+        return None;
     }
-    let mut q = 0;
-    while q < n {
-        if work[q] != 0 {
-            return q;
-        }
-        q += 1;
-    }
-    n
+    values.iter().position(|x| *x != 0)
 }
 
 // Makes the working row a pivot row: its coefficient for its own monomial becomes 1, and then its value at the pivot, unless that is 1 already.

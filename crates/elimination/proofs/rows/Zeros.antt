@@ -1,50 +1,32 @@
 -- The search for the first number that is not 0.
 use mathlib.Core.Path.{◌≡◌, ◌∙◌, sym, ap, refl}
-use mathlib.Core.Bool.{cond, Bool, ◌&&◌, true, false, true≢false}
+use mathlib.Core.Bool.{cond, not, Bool, ◌&&◌, true, false, true≢false}
 use mathlib.Core.List.{List, [], ◌∷◌}
-use Prim.Native.Nat.{ℕ, suc, ◌+◌, ◌-◌, ◌<◌, ◌≤◌, zero}
+use Prim.Native.Nat.{ℕ, suc, ◌+◌, ◌<◌, ◌≤◌, zero}
 use native.Mathlib.Omega.{arith}
 use native.Mathlib.Nat.{not-suc-le-zero, le_of_suc-le-suc}
 use lib.ListN.{get_or, drop, length, take}
-use lib.Seq.{get_or-drop, drop-drop}
-use lib.Dec.{eqb}
-use borrow.Author.Tests.{eq-eqb, ne_eqb, eqb-true, eqb-false}
+use lib.Seq.{get_or-drop}
+use lib.Dec.{eqb, ltb}
+use borrow.Author.Tests.{eqb-true, eqb-false, ltb-true, ltb-false}
+use Rattle.std.proofs.Common.{Option, Some, None, MatchOption}
+use Rattle.std.specs.List.{position_or_len}
 use Rattle.elimination.specs.Rows.{first_nonzero}
 use Rattle.residue.specs.Lists.{all_zero}
 
--- The search: its loop has passed q numbers, all of them 0.
-module _ (n : ℕ) (w : List ℕ) where
-  abbrev pub ZerosPassed : ℕ → Type 0
-  ZerosPassed q = first_nonzero n w ≡ q + first_nonzero (n - q) (drop q w)
+-- The library's search for it, along the first n numbers.
+pub first_position : (n : ℕ) (w : List ℕ) → n ≤ length w → position_or_len (λ x. not (eqb x 0)) (take n w) ≡ first_nonzero n w
+unfolding first_nonzero
+first_position zero w h = refl
+first_position (suc n) [] h = absurd (not-suc-le-zero h)
+first_position (suc n) (x ∷ w) h = go (eqb x 0) (first_position n w (le_of_suc-le-suc h))
+  where
+    go : (b : Bool) → position_or_len (λ x. not (eqb x 0)) (take n w) ≡ first_nonzero n w
+        → cond (not (not b)) (1 + position_or_len (λ x. not (eqb x 0)) (take n w)) 0 ≡ cond b (suc (first_nonzero n w)) 0
+    go true e = omega arith
+    go false e = refl
 
-  pub passed_none : ZerosPassed 0
-  passed_none = let e : n - 0 ≡ n = omega arith in rw e (omega arith)
-
-  here : (q : ℕ) → q < n → first_nonzero (n - q) (drop q w) ≡ cond (eqb (get_or w q 0) 0) (suc (first_nonzero (n - (q + 1)) (drop (q + 1) w))) 0
-  unfolding first_nonzero
-  here q h =
-      let e : n - q ≡ suc (n - (q + 1)) = omega arith in
-      let z : q + 0 ≡ q = omega arith in
-      rw (e, get_or-drop q w 0 0, drop-drop 1 q w, z)
-
-  pub passed_more : (q : ℕ) → q < n → ZerosPassed q → get_or w q 0 ≡ 0 → ZerosPassed (q + 1)
-  passed_more q h e z =
-      let k : first_nonzero (n - q) (drop q w) ≡ suc (first_nonzero (n - (q + 1)) (drop (q + 1) w)) = here q h ∙ simp (eq-eqb (get_or w q 0) 0 z) in
-      omega arith
-
-  pub passed_hit : (q : ℕ) → q < n → ZerosPassed q → (get_or w q 0 ≡ 0 → ⊥) → q ≡ first_nonzero n w
-  passed_hit q h e z =
-      let k : first_nonzero (n - q) (drop q w) ≡ 0 = here q h ∙ simp (ne_eqb (get_or w q 0) 0 z) in
-      omega arith
-
-  pub passed_end : (q : ℕ) → n ≤ q → q ≤ n → ZerosPassed q → n ≡ first_nonzero n w
-  unfolding first_nonzero
-  passed_end q h k e =
-      let z : n - q ≡ 0 = omega arith in
-      let o : first_nonzero (n - q) (drop q w) ≡ 0 = rw z in
-      omega arith
-
--- then the search finds nothing
+-- where all are 0
 pub zero_first : (n : ℕ) (w : List ℕ) → n ≤ length w → all_zero (take n w) ≡ true → n ≡ first_nonzero n w
 unfolding all_zero first_nonzero
 zero_first zero w h e = refl
@@ -84,3 +66,13 @@ unfolding first_nonzero
 not_zero_there zero w h = absurd (not-suc-le-zero h)
 not_zero_there (suc n) w h =
     step n w (λ q. q < suc n → get_or w q 0 ≡ 0 → ⊥) (λ z k. z) (λ z k e. not_zero_there n (drop 1 w) (omega arith) (next w (first_nonzero n (drop 1 w)) ∙ e)) h
+
+-- What the search answers: a place below n, or that there is none.
+pub found : (n : ℕ) (w : List ℕ) (r : Option ℕ) → r ≡ cond (ltb (first_nonzero n w) n) (Some (first_nonzero n w)) None
+    → MatchOption r (first_nonzero n w ≡ n) (λ q. (q < n) × (q ≡ first_nonzero n w))
+found n w r e = rw e (go (ltb (first_nonzero n w) n) refl)
+  where
+    go : (b : Bool) → ltb (first_nonzero n w) n ≡ b
+        → MatchOption (cond b (Some (first_nonzero n w)) None) (first_nonzero n w ≡ n) (λ q. (q < n) × (q ≡ first_nonzero n w))
+    go true t = (ltb-true (first_nonzero n w) n t, refl)
+    go false t = omega (arith, ltb-false (first_nonzero n w) n t, first_most n w)

@@ -10,7 +10,7 @@ use mathlib.Core.List.{List}
 use Prim.Native.Nat.{ℕ, ◌+◌, ◌*◌, ◌<◌, ◌≤◌}
 use lib.ListN.{length, take, drop}
 use Rattle.residue.specs.Vector.{Below}
-use Rattle.elimination.proofs.rows.Zeros.{first_most}
+use Rattle.elimination.specs.Rows.{first_nonzero}
 use Rattle.monomial.specs.Order.{order_of}
 use Rattle.monomial.specs.Columns.{column_of}
 use Rattle.monomial.specs.Rank.{rank_bound}
@@ -20,7 +20,7 @@ use Rattle.specification.proofs.agreement.Refusals.{light_under}
 use Rattle.construction.specs.Drawing.{product_values, PointsGiven}
 use Rattle.construction.proofs.drawing.LoopState.{DrawingSized, Kept, kept_as}
 use Rattle.construction.proofs.drawing.draw.Goals as goal
-use Rattle.construction.proofs.drawing.draw.Goals.{After-first_nonzero-q, After-keep, After-keep_lead, After-keep_standard, After-next, After-put_columns, After-exponents_of-exponents, After-variable_ranks_under-steps, After-reduce-cancellations, After-struct_known-1, At-loop-exponents, Else-q-n, In-Some, Joined-q-n, Start, Then-q-n}
+use Rattle.construction.proofs.drawing.draw.Goals.{After-first_nonzero, After-keep, After-keep_lead, After-keep_standard, After-next, After-exponents_of-exponents, After-put_columns, After-variable_ranks_under-steps, After-reduce-cancellations, After-struct_known-1, At-loop-exponents, In-Some, In-Some-next, Joined-first_nonzero, Start, In-None}
 
 -- what the sizes leave room for: the values of n points in a working row, one pivot row more, and as many monomials as there are points
 pub row_room : {n l : ℕ} → n ≤ 64 → l ≡ 128 → n ≤ l
@@ -68,41 +68,40 @@ module _ (c : After-reduce-cancellations) where
   work_residues = worked_below (given top) top.loop-exponents.invariant c.reduce-cancellations.ensures.work_after
 
 -- its first value that is not 0 is sought
-module _ (f : After-first_nonzero-q) where
+module _ (f : After-first_nonzero) where
   abbrev pub reduced : After-reduce-cancellations
-  reduced = (goal.at.After-first_nonzero-q f).After-reduce-cancellations
+  reduced = (goal.at.After-first_nonzero f).After-reduce-cancellations
 
   abbrev pub head : At-loop-exponents
   head = top reduced
 
-  pub lead_fits : f.first_nonzero-q.result ≡ (start head).args.n → head.loop-exponents.r < 449
-  lead_fits e = room_lead (given head) head.loop-exponents.invariant reduced.reduce-cancellations.ensures.work_after (sym f.first_nonzero-q.ensures ∙ e)
+  pub lead_fits : first_nonzero (start head).args.n (work reduced) ≡ (start head).args.n → head.loop-exponents.r < 449
+  lead_fits e = room_lead (given head) head.loop-exponents.invariant reduced.reduce-cancellations.ensures.work_after e
 
-  pub inside : (f.first_nonzero-q.result ≡ (start head).args.n → ⊥) → f.first_nonzero-q.result < (start head).args.n
-  inside ne = omega (arith, first_most (start head).args.n (work reduced), f.first_nonzero-q.ensures, ne)
-
-  pub standard_fits : (f.first_nonzero-q.result ≡ (start head).args.n → ⊥) → head.loop-exponents.found < (start head).args.n
-  standard_fits ne =
-      room_standard (given head) head.loop-exponents.invariant reduced.reduce-cancellations.ensures.work_after (omega (arith, inside ne, f.first_nonzero-q.ensures))
+  pub standard_fits : first_nonzero (start head).args.n (work reduced) < (start head).args.n → head.loop-exponents.found < (start head).args.n
+  standard_fits h = room_standard (given head) head.loop-exponents.invariant reduced.reduce-cancellations.ensures.work_after h
 
 -- it is kept as a lead, or as a standard monomial
-abbrev pub as_lead : After-keep_lead → Then-q-n
-as_lead c = (goal.at.After-keep_lead c).Then-q-n
+abbrev pub as_lead : After-keep_lead → In-None
+as_lead c = (goal.at.After-keep_lead c).In-None
 
-abbrev pub as_standard : After-keep_standard → Else-q-n
-as_standard c = (goal.at.After-keep_standard c).Else-q-n
+abbrev pub as_standard : After-keep_standard → In-Some
+as_standard c = (goal.at.After-keep_standard c).In-Some
 
-pub found_64 : (e : Else-q-n) → (head (goal.at.Else-q-n e).After-first_nonzero-q).loop-exponents.found < 64
-found_64 e = omega (arith, standard_fits (goal.at.Else-q-n e).After-first_nonzero-q e.if-q-n.false, (given (head (goal.at.Else-q-n e).After-first_nonzero-q)).most)
+some_found : (e : In-Some) → first_nonzero e.args.n (work (reduced (goal.at.In-Some e).After-first_nonzero)) < e.args.n
+some_found e = let h = e.in-Some.ensures in omega (arith, h.0, h.1)
+
+pub found_64 : (e : In-Some) → (head (goal.at.In-Some e).After-first_nonzero).loop-exponents.found < 64
+found_64 e = omega (arith, standard_fits (goal.at.In-Some e).After-first_nonzero (some_found e), (given (head (goal.at.In-Some e).After-first_nonzero)).most)
 
 -- and with its pivot row
 abbrev pub with_values : After-keep → After-keep_standard
 with_values c = (goal.at.After-keep c).After-keep_standard
 
 -- the monomial is kept
-module _ (j : Joined-q-n) where
+module _ (j : Joined-first_nonzero) where
   abbrev pub above : At-loop-exponents
-  above = head (goal.at.Joined-q-n j).After-first_nonzero-q
+  above = head (goal.at.Joined-first_nonzero j).After-first_nonzero
 
   abbrev gathered : After-put_columns
   gathered = (goal.at.At-loop-exponents above).After-put_columns
@@ -116,23 +115,22 @@ module _ (j : Joined-q-n) where
   abbrev pub columns : List ℕ
   columns = gathered.put_columns.new.columns
 
-  pub kept : Kept (start above).args.settings (start above).args.n (start above).args.points.now (start above).args.rows.now (start above).args.pivots.now j.if-q-n.found j.if-q-n.r (above.loop-exponents.cancellations + (reduced (goal.at.Joined-q-n j).After-first_nonzero-q).reduce-cancellations.result)
-      j.if-q-n.standard j.if-q-n.leads j.if-q-n.coefficients j.if-q-n.rows j.if-q-n.pivots j.if-q-n.values j.if-q-n.ranks steps above.loop-exponents.at
+  pub kept : Kept (start above).args.settings (start above).args.n (start above).args.points.now (start above).args.rows.now (start above).args.pivots.now j.match-first_nonzero.found j.match-first_nonzero.r (above.loop-exponents.cancellations + (reduced (goal.at.Joined-first_nonzero j).After-first_nonzero).reduce-cancellations.result)
+      j.match-first_nonzero.standard j.match-first_nonzero.leads j.match-first_nonzero.coefficients j.match-first_nonzero.rows j.match-first_nonzero.pivots j.match-first_nonzero.values j.match-first_nonzero.ranks steps above.loop-exponents.at
   kept =
-      let q = j.first_nonzero-q.ensures in
-      let left = (reduced (goal.at.Joined-q-n j).After-first_nonzero-q).reduce-cancellations.ensures.work_after in
-      let cost = (reduced (goal.at.Joined-q-n j).After-first_nonzero-q).reduce-cancellations.ensures.value in
+      let left = (reduced (goal.at.Joined-first_nonzero j).After-first_nonzero).reduce-cancellations.ensures.work_after in
+      let cost = (reduced (goal.at.Joined-first_nonzero j).After-first_nonzero).reduce-cancellations.ensures.value in
       ⊎_elim
       (λ w. kept_as w.found-is w.r-is w.standard-is w.leads-is w.coefficients-is w.rows-is w.pivots-is w.values-is w.ranks-is
-      (keeps_lead (given above) above.loop-exponents.invariant left cost (sym q ∙ w.if-q-n.true) w.keep_lead.ensures.leads_after w.keep_lead.ensures.coefficients_after))
+      (keeps_lead (given above) above.loop-exponents.invariant left cost w.in-None.ensures w.keep_lead.ensures.leads_after w.keep_lead.ensures.coefficients_after))
       (λ w. let e = w.keep_standard.ensures in let k = w.keep.ensures in kept_as w.found-is w.r-is w.standard-is w.leads-is w.coefficients-is w.rows-is w.pivots-is w.values-is w.ranks-is
-      (keeps_standard (given above) above.loop-exponents.invariant left cost q (inside (goal.at.Joined-q-n j).After-first_nonzero-q w.if-q-n.false) e.standard_after refl e.values_after k.rows_after k.pivots_after))
-      j.if-q-n.branch-raw
+      (keeps_standard (given above) above.loop-exponents.invariant left cost w.in-Some.ensures.1 w.in-Some.ensures.0 e.standard_after refl e.values_after k.rows_after k.pivots_after))
+      j.match-first_nonzero.branch-raw
 
-  pub one_more : j.if-q-n.found + j.if-q-n.r ≡ above.loop-exponents.found + above.loop-exponents.r + 1
-  one_more = ⊎_elim (λ w. omega (arith, w.found-is, w.r-is)) (λ w. omega (arith, w.found-is, w.r-is)) j.if-q-n.branch-raw
+  pub one_more : j.match-first_nonzero.found + j.match-first_nonzero.r ≡ above.loop-exponents.found + above.loop-exponents.r + 1
+  one_more = ⊎_elim (λ w. omega (arith, w.found-is, w.r-is)) (λ w. omega (arith, w.found-is, w.r-is)) j.match-first_nonzero.branch-raw
 
-  pub sizes : DrawingSized (start above).args.settings.modulus (start above).args.n j.if-q-n.found j.if-q-n.standard j.if-q-n.leads j.if-q-n.coefficients j.if-q-n.rows j.if-q-n.pivots j.if-q-n.values j.if-q-n.ranks
+  pub sizes : DrawingSized (start above).args.settings.modulus (start above).args.n j.match-first_nonzero.found j.match-first_nonzero.standard j.match-first_nonzero.leads j.match-first_nonzero.coefficients j.match-first_nonzero.rows j.match-first_nonzero.pivots j.match-first_nonzero.values j.match-first_nonzero.ranks
   sizes = kept_sized (given above) kept
 
   pub steps_small : Below rank_bound steps
@@ -152,20 +150,20 @@ module _ (j : Joined-q-n) where
     values_are values e = e ∙ ap (λ (l : List ℕ). product_values (start above).args.settings.modulus (start above).args.n l values) column
 
 -- the next one has been sought
-abbrev pub joined : After-next → Joined-q-n
-joined c = (goal.at.After-next c).Joined-q-n
+abbrev pub joined : After-next → Joined-first_nonzero
+joined c = (goal.at.After-next c).Joined-first_nonzero
 
 -- it is x_(k+1) times standard monomial t
-module _ (c : In-Some) where
+module _ (c : In-Some-next) where
   abbrev pub sought : After-next
-  sought = (goal.at.In-Some c).After-next
+  sought = (goal.at.In-Some-next c).After-next
 
-  abbrev pub onward : Joined-q-n
+  abbrev pub onward : Joined-first_nonzero
   onward = joined sought
 
 -- and its exponents are written
-abbrev pub chosen : After-exponents_of-exponents → In-Some
-chosen c = (goal.at.After-exponents_of-exponents c).In-Some
+abbrev pub chosen : After-exponents_of-exponents → In-Some-next
+chosen c = (goal.at.After-exponents_of-exponents c).In-Some-next
 
 pub overflow_cast-p : goal.overflow_cast-p
 overflow_cast-p c = let g = (opened (goal.at.overflow_cast-p c).After-struct_known-1).requires.points_given in omega (arith, modulus_range _ g.settings.modulus)
@@ -184,33 +182,33 @@ overflow_add-cancellations c = let e = c in
     let l = top (goal.at.overflow_add-cancellations e).After-reduce-cancellations in
     omega (arith, cost_fits (given l) l.loop-exponents.invariant e.reduce-cancellations.ensures.work_after e.reduce-cancellations.ensures.value)
 
-pub first_nonzero-q-requires : goal.first_nonzero-q-requires
-first_nonzero-q-requires c = let e = c in row_room (given (top (goal.at.first_nonzero-q-requires e).After-reduce-cancellations)).most (work_128 (goal.at.first_nonzero-q-requires e).After-reduce-cancellations)
+pub first_nonzero-requires : goal.first_nonzero-requires
+first_nonzero-requires c = let e = c in row_room (given (top (goal.at.first_nonzero-requires e).After-reduce-cancellations)).most (work_128 (goal.at.first_nonzero-requires e).After-reduce-cancellations)
 
 pub keep_lead-requires : goal.keep_lead-requires
 keep_lead-requires c = let t = c in
-    let l = head (goal.at.keep_lead-requires t).After-first_nonzero-q in
-    let z = head_sizes l in record { n_bound = ((given l).most, (z.found_room, lead_fits (goal.at.keep_lead-requires t).After-first_nonzero-q t.if-q-n.true)); leads_len = (z.leads_long, z.coefficients_long); work_len = work_128 (reduced (goal.at.keep_lead-requires t).After-first_nonzero-q) }
+    let l = head (goal.at.keep_lead-requires t).After-first_nonzero in
+    let z = head_sizes l in record { n_bound = ((given l).most, (z.found_room, lead_fits (goal.at.keep_lead-requires t).After-first_nonzero t.in-None.ensures)); leads_len = (z.leads_long, z.coefficients_long); work_len = work_128 (reduced (goal.at.keep_lead-requires t).After-first_nonzero) }
 
 pub overflow_add-r : goal.overflow_add-r
-overflow_add-r c = let t = as_lead (goal.at.overflow_add-r c).After-keep_lead in omega (arith, lead_fits (goal.at.Then-q-n t).After-first_nonzero-q t.if-q-n.true)
+overflow_add-r c = let t = as_lead (goal.at.overflow_add-r c).After-keep_lead in omega (arith, lead_fits (goal.at.In-None t).After-first_nonzero t.in-None.ensures)
 
 pub keep_standard-requires : goal.keep_standard-requires
 keep_standard-requires c = let e = c in
-    let l = head (goal.at.keep_standard-requires e).After-first_nonzero-q in
-    let z = head_sizes l in record { found_bound = found_64 (goal.at.keep_standard-requires e).Else-q-n; standard_len = (z.standard_long, z.values_long) }
+    let l = head (goal.at.keep_standard-requires e).After-first_nonzero in
+    let z = head_sizes l in record { found_bound = found_64 (goal.at.keep_standard-requires e).In-Some; standard_len = (z.standard_long, z.values_long) }
 
 pub offset_bounds-ranks-found : goal.offset_bounds-ranks-found
 offset_bounds-ranks-found c = omega (arith, found_64 (as_standard (goal.at.offset_bounds-ranks-found c).After-keep_standard))
 
 pub bounds-ranks-found : goal.bounds-ranks-found
-bounds-ranks-found c = let e = as_standard (goal.at.bounds-ranks-found c).After-keep_standard in omega (arith, found_64 e, (head_sizes (head (goal.at.Else-q-n e).After-first_nonzero-q)).ranks_long)
+bounds-ranks-found c = let e = as_standard (goal.at.bounds-ranks-found c).After-keep_standard in omega (arith, found_64 e, (head_sizes (head (goal.at.In-Some e).After-first_nonzero)).ranks_long)
 
 pub keep-requires : goal.keep-requires
 keep-requires c = let e = as_standard (goal.at.keep-requires c).After-keep_standard in
-    let l = head (goal.at.Else-q-n e).After-first_nonzero-q in
+    let l = head (goal.at.In-Some e).After-first_nonzero in
     let z = head_sizes l in
-    let w = pivot_room (standard_fits (goal.at.Else-q-n e).After-first_nonzero-q e.if-q-n.false) (given l).most z.rows_long z.pivots_long in record { le_p = range l; at_lt_n = (inside (goal.at.Else-q-n e).After-first_nonzero-q e.if-q-n.false, (w.0, work_128 (reduced (goal.at.Else-q-n e).After-first_nonzero-q))); block_size_in_bounds = w.1; below = work_residues (reduced (goal.at.Else-q-n e).After-first_nonzero-q) }
+    let w = pivot_room (standard_fits (goal.at.In-Some e).After-first_nonzero (some_found e)) (given l).most z.rows_long z.pivots_long in record { le_p = range l; at_lt_n = (e.in-Some.ensures.0, (w.0, work_128 (reduced (goal.at.In-Some e).After-first_nonzero))); block_size_in_bounds = w.1; below = work_residues (reduced (goal.at.In-Some e).After-first_nonzero) }
 
 pub overflow_add-found : goal.overflow_add-found
 overflow_add-found c = omega (arith, found_64 (as_standard (with_values (goal.at.overflow_add-found c).After-keep)))
@@ -253,7 +251,7 @@ pub loop-exponents-preserved : goal.loop-exponents-preserved
 loop-exponents-preserved c = let w = c in
     let u = chosen (goal.at.loop-exponents-preserved w).After-exponents_of-exponents in
     let j = onward u in
-    let z = u.in-Some.is in
+    let z = u.in-Some-next.is in
     let e = (sought u).next.ensures in
     goes_on (given (above j)) (kept j) z e w.exponents_of-exponents.ensures (values_are j _ (next_small (given (above j)) (kept j) z e).0 _ c.put_values.ensures)
 
@@ -261,36 +259,36 @@ pub put_columns-requires-clause-points_len : goal.put_columns-requires-clause-po
 put_columns-requires-clause-points_len c = (points_long c.requires.points_given, c.requires.points_given.most)
 
 pub next-requires-clause-m_bound : goal.next-requires-clause-m_bound
-next-requires-clause-m_bound c = (c.requires.points_given.settings.few, within_64 (sizes (goal.at.next-requires-clause-m_bound c).Joined-q-n).found_room c.requires.points_given.most)
+next-requires-clause-m_bound c = (c.requires.points_given.settings.few, within_64 (sizes (goal.at.next-requires-clause-m_bound c).Joined-first_nonzero).found_room c.requires.points_given.most)
 
 pub next-requires-clause-below : goal.next-requires-clause-below
-next-requires-clause-below c = (sizes (goal.at.next-requires-clause-below c).Joined-q-n).ranks_below
+next-requires-clause-below c = (sizes (goal.at.next-requires-clause-below c).Joined-first_nonzero).ranks_below
 
 pub next-requires-clause-below_2 : goal.next-requires-clause-below_2
-next-requires-clause-below_2 c = steps_small (goal.at.next-requires-clause-below_2 c).Joined-q-n
+next-requires-clause-below_2 c = steps_small (goal.at.next-requires-clause-below_2 c).Joined-first_nonzero
 
 -- the product found is of the space, and its exponents are bytes
-small : (c : In-Some) → (c.in-Some.product.variable < 8) × (c.in-Some.product.standard < 64)
-small c = let j = onward c in next_small (given (above j)) (kept j) c.in-Some.is c.next.ensures
+small : (c : In-Some-next) → (c.in-Some-next.product.variable < 8) × (c.in-Some-next.product.standard < 64)
+small c = let j = onward c in next_small (given (above j)) (kept j) c.in-Some-next.is c.next.ensures
 
 pub exponents_of-exponents-requires-clause-product_bound : goal.exponents_of-exponents-requires-clause-product_bound
 exponents_of-exponents-requires-clause-product_bound c =
-    let u = (goal.at.exponents_of-exponents-requires-clause-product_bound c).In-Some in
+    let u = (goal.at.exponents_of-exponents-requires-clause-product_bound c).In-Some-next in
     let f = small u in
     (f.0, (f.1, (sizes (onward u)).standard_long))
 
 pub exponents_of-exponents-requires-clause-exponent_bound : goal.exponents_of-exponents-requires-clause-exponent_bound
 exponents_of-exponents-requires-clause-exponent_bound c =
-    let j = onward (goal.at.exponents_of-exponents-requires-clause-exponent_bound c).In-Some in
-    next_exponent (given (above j)) (kept j) c.in-Some.is c.next.ensures
+    let j = onward (goal.at.exponents_of-exponents-requires-clause-exponent_bound c).In-Some-next in
+    next_exponent (given (above j)) (kept j) c.in-Some-next.is c.next.ensures
 
 pub put_values-requires-clause-le_p : goal.put_values-requires-clause-le_p
 put_values-requires-clause-le_p c =
-    let u = (goal.at.put_values-requires-clause-le_p c).In-Some in
+    let u = (goal.at.put_values-requires-clause-le_p c).In-Some-next in
     let l = above (onward u) in
     (range l, ((given l).most, small u))
 
 pub put_values-requires-clause-below : goal.put_values-requires-clause-below
 put_values-requires-clause-below c =
-    let u = (goal.at.put_values-requires-clause-below c).In-Some in
+    let u = (goal.at.put_values-requires-clause-below c).In-Some-next in
     (column_small (onward u) _ (small u).0, (sizes (onward u)).values_below)

@@ -76,12 +76,6 @@ high c = let s = c in named (goal.at.After-multiple-high s).Start (factor (goal.
 pub returns-then-x-eq0 : goal.returns-then-x-eq0
 returns-then-x-eq0 c = let s = c in record { work_after = sym (cancel_none s.args.p (row (goal.at.returns-then-x-eq0 s).Start) s.args.at s.args.work.now c.if-x-eq0.true); value = counted_none c.if-x-eq0.true }
 
-pub overflow_sub-c : goal.overflow_sub-c
-overflow_sub-c c = omega (arith, entry (goal.at.overflow_sub-c c).Start)
-
-pub overflow_sub-from : goal.overflow_sub-from
-overflow_sub-from c = omega (arith, entry (goal.at.overflow_sub-from c).Start)
-
 pub gain-requires : goal.gain-requires
 gain-requires c = let s = c in
     let is = single (goal.at.gain-requires s).Start (factor (goal.at.gain-requires s).Start - 1) (omega (arith, entry (goal.at.gain-requires s).Start)) (128 * (factor (goal.at.gain-requires s).Start - 1) + 128 - 128 * (factor (goal.at.gain-requires s).Start - 1)) (omega arith) in record { le_p = (s.requires.le_p.0, s.requires.le_p.1); width_le_work_size = (s.requires.le_p.2, s.requires.block_len.1, long (goal.at.gain-requires s).Start _ is); below = (s.requires.block_len.2, below (goal.at.gain-requires s).Start _ is); zero_from = zeroed (goal.at.gain-requires s).Start _ is }
@@ -96,21 +90,6 @@ returns-then-p-le5 c = let g = c in
           ∙ ap (λ (k : ℕ). add_scaled s.args.p k s.args.work.now (row (goal.at.returns-then-p-le5 s).Start)) e ∙ sym (cancel_some s.args.p (row (goal.at.returns-then-p-le5 s).Start) s.args.at s.args.work.now some);
       value = counted_one some;
     }
-
-pub overflow_cast-c : goal.overflow_cast-c
-overflow_cast-c c = omega (arith, low_digit (factor (goal.at.overflow_cast-c c).Start))
-
-pub multiple-low-requires : goal.multiple-low-requires
-multiple-low-requires c = let s = c in (omega (arith, low_digit (factor (goal.at.multiple-low-requires s).Start)), omega arith, s.requires.block_len.0)
-
-pub overflow_cast-c-2 : goal.overflow_cast-c-2
-overflow_cast-c-2 c = omega (arith, middle_digit (factor (goal.at.overflow_cast-c-2 c).Start))
-
-pub multiple-middle-requires : goal.multiple-middle-requires
-multiple-middle-requires c = let s = c in (omega (arith, middle_digit (factor (goal.at.multiple-middle-requires s).Start)), omega arith, s.requires.block_len.0)
-
-pub multiple-high-requires : goal.multiple-high-requires
-multiple-high-requires c = let s = c in (omega arith, omega arith, s.requires.block_len.0)
 
 pub gain_three-requires : goal.gain_three-requires
 gain_three-requires c = let s = c in

@@ -6,7 +6,7 @@ use native.Mathlib.Omega.{arith}
 use lib.ListN.{length, get_or, take, drop, length-drop}
 use lib.Seq.{take-take, get_or-take, get_or-drop, length-take-le}
 use Rattle.residue.specs.Vector.{Below}
-use Rattle.elimination.specs.Elimination.{cancelled, eliminated, counted, cancellations, multiples_of, ZeroFrom, whole_width}
+use Rattle.elimination.specs.Elimination.{cancelled, counted, cancellations, multiples_of, ZeroFrom, whole_width}
 use Rattle.elimination.proofs.reducing.Eliminated.{whole_limits, eliminated_none, eliminated_more, eliminated_length, eliminated_below, cancellations_none, cancellations_more, cancellations_most}
 use Rattle.elimination.proofs.reducing.eliminate.Goals as goal
 use Rattle.elimination.proofs.reducing.eliminate.Goals.{At-loop-t, Start}
@@ -57,9 +57,6 @@ module _ (l : At-loop-t) where
 pub loop-t-init : goal.loop-t-init
 loop-t-init c = (omega arith, (sym (eliminated_none _ _ _ _), sym (cancellations_none _ _ _ _)))
 
-pub overflow_cast-at : goal.overflow_cast-at
-overflow_cast-at c = let l = c in omega (arith, (start (goal.at.overflow_cast-at l).At-loop-t).requires.by_index l.loop-t.t (omega arith))
-
 pub cancel-made-requires : goal.cancel-made-requires
 cancel-made-requires c = let l = c in
     let s = start (goal.at.cancel-made-requires l).At-loop-t in
@@ -98,11 +95,3 @@ loop-t-preserved c = let l = c in
         count (goal.at.loop-t-preserved l).At-loop-t c.cancel-made.ensures.value,
       ),
     )
-
-pub shape_of-work : goal.shape_of-work
-shape_of-work c = let l = c in long (goal.at.shape_of-work l).At-loop-t ∙ sym (start (goal.at.shape_of-work l).At-loop-t).requires.work_len
-
-pub returns : goal.returns
-returns c = let l = c in
-    let s = start (goal.at.returns l).At-loop-t in
-    let e : l.loop-t.t ≡ s.args.found = omega arith in record { work_after = l.loop-t.invariant.1.0 ∙ ap (λ (t : ℕ). eliminated s.args.p s.args.rows.now s.args.pivots.now t s.args.work.now) e; value = l.loop-t.invariant.1.1 ∙ ap (λ (t : ℕ). cancellations s.args.p s.args.rows.now s.args.pivots.now t s.args.work.now) e }

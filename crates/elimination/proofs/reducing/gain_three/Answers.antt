@@ -63,23 +63,9 @@ module _ (l : At-loop-i) where
 pub loop-i-init : goal.loop-i-init
 loop-i-init c = (omega arith, filled_none _ _)
 
-pub bounds-dst-i : goal.bounds-dst-i
-bounds-dst-i c = omega (arith, long (goal.at.bounds-dst-i c).At-loop-i)
-
 pub add-requires : goal.add-requires
 add-requires c = let l = c in
     let s = start (goal.at.add-requires l).At-loop-i in record { p_bound = s.requires.le_p.1; x_lt_p = (rw (here (goal.at.add-requires l).At-loop-i) (s.requires.below.0 l.loop-i.i (omega arith)), s.requires.below.1 l.loop-i.i (omega arith)) }
-
-pub add-requires-in-loop-i : goal.add-requires-in-loop-i
-add-requires-in-loop-i c = let l = c in
-    let s = start (goal.at.add-requires-in-loop-i l).At-loop-i in record { p_bound = s.requires.le_p.1; x_lt_p = (left (goal.at.add-requires-in-loop-i l).At-loop-i _ c.add.ensures, s.requires.below.2 l.loop-i.i (omega arith)) }
-
-pub add-requires-in-loop-i-2 : goal.add-requires-in-loop-i-2
-add-requires-in-loop-i-2 c = let l = c in
-    let s = start (goal.at.add-requires-in-loop-i-2 l).At-loop-i in record { p_bound = s.requires.le_p.1; x_lt_p = (left (goal.at.add-requires-in-loop-i-2 l).At-loop-i _ c.add-in-loop-i.ensures, s.requires.below.3 l.loop-i.i (omega arith)) }
-
-pub bounds-dst-i-in-loop-i : goal.bounds-dst-i-in-loop-i
-bounds-dst-i-in-loop-i c = omega (arith, long (goal.at.bounds-dst-i-in-loop-i c).At-loop-i)
 
 pub loop-i-preserved : goal.loop-i-preserved
 loop-i-preserved c = let l = c in
@@ -88,9 +74,6 @@ loop-i-preserved c = let l = c in
     let one = c.add.ensures ∙ ap (λ (d : ℕ). (d + get_or a.a.now i 0) % a.p) (here (goal.at.loop-i-preserved l).At-loop-i) in
     let two = c.add-in-loop-i.ensures ∙ ap (λ (d : ℕ). (d + get_or a.b.now i 0) % a.p) one in
     (omega arith, filled_more (g (goal.at.loop-i-preserved l).At-loop-i) i a.dst.now l.loop-i.dst l.loop-i.invariant.1 c.add-in-loop-i-2.result (omega arith) (c.add-in-loop-i-2.ensures ∙ ap (λ (d : ℕ). (d + get_or a.c.now i 0) % a.p) two))
-
-pub shape_of-dst : goal.shape_of-dst
-shape_of-dst c = long (goal.at.shape_of-dst c).At-loop-i
 
 pub returns : goal.returns
 returns c = let l = c in

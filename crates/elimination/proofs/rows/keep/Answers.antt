@@ -25,15 +25,9 @@ module _ (s : Start) where
   made_below : Below s.args.p made
   made_below = pivot_row_below s.args.p (s.args.n + s.args.found) _ s.args.work.now (omega arith) (omega arith) s.requires.below
 
-pub normalise-requires : goal.normalise-requires
-normalise-requires c = let s = c in record { le_p = s.requires.le_p; own_in_bounds = (omega arith, omega arith); below = s.requires.below }
-
 pub put_multiples-requires : goal.put_multiples-requires
 put_multiples-requires c = let s = c in
     let e = c.normalise.ensures in record { le_p = s.requires.le_p; row_len = (ap length e ∙ made_long (goal.at.put_multiples-requires s).Start, part_long (1152 * s.args.found) (1152 * s.args.found + 1152 - 1152 * s.args.found) 1152 s.args.rows.now (omega arith) s.requires.block_size_in_bounds.0); below = subst (Below s.args.p) (sym e) (made_below (goal.at.put_multiples-requires s).Start) }
-
-pub shape_of-work : goal.shape_of-work
-shape_of-work c = c.normalise.auto.work
 
 pub returns : goal.returns
 returns c = let s = c in

@@ -6,7 +6,7 @@ use Prim.Native.Nat.{ℕ, ◌+◌, ◌<◌}
 use native.Mathlib.Decide.{dec_lt}
 use native.Mathlib.Omega.{arith}
 use lib.ListN.{length, get_or, set, take, drop, length-set, take-append-drop}
-use lib.Seq.{length-take-le, length_front}
+use lib.Seq.{length-take-le}
 use Rattle.residue.specs.Modulus.{is_modulus}
 use Rattle.residue.specs.Inverse.{inverse_of}
 use Rattle.residue.specs.Vector.{Below, scaled}
@@ -40,19 +40,8 @@ returns-then-c-eq1 c = let s = c in
     sym (ap (λ (k : ℕ). scaled s.args.p k (take (s.args.own + 1) w) ++ drop (s.args.own + 1) w) i
     ∙ ap (λ (l : List ℕ). l ++ drop (s.args.own + 1) w) (scaled_one s.args.p (take (s.args.own + 1) w) (front_below (goal.at.returns-then-c-eq1 s).Start)) ∙ take-append-drop (s.args.own + 1) w)
 
-pub slice_bounds-scale-end : goal.slice_bounds-scale-end
-slice_bounds-scale-end c = simp length-set (omega arith)
-
-pub slice_bounds-scale-end-2 : goal.slice_bounds-scale-end-2
-slice_bounds-scale-end-2 c = let s = c in sym (front_long s.args.work.now s.args.own s.requires.own_in_bounds.0)
-
 pub scale-requires : goal.scale-requires
 scale-requires c = let s = c in record { le_p = s.requires.le_p; below = front_below (goal.at.scale-requires s).Start; c_lt_p = rw c.inverse-c.ensures (inverse_small s.args.p (get_or s.args.work.now s.args.at 0) (omega arith)) }
-
-pub shape_of-work : goal.shape_of-work
-shape_of-work c = let called = c in
-    let s = called in
-    length_front (set s.args.work.now s.args.own 1) called.scale.new.dst (s.args.own + 1) called.scale.auto.dst ∙ simp length-set
 
 pub returns : goal.returns
 unfolding pivot_row

@@ -70,9 +70,6 @@ joined c =
 row_in_lem : (l : At-loop-k) → l.loop-k.k < 9 → length (take (128 * l.loop-k.k + 128 - 128 * l.loop-k.k) (drop (128 * l.loop-k.k) l.loop-k.block)) ≡ 128
 row_in_lem l h = part_long (128 * l.loop-k.k) (128 * l.loop-k.k + 128 - 128 * l.loop-k.k) 128 l.loop-k.block (omega arith) (omega (arith, l.loop-k.invariant.size))
 
-pub copy-requires : goal.copy-requires
-copy-requires c = omega (arith, c.requires.row_len.0)
-
 pub loop-k-init : goal.loop-k-init
 loop-k-init c = let s = c in
     let e = c.copy.ensures ∙ over_all s.args.row.now _ s.requires.row_len.0 in
@@ -85,30 +82,6 @@ loop-k-init c = let s = c in
       first_is = λ h. absurd (h refl);
       put = λ j i h. absurd (not-suc-le-zero h);
     }
-
-pub slice_bounds-copy-end-then-k-eq0 : goal.slice_bounds-copy-end-then-k-eq0
-slice_bounds-copy-end-then-k-eq0 c = sym c.loop-k.invariant.last_long
-
-pub slice_bounds-copy-end-then-k-eq0-2 : goal.slice_bounds-copy-end-then-k-eq0-2
-slice_bounds-copy-end-then-k-eq0-2 c = sym c.loop-k.invariant.first_long
-
-pub copy-requires-then-k-eq0 : goal.copy-requires-then-k-eq0
-copy-requires-then-k-eq0 c = let F = c.loop-k.invariant in omega (arith, F.last_long, F.first_long)
-
-pub slice_bounds-copy-end-in-loop-k : goal.slice_bounds-copy-end-in-loop-k
-slice_bounds-copy-end-in-loop-k c = sym c.loop-k.invariant.last_long
-
-pub slice_bounds-copy-end-in-loop-k-2 : goal.slice_bounds-copy-end-in-loop-k-2
-slice_bounds-copy-end-in-loop-k-2 c = omega (arith, c.loop-k.invariant.size)
-
-pub copy-requires-in-loop-k : goal.copy-requires-in-loop-k
-copy-requires-in-loop-k c = let l = c in omega (arith, l.loop-k.invariant.last_long, row_in_lem (goal.at.copy-requires-in-loop-k l).At-loop-k (omega arith))
-
-pub slice_bounds-gain-end : goal.slice_bounds-gain-end
-slice_bounds-gain-end c = sym c.loop-k.invariant.last_long
-
-pub slice_bounds-gain-end-in-loop-k : goal.slice_bounds-gain-end-in-loop-k
-slice_bounds-gain-end-in-loop-k c = let j = c in let s = c in sym (ap length (joined (goal.at.slice_bounds-gain-end-in-loop-k j).Joined-k-eq0) ∙ scaled_length s.args.p _ s.args.row.now ∙ s.requires.row_len.0)
 
 pub gain-requires : goal.gain-requires
 gain-requires c = let l = c in
@@ -123,9 +96,6 @@ loop-k-preserved c = let l = c in
     let s = c in
     turn s.args.p s.args.row.now l.loop-k.block l.loop-k.first l.loop-k.last _ _ _ l.loop-k.k (128 * l.loop-k.k + 128 - 128 * l.loop-k.k) s.requires.row_len.0 (omega arith) l.loop-k.invariant (omega arith)
     (joined (goal.at.loop-k-preserved c).Joined-k-eq0) (c.copy-in-loop-k.ensures ∙ over_all l.loop-k.last _ (l.loop-k.invariant.last_long ∙ sym (row_in_lem (goal.at.loop-k-preserved l).At-loop-k (omega arith)))) c.gain.ensures
-
-pub shape_of-block : goal.shape_of-block
-shape_of-block c = let l = c in l.loop-k.invariant.size ∙ sym c.requires.row_len.1
 
 pub returns : goal.returns
 returns c = let F = c.loop-k.invariant in
