@@ -4,8 +4,7 @@ ghost use Rattle.residue.specs.Sizes.{states_size, standard_size, leads_size, co
 ghost use Rattle.json_text.specs.Places.{here};
 ghost use Rattle.json_text.specs.Parts.{FrontRead, MiddleRead, EndRead};
 
-use crate::read_members::{read_list_member, read_number_member, read_rows_member};
-use crate::reading::{Lengths, is_here};
+use crate::reading::{Lengths, is_here, read_list, read_number, read_rows, read_word};
 use residue::sizes;
 
 // The first three members, and the place behind them.
@@ -26,16 +25,12 @@ pub fn read_front(
     requires { (coefficients.old ≡ replicate coefficients_size 0) × (counts.old ≡ replicate counts_size 0) × (leads.old ≡ replicate leads_size 0) }
     ensures { FrontRead text.now result coefficients.new counts.new leads.new }
 {
-    let rows = read_rows_member(
-        text,
-        0,
-        b"{\"coefficients\":",
-        64,
-        sizes::ROWS,
-        coefficients,
-    )?;
-    let counted = read_list_member(text, rows.next, b",\"counts\":", counts)?;
-    let leading = read_rows_member(text, counted.next, b",\"leads\":", 8, sizes::ROWS, leads)?;
+    let next = read_word(text, 0, b"{\"coefficients\":")?;
+    let rows = read_rows(text, next, 64, sizes::ROWS, coefficients)?;
+    let next = read_word(text, rows.next, b",\"counts\":")?;
+    let counted = read_list(text, next, counts)?;
+    let next = read_word(text, counted.next, b",\"leads\":")?;
+    let leading = read_rows(text, next, 8, sizes::ROWS, leads)?;
     Some(Front {
         coefficients: rows.lengths,
         n: counted.count,
@@ -59,17 +54,14 @@ pub fn read_middle(text: &[u8], at: usize, points: &mut [u8], standard: &mut [u8
     requires points_value { (points.old ≡ replicate states_size 0) × (standard.old ≡ replicate standard_size 0) }
     ensures { MiddleRead text.now at result points.new standard.new }
 {
-    let modulus = read_number_member(text, at, b",\"modulus\":")?;
-    let order = read_number_member(text, modulus.next, b",\"order\":")?;
-    let pointed = read_rows_member(text, order.next, b",\"points\":", 8, sizes::POINTS, points)?;
-    let standing = read_rows_member(
-        text,
-        pointed.next,
-        b",\"standard\":",
-        8,
-        sizes::POINTS,
-        standard,
-    )?;
+    let next = read_word(text, at, b",\"modulus\":")?;
+    let modulus = read_number(text, next)?;
+    let next = read_word(text, modulus.next, b",\"order\":")?;
+    let order = read_number(text, next)?;
+    let next = read_word(text, order.next, b",\"points\":")?;
+    let pointed = read_rows(text, next, 8, sizes::POINTS, points)?;
+    let next = read_word(text, pointed.next, b",\"standard\":")?;
+    let standing = read_rows(text, next, 8, sizes::POINTS, standard)?;
     Some(Middle {
         modulus: modulus.value,
         order: order.value,
@@ -98,8 +90,10 @@ pub fn read_end(text: &[u8], at: usize, weights: &mut [u8]) -> Option<End>
     requires weights_value { weights.old ≡ replicate 8 0 }
     ensures { EndRead text.now at result weights.new }
 {
-    let variables = read_number_member(text, at, b",\"variables\":")?;
-    let weighed = read_list_member(text, variables.next, b",\"weights\":", weights)?;
+    let next = read_word(text, at, b",\"variables\":")?;
+    let variables = read_number(text, next)?;
+    let next = read_word(text, variables.next, b",\"weights\":")?;
+    let weighed = read_list(text, next, weights)?;
     if !is_end(text, weighed.next) {
         return None;
     }

@@ -6,5 +6,4 @@ pub mod document_text;
 pub mod documents;
 mod lists;
 mod members;
-mod read_members;
 mod reading;

@@ -1,7 +1,7 @@
-// Numbers and lists of numbers read from a place of a text on.
+// Words, numbers and lists of numbers read from a place of a text on.
 ghost use Rattle.std.specs.Prelude.{◌≡◌, List, [], ◌∷◌, ◌++◌, ℕ, ◌≤◌, ◌*◌, length, set, replicate};
-ghost use Rattle.json_text.specs.Places.{here, number_at, list_at, rows_at};
-ghost use Rattle.json_text.specs.Said.{number_said, ListRead, RowRead, RowsRead, common_length};
+ghost use Rattle.json_text.specs.Places.{here, exactly_at, number_at, list_at, rows_at};
+ghost use Rattle.json_text.specs.Said.{word_said, number_said, ListRead, RowRead, RowsRead, common_length};
 
 use notation::digits;
 use notation::digits::Leading;
@@ -11,6 +11,17 @@ pub fn is_here(text: &[u8], at: usize, b: u8) -> bool
     ensures { result ≡ here b text.now at }
 {
     text.get(at) == Some(&b)
+}
+
+// The place behind the word, if it stands there.
+pub fn read_word(text: &[u8], at: usize, word: &[u8]) -> Option<usize>
+    requires { at ≤ length text.now }
+    ensures { word_said result ≡ exactly_at word.now text.now at }
+{
+    if !text[at..].starts_with(word) {
+        return None;
+    }
+    Some(at + word.len())
 }
 
 // A number, and the place behind it.

@@ -1,8 +1,8 @@
--- `read_members::read_word` meets its contract.
+-- `reading::read_word` meets its contract.
 use mathlib.Core.Path.{sym, ◌∙◌}
 use Rattle.json_text.specs.Said.{word_said}
 use Rattle.json_text.proofs.Words.{compared}
-use Rattle.json_text.proofs.read_members.read_word.Goals as goal
+use Rattle.json_text.proofs.reading.read_word.Goals as goal
 
 pub returns-then-not-starts_with : goal.returns-then-not-starts_with
 unfolding word_said
