@@ -26,10 +26,10 @@ small c =
     let s = c.args in
     let p = s.settings.modulus in
     let m = range (goal.at.After-values_at c).Start in
-    subst (Below p) (sym c.values_at.ensures) (remainders_below p (monomial_at s.point.now) (groups 8 s.n s.standard.now) 64 (omega (arith, m.0)))
+    subst (Below p) (sym c.values_at.ensures) (remainders_below p (monomial_at s.point.now) (groups 8 s.before.now.n s.before.now.standard.now) 64 (omega (arith, m.0)))
 
 -- a row is not 0 at the point
-found : (c : After-first_row) → unwrap_or c.first_row.result c.args.r < c.args.r
+found : (c : After-first_row) → unwrap_or c.first_row.result c.args.before.now.r < c.args.before.now.r
 found c = rw c.first_row.ensures (inside c.requires.points_given c.requires.drawn_up c.requires.n_bound c.requires.new_point _ c.values_at.ensures _ refl)
 
 pub overflow_cast-p : goal.overflow_cast-p
@@ -59,13 +59,13 @@ pub first_row-requires-clause-below_2 : goal.first_row-requires-clause-below_2
 first_row-requires-clause-below_2 c = (small (goal.at.first_row-requires-clause-below_2 c).After-values_at, (fine (goal.at.first_row-requires-clause-below_2 c).Start).residues)
 
 pub returns-in_default : goal.returns-in_default
-returns-in_default c = let f = found (goal.at.returns-in_default c).After-first_row in absurd (omega (arith, ap (λ o. unwrap_or o c.args.r) c.in_default.is))
+returns-in_default c = let f = found (goal.at.returns-in_default c).After-first_row in absurd (omega (arith, ap (λ o. unwrap_or o c.args.before.now.r) c.in_default.is))
 
 pub grow-requires-clause-j_lt_r : goal.grow-requires-clause-j_lt_r
 grow-requires-clause-j_lt_r c =
     let h = fine (goal.at.grow-requires-clause-j_lt_r c).Start in
     let f = found (goal.at.grow-requires-clause-j_lt_r c).After-first_row in
-    (omega (arith, ap (λ o. unwrap_or o c.args.r) c.in-Some.is), h.most, h.few, points_long c.requires.points_given, c.requires.drawn_up.pivot_rows.long_rows)
+    (omega (arith, ap (λ o. unwrap_or o c.args.before.now.r) c.in-Some.is), h.most, h.few, points_long c.requires.points_given, c.requires.drawn_up.pivot_rows.long_rows)
 
 pub grow-requires-clause-standard_len : goal.grow-requires-clause-standard_len
 grow-requires-clause-standard_len c =
@@ -80,10 +80,10 @@ grow-requires-clause-below c =
 pub grow-requires-clause-pivots_len : goal.grow-requires-clause-pivots_len
 grow-requires-clause-pivots_len c = (c.requires.drawn_up.pivot_rows.long_pivots, (fine (goal.at.grow-requires-clause-pivots_len c).Start).within)
 
-pub grow-requires-clause-by_index : goal.grow-requires-clause-by_index
-grow-requires-clause-by_index c = (fine (goal.at.grow-requires-clause-by_index c).Start).exponents
+pub grow-requires-clause-leads_below : goal.grow-requires-clause-leads_below
+grow-requires-clause-leads_below c = (fine (goal.at.grow-requires-clause-leads_below c).Start).exponents
 
 pub returns : goal.returns
 returns c =
     added c.requires.points_given c.requires.drawn_up c.requires.n_bound c.requires.new_point _ c.values_at.ensures _
-    (sym (ap (λ o. unwrap_or o c.args.r) c.in-Some.is) ∙ c.first_row.ensures) _ _ _ _ c.grow.ensures.new_standard_after c.grow.ensures.new_coefficients_after
+    (sym (ap (λ o. unwrap_or o c.args.before.now.r) c.in-Some.is) ∙ c.first_row.ensures) _ _ _ _ c.grow.ensures.new_standard_after c.grow.ensures.new_coefficients_after

@@ -29,12 +29,12 @@ range c = modulus_range c.args.settings.modulus c.requires.accepted.0.modulus
 
 -- the lead of row j, and its coefficients
 module _ (c : After-copy) where
-  lead_is : get_or c.rows.result.now c.args.j [] ≡ row_at 8 c.args.j c.args.leads.now
-  lead_is = ap (λ (rows : List (List ℕ)). get_or rows c.args.j []) c.rows.ensures.value ∙ groups_at 8 c.args.r c.args.j c.args.leads.now [] c.requires.j_lt_r.0
+  lead_is : get_or c.rows.result.now c.args.j [] ≡ row_at 8 c.args.j c.args.before.now.leads.now
+  lead_is = ap (λ (rows : List (List ℕ)). get_or rows c.args.j []) c.rows.ensures.value ∙ groups_at 8 c.args.before.now.r c.args.j c.args.before.now.leads.now [] c.requires.j_lt_r.0
 
-  gone_is : c.copy.new.to ≡ row_at 64 c.args.j c.args.coefficients.now
+  gone_is : c.copy.new.to ≡ row_at 64 c.args.j c.args.before.now.coefficients.now
   gone_is =
-      let t = c.args.coefficients.now in
+      let t = c.args.before.now.coefficients.now in
       let d : 64 * c.args.j + 64 - 64 * c.args.j ≡ 64 = omega arith in
       c.copy.ensures ∙ ap (λ (k : ℕ). over (take k (drop (64 * c.args.j) t)) (replicate 64 0)) d
       ∙ over_all (row_at 64 c.args.j t) (replicate 64 0) (length-take-le 64 (drop (64 * c.args.j) t) (simp length-drop (omega (arith, c.requires.j_lt_r, c.requires.standard_len))))
@@ -42,19 +42,19 @@ module _ (c : After-copy) where
   gone_below : Below c.args.settings.modulus c.copy.new.to
   gone_below =
       let p = c.args.settings.modulus in
-      let t = c.args.coefficients.now in
+      let t = c.args.before.now.coefficients.now in
       subst (Below p) (sym gone_is) (below_take p 64 (drop (64 * c.args.j) t) (below_drop p (64 * c.args.j) t c.requires.below.1))
 
 -- the inverse of its value, and its place among the standard monomials
 module _ (c : After-put_under-place) where
-  old : c.copy-2.new.to ≡ c.args.standard.now
-  old = c.copy-2.ensures ∙ over_all c.args.standard.now c.args.new_standard.now (c.requires.standard_len.0 ∙ sym (zeros_long _ 512 c.requires.new_standard_value.0))
+  old : c.copy-2.new.to ≡ c.args.before.now.standard.now
+  old = c.copy-2.ensures ∙ over_all c.args.before.now.standard.now c.args.new_standard.now (c.requires.standard_len.0 ∙ sym (zeros_long _ 512 c.requires.new_standard_value.0))
 
-  place_is : c.put_under-place.result ≡ place_of (cmp (order_under c.args.settings)) (get_or c.rows.result.now c.args.j []) (groups 8 c.args.n c.args.standard.now)
-  place_is = c.put_under-place.ensures.value ∙ ap (λ (t : List ℕ). place_of (cmp (order_under c.args.settings)) (get_or c.rows.result.now c.args.j []) (groups 8 c.args.n t)) old
+  place_is : c.put_under-place.result ≡ place_of (cmp (order_under c.args.settings)) (get_or c.rows.result.now c.args.j []) (groups 8 c.args.before.now.n c.args.before.now.standard.now)
+  place_is = c.put_under-place.ensures.value ∙ ap (λ (t : List ℕ). place_of (cmp (order_under c.args.settings)) (get_or c.rows.result.now c.args.j []) (groups 8 c.args.before.now.n t)) old
 
-  within : c.put_under-place.result ≤ c.args.n
-  within = omega (arith, place_is, place_within (cmp (order_under c.args.settings)) (get_or c.rows.result.now c.args.j []) c.args.standard.now c.args.n)
+  within : c.put_under-place.result ≤ c.args.before.now.n
+  within = omega (arith, place_is, place_within (cmp (order_under c.args.settings)) (get_or c.rows.result.now c.args.j []) c.args.before.now.standard.now c.args.before.now.n)
 
 pub overflow_cast-p : goal.overflow_cast-p
 overflow_cast-p c = omega (arith, range (goal.at.overflow_cast-p c).Start)
@@ -81,21 +81,21 @@ invariant_of-addition-clause-residues c =
 pub add_products-requires-clause-lead_below : goal.add_products-requires-clause-lead_below
 add_products-requires-clause-lead_below c =
     subst (λ (l : List ℕ). (v : ℕ) → get_or l v 0 < 255) (sym (lead_is (goal.at.add_products-requires-clause-lead_below c).After-copy))
-    (part_small 255 8 (8 * c.args.j) c.args.leads.now (omega arith) c.requires.by_index)
+    (part_small 255 8 (8 * c.args.j) c.args.before.now.leads.now (omega arith) c.requires.leads_below)
 
 pub returns-clause-new_standard_after : goal.returns-clause-new_standard_after
 unfolding standard_grown
 returns-clause-new_standard_after c =
     let s = c.args in
     let d = (goal.at.returns-clause-new_standard_after c).After-put_under-place in
-    c.put_under-place.ensures.table_after ∙ ap₂ (λ (i : ℕ) (t : List ℕ). with_row_at 8 s.n i (get_or c.rows.result.now s.j []) t) (place_is d) (old d)
-    ∙ ap (standard_grown (order_under s.settings) s.n s.standard.now) (lead_is (goal.at.returns-clause-new_standard_after c).After-copy)
+    c.put_under-place.ensures.table_after ∙ ap₂ (λ (i : ℕ) (t : List ℕ). with_row_at 8 s.before.now.n i (get_or c.rows.result.now s.j []) t) (place_is d) (old d)
+    ∙ ap (standard_grown (order_under s.settings) s.before.now.n s.before.now.standard.now) (lead_is (goal.at.returns-clause-new_standard_after c).After-copy)
 
 pub returns-clause-new_coefficients_after : goal.returns-clause-new_coefficients_after
 returns-clause-new_coefficients_after c =
     let s = c.args in
     let w = (goal.at.returns-clause-new_coefficients_after c).After-copy in
     let d = (goal.at.returns-clause-new_coefficients_after c).After-put_under-place in
-    grown_by_lem s.settings.modulus s.settings.variables (order_under s.settings) s.n s.r s.points.now s.standard.now s.leads.now s.coefficients.now s.rows.now s.pivots.now s.point.now s.values.now s.j
+    grown_by_lem s.settings.modulus s.settings.variables (order_under s.settings) s.before.now.n s.before.now.r s.before.now.points.now s.before.now.standard.now s.before.now.leads.now s.before.now.coefficients.now s.before.now.rows.now s.before.now.pivots.now s.point.now s.values.now s.j
     _ _ _ _ _ _ (lead_is w) (gone_is w) (place_is d) (c.inverse-inverse.ensures ∙ ap (inverse_of s.settings.modulus) c.row_value.ensures)
     c.keep_others.ensures.new_leads_after c.keep_others.ensures.new_coefficients_after c.add_products.ensures
