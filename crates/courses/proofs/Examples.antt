@@ -16,6 +16,7 @@ use Rattle.specification.specs.Counted.{place_in, entered, entered_all, gathered
 use Rattle.specification.specs.Extension.{slot, minus, without, divided, extended, gap, first, newton, grow}
 use Rattle.specification.specs.BasisOf.{basis_of, value_at}
 use Rattle.specification.specs.Instance.{monomial_of, point_of}
+use Rattle.std.specs.Prelude.{Some}
 use Rattle.courses.specs.TimeCourse.{Timed, in_runs, course_of, moves_from, moves_of, points_of_moves, first_move, other_next, many_points, often_counted}
 use Rattle.courses.specs.TimeCourse.{moves_cases, course_cases, course_refusal, successor_of, gene_of, genes_of, value_of, step, times, return_at, run_from}
 use Rattle.courses.specs.TimeCourse.{return_of, course_return}
@@ -36,14 +37,14 @@ unfolding points_of_moves gathered entered_all entered moves_of moves_from same_
 points = refl
 
 -- from 3 the run is 3 0 1 0: step 3, 2 back; from 4 it is 4 3 0 1 0: step 4, 2 back
-runs_back : (course_return lex_five 7 l ≡ return_at 3 2) × (course_return lex_five 8 l ≡ return_at 4 2)
+runs_back : (course_return lex_five 7 l ≡ Some (return_at 3 2)) × (course_return lex_five 8 l ≡ Some (return_at 4 2))
 unfolding course_return course_of moves_of moves_from points_of_moves gathered entered_all entered successor_of gene_of genes_of value_of step times run_from return_of
     is_among place_in primes is_one_of is_modulus inverse_below inverse_of order_of cmp fill same_list slot minus without divided extended gap first newton grow basis_of
     value_at monomial_of point_of
 runs_back = (refl, refl)
 
 -- no points: every interpolant is 0, so from 3 the run is 3 0 0, and from 0 it is 0 0
-no_points : (course_return lex_five 1 (at 3 1 ∷ []) ≡ return_at 2 1) × (course_return lex_five 1 (at 0 1 ∷ []) ≡ return_at 1 1)
+no_points : (course_return lex_five 1 (at 3 1 ∷ []) ≡ Some (return_at 2 1)) × (course_return lex_five 1 (at 0 1 ∷ []) ≡ Some (return_at 1 1))
 unfolding course_return course_of moves_of moves_from points_of_moves gathered entered_all successor_of gene_of genes_of value_of step times run_from return_of is_among
     place_in primes is_one_of is_modulus inverse_below inverse_of order_of cmp fill same_list basis_of value_at monomial_of point_of
 no_points = (refl, refl)

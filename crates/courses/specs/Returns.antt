@@ -1,5 +1,5 @@
 -- What the run of a time course answers, said and not computed (document 02, M-111).
-use Rattle.std.specs.Prelude.{◌≡◌, ◌≢◌, List, ℕ, ◌-◌, ◌≤◌, ◌<◌}
+use Rattle.std.specs.Prelude.{◌≡◌, ◌≢◌, Option, Some, None, List, ℕ, ◌-◌, ◌≤◌, ◌<◌}
 use Rattle.courses.specs.declared.returns.Return.{Return}
 use Rattle.courses.specs.TimeCourse.{times, return_at}
 
@@ -16,6 +16,6 @@ module _ (f : List ℕ → List ℕ) (P : List ℕ) where
     pub again : times k f P ≡ times (k - d) f P
     pub first : NoneBefore k
 
-  pub data Ends (most : ℕ) : Return → Type 0 where
-    comes : (k d : ℕ) → FirstReturn most k d → Ends most (return_at k d)
-    never : ((i j : ℕ) → i < j → j ≤ most → times i f P ≢ times j f P) → Ends most (return_at 0 0)
+  pub data Ends (most : ℕ) : Option Return → Type 0 where
+    comes : (k d : ℕ) → FirstReturn most k d → Ends most (Some (return_at k d))
+    never : ((i j : ℕ) → i < j → j ≤ most → times i f P ≢ times j f P) → Ends most None

@@ -1,5 +1,5 @@
 -- Running a time course forward (request M-111), over records that have been read: no bytes and no text here.
-use Rattle.std.specs.Prelude.{Bool, true, not, cond, ◌&&◌, ◌||◌, List, [], ◌∷◌, ◌++◌, map, ℕ, zero, suc, ◌%◌, ◌-◌, length, get_or, eqb, ltb}
+use Rattle.std.specs.Prelude.{Bool, true, not, cond, Option, Some, None, unwrap_or, ◌&&◌, ◌||◌, List, [], ◌∷◌, ◌++◌, map, ℕ, zero, suc, ◌%◌, ◌-◌, length, get_or, eqb, ltb}
 use Rattle.residue.specs.Lists.{some, same_list}
 use Rattle.residue.specs.Layout.{fill, in_places, over}
 use Rattle.specification.specs.declared.settings.Settings.{Settings}
@@ -110,22 +110,26 @@ unfoldable pub times : ℕ → (List ℕ → List ℕ) → List ℕ → List ℕ
 times zero f P = P
 times (suc k) f P = f (times k f P)
 
--- 'that step with the distance back to the earlier visit, or that none came': 0 and 0
+-- 'that step with the distance back to the earlier visit'
 abbrev pub return_at : ℕ → ℕ → Return
 return_at k d = record { step = k; back = d }
 
+-- 'or that none came', which the two numbers say as 0 and 0
+abbrev pub told_return : Option Return → Return
+told_return o = unwrap_or o (return_at 0 0)
+
 -- The run: `left` steps are left, k are made, the state is P, and `earlier` are those met before it, the latest first. It
 -- 'stops at the first that gives a state met before'.
-unfoldable pub run_from : (List ℕ → List ℕ) → ℕ → ℕ → List ℕ → List (List ℕ) → Return
-run_from f zero k P earlier = return_at 0 0
+unfoldable pub run_from : (List ℕ → List ℕ) → ℕ → ℕ → List ℕ → List (List ℕ) → Option Return
+run_from f zero k P earlier = None
 run_from f (suc left) k P earlier =
-    cond (is_among (f P) (P ∷ earlier)) (return_at (suc k) (suc (place_in (f P) (P ∷ earlier)))) (run_from f left (suc k) (f P) (P ∷ earlier))
+    cond (is_among (f P) (P ∷ earlier)) (Some (return_at (suc k) (suc (place_in (f P) (P ∷ earlier))))) (run_from f left (suc k) (f P) (P ∷ earlier))
 
 -- 'From the first state of the course the caller names, the model is run up to 256 steps'
-unfoldable pub return_of : (List ℕ → List ℕ) → List ℕ → Return
+unfoldable pub return_of : (List ℕ → List ℕ) → List ℕ → Option Return
 return_of f P = run_from f 256 0 P []
 
-unfoldable pub course_return : Settings → ℕ → List Timed → Return
+unfoldable pub course_return : Settings → ℕ → List Timed → Option Return
 course_return s c l = return_of (step s (moves_of l)) (get_or (course_of c l) 0 [])
 
 -- what an accepted call leaves: the points' sheet in the lent tables, and 'the interpolants (512 bytes, gene g's from byte 64 times (g-1), the rest 0)'

@@ -1,6 +1,6 @@
 // How a run ends.
 
-// The step that first gave a state met before, and how many steps back that was; 0 and 0 where none did.
+// The step that first gave a state met before, and how many steps back that was.
 #[derive(Drop)]
 pub struct Return {
     pub step: u16,

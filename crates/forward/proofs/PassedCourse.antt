@@ -30,7 +30,7 @@ use Rattle.comma_text.specs.reading.Text.{further, first_fault, first_after, is_
 use Rattle.comma_text.proofs.reading.TextCases.{passed}
 use Rattle.comma_text.proofs.reading.FirstPlaces.{fault_step}
 use Rattle.comma_text.proofs.reading.AcceptedPoints.{in_small, or_small, all_long, all_some}
-use Rattle.courses.specs.TimeCourse.{Timed, in_runs, course_of, moves_of, points_of_moves, moves_cases, course_cases, course_refusal, step, times}
+use Rattle.courses.specs.TimeCourse.{Timed, in_runs, course_of, moves_of, points_of_moves, moves_cases, course_cases, course_refusal, step, times, told_return, course_return}
 use Rattle.courses.specs.Returns.{Ends}
 use Rattle.courses.proofs.theory.Forward.{course_leaves, forward, return_ends}
 use Rattle.course_text.specs.Form.{course_fault, course_form_fault, all_timed, first_state_outside}
@@ -163,7 +163,10 @@ module _ (text : List ℕ) (c : ℕ) (u : Tables) (genes weights : List ℕ) whe
         (course_leaves under taken.settings c records taken.each taken.zero u)
 
     -- the step and the distance back are the first return of the run, or none came
-    pub course_ends : Ends (step under (moves_of records)) (get_or (course_of c records) 0 []) 256 (record { step = o.answer.step; back = o.answer.back })
+    pub course_ends : (r : _) × (record { step = o.answer.step; back = o.answer.back } ≡ told_return r) × Ends (step under (moves_of records)) (get_or (course_of c records) 0 []) 256 r
     unfolding course_accepted
-    course_ends = subst (λ (x : CourseOutcome). Ends (step under (moves_of records)) (get_or (course_of c records) 0 []) 256 (record { step = x.answer.step; back = x.answer.back }))
-        (sym accepted_is) (return_ends under taken.settings c records taken.each taken.zero)
+    course_ends = (
+      course_return under c records,
+      ap (λ (x : CourseOutcome). record { step = x.answer.step; back = x.answer.back }) accepted_is,
+      return_ends under taken.settings c records taken.each taken.zero,
+    )

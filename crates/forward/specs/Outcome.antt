@@ -7,7 +7,7 @@ use Rattle.specification.specs.Tables.{Tables, five_tables, too_short}
 use Rattle.notation.specs.Fields.{records_of}
 use Rattle.comma_text.specs.declared.reading.Refusal.{Refusal}
 use Rattle.comma_text.specs.reading.Text.{header_in, no_header, Contents, contents_of, refusal_at, not_refused, broken_at, TextCase, settings_by, header_cases, entry_case}
-use Rattle.courses.specs.TimeCourse.{Timed, course_cases, course_return, course_sheet, course_model}
+use Rattle.courses.specs.TimeCourse.{Timed, course_cases, told_return, course_return, course_sheet, course_model}
 use Rattle.course_text.specs.Form.{course_form_fault, all_timed, first_state_outside}
 use Rattle.forward.specs.declared.running.Course.{Course}
 
@@ -48,7 +48,7 @@ course_accepted e c t interpolants weights =
     let s = settings_by e.header in
     let l = timed_by e in
     let sheet = course_sheet s l t in
-    let back = course_return s c l in
+    let back = told_return (course_return s c l) in
     record {
       answer = record {
         refusal = 0;

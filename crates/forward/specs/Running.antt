@@ -12,7 +12,7 @@ use Rattle.points.specs.Gathering.{TabledAs}
 use Rattle.comma_text.specs.reading.Text.{Contents, TextCase, not_refused, settings_by, header_cases, entry_case}
 use Rattle.comma_text.specs.reading.Points.{saying}
 use Rattle.courses.specs.declared.returns.Return.{Return}
-use Rattle.courses.specs.TimeCourse.{Timed, course_of, moves_of, points_of_moves, course_refusal, return_of}
+use Rattle.courses.specs.TimeCourse.{Timed, course_of, moves_of, points_of_moves, course_refusal, told_return, return_of}
 use Rattle.courses.specs.Moves.{FirstsOf}
 use Rattle.steps.specs.Stepping.{solutions_of, step_of}
 use Rattle.course_text.specs.Form.{first_state_outside}
@@ -45,7 +45,7 @@ genes_in s n S records firsts = let kept = pivots_of s S in
 -- the run from the state of a record
 abbrev pub return_in : Settings → ℕ → List (List ℕ) → List ℕ → List ℕ → ℕ → Return
 return_in s n S records firsts first =
-    return_of (step_of s.modulus s.variables n (standard_table s S) (genes_in s n S records firsts)) (row_at 8 first records)
+    told_return (return_of (step_of s.modulus s.variables n (standard_table s S) (genes_in s n S records firsts)) (row_at 8 first records))
 
 -- `write_course`, of n points in a table with their counts
 pub record CourseWritten (s : Settings) (n first : ℕ) (records firsts points times : List ℕ) (lent : Tables) (buffer : List ℕ) (r : Course) (left : Tables)

@@ -17,6 +17,7 @@ use comma_text::reading::records::{Entries, HeaderAt, read_header};
 use comma_text::reading::settings_refusal;
 use course_text::reading::{check_courses, read_records};
 use courses::moves::{first_of_course, gather_moves};
+use courses::returns::Return;
 use recognition::settings::too_short;
 use residue::{bytes, sizes};
 use specification::settings::Settings;
@@ -170,7 +171,8 @@ fn write_course(
         &standard[..sizes::STANDARD],
         &interpolants[..GENES],
         &records[from..from + 8],
-    );
+    )
+    .unwrap_or(Return { step: 0, back: 0 });
     Course {
         refusal: 0,
         at: 0,

@@ -8,6 +8,8 @@ use native.Mathlib.Decide.{ℕ_discrete}
 use borrow.Author.Tests.{eq-eqb, ne_eqb}
 use Rattle.residue.proofs.level.Moduli.{modulus_range}
 use Rattle.specification.specs.Tables.{Tables}
+use Rattle.std.specs.Prelude.{Option}
+use Rattle.courses.specs.TimeCourse.{told_return}
 use Rattle.courses.specs.Returns.{Ends, comes, never}
 use Rattle.courses.specs.declared.returns.Return.{Return}
 use Rattle.forward.specs.declared.running.Course.{Course}
@@ -18,7 +20,7 @@ use Rattle.misqafur.specs.Unpacking.{refusal_from, points_from, fault_from, modu
 use Rattle.misqafur.proofs.Unpacked.{few_held}
 
 -- a return within 256 steps
-ends_few : {f : List ℕ → List ℕ} {P : List ℕ} (r : Return) → Ends f P 256 r → (r.step ≤ 256) × (r.back ≤ 256)
+ends_few : {f : List ℕ → List ℕ} {P : List ℕ} (r : Option Return) → Ends f P 256 r → ((told_return r).step ≤ 256) × ((told_return r).back ≤ 256)
 ends_few r (comes k d h) = (h.soon, omega (arith, h.within, h.soon))
 ends_few r (never n) = (omega arith, omega arith)
 
@@ -51,7 +53,8 @@ module _ (text : List ℕ) (c : ℕ) (u : Tables) (genes weights : List ℕ) whe
       go (yes z) =
           let s = settings_few z in
           let h = few_held (course_holds text c u genes weights z) in
-          let e = ends_few _ (course_ends text c u genes weights z) in
+          let t = course_ends text c u genes weights z in
+          let e : (a.step ≤ 256) × (a.back ≤ 256) = subst (λ (x : Return). (x.step ≤ 256) × (x.back ≤ 256)) (sym t.1) (ends_few t.0 t.2) in
           record {
             n = omega (arith, h.0);
             modulus = omega (arith, s.0);

@@ -33,6 +33,7 @@ use Rattle.construction.specs.Drawing.{Solves}
 use Rattle.points.proofs.places.PointPlaces.{place_filled}
 use Rattle.interpolation.specs.Solving.{solution}
 use Rattle.interpolation.proofs.Interpolants.{length_interpolant, solution_is}
+use Rattle.std.specs.Prelude.{Some}
 use Rattle.courses.specs.TimeCourse.{Timed, Move, moves_of, points_of_moves, successor_of, gene_of, genes_of, value_of, step, return_at, run_from, return_of, course_model}
 use Rattle.steps.specs.Stepping.{next_values, solutions_of, values_at, step_of}
 use Rattle.courses.proofs.theory.Answer.{genes_length, gene_at, step_point}
@@ -49,10 +50,10 @@ module _ (f g : List ℕ → List ℕ) (m : ℕ) (fits : m ≤ 8) (X : List ℕ 
       let each : (Q : List ℕ) → Among Q met → X Q = λ Q q. elim q [ inl e ↦ subst X (sym e) x | inr w ↦ h Q w ] in
       let lengths : (Q : List ℕ) → Among Q met → length Q ≡ m = λ Q q. long Q (each Q q) in
       let own = long (f P) (onward P x) in
-      ap (λ (Q : List ℕ). cond (is_among Q (map (fill 8) met)) (return_at (suc k) (suc (place_in Q (map (fill 8) met)))) (run_from g left (suc k) Q (map (fill 8) met))) (same P x)
-      ∙ ap₂ (λ (b : Bool) (i : ℕ). cond b (return_at (suc k) (suc i)) (run_from g left (suc k) (fill 8 (f P)) (map (fill 8) met)))
+      ap (λ (Q : List ℕ). cond (is_among Q (map (fill 8) met)) (Some (return_at (suc k) (suc (place_in Q (map (fill 8) met))))) (run_from g left (suc k) Q (map (fill 8) met))) (same P x)
+      ∙ ap₂ (λ (b : Bool) (i : ℕ). cond b (Some (return_at (suc k) (suc i))) (run_from g left (suc k) (fill 8 (f P)) (map (fill 8) met)))
       (among_filled 8 m fits (f P) met own lengths) (place_filled 8 m fits (f P) met own lengths)
-      ∙ ap (cond (is_among (f P) met) (return_at (suc k) (suc (place_in (f P) met)))) (run_filled left (suc k) (f P) met (onward P x) each)
+      ∙ ap (cond (is_among (f P) met) (Some (return_at (suc k) (suc (place_in (f P) met))))) (run_filled left (suc k) (f P) met (onward P x) each)
 
   pub return_filled : (P : List ℕ) → X P → return_of g (fill 8 P) ≡ return_of f P
   unfolding return_of

@@ -18,8 +18,8 @@ fn put_next(g: usize, n: usize, records: &[u8], firsts: &[u16], values: &mut [u8
     requires by_index { (j : ℕ) → j < n → 8 * get_or firsts.now j 0 + 16 ≤ length records.now }
     ensures { values.new ≡ over (next_values g records.now (take n firsts.now)) values.old }
 {
-    for j in 0..n {
-        values[j] = records[8 * (firsts[j] as usize + 1) + g];
+    for (j, first) in firsts[..n].iter().enumerate() {
+        values[j] = records[8 * (usize::from(*first) + 1) + g];
     }
 }
 

@@ -16,19 +16,15 @@ const MET: usize = 2056;
 fn above(a: &[u8]) -> usize
     ensures { (result ≤ 256) × ((i : ℕ) → i < length a.now → get_or a.now i 0 < result) }
 {
-    let mut largest = 0;
-    for i in 0..a.len() {
-        let x = a[i] as usize;
-        if largest < x {
-            largest = x;
-        }
+    match a.iter().max() {
+        Some(largest) => usize::from(*largest) + 1,
+        None => 1,
     }
-    largest + 1
 }
 
 // At most 256 steps of the model of m genes over n standard monomials. The states met stand from the end of their table to its front, so that a search meets
 // the latest first.
-pub fn run(p: u8, m: usize, n: usize, standard: &[u8], genes: &[u8], start: &[u8]) -> Return
+pub fn run(p: u8, m: usize, n: usize, standard: &[u8], genes: &[u8], start: &[u8]) -> Option<Return>
     requires le_p { (2 ≤ p) × (p ≤ 61) × (m ≤ 8) × (n ≤ 64) }
     requires in_bounds { (512 ≤ length standard.now) × (512 ≤ length genes.now) × Below p genes.now }
     requires start_len { (length start.now ≡ 8) × Below p start.now }
@@ -52,12 +48,12 @@ pub fn run(p: u8, m: usize, n: usize, standard: &[u8], genes: &[u8], start: &[u8
         );
         let at = place_of(k + 1, &met[from..], &next);
         if at <= k {
-            return Return {
+            return Some(Return {
                 step: k as u16 + 1,
                 back: at as u16 + 1,
-            };
+            });
         }
         copy(&next, &mut met[from - 8..from]);
     }
-    Return { step: 0, back: 0 }
+    None
 }

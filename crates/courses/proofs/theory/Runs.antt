@@ -14,6 +14,7 @@ use Rattle.specification.specs.Counted.{place_in}
 use Rattle.specification.proofs.Repeats.{among_is, is_among_lem}
 use Rattle.specification.proofs.needed.Decided.{lists_told}
 use Rattle.courses.specs.TimeCourse.{times, return_at, run_from, return_of}
+use Rattle.std.specs.Prelude.{Some}
 use Rattle.courses.specs.Returns.{NoneBefore, FirstReturn, Ends, comes, never}
 
 module _ (f : List ℕ → List ℕ) (P : List ℕ) where
@@ -83,8 +84,8 @@ module _ (f : List ℕ → List ℕ) (P : List ℕ) where
 
       go : (b : Bool) → is_among (f Q) (Q ∷ earlier) ≡ b
           → (¬ Among (times (suc k) f P) (trail k) → Ends f P (left + suc k) (run_from f left (suc k) (f Q) (Q ∷ earlier)))
-          → Ends f P (suc left + k) (cond b (return_at (suc k) (suc (place_in (f Q) (Q ∷ earlier)))) (run_from f left (suc k) (f Q) (Q ∷ earlier)))
-      go true g rec = subst (λ (l : List (List ℕ)). Ends f P (suc left + k) (return_at (suc k) (suc (place_in (f Q) l)))) (sym t)
+          → Ends f P (suc left + k) (cond b (Some (return_at (suc k) (suc (place_in (f Q) (Q ∷ earlier))))) (run_from f left (suc k) (f Q) (Q ∷ earlier)))
+      go true g rec = subst (λ (l : List (List ℕ)). Ends f P (suc left + k) (Some (return_at (suc k) (suc (place_in (f Q) l))))) (sym t)
           (comes (suc k) (suc (place_in (f Q) (trail k))) (back (subst (Among (f Q)) t (among_is (f Q) (Q ∷ earlier) (of_true g)))))
       go false g rec = subst (λ (n : ℕ). Ends f P n (run_from f left (suc k) (f Q) (Q ∷ earlier))) (omega arith)
           (rec (λ mem. subst T g (is_among_lem (f Q) (Q ∷ earlier)

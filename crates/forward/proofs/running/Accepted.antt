@@ -26,7 +26,7 @@ use Rattle.construction.proofs.drawing.Given.{table_points}
 use Rattle.points.specs.Gathering.{count_byte, TabledAs}
 use Rattle.basis.proofs.drawing.Outcomes.{tabled_given, tabled_done}
 use Rattle.courses.specs.declared.returns.Return.{Return}
-use Rattle.courses.specs.TimeCourse.{Timed, course_of, Move, moves_of, points_of_moves, successor_of, genes_of, course_refusal, course_return, course_sheet, course_model, return_of}
+use Rattle.courses.specs.TimeCourse.{Timed, course_of, Move, moves_of, points_of_moves, successor_of, genes_of, course_refusal, told_return, course_return, course_sheet, course_model, return_of}
 use Rattle.courses.specs.Moves.{FirstsOf}
 use Rattle.steps.specs.Stepping.{step_of}
 use Rattle.steps.proofs.model.ModelLaws.{next_below}
@@ -115,20 +115,20 @@ module _ (s : Settings) (ok : Accepted s) (c : ℕ) (l : List Timed) (each : (a 
         table = ap (λ (G : List (List ℕ)). fill 512 (in_places 64 G))
             (genes_are s ok ms entries.points (pivots_of s S).rows (pivots_of s S).pivots records firsts solved followed s.variables (omega arith))
 
-        return_is : record { step = r.step; back = r.back } ≡ course_return s c l
+        return_is : record { step = r.step; back = r.back } ≡ told_return (course_return s c l)
         unfolding course_return
         return_is =
             w.back ∙ ap₂ (λ (k : ℕ) (K : List (List ℕ)). return_in s k K records firsts first) many back
-            ∙ ap (λ (P : List ℕ). return_of (step_of s.modulus s.variables (length S) (standard_table s S) (genes_in s (length S) S records firsts)) P) row
-            ∙ run_bytes s ok ms entries.points (genes_in s (length S) S records firsts) table (get_or (course_of c l) 0 [])
-            (first_state (IsPoint s) c l each (passes c l zero).named)
+            ∙ ap (λ (P : List ℕ). told_return (return_of (step_of s.modulus s.variables (length S) (standard_table s S) (genes_in s (length S) S records firsts)) P)) row
+            ∙ ap told_return (run_bytes s ok ms entries.points (genes_in s (length S) S records firsts) table (get_or (course_of c l) 0 [])
+            (first_state (IsPoint s) c l each (passes c l zero).named))
 
         -- the answer
-        pub answer_is : let o = course_sheet s l t in let b = course_return s c l in
+        pub answer_is : let o = course_sheet s l t in let b = told_return (course_return s c l) in
             r ≡ record { refusal = 0; at = 0; modulus = s.modulus; variables = s.variables; order = s.order; n = o.answer.n; r = o.answer.r; step = b.step; back = b.back }
         answer_is =
             let o = course_sheet s l t in
-            let b = course_return s c l in
+            let b = told_return (course_return s c l) in
             let q = w.settings in
             rw (
               q.0,

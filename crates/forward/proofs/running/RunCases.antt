@@ -14,7 +14,7 @@ use Rattle.comma_text.specs.declared.reading.Refusal.{Refusal}
 use Rattle.comma_text.specs.reading.Text.{TextCase, not_refused, refusal_at, header_cases, entry_case}
 use Rattle.comma_text.specs.reading.Points.{levels_at, saying}
 use Rattle.comma_text.proofs.reading.TextCases.{Allowed, room, settings_over, first_of_both, place_refuses, place_passes}
-use Rattle.courses.specs.TimeCourse.{Timed, course_cases, course_refusal, course_return, course_sheet, course_model}
+use Rattle.courses.specs.TimeCourse.{Timed, course_cases, course_refusal, told_return, course_return, course_sheet, course_model}
 use Rattle.forward.specs.declared.running.Course.{Course}
 use Rattle.course_text.specs.Form.{all_timed, first_state_outside}
 use Rattle.forward.specs.Outcome.{timed_by, records_cases, refused_course, course_accepted, course_refused, course_decided}
@@ -87,7 +87,7 @@ module _ (s : Settings) (l : List ℕ) (c : ℕ) (short : Bool) where
       go false q y = none y
 
   -- what is written of records that nothing refuses
-  pub run_written : (t : Tables) (buffer : List ℕ) {r : Course} {left : Tables} {genes : List ℕ} → let o = course_sheet s records t in let b = course_return s c records in
+  pub run_written : (t : Tables) (buffer : List ℕ) {r : Course} {left : Tables} {genes : List ℕ} → let o = course_sheet s records t in let b = told_return (course_return s c records) in
       r ≡ record { refusal = 0; at = 0; modulus = s.modulus; variables = s.variables; order = s.order; n = o.answer.n; r = o.answer.r; step = b.step; back = b.back }
       → left ≡ o.tables → genes ≡ course_model s records buffer
       → record { answer = r; tables = left; interpolants = genes } ≡ without_weights (course_accepted (saying s l) c t buffer [])

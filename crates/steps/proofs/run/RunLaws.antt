@@ -4,9 +4,8 @@ use mathlib.Core.Bool.{Bool, true, false, cond}
 use mathlib.Core.List.{List, [], ◌++◌}
 use Prim.Native.Nat.{ℕ, suc, ◌+◌, ◌*◌, ◌-◌, ◌<◌, ◌≤◌}
 use native.Mathlib.Numerals.{add-one}
-use native.Mathlib.Decide.{dec_lt}
 use native.Mathlib.Omega.{arith}
-use lib.ListN.{length, get_or, take, drop, length-append, length-drop}
+use lib.ListN.{length, take, drop, length-append, length-drop}
 use lib.Seq.{length-take-le, take_at, drop_at, drop-drop, take_all}
 use lib.Dec.{ltb}
 use borrow.Author.Tests.{lt-ltb, le-ltb}
@@ -19,15 +18,8 @@ use Rattle.residue.proofs.vector.Vectors.{below_take, below_drop, below_append}
 use Rattle.specification.specs.Levels.{is_among}
 use Rattle.specification.specs.Counted.{place_in}
 use Rattle.points.proofs.places.PointPlaces.{among_place}
+use Rattle.std.specs.Prelude.{Some, None}
 use Rattle.courses.specs.TimeCourse.{return_at, run_from, return_of}
-
--- a bound of the first i entries and one more
-pub raised_bound : (a : List ℕ) (i x : ℕ) → ((j : ℕ) → j < i → get_or a j 0 ≤ x) → (y : ℕ) → x ≤ y → get_or a i 0 ≤ y → (j : ℕ) → j < i + 1 → get_or a j 0 ≤ y
-raised_bound a i x h y l k j d = go (dec_lt j i)
-  where
-    go : Dec (j < i) → get_or a j 0 ≤ y
-    go (yes e) = omega (arith, h j e)
-    go (no e) = let z : i ≡ j = omega (arith, e) in subst (λ (n : ℕ). get_or a n 0 ≤ y) z k
 
 -- a state written at a place of a table
 module _ (p at j : ℕ) (t Q part : List ℕ) (room : at + 8 ≤ length t) (eight : j ≡ 8) (long : length Q ≡ 8) (put : part ≡ over Q (take j (drop at t))) where
@@ -75,7 +67,7 @@ module _ (f : List ℕ → List ℕ) (start : List ℕ) (p : ℕ) where
   }
 
   module _ (k : ℕ) (met : List ℕ) (r : Running k met) where
-    pub running_end : 256 ≤ k → return_at 0 0 ≡ return_of f start
+    pub running_end : 256 ≤ k → None ≡ return_of f start
     unfolding run_from
     running_end h = let e : 256 - k ≡ 0 = omega arith in
         sym (ap (λ (n : ℕ). run_from f n k (take 8 (drop (8 * (256 - k)) met)) (groups 8 k (drop 8 (drop (8 * (256 - k)) met)))) e) ∙ r.rest
@@ -86,11 +78,11 @@ module _ (f : List ℕ → List ℕ) (start : List ℕ) (p : ℕ) where
       behind = drop (8 * (256 - k)) met
 
       turn : next ≡ f (take 8 behind)
-          → cond (is_among next (groups 8 (suc k) behind)) (return_at (suc k) (suc (place_in next (groups 8 (suc k) behind)))) (run_from f (256 - (k + 1)) (suc k) next (groups 8 (suc k) behind))
+          → cond (is_among next (groups 8 (suc k) behind)) (Some (return_at (suc k) (suc (place_in next (groups 8 (suc k) behind))))) (run_from f (256 - (k + 1)) (suc k) next (groups 8 (suc k) behind))
           ≡ return_of f start
       unfolding run_from groups
       turn e = let n : 256 - k ≡ suc (256 - (k + 1)) = omega arith in
-          ap (λ (Q : List ℕ). cond (is_among Q (groups 8 (suc k) behind)) (return_at (suc k) (suc (place_in Q (groups 8 (suc k) behind)))) (run_from f (256 - (k + 1)) (suc k) Q (groups 8 (suc k) behind))) e
+          ap (λ (Q : List ℕ). cond (is_among Q (groups 8 (suc k) behind)) (Some (return_at (suc k) (suc (place_in Q (groups 8 (suc k) behind))))) (run_from f (256 - (k + 1)) (suc k) Q (groups 8 (suc k) behind))) e
           ∙ sym (ap (λ (left : ℕ). run_from f left k (take 8 behind) (groups 8 k (drop 8 behind))) n)
           ∙ r.rest
 
@@ -109,10 +101,10 @@ module _ (f : List ℕ → List ℕ) (start : List ℕ) (p : ℕ) where
         among_is b t = sym (among_place next (groups 8 (suc k) behind)) ∙ ap₂ ltb (sym placed_at) (length_groups 8 (suc k) behind) ∙ t
 
         -- it gives a state met before
-        pub running_hit : at ≤ k → return_at (k + 1) (at + 1) ≡ return_of f start
+        pub running_hit : at ≤ k → Some (return_at (k + 1) (at + 1)) ≡ return_of f start
         running_hit low =
-            ap₂ return_at (add-one k) (add-one at ∙ ap suc placed_at)
-            ∙ sym (ap (λ (b : Bool). cond b (return_at (suc k) (suc (place_in next (groups 8 (suc k) behind)))) (run_from f (256 - (k + 1)) (suc k) next (groups 8 (suc k) behind)))
+            ap₂ (λ (x y : ℕ). Some (return_at x y)) (add-one k) (add-one at ∙ ap suc placed_at)
+            ∙ sym (ap (λ (b : Bool). cond b (Some (return_at (suc k) (suc (place_in next (groups 8 (suc k) behind))))) (run_from f (256 - (k + 1)) (suc k) next (groups 8 (suc k) behind)))
             (among_is true (lt-ltb at (suc k) (omega arith))))
             ∙ turn e
 
@@ -133,7 +125,7 @@ module _ (f : List ℕ → List ℕ) (start : List ℕ) (p : ℕ) where
                   ∙ ap₂ (λ (Q l : List ℕ). run_from f (256 - (k + 1)) (k + 1) Q (groups 8 (k + 1) l)) (placed_state p place j met next part room eight long put)
                   (placed_behind p place j met next part room eight long put ∙ ap (λ (n : ℕ). drop n met) back)
                   ∙ ap (λ (n : ℕ). run_from f (256 - (k + 1)) n next (groups 8 n behind)) (add-one k)
-                  ∙ sym (ap (λ (b : Bool). cond b (return_at (suc k) (suc (place_in next (groups 8 (suc k) behind)))) (run_from f (256 - (k + 1)) (suc k) next (groups 8 (suc k) behind)))
+                  ∙ sym (ap (λ (b : Bool). cond b (Some (return_at (suc k) (suc (place_in next (groups 8 (suc k) behind))))) (run_from f (256 - (k + 1)) (suc k) next (groups 8 (suc k) behind)))
                   (among_is false (le-ltb at (suc k) (omega arith))))
                   ∙ turn e;
             }

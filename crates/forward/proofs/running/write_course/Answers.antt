@@ -16,12 +16,12 @@ use Rattle.specification.specs.Tables.{Tables, five_tables, points_in, standard_
 use Rattle.specification.specs.Adding.{DrawOutcome, uncosted}
 use Rattle.construction.specs.Drawing.{PivotBytes, Solves}
 use Rattle.construction.proofs.drawing.Given.{given_count}
-use Rattle.courses.specs.TimeCourse.{return_of}
+use Rattle.courses.specs.TimeCourse.{told_return, return_of}
 use Rattle.steps.specs.Stepping.{solutions_of, step_of}
 use Rattle.forward.specs.Running.{sheet_of, pivots_of, genes_in}
 use Rattle.forward.proofs.running.Interpolants.{genes_low}
 use Rattle.forward.proofs.running.write_course.Goals as goal
-use Rattle.forward.proofs.running.write_course.Goals.{After-draw_points-drawn, After-put_model, After-run-back, After-slice_known-12-1, Start}
+use Rattle.forward.proofs.running.write_course.Goals.{After-draw_points-drawn, After-put_model, After-unwrap_or-back, After-slice_known-12-1, Start}
 
 -- a table at the front of a lent one that was written over
 front : (k : ℕ) (a t : List ℕ) → length a ≡ k → take k (over a t) ≡ a
@@ -143,8 +143,8 @@ overflow_add-from c = omega (arith, (start (drawn (modelled (goal.at.overflow_ad
 pub slice_bounds-run-end-5 : goal.slice_bounds-run-end-5
 slice_bounds-run-end-5 c = let b = start (drawn (modelled (goal.at.slice_bounds-run-end-5 c).After-slice_known-12-1)) in omega (arith, b.requires.records_len.0, b.requires.records_len.2)
 
-pub run-back-requires : goal.run-back-requires
-run-back-requires c = let m = modelled (goal.at.run-back-requires c).After-slice_known-12-1 in
+pub run-requires : goal.run-requires
+run-requires c = let m = modelled (goal.at.run-requires c).After-slice_known-12-1 in
     let d = drawn m in
     let b = start d in
     let p : 0 < (s d).modulus = omega (arith, (range d).0) in
@@ -161,30 +161,30 @@ run-back-requires c = let m = modelled (goal.at.run-back-requires c).After-slice
       );
     }
 
-abbrev made : After-run-back → After-put_model
-made c = modelled (goal.at.After-run-back c).After-slice_known-12-1
+abbrev made : After-unwrap_or-back → After-put_model
+made c = modelled (goal.at.After-unwrap_or-back c).After-slice_known-12-1
 
 pub overflow_cast-result : goal.overflow_cast-result
-overflow_cast-result c = omega (arith, (range (drawn (made (goal.at.overflow_cast-result c).After-run-back))).1)
+overflow_cast-result c = omega (arith, (range (drawn (made (goal.at.overflow_cast-result c).After-unwrap_or-back))).1)
 
 pub overflow_cast-result-2 : goal.overflow_cast-result-2
-overflow_cast-result-2 c = omega (arith, (start (drawn (made (goal.at.overflow_cast-result-2 c).After-run-back))).requires.points_given.0.settings.few)
+overflow_cast-result-2 c = omega (arith, (start (drawn (made (goal.at.overflow_cast-result-2 c).After-unwrap_or-back))).requires.points_given.0.settings.few)
 
 pub overflow_cast-result-3 : goal.overflow_cast-result-3
-overflow_cast-result-3 c = omega (arith, (start (drawn (made (goal.at.overflow_cast-result-3 c).After-run-back))).requires.points_given.0.settings.order)
+overflow_cast-result-3 c = omega (arith, (start (drawn (made (goal.at.overflow_cast-result-3 c).After-unwrap_or-back))).requires.points_given.0.settings.order)
 
 pub returns : goal.returns
 returns c = let w = c in
-    let m = made (goal.at.returns w).After-run-back in
+    let m = made (goal.at.returns w).After-unwrap_or-back in
     let d = drawn m in
     let b = start d in record {
       sheet = ap (λ (o : DrawOutcome). sheet_of (uncosted o)) d.draw_points-drawn.ensures.counts_after;
       model = genes_are m;
       back =
-          w.run-back.ensures
-          ∙ ap (λ (k : ℕ). return_of (step_of (s d).modulus (s d).variables (n d) (take 512 (standard d)) (take 512 (genes m))) (take k (drop (8 * b.args.first) b.args.records.now)))
+          w.unwrap_or-back.ensures ∙ ap told_return w.run.ensures
+          ∙ ap (λ (k : ℕ). told_return (return_of (step_of (s d).modulus (s d).variables (n d) (take 512 (standard d)) (take 512 (genes m))) (take k (drop (8 * b.args.first) b.args.records.now))))
           (eight b.args.first)
-          ∙ ap₂ (λ (x y : List ℕ). return_of (step_of (s d).modulus (s d).variables (n d) x y) (take 8 (drop (8 * b.args.first) b.args.records.now))) (standard_is d) (genes_front m);
+          ∙ ap₂ (λ (x y : List ℕ). told_return (return_of (step_of (s d).modulus (s d).variables (n d) x y) (take 8 (drop (8 * b.args.first) b.args.records.now)))) (standard_is d) (genes_front m);
       solves = subst (λ (k : PivotBytes). Solves (s d) (S d) k.rows k.pivots) d.draw_points-drawn.ensures.pivots_after (solved d);
       settings = (refl, refl, refl, refl, refl);
     }

@@ -1,13 +1,13 @@
 -- `model::put_next` meets its contract. The loop has written the values before its index.
-use mathlib.Core.Path.{◌≡◌, sym, ap, ◌∙◌}
-use Prim.Native.Nat.{ℕ, ◌+◌, ◌*◌}
+use mathlib.Core.Path.{◌≡◌, ap, ◌∙◌}
+use Prim.Native.Nat.{ℕ, ◌+◌, ◌*◌, ◌<◌}
 use native.Mathlib.Omega.{arith}
 use lib.ListN.{length, get_or, take}
-use lib.Seq.{get_or-take}
+use lib.Seq.{length-take-le, get_or-take}
 use Rattle.residue.proofs.vector.Filled.{filled_none, kept_length, filled_more}
 use Rattle.steps.proofs.model.ModelLaws.{next_put}
 use Rattle.steps.proofs.model.put_next.Goals as goal
-use Rattle.steps.proofs.model.put_next.Goals.{At-loop-j, Start}
+use Rattle.steps.proofs.model.put_next.Goals.{At-loop-j, In-loop-j, Start}
 
 abbrev value_at_lem : Start → ℕ → ℕ
 value_at_lem s i = get_or s.args.records.now (8 * (get_or (take s.args.n s.args.firsts.now) i 0 + 1) + s.args.g) 0
@@ -18,38 +18,32 @@ long l = kept_length (value_at_lem (goal.at.At-loop-j l).Start) l.loop-j.j l.arg
 pub loop-j-init : goal.loop-j-init
 loop-j-init c = (omega arith, filled_none _ _)
 
-pub overflow_cast-values : goal.overflow_cast-values
-overflow_cast-values c = omega (arith, c.shared_slice_known-1.given c.loop-j.j)
+-- as many as are named
+named : (c : In-loop-j) → c.loop-j.j < c.args.n
+named c = omega (arith, length-take-le c.args.n c.args.firsts.now (omega arith))
 
-pub overflow_add-values : goal.overflow_add-values
-overflow_add-values c = omega (arith, c.shared_slice_known-1.given c.loop-j.j)
-
-pub overflow_mul-values : goal.overflow_mul-values
-overflow_mul-values c = omega (arith, c.shared_slice_known-1.given c.loop-j.j)
-
-pub overflow_add-values-in-loop-j : goal.overflow_add-values-in-loop-j
-overflow_add-values-in-loop-j c = omega (arith, c.shared_slice_known-1.given c.loop-j.j)
-
-pub bounds-records-firsts : goal.bounds-records-firsts
-bounds-records-firsts c = let l = c in
-    omega (arith, l.requires.by_index l.loop-j.j (omega arith))
+pub bounds-records-from : goal.bounds-records-from
+bounds-records-from c =
+    let h = named (goal.at.bounds-records-from c).In-loop-j in
+    let e = get_or-take c.args.n c.args.firsts.now c.loop-j.j 0 h in
+    omega (arith, c.requires.by_index c.loop-j.j h, c.from.ensures)
 
 pub bounds-values-j : goal.bounds-values-j
-bounds-values-j c = omega (arith, long (goal.at.bounds-values-j c).At-loop-j)
+bounds-values-j c = omega (arith, named (goal.at.bounds-values-j c).In-loop-j, long (goal.at.bounds-values-j c).At-loop-j)
 
 pub loop-j-preserved : goal.loop-j-preserved
-loop-j-preserved c = let l = c in
-    let s = l in
-    let j : ℕ = l.loop-j.j in (
+loop-j-preserved c =
+    let h = named (goal.at.loop-j-preserved c).In-loop-j in (
       omega arith,
-      filled_more (value_at_lem (goal.at.loop-j-preserved s).Start) j s.args.values.now l.loop-j.values l.loop-j.invariant.1 _ (omega arith)
-          (ap (λ (i : ℕ). get_or s.args.records.now (8 * (i + 1) + s.args.g) 0) (sym (get_or-take s.args.n s.args.firsts.now j 0 (omega arith)))),
+      filled_more (value_at_lem (goal.at.loop-j-preserved c).Start) c.loop-j.j c.args.values.now c.loop-j.values c.loop-j.invariant.1 _ (omega arith)
+          (ap (λ (i : ℕ). get_or c.args.records.now (8 * (i + 1) + c.args.g) 0) c.from.ensures),
     )
 
 pub shape_of-values : goal.shape_of-values
 shape_of-values c = long (goal.at.shape_of-values c).At-loop-j
 
 pub returns : goal.returns
-returns c = let l = c in
-    let a = l.args in
-    l.loop-j.invariant.1 ∙ next_put a.g a.n a.records.now a.firsts.now (omega arith) a.values.now l.loop-j.j (omega arith) (omega arith)
+returns c =
+    let a = c.args in
+    let e = length-take-le a.n a.firsts.now (omega arith) in
+    c.loop-j.invariant.1 ∙ next_put a.g a.n a.records.now a.firsts.now (omega arith) a.values.now c.loop-j.j (omega arith) (omega arith)
