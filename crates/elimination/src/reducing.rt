@@ -85,7 +85,10 @@ fn whole(end: usize) -> usize
     requires { end < 2 ^ 63 }
     ensures { result ≡ whole_width end }
 {
-    sizes::WORK.min(end.div_ceil(16) * 16)
+    if 112 < end {
+        return sizes::WORK;
+    }
+    (end + 15) / 16 * 16
 }
 
 // The row meets the pivot rows in the order in which they were found; each cancels its entry at that row's pivot. Pivot row t is 0 behind entry n + t.
