@@ -66,11 +66,12 @@ fn grow(
     new_coefficients: &mut [u8],
 ) -> usize
     requires accepted { Accepted settings × (before.now.n < 64) }
-    requires j_lt_r { let b = before.now in (j < b.r) × (b.r ≤ most_rows) × (b.r + settings.variables ≤ 450) × (length b.points.now ≡ states_size) × (length b.rows.now ≡ pivot_rows_size) }
-    requires standard_len { let b = before.now in (length b.standard.now ≡ standard_size) × (length b.leads.now ≡ leads_size) × (length b.coefficients.now ≡ coefficients_size)
-        × (length point.now ≡ 8) × (length values.now ≡ most_points) }
-    requires below { let b = before.now in Below settings.modulus b.points.now × Below settings.modulus b.coefficients.now × Multiplied settings.modulus b.n b.rows.now
-        × Below settings.modulus point.now × Below settings.modulus values.now }
+    requires j_lt_r { let b = before.now in (j < b.r) × (b.r ≤ most_rows) × (b.r + settings.variables ≤ 450)
+        × (length b.points.now ≡ states_size) × (length b.rows.now ≡ pivot_rows_size) }
+    requires standard_len { let b = before.now in (length b.standard.now ≡ standard_size) × (length b.leads.now ≡ leads_size)
+        × (length b.coefficients.now ≡ coefficients_size) × (length point.now ≡ 8) × (length values.now ≡ most_points) }
+    requires below { let b = before.now in Below settings.modulus b.points.now × Below settings.modulus b.coefficients.now
+        × Multiplied settings.modulus b.n b.rows.now × Below settings.modulus point.now × Below settings.modulus values.now }
     requires pivots_len { let b = before.now in (length b.pivots.now ≡ most_points) × ((t : ℕ) → t < b.n → get_or b.pivots.now t 0 < b.n) }
     requires leads_below { (i : ℕ) → get_or before.now.leads.now i 0 < 255 }
     requires new_standard_value { (new_standard.old ≡ replicate standard_size 0) × (new_leads.old ≡ replicate leads_size 0)
@@ -78,8 +79,8 @@ fn grow(
     ensures new_standard_after { let b = before.now in new_standard.new
         ≡ standard_grown (order_under settings) b.n b.standard.now (row_at 8 j b.leads.now) }
     ensures new_coefficients_after { let b = before.now in grown result new_leads.new new_coefficients.new
-        ≡ grown_by settings.modulus settings.variables (order_under settings) b.n b.r b.points.now b.standard.now b.leads.now b.coefficients.now b.rows.now b.pivots.now
-        point.now values.now j }
+        ≡ grown_by settings.modulus settings.variables (order_under settings) b.n b.r b.points.now b.standard.now b.leads.now
+        b.coefficients.now b.rows.now b.pivots.now point.now values.now j }
 {
     let p = settings.modulus as u8;
     let n = before.n;
@@ -131,7 +132,8 @@ fn add_to(
     new_coefficients: &mut [u8],
 ) -> usize
     requires points_given { PointsGiven settings before.now.n before.now.points.now }
-    requires drawn_up { let b = before.now in DrawnUp settings (points_in settings b.n b.points.now) b.r b.standard.now b.leads.now b.coefficients.now b.rows.now b.pivots.now }
+    requires drawn_up { let b = before.now in DrawnUp settings (points_in settings b.n b.points.now) b.r b.standard.now b.leads.now
+        b.coefficients.now b.rows.now b.pivots.now }
     requires n_bound { before.now.n < 64 }
     requires new_point { NewPoint settings (points_in settings before.now.n before.now.points.now) point.now }
     requires new_standard_value { (new_standard.old ≡ replicate standard_size 0) × (new_leads.old ≡ replicate leads_size 0)

@@ -69,8 +69,8 @@ fn add_product(
 ) -> usize
     requires { (8 * k ≤ length others.now) × (count ≤ 448) × (length leads.old ≡ leads_size) × (length coefficients.old ≡ coefficients_size) }
     ensures { let x = addition.now in grown result leads.new coefficients.new
-        ≡ product_put x.p (order_under settings) x.n x.points.now x.rows.now x.pivots.now x.place x.inverse x.gone.now x.point.now x.values.now k others.now a.now
-        (grown count leads.old coefficients.old) }
+        ≡ product_put x.p (order_under settings) x.n x.points.now x.rows.now x.pivots.now x.place x.inverse
+        x.gone.now x.point.now x.values.now k others.now a.now (grown count leads.old coefficients.old) }
 {
     if insert::divided(k, others, a) {
         return count;
@@ -93,8 +93,8 @@ pub(crate) fn add_products(
     requires variables_bound { (k + settings.variables ≤ most_rows) × (length leads.old ≡ leads_size) × (length coefficients.old ≡ coefficients_size) }
     requires lead_below { (v : ℕ) → get_or lead.now v 0 < 255 }
     ensures { let x = addition.now in grown result leads.new coefficients.new
-        ≡ products_put x.p (order_under settings) x.n x.points.now x.rows.now x.pivots.now x.place x.inverse x.gone.now x.point.now x.values.now k leads.old lead.now
-        settings.variables (grown k leads.old coefficients.old) }
+        ≡ products_put x.p (order_under settings) x.n x.points.now x.rows.now x.pivots.now x.place x.inverse
+        x.gone.now x.point.now x.values.now k leads.old lead.now settings.variables (grown k leads.old coefficients.old) }
 {
     let m = settings.variables as usize;
     let mut others = [0u8; sizes::LEADS];
