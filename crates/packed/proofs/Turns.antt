@@ -1,6 +1,7 @@
 -- The turns of the walk as its loop has them: what holds at its head, and what is asked of each call.
+use Rattle.std.specs.Prelude.{Option, Some, None}
 use mathlib.Core.Path.{◌≡◌, refl, sym, ap, ◌∙◌, subst}
-use mathlib.Core.Bool.{Bool, true, false, true≢false}
+use mathlib.Core.Bool.{true, false, true≢false}
 use mathlib.Core.List.{List}
 use mathlib.Core.Logic.{◌≢◌, ◌↔◌}
 use Prim.Native.Nat.{ℕ, suc, ◌+◌, ◌-◌, ◌^◌, ◌<◌, ◌≤◌, Ordering}
@@ -214,15 +215,15 @@ module _ {s : Settings} {n : ℕ} {points bytes multiples squares before : List 
               H.squares_are _ _ _ _ _ known left found r pivots values places rows columns polynomials standard leads coefficients
               H.now i F inside_is after own column
 
-          module _ (lead : Bool) (g pivots' : ℕ) (rows' columns' polynomials' : List ℕ)
-              (E : ExaminedAs own found lead g pivots pivots' rows columns polynomials rows' columns' polynomials')
+          module _ (row : Option ℕ) (g pivots' : ℕ) (rows' columns' polynomials' : List ℕ)
+              (E : ExaminedAs own found row pivots pivots' rows columns polynomials rows' columns' polynomials')
               (long : PivotsLong rows' columns' polynomials') where
-            module _ (y : lead ≡ true) where
+            module _ (y : row ≡ Some g) where
               pub lead_fits : r < 449
               lead_fits = lead_room q m order _ bytes multiples H.sequence squares before
                   H.squares_are _ _ _ _ _ known left found r pivots values places rows columns polynomials standard leads coefficients
                   H.now i F inside_is after
-                  own column lead g pivots' rows' columns' polynomials' E long y
+                  own column row g pivots' rows' columns' polynomials' E long y
 
               pub lead_done : (known' leads' coefficients' : List ℕ) → Passed (OfMultiple (get_or bytes i 0) multiples) known known'
                   → leads' ≡ with_place 8 r (bits_of 8 (get_or bytes i 0)) leads
@@ -239,15 +240,15 @@ module _ {s : Settings} {n : ℕ} {points bytes multiples squares before : List 
                 now = lead_kept q m order _ bytes multiples H.sequence squares before
                     H.squares_are _ _ _ _ _ known left found r pivots values places rows columns polynomials standard leads coefficients
                     H.now i F inside_is after
-                    own column lead g pivots' rows' columns' polynomials' E long y known' leads' coefficients' T a b;
+                    own column row g pivots' rows' columns' polynomials' E long y known' leads' coefficients' T a b;
               }
 
-            module _ (y : lead ≡ false) where
+            module _ (y : row ≡ None) where
               pub standard_fits : found < 64
               standard_fits = standard_room q m order _ bytes multiples H.sequence squares before
                   H.squares_are _ _ _ _ _ known left found r pivots values places rows columns polynomials standard leads coefficients
                   H.now i F inside_is after
-                  own column lead g pivots' rows' columns' polynomials' E long y
+                  own column row g pivots' rows' columns' polynomials' E long y
 
               pub standard_done : (known' standard' values' places' : List ℕ) → Passed (λ j. j ≡ i) known known'
                   → standard' ≡ with_place 8 found (bits_of 8 (get_or bytes i 0)) standard
@@ -264,5 +265,5 @@ module _ {s : Settings} {n : ℕ} {points bytes multiples squares before : List 
                 now = standard_kept q m order _ bytes multiples H.sequence squares before
                     H.squares_are _ _ _ _ _ known left found r pivots values places rows columns polynomials standard leads coefficients
                     H.now i F inside_is after
-                    own column lead g pivots' rows' columns' polynomials' E long y known' standard' values' places' T a b c;
+                    own column row g pivots' rows' columns' polynomials' E long y known' standard' values' places' T a b c;
               }

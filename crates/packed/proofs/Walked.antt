@@ -1,6 +1,7 @@
 -- The state of the walk with its tables, and its turns.
+use Rattle.std.specs.Prelude.{Option, Some, None}
 use mathlib.Core.Path.{◌≡◌, refl, sym, ap, ap₂, ◌∙◌, subst}
-use mathlib.Core.Bool.{Bool, true, false}
+use mathlib.Core.Bool.{Bool}
 use mathlib.Core.List.{List, [], ◌∷◌, ◌++◌, map}
 use mathlib.Core.Logic.{inl, inr, ◌≢◌}
 use Prim.Native.Nat.{ℕ, suc, ◌+◌, ◌-◌, ◌^◌, ◌<◌, ◌≤◌}
@@ -212,12 +213,12 @@ module _ (q m : ℕ) (order : Order) (most : m ≤ 8) (bytes multiples : List �
         pub kept_some : SomeKept own found pivots rows columns polynomials
         kept_some = (f.pivots, W.kept, λ n. subst (λ (x : ℕ). x < 64) (sym W.tabled.found_is) (pivot_room D L B S d few Valid at sq O f W.o known left W.state i F inside after own column n))
 
-        module _ (lead : Bool) (g pivots' : ℕ) (rows' columns' polynomials' : List ℕ)
-            (E : ExaminedAs own found lead g pivots pivots' rows columns polynomials rows' columns' polynomials') (long : PivotsLong rows' columns' polynomials') where
+        module _ (row : Option ℕ) (g pivots' : ℕ) (rows' columns' polynomials' : List ℕ)
+            (E : ExaminedAs own found row pivots pivots' rows columns polynomials rows' columns' polynomials') (long : PivotsLong rows' columns' polynomials') where
           -- a lead
-          module _ (z : lead ≡ true) where
+          module _ (z : row ≡ Some g) where
             found_as : (examined_words D S (at i) f ≡ packed_found D f.standard (f.leads ++ (at i ∷ [])) (f.rows ++ (g ∷ [])) f.pivots) × Kept found pivots' rows' columns' polynomials' f.pivots
-            found_as = found_lead D S (at i) f own found lead g pivots pivots' rows columns polynomials rows' columns' polynomials' W.tabled.found_is W.kept column E z
+            found_as = found_lead D S (at i) f own found row g pivots pivots' rows columns polynomials rows' columns' polynomials' W.tabled.found_is W.kept column E z
 
             abbrev kept_lead : PackedFound D
             kept_lead = packed_found D f.standard (f.leads ++ (at i ∷ [])) (f.rows ++ (g ∷ [])) f.pivots
@@ -245,10 +246,10 @@ module _ (q m : ℕ) (order : Order) (most : m ≤ 8) (bytes multiples : List �
                 divides j h all = byte_divides q m order most byte (get_or bytes j 0) (λ k u b. sym (Q.variables k j u h) ∙ all k u b)
 
           -- a standard monomial
-          module _ (z : lead ≡ false) where
+          module _ (z : row ≡ None) where
             found_new : (examined_words D S (at i) f ≡ packed_found D (f.standard ++ (at i ∷ [])) f.leads f.rows (with_pivot (pivot_from found (rest_of own f.pivots)) f.pivots))
                 × Kept (suc found) pivots' rows' columns' polynomials' (with_pivot (pivot_from found (rest_of own f.pivots)) f.pivots)
-            found_new = found_standard D S (at i) f own found lead g pivots pivots' rows columns polynomials rows' columns' polynomials' W.tabled.found_is W.kept column E z
+            found_new = found_standard D S (at i) f own found row g pivots pivots' rows columns polynomials rows' columns' polynomials' W.tabled.found_is W.kept column E z
 
             abbrev kept_new : PackedFound D
             kept_new = packed_found D (f.standard ++ (at i ∷ [])) f.leads f.rows (with_pivot (pivot_from found (rest_of own f.pivots)) f.pivots)

@@ -78,29 +78,24 @@ fn walk(
                 &mut polynomials,
             );
             pivots = e.pivots;
-            if e.lead {
-                keep_lead(
-                    r,
-                    byte,
-                    e.polynomial,
-                    multiples,
-                    &mut known,
-                    leads,
-                    coefficients,
-                );
-                r += 1;
-            } else {
-                keep_standard(
-                    found,
-                    at,
-                    byte,
-                    own,
-                    &mut values,
-                    &mut places,
-                    &mut known,
-                    standard,
-                );
-                found += 1;
+            match e.row {
+                Some(row) => {
+                    keep_lead(r, byte, row, multiples, &mut known, leads, coefficients);
+                    r += 1;
+                }
+                None => {
+                    keep_standard(
+                        found,
+                        at,
+                        byte,
+                        own,
+                        &mut values,
+                        &mut places,
+                        &mut known,
+                        standard,
+                    );
+                    found += 1;
+                }
             }
         }
     }
@@ -265,14 +260,10 @@ pub fn draw_anew(
     bytes::clear(standard);
     bytes::clear(leads);
     bytes::clear(coefficients);
-    if settings.order == 0 {
-        return draw_lex(settings, n, points, standard, leads, coefficients);
+    match settings.order {
+        0 => draw_lex(settings, n, points, standard, leads, coefficients),
+        1 => draw_grlex(settings, n, points, standard, leads, coefficients),
+        2 => draw_grevlex(settings, n, points, standard, leads, coefficients),
+        _ => draw_weighted(settings, n, points, standard, leads, coefficients),
     }
-    if settings.order == 1 {
-        return draw_grlex(settings, n, points, standard, leads, coefficients);
-    }
-    if settings.order == 2 {
-        return draw_grevlex(settings, n, points, standard, leads, coefficients);
-    }
-    draw_weighted(settings, n, points, standard, leads, coefficients)
 }

@@ -1,6 +1,5 @@
 -- A column examined by the pivots of the tables: a lead, or a pivot more.
 use mathlib.Core.Path.{◌≡◌, refl, sym, ap, ap₂, ◌∙◌, subst}
-use mathlib.Core.Bool.{true, false}
 use mathlib.Core.List.{List, [], ◌∷◌, ◌++◌, map}
 use mathlib.Core.Logic.{◌≢◌}
 use Prim.Native.Nat.{ℕ, suc, ◌^◌, ◌<◌, ◌≤◌}
@@ -11,6 +10,7 @@ use lib.Bits.{bit_or, bit_xor}
 use lib.Count.{count_trailing_zeros}
 use Rattle.residue.specs.Words.{bit_of}
 use Rattle.words.specs.Packed.{Words, PivotWords, pivot_words, rest_of, clear, pivot_from, with_pivot}
+use Rattle.std.specs.Prelude.{Some, None}
 use Rattle.words.specs.PivotTables.{pivots_in, Cleared, RowsKnown, RowsIn, LeftAt, Orthogonal, PivotsLong, Kept, ExaminedAs}
 use Rattle.residue.proofs.BitLaws.{bit_zero}
 use Rattle.words.proofs.ClearLaws.{pivots_same}
@@ -93,15 +93,15 @@ module _ (k pivots : ℕ) (rows c f : List ℕ) (vs : List PivotWords) (K : Kept
 
 -- what `examine` says
 module _ (own k pivots : ℕ) (rows c f : List ℕ) (w : Words) (left : LeftAt own pivots rows c f w) where
-  pub examined_lead : w.column ≡ 0 → ExaminedAs own k true w.polynomial pivots pivots rows c f rows c f
+  pub examined_lead : w.column ≡ 0 → ExaminedAs own k (Some w.polynomial) pivots pivots rows c f rows c f
   examined_lead z = record {
-    as_lead = λ vs K u. (refl, (ap (λ (v : Words). v.polynomial) (left_is k pivots rows c f vs K own w left), K));
+    as_lead = λ vs K u. (ap (λ (v : Words). Some v.polynomial) (left_is k pivots rows c f vs K own w left), K);
     as_pivot = λ vs K n. absurd (n (sym (ap (λ (v : Words). v.column) (left_is k pivots rows c f vs K own w left)) ∙ z));
   }
 
   pub examined_pivot : w.column ≢ 0 → w.column < 2 ^ 64 → (bit place : ℕ) → bit ≡ 2 ^ k → place ≡ 2 ^ count_trailing_zeros 64 w.column → (c' f' : List ℕ) (k' : ℕ) → k ≤ k'
       → Cleared k' (pivot_words (count_trailing_zeros 64 w.column) w.column (bit_xor w.polynomial bit)) c f c' f' → k < 64 → PivotsLong rows c f
-      → ExaminedAs own k false 0 pivots (bit_or pivots place) rows c f (set rows (count_trailing_zeros 64 w.column) k) (set c' k w.column) (set f' k (bit_xor w.polynomial bit))
+      → ExaminedAs own k None pivots (bit_or pivots place) rows c f (set rows (count_trailing_zeros 64 w.column) k) (set c' k w.column) (set f' k (bit_xor w.polynomial bit))
   examined_pivot n small bit place single mark c' f' k' enough H few long = record {
     as_lead = λ vs K z. absurd (n (ap (λ (v : Words). v.column) (left_is k pivots rows c f vs K own w left) ∙ z));
     as_pivot = λ vs K z. (refl, kept_more k pivots rows c f vs K own w left n small bit place single mark c' f' k' enough H few long);

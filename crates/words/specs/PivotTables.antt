@@ -1,5 +1,5 @@
 -- The pivots as three lent tables: places, columns and polynomials.
-use Rattle.std.specs.Prelude.{◌≡◌, Bool, true, false, ◌≢◌, List, [], ◌∷◌, ◌++◌, map, ℕ, zero, suc, ◌<◌, ◌≤◌, length, get_or}
+use Rattle.std.specs.Prelude.{◌≡◌, Option, Some, None, ◌≢◌, List, [], ◌∷◌, ◌++◌, map, ℕ, zero, suc, ◌<◌, ◌≤◌, length, get_or}
 use Rattle.residue.specs.Congruence.{Mod}
 use Rattle.residue.specs.Lists.{Among}
 use Rattle.residue.specs.Words.{bit_of}
@@ -61,8 +61,8 @@ abbrev pub SomeKept : ℕ → ℕ → ℕ → List ℕ → List ℕ → List ℕ
 SomeKept own k pivots row_of columns polynomials = (vs : List PivotWords) × Kept k pivots row_of columns polynomials vs × ((rest_of own vs).column ≢ 0 → k < 64)
 
 -- One column examined by k pivots: left 0 it is that of a lead, whose polynomial is answered, and the tables are as they were; any other is a pivot more.
-pub record ExaminedAs (own k : ℕ) (lead : Bool) (polynomial pivots pivots' : ℕ) (row_of columns polynomials row_of' columns' polynomials' : List ℕ) : Type 0 where
+pub record ExaminedAs (own k : ℕ) (row : Option ℕ) (pivots pivots' : ℕ) (row_of columns polynomials row_of' columns' polynomials' : List ℕ) : Type 0 where
   pub as_lead : (vs : List PivotWords) → Kept k pivots row_of columns polynomials vs → (rest_of own vs).column ≡ 0
-      → (lead ≡ true) × ((polynomial ≡ (rest_of own vs).polynomial) × Kept k pivots' row_of' columns' polynomials' vs)
+      → (row ≡ Some (rest_of own vs).polynomial) × Kept k pivots' row_of' columns' polynomials' vs
   pub as_pivot : (vs : List PivotWords) → Kept k pivots row_of columns polynomials vs → (rest_of own vs).column ≢ 0
-      → (lead ≡ false) × Kept (suc k) pivots' row_of' columns' polynomials' (with_pivot (pivot_from k (rest_of own vs)) vs)
+      → (row ≡ None) × Kept (suc k) pivots' row_of' columns' polynomials' (with_pivot (pivot_from k (rest_of own vs)) vs)

@@ -4,7 +4,7 @@ ghost use Rattle.std.specs.Prelude.{◌≡◌, ◌<◌, ◌≤◌, length};
 ghost use Rattle.std.specs.Int.Bits.{bit_and, bit_or};
 ghost use Rattle.words.specs.PlaceSets.{others, Wordwise, KnownBelow, FirstOpen, Passed, OfMultiple, OfAbove};
 
-const ALL: u64 = 18446744073709551615;
+const ALL: u64 = u64::MAX;
 
 // The bits that a word has not.
 fn others(word: u64) -> u64

@@ -74,11 +74,10 @@ fn clear_all(
     }
 }
 
-// Whether a column is that of a lead, and the polynomial of its row; the places of the pivots after it.
+// The polynomial of a lead's row, where a column is that of a lead; the places of the pivots after it.
 #[derive(Drop)]
 pub struct Examined {
-    pub lead: bool,
-    pub polynomial: u64,
+    pub row: Option<u64>,
     pub pivots: u64,
 }
 
@@ -95,14 +94,13 @@ pub fn examine(
     requires some_kept { SomeKept own k pivots rows.old columns.old polynomials.old }
     requires pivots_long { PivotsLong rows.old columns.old polynomials.old }
     requires k_bound { k ≤ 64 }
-    ensures { ExaminedAs own k result.lead result.polynomial pivots result.pivots rows.old columns.old polynomials.old
+    ensures { ExaminedAs own k result.row pivots result.pivots rows.old columns.old polynomials.old
         rows.new columns.new polynomials.new }
 {
     let left = rest_at(own, pivots, rows, columns, polynomials);
     if left.column == 0 {
         return Examined {
-            lead: true,
-            polynomial: left.polynomial,
+            row: Some(left.polynomial),
             pivots,
         };
     }
@@ -115,8 +113,7 @@ pub fn examine(
     polynomials[k] = polynomial;
     let mark = 1u64 << place;
     Examined {
-        lead: false,
-        polynomial: 0,
+        row: None,
         pivots: pivots | mark,
     }
 }

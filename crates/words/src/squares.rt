@@ -7,8 +7,5 @@ pub fn square_comes(left: usize, at: usize, before: &[u16]) -> bool
     requires { (left ≤ 8) × (length before.now ≡ 8) }
     ensures { result ≡ square_comes left at before.now }
 {
-    if left == 0 {
-        return false;
-    }
-    before[left - 1] as usize <= at
+    left > 0 && usize::from(before[left - 1]) <= at
 }

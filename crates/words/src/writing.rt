@@ -22,19 +22,12 @@ pub fn squared(k: usize) -> u64
     2u64 << 8 * k
 }
 
-// Stores that stand side by side are compiled to one.
+// The eight bytes of a word, the lowest first.
 fn put_eight(eight: u64, to: &mut [u8])
     requires { length to.old ≡ 8 }
     ensures { to.new ≡ bytes_of 8 eight }
 {
-    to[0] = (eight % 256) as u8;
-    to[1] = (eight / 256 % 256) as u8;
-    to[2] = (eight / 65536 % 256) as u8;
-    to[3] = (eight / 16777216 % 256) as u8;
-    to[4] = (eight / 4294967296 % 256) as u8;
-    to[5] = (eight / 1099511627776 % 256) as u8;
-    to[6] = (eight / 281474976710656 % 256) as u8;
-    to[7] = (eight / 72057594037927936 % 256) as u8;
+    to.copy_from_slice(&eight.to_le_bytes());
 }
 
 // Eight bytes at their place of a table.

@@ -1,8 +1,7 @@
 -- `drawing::draw_anew` meets its contract: the tables are cleared, and the walk is that of the order.
 use mathlib.Core.Path.{◌≡◌, ap, ◌∙◌}
 use mathlib.Core.List.{List}
-use mathlib.Core.Logic.{◌≢◌}
-use Prim.Native.Nat.{ℕ, ◌≤◌}
+use Prim.Native.Nat.{ℕ}
 use native.Mathlib.Omega.{arith}
 use lib.ListN.{replicate}
 use Rattle.residue.specs.Sizes.{standard_size, leads_size, coefficients_size}
@@ -24,17 +23,14 @@ all_cleared k = (
   (cleared (start k).requires.standard_len.1.0 k.clear-2.ensures, cleared (start k).requires.standard_len.1.1 k.clear-3.ensures),
 )
 
-last_order : (o : ℕ) → o ≤ 3 → o ≢ 0 → o ≢ 1 → o ≢ 2 → o ≡ 3
-last_order o h x y z = omega (arith, h, x, y, z)
-
 pub draw_lex-requires : goal.draw_lex-requires
-draw_lex-requires c = let k = c in record { points_given = ((start (goal.at.draw_lex-requires k).After-clear-3).requires.points_given.0, ((start (goal.at.draw_lex-requires k).After-clear-3).requires.points_given.1, c.if-settings-eq0.true)); standard_value = all_cleared (goal.at.draw_lex-requires k).After-clear-3 }
+draw_lex-requires c = let k = c in record { points_given = ((start (goal.at.draw_lex-requires k).After-clear-3).requires.points_given.0, ((start (goal.at.draw_lex-requires k).After-clear-3).requires.points_given.1, c.in-0.is)); standard_value = all_cleared (goal.at.draw_lex-requires k).After-clear-3 }
 
 pub draw_grlex-requires : goal.draw_grlex-requires
-draw_grlex-requires c = let k = c in record { points_given = ((start (goal.at.draw_grlex-requires k).After-clear-3).requires.points_given.0, ((start (goal.at.draw_grlex-requires k).After-clear-3).requires.points_given.1, c.if-settings-eq1.true)); standard_value = all_cleared (goal.at.draw_grlex-requires k).After-clear-3 }
+draw_grlex-requires c = let k = c in record { points_given = ((start (goal.at.draw_grlex-requires k).After-clear-3).requires.points_given.0, ((start (goal.at.draw_grlex-requires k).After-clear-3).requires.points_given.1, c.in-1.is)); standard_value = all_cleared (goal.at.draw_grlex-requires k).After-clear-3 }
 
 pub draw_grevlex-requires : goal.draw_grevlex-requires
-draw_grevlex-requires c = let k = c in record { points_given = ((start (goal.at.draw_grevlex-requires k).After-clear-3).requires.points_given.0, ((start (goal.at.draw_grevlex-requires k).After-clear-3).requires.points_given.1, c.if-settings-eq2.true)); standard_value = all_cleared (goal.at.draw_grevlex-requires k).After-clear-3 }
+draw_grevlex-requires c = let k = c in record { points_given = ((start (goal.at.draw_grevlex-requires k).After-clear-3).requires.points_given.0, ((start (goal.at.draw_grevlex-requires k).After-clear-3).requires.points_given.1, c.in-2.is)); standard_value = all_cleared (goal.at.draw_grevlex-requires k).After-clear-3 }
 
 pub draw_weighted-requires : goal.draw_weighted-requires
 draw_weighted-requires c = let k = c in record {
@@ -42,9 +38,7 @@ draw_weighted-requires c = let k = c in record {
     (start (goal.at.draw_weighted-requires k).After-clear-3).requires.points_given.0,
     (
       (start (goal.at.draw_weighted-requires k).After-clear-3).requires.points_given.1,
-      last_order (start (goal.at.draw_weighted-requires k).After-clear-3).args.settings.order (start (goal.at.draw_weighted-requires k).After-clear-3).requires.points_given.0.settings.order
-          c.if-settings-eq0.false c.if-settings-eq1.false
-          c.if-settings-eq2.false,
+      omega (arith, (start (goal.at.draw_weighted-requires k).After-clear-3).requires.points_given.0.settings.order),
     ),
   );
   standard_value = all_cleared (goal.at.draw_weighted-requires k).After-clear-3;

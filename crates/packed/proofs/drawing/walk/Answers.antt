@@ -17,7 +17,7 @@ use Rattle.words.proofs.PlaceLaws.{still_known}
 use Rattle.packed.proofs.Turns.{known_long, left_few, found_few, standard_long, leads_long, coefficients_long, some_left, last_fits, square_skipped, square_fits, square_done, ended_as}
 use Rattle.packed.proofs.Turns.{inside_is, examine_fits, lead_fits, lead_done, standard_fits, standard_done}
 use Rattle.packed.proofs.drawing.walk.Goals as goal
-use Rattle.packed.proofs.drawing.walk.Goals.{After-polynomials-else-square_comes-1, After-square_comes, At-loop-left, Else-at-eq256, Else-e, Else-square_comes, Start, Then-e, Then-place-ne0, Then-square_comes}
+use Rattle.packed.proofs.drawing.walk.Goals.{After-polynomials-else-square_comes-1, After-square_comes, At-loop-left, Else-at-eq256, In-None, Else-square_comes, Start, In-Some, Then-place-ne0, Then-square_comes}
 
 -- what the walk is lent, and what holds at the head of the loop under its own settings
 module _ (l : At-loop-left) where
@@ -174,19 +174,19 @@ module _ (x : After-polynomials-else-square_comes-1) where
   lengths = let e = x in let h = (held (head (goal.at.Else-at-eq256 before).After-square_comes)).now.pivots_long in
       (e.examine-e.auto.rows ∙ h.0, (e.examine-e.auto.columns ∙ h.1.0, e.examine-e.auto.polynomials ∙ h.1.1))
 
-module _ (u : Then-e) where
-  lead_in : (head (goal.at.Else-at-eq256 (before (goal.at.Then-e u).After-polynomials-else-square_comes-1)).After-square_comes).loop-left.r < 449
-  lead_in = let t = before (goal.at.Then-e u).After-polynomials-else-square_comes-1 in
+module _ (u : In-Some) where
+  lead_in : (head (goal.at.Else-at-eq256 (before (goal.at.In-Some u).After-polynomials-else-square_comes-1)).After-square_comes).loop-left.r < 449
+  lead_in = let t = before (goal.at.In-Some u).After-polynomials-else-square_comes-1 in
       lead_fits (held (head (goal.at.Else-at-eq256 t).After-square_comes)) (place (goal.at.Else-at-eq256 t).After-square_comes) (opened (goal.at.Else-at-eq256 t).After-square_comes) (comes_not (goal.at.Else-at-eq256 t).Else-square_comes) t.if-at-eq256.false _
       u.own_column-own.ensures _ _ _ _ _ _
-      u.examine-e.ensures (lengths (goal.at.Then-e u).After-polynomials-else-square_comes-1) u.if-e.true
+      u.examine-e.ensures (lengths (goal.at.In-Some u).After-polynomials-else-square_comes-1) u.in-Some.is
 
-module _ (u : Else-e) where
-  standard_in : (head (goal.at.Else-at-eq256 (before (goal.at.Else-e u).After-polynomials-else-square_comes-1)).After-square_comes).loop-left.found < 64
-  standard_in = let t = before (goal.at.Else-e u).After-polynomials-else-square_comes-1 in
+module _ (u : In-None) where
+  standard_in : (head (goal.at.Else-at-eq256 (before (goal.at.In-None u).After-polynomials-else-square_comes-1)).After-square_comes).loop-left.found < 64
+  standard_in = let t = before (goal.at.In-None u).After-polynomials-else-square_comes-1 in
       standard_fits (held (head (goal.at.Else-at-eq256 t).After-square_comes)) (place (goal.at.Else-at-eq256 t).After-square_comes) (opened (goal.at.Else-at-eq256 t).After-square_comes) (comes_not (goal.at.Else-at-eq256 t).Else-square_comes) t.if-at-eq256.false _
-      u.own_column-own.ensures _ _ _ _ _ _
-      u.examine-e.ensures (lengths (goal.at.Else-e u).After-polynomials-else-square_comes-1) u.if-e.false
+      u.own_column-own.ensures _ 0 _ _ _ _
+      u.examine-e.ensures (lengths (goal.at.In-None u).After-polynomials-else-square_comes-1) u.in-None.is
 
 pub bounds-bytes-at : goal.bounds-bytes-at
 bounds-bytes-at c = let h = within (goal.at.bounds-bytes-at c).Else-at-eq256 in omega (arith, h, (held (goal.at.bounds-bytes-at c).At-loop-left).sequence.long)
@@ -226,40 +226,40 @@ slice_bounds-keep_lead-end c = sym
 
 pub keep_lead-requires : goal.keep_lead-requires
 keep_lead-requires c = let h =
-    held (goal.at.keep_lead-requires c).At-loop-left in record { r_lt_most_rows = lead_in (goal.at.keep_lead-requires c).Then-e; multiples_len = (h.sequence.multiples_long, known_long h); leads_len = (leads_long h, coefficients_long h) }
+    held (goal.at.keep_lead-requires c).At-loop-left in record { r_lt_most_rows = lead_in (goal.at.keep_lead-requires c).In-Some; multiples_len = (h.sequence.multiples_long, known_long h); leads_len = (leads_long h, coefficients_long h) }
 
-pub overflow_add-r-then-e : goal.overflow_add-r-then-e
-overflow_add-r-then-e c = let h = lead_in (goal.at.overflow_add-r-then-e c).Then-e in record { fits = omega (arith, h) }
+pub overflow_add-r-in-Some : goal.overflow_add-r-in-Some
+overflow_add-r-in-Some c = let h = lead_in (goal.at.overflow_add-r-in-Some c).In-Some in record { fits = omega (arith, h) }
 
-pub loop-left-smaller-then-e : goal.loop-left-smaller-then-e
-loop-left-smaller-then-e c = let h = lead_in (goal.at.loop-left-smaller-then-e c).Then-e in omega (arith, h)
+pub loop-left-smaller-in-Some : goal.loop-left-smaller-in-Some
+loop-left-smaller-in-Some c = let h = lead_in (goal.at.loop-left-smaller-in-Some c).In-Some in omega (arith, h)
 
-pub loop-left-preserved-then-e : goal.loop-left-preserved-then-e
-loop-left-preserved-then-e c = let u = c in
+pub loop-left-preserved-in-Some : goal.loop-left-preserved-in-Some
+loop-left-preserved-in-Some c = let u = c in
     let t = c in let k = c in (
       λ s m w.
-          lead_done (c.loop-left.invariant.0 s m w) (place (goal.at.loop-left-preserved-then-e t).After-square_comes) (opened (goal.at.loop-left-preserved-then-e t).After-square_comes)
-          (comes_not (goal.at.loop-left-preserved-then-e t).Else-square_comes) t.if-at-eq256.false _
+          lead_done (c.loop-left.invariant.0 s m w) (place (goal.at.loop-left-preserved-in-Some t).After-square_comes) (opened (goal.at.loop-left-preserved-in-Some t).After-square_comes)
+          (comes_not (goal.at.loop-left-preserved-in-Some t).Else-square_comes) t.if-at-eq256.false _
           c.own_column-own.ensures _ _ _ _ _ _
-          c.examine-e.ensures (lengths (goal.at.loop-left-preserved-then-e u).After-polynomials-else-square_comes-1)
-          u.if-e.true _ _ _ k.keep_lead.ensures.passed k.keep_lead.ensures.leads_after k.keep_lead.ensures.coefficients_after,
-      still_known k.keep_lead.ensures.passed (opened (goal.at.loop-left-preserved-then-e t).After-square_comes),
+          c.examine-e.ensures (lengths (goal.at.loop-left-preserved-in-Some u).After-polynomials-else-square_comes-1)
+          u.in-Some.is _ _ _ k.keep_lead.ensures.passed k.keep_lead.ensures.leads_after k.keep_lead.ensures.coefficients_after,
+      still_known k.keep_lead.ensures.passed (opened (goal.at.loop-left-preserved-in-Some t).After-square_comes),
     )
 
 pub slice_bounds-keep_standard-end : goal.slice_bounds-keep_standard-end
 slice_bounds-keep_standard-end c = sym (held (goal.at.slice_bounds-keep_standard-end c).At-loop-left).now.memory.values_long
 
-pub slice_bounds-keep_standard-end-else-e : goal.slice_bounds-keep_standard-end-else-e
-slice_bounds-keep_standard-end-else-e c = sym (held (goal.at.slice_bounds-keep_standard-end-else-e c).At-loop-left).now.memory.places_long
+pub slice_bounds-keep_standard-end-in-None : goal.slice_bounds-keep_standard-end-in-None
+slice_bounds-keep_standard-end-in-None c = sym (held (goal.at.slice_bounds-keep_standard-end-in-None c).At-loop-left).now.memory.places_long
 
-pub slice_bounds-keep_standard-end-else-e-2 : goal.slice_bounds-keep_standard-end-else-e-2
-slice_bounds-keep_standard-end-else-e-2 c = sym (known_long (held (goal.at.slice_bounds-keep_standard-end-else-e-2 c).At-loop-left))
+pub slice_bounds-keep_standard-end-in-None-2 : goal.slice_bounds-keep_standard-end-in-None-2
+slice_bounds-keep_standard-end-in-None-2 c = sym (known_long (held (goal.at.slice_bounds-keep_standard-end-in-None-2 c).At-loop-left))
 
 pub keep_standard-requires : goal.keep_standard-requires
 keep_standard-requires c = let h =
     held (goal.at.keep_standard-requires c).At-loop-left in record {
       found_bound = (
-        standard_in (goal.at.keep_standard-requires c).Else-e,
+        standard_in (goal.at.keep_standard-requires c).In-None,
         within
             (goal.at.keep_standard-requires c).Else-at-eq256,
       );
@@ -268,10 +268,10 @@ keep_standard-requires c = let h =
     }
 
 pub overflow_add-found : goal.overflow_add-found
-overflow_add-found c = let h = standard_in (goal.at.overflow_add-found c).Else-e in record { fits = omega (arith, h) }
+overflow_add-found c = let h = standard_in (goal.at.overflow_add-found c).In-None in record { fits = omega (arith, h) }
 
 pub loop-left-smaller : goal.loop-left-smaller
-loop-left-smaller c = let h = standard_in (goal.at.loop-left-smaller c).Else-e in omega (arith, h)
+loop-left-smaller c = let h = standard_in (goal.at.loop-left-smaller c).In-None in omega (arith, h)
 
 pub loop-left-preserved : goal.loop-left-preserved
 loop-left-preserved c = let u = c in
@@ -279,9 +279,9 @@ loop-left-preserved c = let u = c in
       λ s m w.
           standard_done (c.loop-left.invariant.0 s m w) (place (goal.at.loop-left-preserved t).After-square_comes)
           (opened (goal.at.loop-left-preserved t).After-square_comes) (comes_not (goal.at.loop-left-preserved t).Else-square_comes) t.if-at-eq256.false _
-          c.own_column-own.ensures _ _ _ _ _ _
+          c.own_column-own.ensures _ 0 _ _ _ _
           c.examine-e.ensures
-          (lengths (goal.at.loop-left-preserved u).After-polynomials-else-square_comes-1) u.if-e.false _ _ _ _ k.keep_standard.ensures.passed k.keep_standard.ensures.standard_after k.keep_standard.ensures.values_after.0
+          (lengths (goal.at.loop-left-preserved u).After-polynomials-else-square_comes-1) u.in-None.is _ _ _ _ k.keep_standard.ensures.passed k.keep_standard.ensures.standard_after k.keep_standard.ensures.values_after.0
           k.keep_standard.ensures.values_after.1,
       still_known k.keep_standard.ensures.passed (opened (goal.at.loop-left-preserved t).After-square_comes),
     )

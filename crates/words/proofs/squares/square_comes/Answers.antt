@@ -1,5 +1,5 @@
 -- `squares::square_comes` meets its contract.
-use mathlib.Core.Path.{◌≡◌, refl}
+use mathlib.Core.Path.{◌≡◌, refl, ap, ◌∙◌}
 use mathlib.Core.Bool.{false}
 use mathlib.Core.List.{List}
 use mathlib.Core.Logic.{◌≢◌}
@@ -7,7 +7,7 @@ use Prim.Native.Nat.{ℕ, ◌-◌}
 use native.Mathlib.Omega.{arith}
 use lib.ListN.{get_or}
 use lib.Dec.{leb}
-use borrow.Author.Tests.{ne_eqb}
+use borrow.Author.Tests.{ne_eqb, le-ltb}
 use Rattle.words.specs.Sequences.{square_comes}
 use Rattle.words.proofs.squares.square_comes.Goals as goal
 
@@ -19,11 +19,10 @@ last : (left at : ℕ) (before : List ℕ) → left ≢ 0 → leb (get_or before
 unfolding square_comes
 last left at before n = rw (ne_eqb left 0 n) refl
 
-pub returns-then-left-eq0 : goal.returns-then-left-eq0
-returns-then-left-eq0 c = none _ _ _ c.if-left-eq0.true
+pub returns-then-left-gt0 : goal.returns-then-left-gt0
+returns-then-left-gt0 c =
+    let e = c.from.ensures in
+    ap (λ (x : ℕ). leb x c.args.at) e ∙ last c.args.left c.args.at c.args.before.now (λ z. omega arith)
 
-pub overflow_cast-result : goal.overflow_cast-result
-overflow_cast-result c = let s = c in omega (arith, c.shared_slice_known-1.given (s.args.left - 1))
-
-pub returns : goal.returns
-returns c = last _ _ _ c.if-left-eq0.false
+pub returns-else-left-gt0 : goal.returns-else-left-gt0
+returns-else-left-gt0 c = le-ltb 0 c.args.left (omega arith) ∙ none c.args.left c.args.at c.args.before.now (omega arith)
