@@ -1,51 +1,47 @@
 // Adding a point to tables. Every refusal is decided before a lent byte is written.
-ghost use Rattle.std.specs.Prelude.{◌≡◌, true, false, cond, [], ◌∷◌, ◌++◌, ◌+◌, ◌<◌, ◌≤◌, eqb, ltb, length, take, get_or, set};
+ghost use Rattle.std.specs.Prelude.{◌≡◌, Ok, true, false, cond, [], ◌∷◌, ◌++◌, ◌+◌, ◌<◌, ◌≤◌, eqb, ltb, length, take, get_or, set};
 ghost use Rattle.residue.specs.Sizes.{most_rows, states_size, standard_size, leads_size, coefficients_size, counts_size};
 ghost use Rattle.residue.specs.Layout.{fill, with_place, begins};
-ghost use Rattle.specification.specs.Tables.{five_tables, too_short, points_in};
+ghost use Rattle.specification.specs.Answers.{refusal_of, answer_of};
+ghost use Rattle.specification.specs.Lent.{lent_mut, left_in};
+ghost use Rattle.specification.specs.Tables.{too_short, points_in};
 ghost use Rattle.specification.specs.Adding.{ended, add_outcome, holding_both};
 ghost use Rattle.construction.specs.Drawing.{PointsGiven, DrawnUp};
 ghost use Rattle.growth.specs.Growing.{all_points, NewPoint};
 
 use growth::growing::add_tables;
 use recognition::naming::locate;
-use recognition::settings::refused;
 use residue::{bytes, sizes};
-use specification::answers::Answer;
+use specification::answers::Size;
+use specification::refusals::Refusal;
 use specification::settings::Settings;
+use specification::tables::{TablesMut, TablesRef};
 
-// The refusal of an addition: the one before the point was looked for, where there is one; then 13 for a point that is there, at its place among the n, and
-// counted 255 times, and 8 for a new one beside 64 others; or 0.
-fn add_refusal(before: u8, n: usize, place: usize, counts: &[u8]) -> u8
-    requires { before ≡ 0 → n ≤ length counts.now }
-    ensures { result ≡ cond (eqb before 0)
-        (cond (ltb place n) (cond (eqb (get_or counts.now place 0) 255) 13 0) (cond (eqb n 64) 8 0)) before }
+// What refuses a point at this place among the n: it is there and counted 255 times, or it is new beside 64 others.
+#[tactic(auto, unfolding(specification::specs::Answers::refusal_of, specification::specs::Answers::number_of))]
+fn check_room(n: usize, place: usize, counts: &[u8]) -> Result<(), Refusal>
+    requires { n ≤ length counts.now }
+    ensures { refusal_of result ≡ cond (ltb place n) (cond (eqb (get_or counts.now place 0) 255) 13 0) (cond (eqb n 64) 8 0) }
 {
-    if before != 0 {
-        return before;
-    }
     if place < n {
         if counts[place] == 255 {
-            return 13;
+            return Err(Refusal::TooOften);
         }
-        return 0;
+    } else if n == 64 {
+        return Err(Refusal::TooMany);
     }
-    if n == 64 {
-        return 8;
-    }
-    0
+    Ok(())
 }
 
 // A point that is there, counted once more: one byte is written.
-fn raise(n: usize, r: usize, place: usize, counts: &mut [u8]) -> Answer
+fn raise(n: usize, r: usize, place: usize, counts: &mut [u8]) -> Size
     requires n_bound { (n ≤ 64) × (r ≤ most_rows) }
     requires place_in_bounds { (place < length counts.old) × (get_or counts.old place 0 ≡ 255 → ⊥) }
-    ensures value { result ≡ record { refusal = 0; n = n; r = r } }
+    ensures value { result ≡ record { n = n; r = r } }
     ensures counts_after { counts.new ≡ set counts.old place (get_or counts.old place 0 + 1) }
 {
     counts[place] += 1;
-    Answer {
-        refusal: 0,
+    Size {
         n: n as u8,
         r: r as u16,
     }
@@ -70,22 +66,24 @@ fn add_accepted(
     rows: &[u8],
     pivots: &[u8],
     point: &[u8],
-    states: &mut [u8],
-    standard: &mut [u8],
-    leads: &mut [u8],
-    coefficients: &mut [u8],
-    counts: &mut [u8],
-) -> Answer
+    tables: TablesMut<'_>,
+) -> Size
     requires points_given { PointsGiven settings n points.now }
-    requires counts_value { too_short (five_tables states.old standard.old leads.old coefficients.old counts.old) ≡ false }
-    requires drawn_up { DrawnUp settings (points_in settings n points.now) r (take standard_size standard.old) (take leads_size leads.old)
-        (take coefficients_size coefficients.old) rows.now pivots.now }
-    requires n_bound { (n < 64) × (begins (fill counts_size (fill n counts.old)) counts.old ≡ true) }
+    requires counts_value { too_short (lent_mut tables) ≡ false }
+    requires drawn_up { DrawnUp settings (points_in settings n points.now) r (take standard_size tables.standard.now) (take leads_size tables.leads.now)
+        (take coefficients_size tables.coefficients.now) rows.now pivots.now }
+    requires n_bound { (n < 64) × (begins (fill counts_size (fill n tables.counts.now)) tables.counts.now ≡ true) }
     requires new_point { NewPoint settings (points_in settings n points.now) point.now }
-    ensures { ended result states.new standard.new leads.new coefficients.new counts.new
-        ≡ holding_both settings (all_points settings n points.now point.now) (fill n counts.old ++ (1 ∷ []))
-        (five_tables states.old standard.old leads.old coefficients.old counts.old) }
+    ensures { ended (answer_of (Ok result)) (left_in tables.exit)
+        ≡ holding_both settings (all_points settings n points.now point.now) (fill n tables.entry.counts.now ++ (1 ∷ [])) (lent_mut tables.entry) }
 {
+    let TablesMut {
+        states,
+        standard,
+        leads,
+        coefficients,
+        counts,
+    } = tables;
     add_state(n, points, point, &mut states[..sizes::STATES]);
     let k = add_tables(
         settings,
@@ -100,8 +98,7 @@ fn add_accepted(
         &mut coefficients[..sizes::COEFFICIENTS],
     );
     counts[n] = 1;
-    Answer {
-        refusal: 0,
+    Size {
         n: n as u8 + 1,
         r: k as u16,
     }
@@ -112,56 +109,52 @@ pub fn add_point(
     settings: Settings,
     n: u64,
     r: u64,
-    states: &mut [u8],
-    standard: &mut [u8],
-    leads: &mut [u8],
-    coefficients: &mut [u8],
-    counts: &mut [u8],
+    tables: TablesMut<'_>,
     levels: &[i8],
-) -> Answer
-    ensures { ended result states.new standard.new leads.new coefficients.new counts.new
-        ≡ add_outcome settings n r
-        (five_tables states.old standard.old leads.old coefficients.old counts.old)
-        levels.now }
+) -> Result<Size, Refusal>
+    ensures { ended (answer_of result) (left_in tables.exit) ≡ add_outcome settings n r (lent_mut tables.entry) levels.now }
 {
     let mut points = [0u8; sizes::STATES];
     let mut rows = [0u8; sizes::PIVOT_ROWS];
     let mut pivots = [0u8; sizes::POINTS];
     let mut point = [0u8; 8];
-    let named = locate(
-        settings,
-        n,
-        r,
+    let TablesMut {
         states,
         standard,
         leads,
         coefficients,
         counts,
+    } = tables;
+    let lent = TablesRef {
+        states,
+        standard,
+        leads,
+        coefficients,
+        counts,
+    };
+    let place = locate(
+        settings,
+        n,
+        r,
+        lent,
         levels,
         &mut points,
         &mut rows,
         &mut pivots,
         &mut point,
-    );
-    let refusal = add_refusal(named.refusal, n as usize, named.place, counts);
-    if refusal != 0 {
-        return refused(refusal);
+    )?;
+    check_room(n as usize, place, counts)?;
+    if place < n as usize {
+        return Ok(raise(n as usize, r as usize, place, counts));
     }
-    if named.place < n as usize {
-        return raise(n as usize, r as usize, named.place, counts);
-    }
-    add_accepted(
-        settings,
-        n as usize,
-        r as usize,
-        &points,
-        &rows,
-        &pivots,
-        &point,
+    let tables = TablesMut {
         states,
         standard,
         leads,
         coefficients,
         counts,
-    )
+    };
+    Ok(add_accepted(
+        settings, n as usize, r as usize, &points, &rows, &pivots, &point, tables,
+    ))
 }

@@ -5,6 +5,7 @@ pub mod Interpolants
 pub mod PairSearch
 pub mod Chains
 pub mod Differences
+pub mod Turns
 pub mod WordLaws
 pub mod ParityLaws
 pub mod MaskLaws

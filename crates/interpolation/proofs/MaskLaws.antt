@@ -158,15 +158,6 @@ module _ (P : List ℕ) (k : ℕ) where
       turn : (w p : ℕ) {x : ℕ} → x ≡ 1 → w * p + w ≡ w + p * (x * w)
       turn w p e = rw e (omega arith)
 
--- a word where a variable is 1
-pub kept_none : (x w : ℕ) → x ≡ 0 → 0 ≡ x * w
-kept_none x w e = rw e (omega arith)
-
-pub kept_all : (x w : ℕ) → x < 2 → (x ≡ 0 → ⊥) → w ≡ x * w
-kept_all zero w h n = absurd (n refl)
-kept_all (suc zero) w h n = omega arith
-kept_all (suc (suc x)) w h n = absurd (omega arith)
-
 -- the four words
 groups_next : (k : ℕ) (a r : List ℕ) → length a ≡ 64 → groups 64 (suc k) (a ++ r) ≡ a ∷ groups 64 k r
 unfolding groups

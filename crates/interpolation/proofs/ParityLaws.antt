@@ -4,12 +4,13 @@ use mathlib.Core.List.{List, [], ◌∷◌, map}
 use Prim.Native.Nat.{ℕ, zero, suc, ◌+◌, ◌-◌, ◌*◌, ◌/◌, ◌%◌, ◌^◌, ◌<◌, ◌≤◌}
 use native.Mathlib.Nat.{lt_of_lt_of_le}
 use native.Mathlib.Omega.{arith}
-use native.Mathlib.Numerals.{add-one}
+use Rattle.std.proofs.Common.{zero-add}
 use lib.ListN.{length, get_or, set, take, drop, replicate, drop_of_length-le, length-drop, length-map, length-set}
 use lib.Seq.{drop-cons, take_all}
 use lib.Pow.{pow_mono, shl_exact}
 use lib.Bits.{bit_and, bit_xor, and_zero_l}
 use lib.Count.{ones}
+use Rattle.std.specs.List.{fold, zip}
 use Rattle.residue.specs.Congruence.{Mod}
 use Rattle.residue.specs.Vector.{dot_of}
 use Rattle.residue.specs.Layout.{groups}
@@ -30,10 +31,6 @@ byte_lt e h = lt_of_lt_of_le (word_lt (map occurring e)) (pow_mono {j = 8} (omeg
 pub occurring_le : (e : ℕ) → occurring e ≤ 1
 occurring_le zero = omega arith
 occurring_le (suc e) = omega arith
-
-pub occurring_some : (e : ℕ) → (e ≡ 0 → ⊥) → 1 ≡ occurring e
-occurring_some zero n = absurd (n refl)
-occurring_some (suc e) n = refl
 
 -- the byte of the last k variables
 module _ (a : List ℕ) (eight : length a ≡ 8) where
@@ -125,27 +122,19 @@ module _ (cs exponents : List ℕ) where
     parity = λ mask m. left mask m then of (ap₂ dot_of (take_all i cs (omega arith)) (take_all i (in_mask mask) (omega (arith, long mask))));
   }
 
--- the parity of the first w words
-left_more : (s mask : List ℕ) (w : ℕ) → w < length s → w < length mask
-    → ones_left (take (suc w) s) (take (suc w) mask) ≡ ones_left (take w s) (take w mask) + ones (bit_and (get_or s w 0) (get_or mask w 0))
+-- the parity of what a mask leaves, word by word
+abbrev pub left_in : ℕ → ℕ × ℕ → ℕ
+left_in left p = bit_xor left (bit_and p.0 p.1)
+
+parity_of : (s mask : List ℕ) (left : ℕ) → Mod 2 (ones (fold left_in left (zip s mask))) (ones left + ones_left s mask)
 unfolding ones_left
-left_more [] mask w u v = absurd (omega arith)
-left_more (a ∷ s) [] w u v = absurd (omega arith)
-left_more (a ∷ s) (m ∷ mask) zero u v = omega arith
-left_more (a ∷ s) (m ∷ mask) (suc w) u v = ap (λ (n : ℕ). ones (bit_and a m) + n) (left_more s mask w (omega arith) (omega arith)) ∙ (omega arith)
+parity_of [] mask left = of (omega arith)
+parity_of (w ∷ s) [] left = of (omega arith)
+parity_of (w ∷ s) (v ∷ mask) left =
+    parity_of s mask (bit_xor left (bit_and w v)) then ones_xor left (bit_and w v) plus rfl {x = ones_left s mask} then of (shape (ones left) (ones (bit_and w v)) (ones_left s mask))
+  where
+    shape : (x y z : ℕ) → x + y + z ≡ x + (y + z)
+    shape x y z = omega arith
 
-module _ (s mask : List ℕ) where
-  abbrev pub LeftOf : ℕ → ℕ → Type 0
-  LeftOf w left = Mod 2 (ones left) (ones_left (take w s) (take w mask))
-
-  pub words_none : LeftOf 0 0
-  unfolding ones_left
-  words_none = of ones_zero
-
-  pub words_more : (w left : ℕ) → length s ≡ 4 → length mask ≡ 4 → w < 4 → LeftOf w left → LeftOf (w + 1) (bit_xor left (bit_and (get_or s w 0) (get_or mask w 0)))
-  words_more w left e f h l =
-      ones_xor left (bit_and (get_or s w 0) (get_or mask w 0)) then l plus rfl {x = ones (bit_and (get_or s w 0) (get_or mask w 0))}
-      then of (sym (ap (λ (k : ℕ). ones_left (take k s) (take k mask)) (add-one w) ∙ left_more s mask w (omega arith) (omega arith)))
-
-  pub words_all : (w left : ℕ) → length s ≡ 4 → length mask ≡ 4 → 4 ≤ w → LeftOf w left → ones left % 2 ≡ ones_left s mask % 2
-  words_all w left e f h l = l.same ∙ ap₂ (λ (a b : List ℕ). ones_left a b % 2) (take_all w s (omega arith)) (take_all w mask (omega arith))
+pub folded_parity : (s mask : List ℕ) (left : ℕ) → left ≡ fold left_in 0 (zip s mask) → ones left % 2 ≡ ones_left s mask % 2
+folded_parity s mask left e = ap (λ (n : ℕ). ones n % 2) e ∙ (parity_of s mask 0 then of (ap (λ (n : ℕ). n + ones_left s mask) ones_zero ∙ zero-add (ones_left s mask))).same

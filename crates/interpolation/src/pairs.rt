@@ -1,5 +1,5 @@
 // The wiring list: the variables with a pair of points that differ in it alone and have different values.
-ghost use Rattle.std.specs.Prelude.{◌≡◌, false, ℕ, ◌+◌, ◌-◌, ◌*◌, ◌^◌, ◌<◌, ◌≤◌, length, take, replicate, eqb};
+ghost use Rattle.std.specs.Prelude.{◌≡◌, false, ℕ, Some, ◌+◌, ◌-◌, ◌*◌, ◌^◌, ◌<◌, ◌≤◌, length, take, replicate, Decides};
 ghost use Rattle.residue.specs.Layout.{groups, fill};
 ghost use Rattle.specification.specs.Needed.{apart, pair_in, wiring_of};
 ghost use Rattle.interpolation.specs.Pairs.{valued_in, rest_of, Rests, Chained, some_below, contrary_to, Constant};
@@ -7,23 +7,21 @@ ghost use Rattle.interpolation.specs.Pairs.{valued_in, rest_of, Rests, Chained, 
 use points::places::key;
 use residue::sizes;
 
-// The place of the only byte in which two points differ; 8 if they differ in none or in more.
-fn only_difference(a: &[u8], b: &[u8]) -> usize
+// The place of the only byte in which two points differ, if they differ in one alone.
+fn only_difference(a: &[u8], b: &[u8]) -> Option<usize>
     requires { (length a.now ≡ 8) × (length b.now ≡ 8) }
-    ensures { (k : ℕ) → k < 8 → eqb result k ≡ apart k a.now b.now }
+    ensures { (k : ℕ) → k < 8 → Decides (apart k a.now b.now) (result ≡ Some k) }
 {
-    let mut place = 8;
-    let mut count: u8 = 0;
-    for i in 0..8 {
-        if a[i] != b[i] {
-            place = i;
-            count += 1;
+    let mut only = None;
+    for (i, (x, y)) in a.iter().zip(b).enumerate() {
+        if x != y {
+            if only.is_some() {
+                return None;
+            }
+            only = Some(i);
         }
     }
-    if count == 1 {
-        return place;
-    }
-    8
+    only
 }
 
 // What a coordinate counts in the key of a point.
@@ -52,9 +50,8 @@ fn put_rests(k: usize, n: usize, points: &[u8], rests: &mut [u64])
     ensures { Rests k n points.now rests.new }
 {
     let weight = WEIGHTS[k];
-    for i in 0..n {
-        let place = 8 * i;
-        rests[i] = rest(k, weight, &points[place..place + 8]);
+    for (i, point) in points[..8 * n].chunks_exact(8).enumerate() {
+        rests[i] = rest(k, weight, point);
     }
 }
 
@@ -80,7 +77,9 @@ fn against_earlier(
         if rests[j] == own {
             if values[j] != values[i] {
                 let first = 8 * j;
-                if only_difference(&points[first..first + 8], &points[second..second + 8]) == k {
+                if only_difference(&points[first..first + 8], &points[second..second + 8])
+                    == Some(k)
+                {
                     return true;
                 }
             }
@@ -117,8 +116,8 @@ fn varies(k: usize, n: usize, points: &[u8]) -> bool
     requires { (k < 8) × (8 * n ≤ length points.now) }
     ensures { result ≡ false → Constant k n points.now }
 {
-    for i in 0..n {
-        if points[8 * i + k] != points[k] {
+    for point in points[..8 * n].chunks_exact(8) {
+        if point[k] != points[k] {
             return true;
         }
     }
@@ -145,12 +144,12 @@ pub fn put_names(m: usize, n: usize, points: &[u8], values: &[u8], out: &mut [u8
     ensures value { result ≡ length (wiring_of m (groups 8 n points.now) (take n values.now)) }
     ensures out_after { out.new ≡ fill 8 (wiring_of m (groups 8 n points.now) (take n values.now)) }
 {
-    let mut count: u8 = 0;
+    let mut count = 0;
     for k in 0..m {
         if is_needed(k, n, points, values) {
-            out[count as usize] = (k + 1) as u8;
+            out[count] = (k + 1) as u8;
             count += 1;
         }
     }
-    count
+    count as u8
 }

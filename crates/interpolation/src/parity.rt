@@ -14,10 +14,7 @@ use monomial::terms::put_term_values;
 fn occurs(e: u8) -> usize
     ensures { result ≡ occurring e }
 {
-    if e == 0 {
-        return 0;
-    }
-    1
+    usize::from(e != 0)
 }
 
 // The byte of a monomial, from its last variable to its first.
@@ -26,8 +23,8 @@ fn byte_of(a: &[u8]) -> usize
     ensures { result ≡ byte_of a.now }
 {
     let mut byte: usize = 0;
-    for k in 0..8 {
-        byte = byte * 2 + occurs(a[7 - k]);
+    for e in a.iter().rev() {
+        byte = byte * 2 + occurs(*e);
     }
     byte
 }
@@ -38,7 +35,7 @@ fn toggle(c: u8, byte: usize, polynomial: &mut [u64])
     ensures { polynomial.new ≡ toggled c byte polynomial.old }
 {
     let w = byte / 64;
-    polynomial[w] = polynomial[w] ^ (c as u64) << byte % 64;
+    polynomial[w] ^= u64::from(c) << byte % 64;
 }
 
 // The set of a polynomial, in four words of zeros.
@@ -48,10 +45,8 @@ fn put_terms(coefficients: &[u8], exponents: &[u8], polynomial: &mut [u64])
     requires polynomial_value { polynomial.old ≡ replicate 4 0 }
     ensures { SetOf coefficients.now exponents.now polynomial.new }
 {
-    for i in 0..coefficients.len() {
-        let place = 8 * i;
-        let byte = byte_of(&exponents[place..place + 8]);
-        toggle(coefficients[i], byte, polynomial);
+    for (c, monomial) in coefficients.iter().zip(exponents.chunks_exact(8)) {
+        toggle(*c, byte_of(monomial), polynomial);
     }
 }
 
@@ -61,9 +56,9 @@ fn low_mask(point: &[u8]) -> u64
     ensures { result ≡ word_of (values_at 6 point.now) }
 {
     let mut mask = 1u64;
-    for k in 0..6 {
-        if point[k] != 0 {
-            mask = mask | mask << (1usize << k);
+    for (k, x) in point[..6].iter().enumerate() {
+        if *x != 0 {
+            mask |= mask << (1usize << k);
         }
     }
     mask
@@ -74,10 +69,7 @@ fn kept(x: u8, word: u64) -> u64
     requires { x < 2 }
     ensures { result ≡ x * word }
 {
-    if x == 0 {
-        return 0;
-    }
-    word
+    u64::from(x) * word
 }
 
 // The mask of a point. Its last two variables choose among the words.
@@ -98,11 +90,11 @@ fn parity(polynomial: &[u64], mask: &[u64]) -> u8
     requires { (length polynomial.now ≡ 4) × (length mask.now ≡ 4) }
     ensures { result ≡ ones_left polynomial.now mask.now % 2 }
 {
-    let mut left = 0u64;
-    for w in 0..4 {
-        left = left ^ polynomial[w] & mask[w];
-    }
-    (u64::count_ones(left) % 2) as u8
+    let left = polynomial
+        .iter()
+        .zip(mask)
+        .fold(0u64, |left, (w, v)| left ^ w & v);
+    (left.count_ones() % 2) as u8
 }
 
 // The value at a point.
@@ -126,9 +118,8 @@ fn put_parities(coefficients: &[u8], exponents: &[u8], n: usize, points: &[u8], 
 {
     let mut polynomial = [0u64; 4];
     put_terms(coefficients, exponents, &mut polynomial);
-    for i in 0..n {
-        let place = 8 * i;
-        work[i] = value_at(&polynomial, &points[place..place + 8]);
+    for (i, point) in points[..8 * n].chunks_exact(8).enumerate() {
+        work[i] = value_at(&polynomial, point);
     }
 }
 

@@ -20,8 +20,8 @@ fn put_negatives(p: u8, from: &[u8], to: &mut [u8])
     requires from_in_bounds { length from.now ≤ length to.old }
     ensures { to.new ≡ over (map (λ x. (p - x) % p) from.now) to.old }
 {
-    for i in 0..from.len() {
-        to[i] = arithmetic::neg(p, from[i]);
+    for (i, x) in from.iter().enumerate() {
+        to[i] = arithmetic::neg(p, *x);
     }
 }
 

@@ -29,7 +29,7 @@ pub fn remainder(
     let mut rows = [0u8; sizes::PIVOT_ROWS];
     let mut pivots = [0u8; sizes::POINTS];
     let terms = term_coefficients.len();
-    let whole = (exponents.len() / 8 == terms) & (exponents.len() % 8 == 0);
+    let whole = exponents.len() / 8 == terms && exponents.len() % 8 == 0;
     let faults = Faults {
         short: out.len() < 64,
         wrong: !whole,

@@ -1,6 +1,7 @@
 // The look at lent tables with which a call begins that is lent them: what refuses it up to 10.
-ghost use Rattle.std.specs.Prelude.{◌≡◌, ◌*◌, ◌≤◌, length, replicate};
+ghost use Rattle.std.specs.Prelude.{◌≡◌, ◌/◌, ◌≤◌, length, drop, replicate};
 ghost use Rattle.residue.specs.Sizes.{states_size};
+ghost use Rattle.residue.specs.Lists.{all_zero};
 ghost use Rattle.residue.specs.Layout.{groups};
 ghost use Rattle.specification.specs.Answers.{refusal_of};
 ghost use Rattle.specification.specs.Lent.{lent};
@@ -25,20 +26,20 @@ pub struct Faults {
     pub many: bool,
 }
 
-// Whether no variable above m has an exponent but 0 in the first k terms of a polynomial, 8 exponents each.
-fn within_variables(m: usize, k: usize, exponents: &[u8]) -> bool
-    requires m_bound { m ≤ 8 }
-    requires k_in_bounds { 8 * k ≤ length exponents.now }
-    ensures { result ≡ within_variables m (groups 8 k exponents.now) }
+// Whether no variable above m occurs in a term: their exponents are 0.
+fn is_within(m: usize, term: &[u8]) -> bool
+    requires { m ≤ length term.now }
+    ensures { result ≡ all_zero (drop m term.now) }
 {
-    for i in 0..k {
-        let place = 8 * i;
-        let term = &exponents[place..place + 8];
-        if !bytes::all_zero(&term[m..]) {
-            return false;
-        }
-    }
-    true
+    bytes::all_zero(&term[m..])
+}
+
+// Whether none occurs in the terms of a polynomial, 8 exponents each.
+fn within_variables(m: usize, exponents: &[u8]) -> bool
+    requires { m ≤ 8 }
+    ensures { result ≡ within_variables m (groups 8 (length exponents.now / 8) exponents.now) }
+{
+    exponents.chunks_exact(8).all(|term| is_within(m, term))
 }
 
 // What refuses a call up to 10. The numbers and exponents are those that it is handed, of points, values or a polynomial; a call without any hands over
@@ -66,7 +67,7 @@ pub fn look(
         faults.wrong,
         faults.many || 64 < n,
     )?;
-    let inside = within_variables(settings.variables as usize, exponents.len() / 8, exponents)
+    let inside = within_variables(settings.variables as usize, exponents)
         && in_range(settings.modulus as u8, numbers);
     if !inside {
         return Err(Refusal::OutOfRange);

@@ -16,29 +16,13 @@ use residue::{bytes, sizes};
 use specification::settings::Settings;
 use specification::tables::TablesRef;
 
-// Whether each of the first n bytes is a count, which of bytes 0 alone is not.
-fn are_counts(n: usize, counts: &[u8]) -> bool
-    requires { n ≤ length counts.now }
-    ensures { result ≡ every is_count (fill n counts.now) }
-{
-    for i in 0..n {
-        if counts[i] == 0 {
-            return false;
-        }
-    }
-    true
-}
-
 // Whether a lent table has a count for each of n points, and 0 for unused places.
 fn counts_fit(n: usize, counts: &[u8]) -> bool
     requires { (n ≤ counts_size) × (counts_size ≤ length counts.now) }
     ensures { result ≡ (every is_count (fill n counts.now)
         && begins (fill counts_size (fill n counts.now)) counts.now) }
 {
-    if !are_counts(n, counts) {
-        return false;
-    }
-    bytes::all_zero(&counts[n..sizes::COUNTS])
+    !counts[..n].contains(&0) && bytes::all_zero(&counts[n..sizes::COUNTS])
 }
 
 // Whether the lent tables begin with these, and the counts fit n points.

@@ -8,3 +8,4 @@ pub mod Places
 pub mod Replaced
 pub mod BitLaws
 pub mod Words
+pub mod Chunks

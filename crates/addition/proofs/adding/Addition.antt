@@ -2,6 +2,7 @@
 use mathlib.Core.Path.{◌≡◌, refl, sym, ◌∙◌, ap, ap₂, subst}
 use mathlib.Core.Bool.{Bool, true, false, cond}
 use mathlib.Core.List.{List, [], ◌∷◌, ◌++◌}
+use Rattle.std.specs.Prelude.{Ok}
 use Prim.Native.Nat.{ℕ, ◌+◌, ◌<◌, ◌≤◌}
 use native.Mathlib.Numerals.{add-one}
 use native.Mathlib.Omega.{arith}
@@ -9,7 +10,7 @@ use native.Mathlib.Decide.{ℕ_discrete}
 use lib.IntN.{ℤ}
 use lib.ListN.{length, take, get_or, set}
 use lib.Dec.{eqb, ltb}
-use borrow.Author.Tests.{eq-eqb, ne_eqb, lt-ltb, le-ltb}
+use borrow.Author.Tests.{eq-eqb, lt-ltb, le-ltb}
 use Rattle.residue.specs.Sizes.{counts_size}
 use Rattle.residue.specs.Vector.{Below}
 use Rattle.residue.specs.Layout.{groups, fill, begins}
@@ -17,11 +18,13 @@ use Rattle.residue.proofs.level.Moduli.{modulus_range}
 use Rattle.residue.proofs.Tests.{of_true}
 use Rattle.residue.proofs.Layouts.{take_fill, below_fill}
 use Rattle.specification.specs.declared.settings.Settings.{Settings}
-use Rattle.specification.specs.declared.answers.Answer.{Answer}
+use Rattle.specification.specs.declared.answers.Size.{Size}
+use Rattle.specification.specs.declared.refusals.Refusal.{Refusal}
+use Rattle.specification.specs.Answers.{number_of, answer_of}
 use Rattle.specification.specs.Refusal.{Case, first_of}
 use Rattle.specification.specs.Levels.{residues, is_among}
 use Rattle.specification.specs.Counted.{Counted, points_of, entered, overfull, place_in}
-use Rattle.specification.specs.Tables.{Tables, too_short, points_in, held_in}
+use Rattle.specification.specs.Tables.{Tables, five_tables, too_short, points_in, held_in}
 use Rattle.specification.specs.Adding.{ended, add_cases, add_refusal, add_outcome, holding_both}
 use Rattle.specification.specs.Solving.{within_variables}
 use Rattle.specification.specs.CallByCall.{recounted}
@@ -37,6 +40,7 @@ use Rattle.growth.specs.Growing.{all_points, NewPoint}
 use Rattle.construction.proofs.drawing.Given.{drawn_of}
 use Rattle.points.proofs.levels.LevelLists.{residues_below}
 use Rattle.recognition.specs.Naming.{naming_faults, naming_refusal}
+use Rattle.recognition.proofs.settings.ByNumber.{number_above_0}
 use Rattle.recognition.proofs.looking.Looks.{Open, look_first, look_then}
 use Rattle.recognition.proofs.naming.PointAtHand.{AtHand, opened, named_long, rows_held, among_old}
 use Rattle.recognition.proofs.recognising.Recognised.{parts, standard_there, leads_there, coefficients_there}
@@ -93,14 +97,13 @@ module _ (s : Settings) (n r : ℕ) (t : Tables) (levels : List ℤ) where
     unfolding add_refusal add_cases within_variables groups
     told = full ∙ look_then s n r t (naming_faults s levels) levels [] last e
 
-  pub add_told : (before at k : ℕ) → before ≡ naming_refusal s n r t levels → (before ≡ 0 → at ≡ place) → k ≡ cond (eqb before 0) (room_at n at t.counts) before
-      → k ≡ add_refusal s n r t levels
-  add_told before at k e f g = g ∙ go (ℕ_discrete before 0)
-    where
-      go : Dec (before ≡ 0) → cond (eqb before 0) (room_at n at t.counts) before ≡ add_refusal s n r t levels
-      go (yes z) =
-          ap (λ (b : Bool). cond b (room_at n at t.counts) before) (eq-eqb before 0 z) ∙ ap (λ (i : ℕ). room_at n i t.counts) (f z) ∙ told (sym e ∙ z)
-      go (no z) = ap (λ (b : Bool). cond b (room_at n at t.counts) before) (ne_eqb before 0 z) ∙ first before e z
+  -- refused by the look at the tables
+  pub told_before : (e : Refusal) → number_of e ≡ naming_refusal s n r t levels → number_of e ≡ add_refusal s n r t levels
+  told_before e h = first (number_of e) h (number_above_0 e)
+
+  -- or for its room, at its place
+  pub told_room : naming_refusal s n r t levels ≡ 0 → {at : ℕ} → at ≡ place → {k : ℕ} → k ≡ room_at n at t.counts → k ≡ add_refusal s n r t levels
+  told_room e f g = g ∙ ap (λ (i : ℕ). room_at n i t.counts) f ∙ told e
 
   -- Nothing refuses.
   module _ (e : add_refusal s n r t levels ≡ 0) where
@@ -123,17 +126,17 @@ module _ (s : Settings) (n r : ℕ) (t : Tables) (levels : List ℤ) where
     pub room : get_or t.counts i 0 ≡ 255 → ⊥
     pub few_points : n ≤ 64
     pub few_rows : r ≤ 449
-    pub outcome : (a : Answer) (k : List ℕ) → a ≡ record { refusal = 0; n = n; r = r } → k ≡ set t.counts i (get_or t.counts i 0 + 1)
-        → ended a t.states t.standard t.leads t.coefficients k ≡ add_outcome s n r t levels
+    pub outcome : {a : Size} {k : List ℕ} → a ≡ record { n = n; r = r } → k ≡ set t.counts i (get_or t.counts i 0 + 1)
+        → ended (answer_of (Ok a)) (five_tables t.states t.standard t.leads t.coefficients k) ≡ add_outcome s n r t levels
 
   pub raised : (e : add_refusal s n r t levels ≡ 0) → (i : ℕ) → i ≡ place → i < n → Raised i
-  unfolding recounted
+  unfolding answer_of recounted
   raised e i f low = record {
     inside = omega (arith, low, (o e).few, (large_of t (o e).long_tables).counts);
     room = full;
     few_points = (o e).few;
     few_rows = rows_held s n r t levels (none_before e);
-    outcome = λ a k g h. rw (g, h, f, add-one count) (sym (add_raises s n r t levels there e));
+    outcome = λ g h. rw (g, h, f, add-one count) (sym (add_raises s n r t levels there e));
   }
     where
       within : ltb place n ≡ true

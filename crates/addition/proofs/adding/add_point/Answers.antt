@@ -1,142 +1,103 @@
--- `adding::add_point` meets its contract: it is refused with the number of its refusal, or a count is raised, or the tables are written.
+-- `adding::add_point` meets its contract: it is refused as the look or the room says, or a count is raised, or the tables are written.
 use mathlib.Core.Path.{◌≡◌, sym, ◌∙◌}
-use mathlib.Core.List.{List}
-use Prim.Native.Nat.{ℕ}
 use native.Mathlib.Omega.{arith}
-use Rattle.specification.specs.Tables.{Tables, five_tables}
+use Rattle.std.proofs.lemmas.Result.{err_from_is_err_and}
+use Rattle.specification.specs.Answers.{number_of, refusal_of}
+use Rattle.specification.specs.Lent.{lent_mut}
+use Rattle.specification.specs.Tables.{Tables}
 use Rattle.specification.specs.Adding.{add_refusal, add_outcome}
 use Rattle.specification.proofs.agreement.Refusals.{large_of}
-use Rattle.recognition.proofs.settings.ByNumber.{alone, when_refused}
+use Rattle.recognition.specs.Naming.{naming_refusal}
+use Rattle.recognition.proofs.settings.ByNumber.{number_above_0, alone, when_refused}
 use Rattle.recognition.proofs.naming.PointAtHand.{opened, AtHand, at_hand}
-use Rattle.addition.proofs.adding.Addition.{add_told, none_before, Raised, raised, Ready, ready}
+use Rattle.addition.proofs.adding.Addition.{place, told_before, told_room, none_before, Raised, raised, Ready, ready}
 use Rattle.addition.proofs.adding.add_point.Goals as goal
-use Rattle.addition.proofs.adding.add_point.Goals.{After-add_accepted, After-add_accepted-arg-5-1, After-add_refusal-refusal, After-locate-named, After-slice_known-10-1, Else-named-n, Else-refusal-ne0, Start, Then-named-n}
+use Rattle.addition.proofs.adding.add_point.Goals.{In_ok-place, In_ok-check_room, Else-place-n, Start, Then-place-n}
 
 -- the lent tables
 abbrev tables : Start → Tables
-tables s = five_tables s.args.states.now s.args.standard.now s.args.leads.now s.args.coefficients.now s.args.counts.now
+tables s = lent_mut s.args.tables
 
--- the point is looked for, and its place judged
-abbrev start : After-locate-named → Start
-start d = (goal.at.After-locate-named d).Start
-
-abbrev sought : After-add_refusal-refusal → After-locate-named
-sought a = (goal.at.After-add_refusal-refusal a).After-locate-named
-
-module _ (a : After-add_refusal-refusal) where
-  abbrev d : After-locate-named
-  d = sought a
-
+-- the point is found, or it is new
+module _ (e : In_ok-place) where
   abbrev s : Start
-  s = start d
+  s = (goal.at.In_ok-place e).Start
 
-  told : a.add_refusal-refusal.result ≡ add_refusal s.args.settings s.args.n s.args.r (tables s) s.args.levels.now
-  told =
-      add_told s.args.settings s.args.n s.args.r (tables s) s.args.levels.now d.locate-named.result.refusal d.locate-named.result.place a.add_refusal-refusal.result
-      d.locate-named.ensures.refusal
-      (λ z. (at_hand s.args.settings s.args.n s.args.r (tables s) s.args.levels.now (sym d.locate-named.ensures.refusal ∙ z) d.locate-named.ensures).placed)
-      a.add_refusal-refusal.ensures
+  before : naming_refusal s.args.settings s.args.n s.args.r (tables s) s.args.levels.now ≡ 0
+  unfolding refusal_of
+  before = sym e.in_ok-place.ensures.refusal
+
+  placed : e.in_ok-place.place ≡ place s.args.settings s.args.n s.args.r (tables s) s.args.levels.now
+  placed = (at_hand s.args.settings s.args.n s.args.r (tables s) s.args.levels.now before e.in_ok-place.ensures).placed
 
 -- nothing refuses
-module _ (e : Else-refusal-ne0) where
-  abbrev a : After-add_refusal-refusal
-  a = (goal.at.Else-refusal-ne0 e).After-add_refusal-refusal
+module _ (f : In_ok-check_room) where
+  abbrev e : In_ok-place
+  e = (goal.at.In_ok-check_room f).In_ok-place
 
   abbrev y : Start
-  y = s a
+  y = s e
 
   none : add_refusal y.args.settings y.args.n y.args.r (tables y) y.args.levels.now ≡ 0
-  none = sym (told a) ∙ e.if-refusal-ne0.false
+  unfolding refusal_of
+  none = sym (told_room y.args.settings y.args.n y.args.r (tables y) y.args.levels.now (before e) (placed e) f.in_ok-check_room.ensures)
 
-  -- the working arrays
-  abbrev points : List ℕ
-  points = (d a).locate-named.new.points
-
-  abbrev rows : List ℕ
-  rows = (d a).locate-named.new.rows
-
-  abbrev pivots : List ℕ
-  pivots = (d a).locate-named.new.pivots
-
-  abbrev point : List ℕ
-  point = (d a).locate-named.new.point
-
-  hand : AtHand y.args.settings y.args.n y.args.r (tables y) y.args.levels.now
-      (none_before y.args.settings y.args.n y.args.r (tables y) y.args.levels.now none) (d a).locate-named.result.place points rows pivots point
-  hand =
-      at_hand y.args.settings y.args.n y.args.r (tables y) y.args.levels.now
-      (none_before y.args.settings y.args.n y.args.r (tables y) y.args.levels.now none) (d a).locate-named.ensures
+  hand : AtHand y.args.settings y.args.n y.args.r (tables y) y.args.levels.now (none_before y.args.settings y.args.n y.args.r (tables y) y.args.levels.now none)
+      e.in_ok-place.place e.locate.new.points e.locate.new.rows e.locate.new.pivots e.locate.new.point
+  hand = at_hand y.args.settings y.args.n y.args.r (tables y) y.args.levels.now (none_before y.args.settings y.args.n y.args.r (tables y) y.args.levels.now none) e.in_ok-place.ensures
 
 -- the point is there
-raise : (f : Then-named-n) → let x = f in let y = y (goal.at.Then-named-n x).Else-refusal-ne0 in Raised y.args.settings y.args.n y.args.r (tables y) y.args.levels.now (d (a (goal.at.Then-named-n x).Else-refusal-ne0)).locate-named.result.place
-raise f =
-    let x = f in
-    let y = y (goal.at.Then-named-n x).Else-refusal-ne0 in
-    raised y.args.settings y.args.n y.args.r (tables y) y.args.levels.now (none (goal.at.Then-named-n x).Else-refusal-ne0) (d (a (goal.at.Then-named-n x).Else-refusal-ne0)).locate-named.result.place (hand (goal.at.Then-named-n x).Else-refusal-ne0).placed f.if-named-n.true
+raise : (g : Then-place-n) → let f = (goal.at.Then-place-n g).In_ok-check_room in let y = y f in
+    Raised y.args.settings y.args.n y.args.r (tables y) y.args.levels.now g.in_ok-place.place
+raise g =
+    let f = (goal.at.Then-place-n g).In_ok-check_room in
+    let y = y f in
+    raised y.args.settings y.args.n y.args.r (tables y) y.args.levels.now (none f) g.in_ok-place.place (hand f).placed g.if-place-n.true
 
 -- the point is new
-handed : (f : Else-named-n) → let x = f in let y = y (goal.at.Else-named-n x).Else-refusal-ne0 in Ready y.args.settings y.args.n y.args.r (tables y) y.args.levels.now (points (goal.at.Else-named-n x).Else-refusal-ne0) (rows (goal.at.Else-named-n x).Else-refusal-ne0) (pivots (goal.at.Else-named-n x).Else-refusal-ne0) (point (goal.at.Else-named-n x).Else-refusal-ne0)
-handed f =
-    let x = f in
-    let y = y (goal.at.Else-named-n x).Else-refusal-ne0 in
-    ready y.args.settings y.args.n y.args.r (tables y) y.args.levels.now (none (goal.at.Else-named-n x).Else-refusal-ne0) f.if-named-n.false (hand (goal.at.Else-named-n x).Else-refusal-ne0)
+handed : (g : Else-place-n) → let f = (goal.at.Else-place-n g).In_ok-check_room in let y = y f in
+    Ready y.args.settings y.args.n y.args.r (tables y) y.args.levels.now g.locate.new.points g.locate.new.rows g.locate.new.pivots g.locate.new.point
+handed g =
+    let f = (goal.at.Else-place-n g).In_ok-check_room in
+    let y = y f in
+    ready y.args.settings y.args.n y.args.r (tables y) y.args.levels.now (none f) g.if-place-n.false (hand f)
 
--- the tables are lent, and written
-abbrev lent : After-add_accepted-arg-5-1 → Else-named-n
-lent c = (goal.at.After-add_accepted-arg-5-1 c).Else-named-n
+pub returns-in_err-place : goal.returns-in_err-place
+unfolding refusal_of add_outcome
+returns-in_err-place c =
+    let p = err_from_is_err_and c.from_residual.result c.from_residual.ensures.1 in
+    let r = c.in_err-place.field-0.0 in
+    let s = (goal.at.returns-in_err-place c).Start in
+    rw (p.1, p.2) (alone r (tables s) ∙ when_refused (tables s) _ _ (number_of r)
+    (told_before s.args.settings s.args.n s.args.r (tables s) s.args.levels.now r c.in_err-place.ensures.refusal) (number_above_0 r))
 
-abbrev written : After-slice_known-10-1 → After-add_accepted
-written c = (goal.at.After-slice_known-10-1 c).After-add_accepted
+pub check_room-requires : goal.check_room-requires
+check_room-requires c =
+    let o = opened (s c).args.settings (s c).args.n (s c).args.r (tables (s c)) (s c).args.levels.now (before c) in
+    omega (arith, o.few, (large_of (tables (s c)) o.long_tables).counts)
 
-pub add_refusal-refusal-requires : goal.add_refusal-refusal-requires
-add_refusal-refusal-requires c z = let d = c in
-    let s = start (goal.at.add_refusal-refusal-requires d).After-locate-named in
-    let o = opened s.args.settings s.args.n s.args.r (tables s) s.args.levels.now (sym d.locate-named.ensures.refusal ∙ z) in
-    omega (arith, o.few, (large_of (tables s) o.long_tables).counts)
-
-pub returns-then-refusal-ne0 : goal.returns-then-refusal-ne0
-unfolding add_outcome
-returns-then-refusal-ne0 c = let a = c in
-    alone c.refused.ensures (tables (s (goal.at.returns-then-refusal-ne0 a).After-add_refusal-refusal)) ∙ when_refused (tables (s (goal.at.returns-then-refusal-ne0 a).After-add_refusal-refusal)) _ _ a.add_refusal-refusal.result (told (goal.at.returns-then-refusal-ne0 a).After-add_refusal-refusal) c.if-refusal-ne0.true
+pub returns-in_err-check_room : goal.returns-in_err-check_room
+unfolding refusal_of add_outcome
+returns-in_err-check_room c =
+    let p = err_from_is_err_and c.from_residual-in_err-check_room.result c.from_residual-in_err-check_room.ensures.1 in
+    let r = c.in_err-check_room.field-0.0 in
+    let e = (goal.at.returns-in_err-check_room c).In_ok-place in
+    let s = s e in
+    rw (p.1, p.2) (alone r (tables s) ∙ when_refused (tables s) _ _ (number_of r)
+    (told_room s.args.settings s.args.n s.args.r (tables s) s.args.levels.now (before e) (placed e) c.in_err-check_room.ensures) (number_above_0 r))
 
 pub raise-requires : goal.raise-requires
-raise-requires c = let y = raise (goal.at.raise-requires c).Then-named-n in record { n_bound = (y.few_points, y.few_rows); place_in_bounds = (y.inside, y.room) }
+raise-requires c =
+    let y = raise (goal.at.raise-requires c).Then-place-n in
+    record { n_bound = (y.few_points, y.few_rows); place_in_bounds = (y.inside, y.room) }
 
-pub shape_of-counts-then-named-n : goal.shape_of-counts-then-named-n
-shape_of-counts-then-named-n c = c.raise.auto.counts
-
-pub returns-then-named-n : goal.returns-then-named-n
-returns-then-named-n c = let q = c in (raise (goal.at.returns-then-named-n q).Then-named-n).outcome q.raise.result q.raise.new.counts q.raise.ensures.value q.raise.ensures.counts_after
-
-pub slice_bounds-add_accepted-end : goal.slice_bounds-add_accepted-end
-slice_bounds-add_accepted-end c = sym (sought (a (goal.at.slice_bounds-add_accepted-end c).Else-refusal-ne0)).locate-named.auto.points
-
-pub slice_bounds-add_accepted-end-2 : goal.slice_bounds-add_accepted-end-2
-slice_bounds-add_accepted-end-2 c = sym (sought (a (goal.at.slice_bounds-add_accepted-end-2 c).Else-refusal-ne0)).locate-named.auto.rows
-
-pub slice_bounds-add_accepted-end-3 : goal.slice_bounds-add_accepted-end-3
-slice_bounds-add_accepted-end-3 c = sym (sought (a (goal.at.slice_bounds-add_accepted-end-3 c).Else-refusal-ne0)).locate-named.auto.pivots
-
-pub slice_bounds-add_accepted-end-4 : goal.slice_bounds-add_accepted-end-4
-slice_bounds-add_accepted-end-4 c = sym (sought (a (goal.at.slice_bounds-add_accepted-end-4 c).Else-refusal-ne0)).locate-named.auto.point
+pub returns-then-place-n : goal.returns-then-place-n
+returns-then-place-n c = (raise (goal.at.returns-then-place-n c).Then-place-n).outcome c.raise.ensures.value c.raise.ensures.counts_after
 
 pub add_accepted-requires : goal.add_accepted-requires
-add_accepted-requires c = let y = handed (lent (goal.at.add_accepted-requires c).After-add_accepted-arg-5-1) in record { points_given = y.given; counts_value = y.long; drawn_up = y.drawn; n_bound = (y.room, y.counts); new_point = y.new_point }
-
-pub shape_of-states : goal.shape_of-states
-shape_of-states c = (written (goal.at.shape_of-states c).After-slice_known-10-1).add_accepted.auto.states
-
-pub shape_of-standard : goal.shape_of-standard
-shape_of-standard c = (written (goal.at.shape_of-standard c).After-slice_known-10-1).add_accepted.auto.standard
-
-pub shape_of-leads : goal.shape_of-leads
-shape_of-leads c = (written (goal.at.shape_of-leads c).After-slice_known-10-1).add_accepted.auto.leads
-
-pub shape_of-coefficients : goal.shape_of-coefficients
-shape_of-coefficients c = (written (goal.at.shape_of-coefficients c).After-slice_known-10-1).add_accepted.auto.coefficients
-
-pub shape_of-counts : goal.shape_of-counts
-shape_of-counts c = (written (goal.at.shape_of-counts c).After-slice_known-10-1).add_accepted.auto.counts
+add_accepted-requires c =
+    let y = handed (goal.at.add_accepted-requires c).Else-place-n in
+    record { points_given = y.given; counts_value = y.long; drawn_up = y.drawn; n_bound = (y.room, y.counts); new_point = y.new_point }
 
 pub returns : goal.returns
-returns c = (written (goal.at.returns c).After-slice_known-10-1).add_accepted.ensures ∙ (handed (lent (goal.at.After-add_accepted (written (goal.at.returns c).After-slice_known-10-1)).After-add_accepted-arg-5-1)).outcome
+returns c = c.add_accepted.ensures ∙ (handed (goal.at.returns c).Else-place-n).outcome

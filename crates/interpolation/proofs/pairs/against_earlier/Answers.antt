@@ -6,12 +6,11 @@ use mathlib.Core.List.{List}
 use Prim.Native.Nat.{ℕ, ◌+◌, ◌*◌, ◌-◌, ◌<◌}
 use native.Mathlib.Omega.{arith}
 use lib.ListN.{get_or, take, drop}
-use lib.Dec.{eqb}
-use borrow.Author.Tests.{eq-eqb, ne_eqb}
 use Rattle.residue.proofs.Replaced.{part_long}
 use Rattle.specification.specs.Needed.{apart}
 use Rattle.interpolation.specs.Pairs.{chain_of, Last, contrary_to}
 use Rattle.interpolation.proofs.Chains.{left_start, left_on, left_hit, left_end, within_chain, other_rest, same_value, by_apart}
+use Rattle.interpolation.proofs.Differences.{told_same}
 use Rattle.interpolation.proofs.pairs.against_earlier.Goals as goal
 use Rattle.interpolation.proofs.pairs.against_earlier.Goals.{At-loop-next, Start}
 
@@ -35,10 +34,10 @@ module _ (l : At-loop-next) where
   link ne = start.requires.chained j (omega (arith, l.loop-next.invariant.early))
 
   -- what the comparison of the two points says, their values being different
-  compared : (place : ℕ) → eqb place start.args.k ≡ apart start.args.k (take (8 * j + 8 - 8 * j) (drop (8 * j) start.args.points.now))
+  compared : (same : Bool) → same ≡ apart start.args.k (take (8 * j + 8 - 8 * j) (drop (8 * j) start.args.points.now))
       (take (8 * start.args.i + 8 - 8 * start.args.i) (drop (8 * start.args.i) start.args.points.now))
-      → (get_or start.args.values.now j 0 ≡ get_or start.args.values.now start.args.i 0 → ⊥) → test j ≡ eqb place start.args.k
-  compared place e ne =
+      → (get_or start.args.values.now j 0 ≡ get_or start.args.values.now start.args.i 0 → ⊥) → test j ≡ same
+  compared same e ne =
       let t : List ℕ = start.args.points.now in
       let i : ℕ = start.args.i in
       by_apart start.args.k t start.args.values.now start.args.rests.now i start.requires.rests j ne
@@ -88,13 +87,12 @@ only_difference-requires c = let l = c in
       part_long (8 * i) (8 * i + 8 - 8 * i) 8 t (eight i) (omega arith),
     )
 
-pub returns-then-only_difference-k : goal.returns-then-only_difference-k
-returns-then-only_difference-k c = let d = c in
-    let l = d in
-    let s = start (goal.at.returns-then-only_difference-k l).At-loop-next in
-    left_hit s.args.rests.now s.args.i (test (goal.at.returns-then-only_difference-k l).At-loop-next) (within (goal.at.returns-then-only_difference-k l).At-loop-next) l.loop-next.next l.loop-next.invariant (λ e. omega arith)
-    (compared (goal.at.returns-then-only_difference-k l).At-loop-next d.only_difference.result (d.only_difference.ensures s.args.k (omega arith)) d.if-values-j.true
-    ∙ eq-eqb d.only_difference.result s.args.k c.if-only_difference-k.true)
+pub returns-then-eq : goal.returns-then-eq
+returns-then-eq c =
+    let l = (goal.at.returns-then-eq c).At-loop-next in
+    let s = start l in
+    left_hit s.args.rests.now s.args.i (test l) (within l) c.loop-next.next c.loop-next.invariant (λ e. omega arith)
+    (compared l _ (told_same c.only_difference.result s.args.k _ (c.only_difference.ensures s.args.k (omega arith))) c.if-values-j.true ∙ sym c.eq.ensures ∙ c.if-eq.true)
 
 pub bounds-before-j : goal.bounds-before-j
 bounds-before-j c = omega (arith, c.loop-next.invariant.early)
@@ -116,7 +114,7 @@ loop-next-preserved c = let l = c in
     let early : j (goal.at.loop-next-preserved l).At-loop-next < i = omega (arith, l.loop-next.invariant.early) in
     left_on rs i (test (goal.at.loop-next-preserved l).At-loop-next) (within (goal.at.loop-next-preserved l).At-loop-next) l.loop-next.next (get_or s.args.before.now (j (goal.at.loop-next-preserved l).At-loop-next) 0) l.loop-next.invariant ne
     (⊎_elim
-    (λ w. compared (goal.at.loop-next-preserved l).At-loop-next w.only_difference.result (w.only_difference.ensures s.args.k (omega arith)) w.if-values-j.true ∙ ne_eqb w.only_difference.result s.args.k w.if-only_difference-k.false)
+    (λ w. compared (goal.at.loop-next-preserved l).At-loop-next _ (told_same w.only_difference.result s.args.k _ (w.only_difference.ensures s.args.k (omega arith))) w.if-values-j.true ∙ sym w.eq.ensures ∙ w.if-eq.false)
     (⊎_elim
     (λ w. same_value s.args.k t vs rs i s.requires.rests (j (goal.at.loop-next-preserved l).At-loop-next) w.if-values-j.false)
     (λ w. other_rest s.args.k t vs rs i s.requires.rests (j (goal.at.loop-next-preserved l).At-loop-next) early w.if-rests-j.false))

@@ -36,12 +36,6 @@ loop-k-init c = (omega arith, (refl, c.requires.out_value ∙ sym (fill_zeros 8)
 pub is_needed-requires : goal.is_needed-requires
 is_needed-requires c = record { k_bound = (omega arith, omega arith); n_in_bounds = (omega arith, omega arith) }
 
-pub overflow_cast-out : goal.overflow_cast-out
-overflow_cast-out c = omega (arith, few (goal.at.overflow_cast-out c).At-loop-k)
-
-pub overflow_cast-out-then-is_needed : goal.overflow_cast-out-then-is_needed
-overflow_cast-out-then-is_needed c = omega (arith, few (goal.at.overflow_cast-out-then-is_needed c).At-loop-k)
-
 pub bounds-out-count : goal.bounds-out-count
 bounds-out-count c = omega (arith, few (goal.at.bounds-out-count c).At-loop-k, long (goal.at.bounds-out-count c).At-loop-k)
 
@@ -72,6 +66,9 @@ loop-k-preserved c = let l = c in
     let e = sym (names_off S vs k (r ∙ w.if-is_needed.false)) in
     (omega arith, (w.count-is ∙ l.loop-k.invariant.1.0 ∙ ap length e, w.out-is ∙ l.loop-k.invariant.1.1 ∙ ap (fill 8) e)))
     c.if-is_needed.branch-raw
+
+pub overflow_cast-result : goal.overflow_cast-result
+overflow_cast-result c = record { fits = omega (arith, few (goal.at.overflow_cast-result c).At-loop-k) }
 
 pub shape_of-out : goal.shape_of-out
 shape_of-out c = long (goal.at.shape_of-out c).At-loop-k ∙ sym (ap length (start (goal.at.shape_of-out c).At-loop-k).requires.out_value)

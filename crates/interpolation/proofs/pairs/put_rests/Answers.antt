@@ -1,48 +1,41 @@
--- `pairs::put_rests` meets its contract: the keys of the first i points have been put.
-use mathlib.Core.Path.{◌≡◌, refl, ap, subst, ◌∙◌}
-use mathlib.Core.List.{List}
-use Prim.Native.Nat.{ℕ, ◌+◌, ◌*◌, ◌-◌}
-use native.Mathlib.Omega.{arith}
-use lib.ListN.{take, drop, length-set}
-use Rattle.residue.proofs.Replaced.{part_long}
+-- `pairs::put_rests` meets its contract: the keys of the points seen so far have been put.
+use Rattle.std.proofs.Common.{◌≡◌, ℕ, length, refl, subst, ap, ◌∙◌, arith}
+use Rattle.std.proofs.Math.ListN.{length-set}
+use Rattle.std.proofs.lemmas.Iterator.Consumers.{YieldsList-turn, YieldsList-end}
+use Rattle.std.proofs.lemmas.List.{length_push}
+use Rattle.residue.proofs.Chunks.{numbered_given, numbered_turn, numbered_long, row_long}
 use Rattle.interpolation.specs.Pairs.{rest_of, Rests}
 use Rattle.interpolation.proofs.Chains.{weight, rests_more}
 use Rattle.interpolation.proofs.pairs.put_rests.Goals as goal
-use Rattle.interpolation.proofs.pairs.put_rests.Goals.{At-loop-i, Start}
-
-abbrev start : At-loop-i → Start
-start l = (goal.at.At-loop-i l).Start
 
 pub loop-i-init : goal.loop-i-init
-loop-i-init c = (omega arith, (refl, λ j h. absurd (omega arith)))
+loop-i-init c = (refl, λ j h. absurd (omega arith))
 
 pub rest-requires : goal.rest-requires
-rest-requires c = let l = c in
-    let s = start (goal.at.rest-requires l).At-loop-i in (
-      omega arith,
-      weight s.args.k (omega arith),
-      part_long (8 * l.loop-i.i) (8 * l.loop-i.i + 8 - 8 * l.loop-i.i) 8 s.args.points.now (omega arith) (omega arith),
-    )
+rest-requires c =
+    let t = numbered_turn 8 c.args.n c.args.points.now _ _ _
+    (YieldsList-turn (numbered_given 8 c.args.n c.args.points.now {s = c.into_iter-i-iterator.result} (omega arith) (omega arith) (cc) (cc) (cc)) c.loop-i.yielded c.loop-i.i-iterator c.loop-i.yielded_by c.next.result c.next.new.self (c.in-Some.i, c.in-Some.point) c.in-Some.is c.next.ensures.steps) in
+    (omega arith, weight c.args.k (omega arith), ap length t.1.1 ∙ row_long 8 c.args.n c.args.points.now (length c.loop-i.yielded) t.0 (omega arith))
+
+pub bounds-rests-i : goal.bounds-rests-i
+bounds-rests-i c =
+    let t = numbered_turn 8 c.args.n c.args.points.now _ _ _
+    (YieldsList-turn (numbered_given 8 c.args.n c.args.points.now {s = c.into_iter-i-iterator.result} (omega arith) (omega arith) (cc) (cc) (cc)) c.loop-i.yielded c.loop-i.i-iterator c.loop-i.yielded_by c.next.result c.next.new.self (c.in-Some.i, c.in-Some.point) c.in-Some.is c.next.ensures.steps) in
+    omega (arith, t.0, t.1.0, c.loop-i.invariant.0)
 
 pub loop-i-preserved : goal.loop-i-preserved
-loop-i-preserved c = let l = c in
-    let s = start (goal.at.loop-i-preserved l).At-loop-i in
-    let k : ℕ = s.args.k in
-    let i : ℕ = l.loop-i.i in
-    let t : List ℕ = s.args.points.now in
-    let e : 8 * i + 8 - 8 * i ≡ 8 = omega arith in
-    let own = c.rest.ensures ∙ ap (λ (w : ℕ). rest_of k (take w (drop (8 * i) t))) e in (
-      omega arith,
-      (
-        length-set l.loop-i.rests i c.rest.result ∙ l.loop-i.invariant.1.0,
-        rests_more k i t l.loop-i.rests c.rest.result (omega arith) own l.loop-i.invariant.1.1,
-      ),
-    )
-
-pub shape_of-rests : goal.shape_of-rests
-shape_of-rests c = c.loop-i.invariant.1.0
+loop-i-preserved c =
+    let k = c.args.k in
+    let i = length c.loop-i.yielded in
+    let P = c.args.points.now in
+    let t = numbered_turn 8 c.args.n c.args.points.now _ _ _
+    (YieldsList-turn (numbered_given 8 c.args.n c.args.points.now {s = c.into_iter-i-iterator.result} (omega arith) (omega arith) (cc) (cc) (cc)) c.loop-i.yielded c.loop-i.i-iterator c.loop-i.yielded_by c.next.result c.next.new.self (c.in-Some.i, c.in-Some.point) c.in-Some.is c.next.ensures.steps) in
+    let p = length_push c.loop-i.yielded (c.in-Some.i, c.in-Some.point) in
+    let r = rests_more k i P c.loop-i.rests c.rest.result (omega (arith, t.0, c.loop-i.invariant.0)) (c.rest.ensures ∙ ap (rest_of k) t.1.1) c.loop-i.invariant.1 in
+    (length-set c.loop-i.rests c.in-Some.i c.rest.result ∙ c.loop-i.invariant.0, rw (p, t.1.0) r)
 
 pub returns : goal.returns
-returns c = let l = c in
-    let e : l.loop-i.i ≡ (start (goal.at.returns l).At-loop-i).args.n = omega arith in
-    subst (λ (i : ℕ). Rests (start (goal.at.returns l).At-loop-i).args.k i (start (goal.at.returns l).At-loop-i).args.points.now l.loop-i.rests) e l.loop-i.invariant.1.1
+returns c =
+    let t = YieldsList-end (numbered_given 8 c.args.n c.args.points.now {s = c.into_iter-i-iterator.result} (omega arith) (omega arith) (cc) (cc) (cc)) c.loop-i.yielded c.loop-i.i-iterator c.loop-i.yielded_by c.next.result c.next.new.self c.in-None.is c.next.ensures.steps in
+    let e : length c.loop-i.yielded ≡ c.args.n = omega (arith, t.1, numbered_long 8 c.args.n c.args.points.now) in
+    subst (λ (i : ℕ). Rests c.args.k i c.args.points.now c.loop-i.rests) e c.loop-i.invariant.1

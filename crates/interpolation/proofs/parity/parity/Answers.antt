@@ -1,20 +1,13 @@
--- `parity::parity` meets its contract: what is left of the first w words has the parity.
-use native.Mathlib.Omega.{arith}
-use Rattle.interpolation.proofs.ParityLaws.{words_none, words_more, words_all}
+-- `parity::parity` meets its contract: what is left of all words has the parity of the ones that are left.
+use Rattle.std.proofs.Common.{rules}
+use Rattle.std.proofs.lemmas.Iterator.{YieldsList-from_slice, YieldsList-from_zip}
+use Rattle.std.proofs.lemmas.Iterator.Consumers.{fold_from_yields_List}
+use Rattle.interpolation.proofs.ParityLaws.{left_in, folded_parity}
 use Rattle.interpolation.proofs.parity.parity.Goals as goal
 
-pub loop-w-init : goal.loop-w-init
-loop-w-init c = (omega arith, words_none c.args.polynomial.now c.args.mask.now)
-
-pub loop-w-preserved : goal.loop-w-preserved
-loop-w-preserved c = let l = c in
-    let s = l in
-    (omega arith, words_more s.args.polynomial.now s.args.mask.now l.loop-w.w l.loop-w.left s.requires.0 s.requires.1 (omega arith) l.loop-w.invariant.1)
-
-pub overflow_cast-result : goal.overflow_cast-result
-overflow_cast-result c = record { fits = omega arith }
-
 pub returns : goal.returns
-returns c = let l = c in
-    let s = l in
-    words_all s.args.polynomial.now s.args.mask.now l.loop-w.w l.loop-w.left s.requires.0 s.requires.1 (omega arith) l.loop-w.invariant.1
+returns c =
+    let s = c.args.polynomial.now in
+    let mask = c.args.mask.now in
+    folded_parity s mask c.fold-left.result
+    (fold_from_yields_List _ left_in 0 c.fold-left.result c.fold-left.ensures.ran (YieldsList-from_zip (YieldsList-from_slice s cc) (YieldsList-from_slice mask cc)) (λ a x b q k. search rules))

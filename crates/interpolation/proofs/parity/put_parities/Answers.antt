@@ -1,71 +1,57 @@
--- `parity::put_parities` meets its contract: the values at the first i points are written.
-use mathlib.Core.Path.{◌≡◌, refl, sym, ap, ◌∙◌}
-use mathlib.Core.List.{List}
-use Prim.Native.Nat.{ℕ, ◌+◌, ◌*◌, ◌-◌, ◌%◌, ◌<◌}
-use native.Mathlib.Omega.{arith}
-use lib.ListN.{length, take, drop, length-drop, length-replicate}
-use lib.Seq.{length-take-le}
+-- `parity::put_parities` meets its contract: the values at the points seen so far are written.
+use Rattle.std.proofs.Common.{◌≡◌, ℕ, ◌*◌, ◌%◌, List, length, drop, replicate, refl, sym, ap, ◌∙◌, arith}
+use Rattle.std.proofs.Math.ListN.{length-replicate}
+use Rattle.std.proofs.lemmas.Iterator.Consumers.{YieldsList-turn, YieldsList-end}
+use Rattle.std.proofs.lemmas.List.{length_push}
+use Rattle.residue.proofs.Chunks.{numbered_given, numbered_turn, numbered_long, row_long}
 use Rattle.residue.proofs.vector.Vectors.{below_take, below_drop}
 use Rattle.residue.proofs.vector.Filled.{filled_none, kept_length, filled_more}
-use Rattle.interpolation.specs.Parity.{ones_left, SetOf, mask_of}
+use Rattle.interpolation.specs.Parity.{ones_left, mask_of}
 use Rattle.interpolation.proofs.PointValues.{parity_at, parities_all}
 use Rattle.interpolation.proofs.parity.put_parities.Goals as goal
-use Rattle.interpolation.proofs.parity.put_parities.Goals.{At-loop-i, Start}
 
--- at the loop's head
-module _ (l : At-loop-i) where
-  abbrev start : Start
-  start = (goal.at.At-loop-i l).Start
-
-  abbrev set : List ℕ
-  set = l.put_terms.new.polynomial
-
-  set_of : SetOf start.args.coefficients.now start.args.exponents.now set
-  set_of = l.put_terms.ensures
-
-  given_long : length start.args.work.now ≡ 128
-  given_long = ap length start.requires.work_value ∙ length-replicate {A = ℕ} 128 0
-
-  long : length l.loop-i.work ≡ length start.args.work.now
-  long = kept_length (parity_at set start.args.points.now) l.loop-i.i start.args.work.now l.loop-i.work l.loop-i.invariant.1
-
-  width : 8 * l.loop-i.i + 8 - 8 * l.loop-i.i ≡ 8
-  width = omega arith
-
-  point_long : l.loop-i.i < start.args.n → length (take (8 * l.loop-i.i + 8 - 8 * l.loop-i.i) (drop (8 * l.loop-i.i) start.args.points.now)) ≡ 8
-  point_long h =
-      length-take-le (8 * l.loop-i.i + 8 - 8 * l.loop-i.i) (drop (8 * l.loop-i.i) start.args.points.now) (omega (arith, length-drop (8 * l.loop-i.i) start.args.points.now)) ∙ width
+-- the width of the working row
+wide : (work : List ℕ) → work ≡ replicate 128 0 → length work ≡ 128
+wide work e = ap length e ∙ length-replicate {A = ℕ} 128 0
 
 pub put_terms-requires : goal.put_terms-requires
-put_terms-requires c = let s = c in record { below = s.requires.below; exponents_len = s.requires.exponents_len; polynomial_value = refl }
+put_terms-requires c = record { below = c.requires.below; exponents_len = c.requires.exponents_len; polynomial_value = refl }
 
 pub loop-i-init : goal.loop-i-init
-loop-i-init c = (omega arith, filled_none _ _)
+loop-i-init c = filled_none _ _
 
 pub slice_bounds-value_at-end : goal.slice_bounds-value_at-end
-slice_bounds-value_at-end c = let l = c in sym (set_of (goal.at.slice_bounds-value_at-end l).At-loop-i).long
+slice_bounds-value_at-end c = sym c.put_terms.ensures.long
 
 pub value_at-requires : goal.value_at-requires
-value_at-requires c = let l = c in
-    let s = start (goal.at.value_at-requires l).At-loop-i in
-    ((set_of (goal.at.value_at-requires l).At-loop-i).long, point_long (goal.at.value_at-requires l).At-loop-i (omega arith), below_take 2 (8 * l.loop-i.i + 8 - 8 * l.loop-i.i) (drop (8 * l.loop-i.i) s.args.points.now) (below_drop 2 (8 * l.loop-i.i) s.args.points.now s.requires.n_bound.1.1))
+value_at-requires c =
+    let t = numbered_turn 8 c.args.n c.args.points.now _ _ _
+    (YieldsList-turn (numbered_given 8 c.args.n c.args.points.now {s = c.into_iter-i-iterator.result} (omega arith) (omega arith) (cc) (cc) (cc)) c.loop-i.yielded c.loop-i.i-iterator c.loop-i.yielded_by c.next.result c.next.new.self (c.in-Some.i, c.in-Some.point) c.in-Some.is c.next.ensures.steps) in
+    let i = length c.loop-i.yielded in
+    let long = ap length t.1.1 ∙ row_long 8 c.args.n c.args.points.now i t.0 (omega arith) in
+    (c.put_terms.ensures.long, long, rw t.1.1 (below_take 2 8 (drop (8 * i) c.args.points.now) (below_drop 2 (8 * i) c.args.points.now c.requires.n_bound.1.1)))
 
 pub bounds-work-i : goal.bounds-work-i
-bounds-work-i c = let l = c in omega (arith, long (goal.at.bounds-work-i l).At-loop-i, given_long (goal.at.bounds-work-i l).At-loop-i)
+bounds-work-i c =
+    let t = numbered_turn 8 c.args.n c.args.points.now _ _ _
+    (YieldsList-turn (numbered_given 8 c.args.n c.args.points.now {s = c.into_iter-i-iterator.result} (omega arith) (omega arith) (cc) (cc) (cc)) c.loop-i.yielded c.loop-i.i-iterator c.loop-i.yielded_by c.next.result c.next.new.self (c.in-Some.i, c.in-Some.point) c.in-Some.is c.next.ensures.steps) in
+    let k = kept_length (parity_at c.put_terms.new.polynomial c.args.points.now) (length c.loop-i.yielded) c.args.work.now c.loop-i.work c.loop-i.invariant in
+    omega (arith, t.0, t.1.0, wide c.args.work.now c.requires.work_value)
 
 pub loop-i-preserved : goal.loop-i-preserved
-loop-i-preserved c = let l = c in
-    let s = start (goal.at.loop-i-preserved l).At-loop-i in (
-      omega arith,
-      filled_more (parity_at (set (goal.at.loop-i-preserved l).At-loop-i) s.args.points.now) l.loop-i.i s.args.work.now l.loop-i.work l.loop-i.invariant.1 c.value_at.result (omega (arith, given_long (goal.at.loop-i-preserved l).At-loop-i))
-          (c.value_at.ensures ∙ ap (λ (k : ℕ). ones_left (set (goal.at.loop-i-preserved l).At-loop-i) (mask_of (take k (drop (8 * l.loop-i.i) s.args.points.now))) % 2) (width (goal.at.loop-i-preserved l).At-loop-i)),
-    )
+loop-i-preserved c =
+    let t = numbered_turn 8 c.args.n c.args.points.now _ _ _
+    (YieldsList-turn (numbered_given 8 c.args.n c.args.points.now {s = c.into_iter-i-iterator.result} (omega arith) (omega arith) (cc) (cc) (cc)) c.loop-i.yielded c.loop-i.i-iterator c.loop-i.yielded_by c.next.result c.next.new.self (c.in-Some.i, c.in-Some.point) c.in-Some.is c.next.ensures.steps) in
+    let p = length_push c.loop-i.yielded (c.in-Some.i, c.in-Some.point) in
+    let set = c.put_terms.new.polynomial in
+    rw (p, t.1.0) (filled_more (parity_at set c.args.points.now) (length c.loop-i.yielded) c.args.work.now c.loop-i.work c.loop-i.invariant c.value_at.result (omega (arith, t.0, wide c.args.work.now c.requires.work_value))
+    (c.value_at.ensures ∙ ap (λ (x : List ℕ). ones_left set (mask_of x) % 2) t.1.1))
 
 pub shape_of-work : goal.shape_of-work
-shape_of-work c = long (goal.at.shape_of-work c).At-loop-i
+shape_of-work c = kept_length (parity_at c.put_terms.new.polynomial c.args.points.now) (length c.loop-i.yielded) c.args.work.now c.loop-i.work c.loop-i.invariant
 
 pub returns : goal.returns
-returns c = let l = c in
-    let s = start (goal.at.returns l).At-loop-i in
-    l.loop-i.invariant.1
-    ∙ parities_all s.args.coefficients.now s.args.exponents.now (set (goal.at.returns l).At-loop-i) s.args.n s.args.points.now s.args.work.now l.loop-i.i (omega arith) (set_of (goal.at.returns l).At-loop-i) (omega arith) (omega arith) s.requires.n_bound.1.1 (omega (arith, given_long (goal.at.returns l).At-loop-i))
+returns c =
+    let t = YieldsList-end (numbered_given 8 c.args.n c.args.points.now {s = c.into_iter-i-iterator.result} (omega arith) (omega arith) (cc) (cc) (cc)) c.loop-i.yielded c.loop-i.i-iterator c.loop-i.yielded_by c.next.result c.next.new.self c.in-None.is c.next.ensures.steps in
+    c.loop-i.invariant
+    ∙ parities_all c.args.coefficients.now c.args.exponents.now c.put_terms.new.polynomial c.args.n c.args.points.now c.args.work.now (length c.loop-i.yielded) (omega (arith, t.1, numbered_long 8 c.args.n c.args.points.now)) c.put_terms.ensures (omega arith) (omega arith) c.requires.n_bound.1.1 (omega (arith, wide c.args.work.now c.requires.work_value))

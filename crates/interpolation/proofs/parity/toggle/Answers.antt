@@ -3,4 +3,4 @@ use Rattle.interpolation.proofs.ParityLaws.{toggled_is}
 use Rattle.interpolation.proofs.parity.toggle.Goals as goal
 
 pub returns : goal.returns
-returns c = toggled_is _ _ _ c.requires.0
+returns c = cc (toggled_is c.args.c c.args.byte c.args.polynomial.now c.requires.0)

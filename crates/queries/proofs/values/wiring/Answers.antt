@@ -11,7 +11,7 @@ use Rattle.specification.specs.Answers.{number_of, refusal_of, wired_of}
 use Rattle.specification.specs.Lent.{lent}
 use Rattle.specification.specs.Refusal.{first_of}
 use Rattle.specification.specs.Levels.{residues}
-use Rattle.specification.specs.Tables.{Tables, points_in}
+use Rattle.specification.specs.Tables.{points_in}
 use Rattle.specification.specs.Needed.{wiring_of}
 use Rattle.specification.specs.Solving.{values_cases, wiring_outcome}
 use Rattle.specification.proofs.Wiring.{list_refused, list_accepted}
@@ -20,38 +20,21 @@ use Rattle.recognition.proofs.looking.Looks.{Open, open_of, points_there}
 use Rattle.queries.proofs.Refusals.{values_faults, values_cases_lem}
 use Rattle.queries.proofs.Answered.{values_room, values_count, values_names}
 use Rattle.queries.proofs.values.wiring.Goals as goal
-use Rattle.queries.proofs.values.wiring.Goals.{After-look, In_ok-look, Start}
+use Rattle.queries.proofs.values.wiring.Goals.{After-look, In_ok-look}
 
--- the lent tables
-abbrev tables : Start → Tables
-tables s = lent s.args.tables
-
--- the look at them
-module _ (d : After-look) where
-  abbrev s : Start
-  s = (goal.at.After-look d).Start
-
-  told : refusal_of d.look.result ≡ first_of 0 (values_cases 8 s.args.settings s.args.n s.args.r (tables s) s.args.values.now s.args.out.now)
-  told = d.look.ensures.value ∙ values_cases_lem s.args.settings s.args.n s.args.r (tables s) 8 s.args.values.now s.args.out.now
+-- the look at the tables
+told : (d : After-look) → refusal_of d.look.result ≡ first_of 0 (values_cases 8 d.args.settings d.args.n d.args.r (lent d.args.tables) d.args.values.now d.args.out.now)
+told d = d.look.ensures.value ∙ values_cases_lem d.args.settings d.args.n d.args.r (lent d.args.tables) 8 d.args.values.now d.args.out.now
 
 -- nothing refuses
 module _ (e : In_ok-look) where
-  abbrev d : After-look
-  d = (goal.at.In_ok-look e).After-look
-
-  good : Open (s d).args.settings (s d).args.n (s d).args.r (tables (s d)) (values_faults 8 (s d).args.n (s d).args.values.now (s d).args.out.now) (s d).args.values.now []
+  good : Open e.args.settings e.args.n e.args.r (lent e.args.tables) (values_faults 8 e.args.n e.args.values.now e.args.out.now) e.args.values.now []
   unfolding refusal_of
   good = open_of (sym e.in_ok-look.ensures.value)
 
-  abbrev table : List ℕ
-  table = d.look.new.points
-
-  tabled : table ≡ fill 512 (in_places 8 (points_in (s d).args.settings (s d).args.n (s d).args.tables.states.now))
+  tabled : e.look.new.points ≡ fill 512 (in_places 8 (points_in e.args.settings e.args.n e.args.tables.states.now))
   unfolding refusal_of
   tabled = points_there e.in_ok-look.ensures.looked refl
-
-pub look-requires : goal.look-requires
-look-requires c = (refl, (refl, refl))
 
 pub returns-in_err-look : goal.returns-in_err-look
 unfolding refusal_of wired_of wiring_outcome
@@ -61,40 +44,28 @@ returns-in_err-look c =
     rw (p.1, p.2) (list_refused _ c.args.out.now _ (number_of e) (ap refusal_of (sym c.in_err-look.was) ∙ told (goal.at.returns-in_err-look c).After-look) (number_above_0 e))
 
 pub overflow_cast-settings : goal.overflow_cast-settings
-overflow_cast-settings c = let e = c in omega (arith, modulus_range (s (d (goal.at.overflow_cast-settings e).In_ok-look)).args.settings.modulus (good (goal.at.overflow_cast-settings e).In_ok-look).settings.modulus)
+overflow_cast-settings c = omega (arith, modulus_range c.args.settings.modulus (good (goal.at.overflow_cast-settings c).In_ok-look).settings.modulus)
 
 pub put_residues-requires : goal.put_residues-requires
-put_residues-requires c = let e = c in omega (arith, values_count 8 (s (d (goal.at.put_residues-requires e).In_ok-look)).args.out.now (good (goal.at.put_residues-requires e).In_ok-look), (good (goal.at.put_residues-requires e).In_ok-look).few)
-
-pub slice_bounds-put_names-end : goal.slice_bounds-put_names-end
-slice_bounds-put_names-end c = sym (d (goal.at.slice_bounds-put_names-end c).In_ok-look).look.auto.points
-
-pub slice_bounds-put_names-end-2 : goal.slice_bounds-put_names-end-2
-slice_bounds-put_names-end-2 c = sym c.put_residues.auto.to
+put_residues-requires c =
+    let o = good (goal.at.put_residues-requires c).In_ok-look in
+    omega (arith, values_count 8 c.args.out.now o, o.few)
 
 pub put_names-count-requires : goal.put_names-count-requires
-put_names-count-requires c = let v = c in
-    let e = v in
-    let few = (good (goal.at.put_names-count-requires e).In_ok-look).few in record { m_bound = ((good (goal.at.put_names-count-requires e).In_ok-look).settings.few, few); n_in_bounds = (omega (arith, ap length (tabled (goal.at.put_names-count-requires e).In_ok-look) ∙ length_fill 512 _), omega (arith, v.put_residues.auto.to)); out_value = refl }
-
-pub slice_bounds-copy-end : goal.slice_bounds-copy-end
-slice_bounds-copy-end c = sym c.put_names-count.auto.out
+put_names-count-requires c =
+    let e = (goal.at.put_names-count-requires c).In_ok-look in
+    let few = (good e).few in
+    record { m_bound = ((good e).settings.few, few); n_in_bounds = (omega (arith, ap length (tabled e) ∙ length_fill 512 _), omega (arith, c.put_residues.auto.to)); out_value = refl }
 
 pub copy-requires : goal.copy-requires
-copy-requires c = let q = c in
-    let e = q in
-    omega (arith, ap length q.put_names-count.ensures.out_after ∙ length_fill 8 _, values_room 8 (s (d (goal.at.copy-requires e).In_ok-look)).args.out.now (good (goal.at.copy-requires e).In_ok-look))
-
-pub shape_of-out : goal.shape_of-out
-shape_of-out c = c.copy.auto.to
+copy-requires c = omega (arith, ap length c.put_names-count.ensures.out_after ∙ length_fill 8 _, values_room 8 c.args.out.now (good (goal.at.copy-requires c).In_ok-look))
 
 pub returns : goal.returns
 unfolding refusal_of wired_of wiring_outcome
-returns c = let q = c in
-    let v = q in
-    let e = v in
-    let s = s (d (goal.at.returns e).In_ok-look) in
-    let is : wiring_of s.args.settings.variables (groups 8 s.args.n (table (goal.at.returns e).In_ok-look)) (take s.args.n v.put_residues.new.to) ≡ wiring_of s.args.settings.variables (points_in s.args.settings s.args.n s.args.tables.states.now) (residues s.args.settings.modulus s.args.values.now) =
-    values_names 8 s.args.out.now (good (goal.at.returns e).In_ok-look) (tabled (goal.at.returns e).In_ok-look) v.put_residues.ensures in
-    list_accepted _ s.args.out.now _ _ _ (ap refusal_of (sym e.in_ok-look.was) ∙ told (d (goal.at.returns e).In_ok-look)) (q.put_names-count.ensures.value ∙ ap length is)
-    (c.copy.ensures ∙ ap (λ (l : List ℕ). over l s.args.out.now) (q.put_names-count.ensures.out_after ∙ ap (fill 8) is))
+returns c =
+    let e = (goal.at.returns c).In_ok-look in
+    let s = c.args.settings in
+    let is : wiring_of s.variables (groups 8 c.args.n c.look.new.points) (take c.args.n c.put_residues.new.to) ≡ wiring_of s.variables (points_in s c.args.n c.args.tables.states.now) (residues s.modulus c.args.values.now) =
+    values_names 8 c.args.out.now (good e) (tabled e) c.put_residues.ensures in
+    list_accepted _ c.args.out.now _ _ _ (ap refusal_of (sym c.in_ok-look.was) ∙ told (goal.at.returns c).After-look) (c.put_names-count.ensures.value ∙ ap length is)
+    (c.copy.ensures ∙ ap (λ (l : List ℕ). over l c.args.out.now) (c.put_names-count.ensures.out_after ∙ ap (fill 8) is))

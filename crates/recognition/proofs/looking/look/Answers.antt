@@ -76,7 +76,7 @@ returns-in_err-by_sizes c =
     rw (p.1, p.2) (record { value = whole.0; looked = whole.1 })
 
 pub within_variables-requires : goal.within_variables-requires
-within_variables-requires c = record { m_bound = (room c).settings.few; k_in_bounds = omega arith }
+within_variables-requires c = (room c).settings.few
 
 pub overflow_cast-settings : goal.overflow_cast-settings
 overflow_cast-settings c = let e = (goal.at.overflow_cast-settings c).In_ok-by_sizes in omega (arith, modulus_range (s e).args.settings.modulus (room e).settings.modulus)
