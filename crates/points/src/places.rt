@@ -5,18 +5,15 @@ ghost use Rattle.residue.specs.Lists.{key_of};
 ghost use Rattle.specification.specs.Levels.{is_among, no_repeat};
 ghost use Rattle.specification.specs.Counted.{place_in};
 
-// The number whose digits to the base 256 the 8 bytes of a point are. Its halves are made side by side: so it is compiled to one load.
+// The number whose digits to the base 256 the 8 bytes of a point are. They are read one by one: so it is compiled to one load, as a copy of them is not.
+#[tactic(auto, unfolding(residue::specs::Lists::key_of))]
 pub fn key(point: &[u8]) -> u64
     requires { length point.now ≡ 8 }
     ensures { result ≡ key_of 8 point.now }
 {
-    let mut high = 0u64;
-    let mut low = 0u64;
-    for i in 0..4 {
-        high = 256 * high + point[i] as u64;
-        low = 256 * low + point[4 + i] as u64;
-    }
-    4294967296 * high + low
+    u64::from_be_bytes([
+        point[0], point[1], point[2], point[3], point[4], point[5], point[6], point[7],
+    ])
 }
 
 // Where a point first stands among the first n of a table, or n.

@@ -9,9 +9,7 @@ use Rattle.residue.proofs.Replaced.{put_place}
 use Rattle.addition.proofs.adding.add_state.Goals as goal
 
 pub returns : goal.returns
-returns c = let d = c in
-    let f = d in
-    let s = f in
-    let n : ℕ = s.args.n in
-    put_place 8 n (8 * n + 8 - 8 * n) s.args.point.now f.copy.new.to (add-sub_cancel_left (8 * n) 8) d.copy-2.ensures
-    ∙ ap (with_place 8 n s.args.point.now) (f.copy.ensures ∙ over_all s.args.points.now s.args.states.now (omega (arith, s.requires)))
+returns c =
+    let n : ℕ = c.args.n in
+    put_place 8 n (8 * n + 8 - 8 * n) c.args.point.now c.copy.new.to (add-sub_cancel_left (8 * n) 8) c.copy-2.ensures
+    ∙ ap (with_place 8 n c.args.point.now) (c.copy.ensures ∙ over_all c.args.points.now c.args.states.now (omega (arith, c.requires)))

@@ -1,37 +1,35 @@
--- `weights::weighs_first` meets its contract: k weights are passed, and the others are right exactly where all are.
-use mathlib.Core.Path.{◌≡◌, sym, ap, ◌∙◌}
+-- `weights::weighs_first` meets its contract: the first weights are gone through, and the others are 0.
+use mathlib.Core.Path.{◌≡◌, refl, sym, ap, ◌∙◌}
 use Prim.Native.Nat.{ℕ, ◌-◌}
 use native.Mathlib.Omega.{arith}
-use lib.ListN.{drop}
-use Rattle.specification.specs.Settings.{weighs_first}
-use Rattle.points.proofs.weights.Weights.{weight_on, weight_stop, weight_end}
+use borrow.Author.Rules.{rules}
+use borrow.Author.Tests.{tests}
+use lib.ListN.{take, drop, length-drop}
+use lib.Seq.{take_all}
+use mathlib.Core.List.{List}
+use Rattle.std.specs.List.{list_all}
+use Rattle.std.proofs.lemmas.Iterator.{YieldsList-from_slice}
+use Rattle.std.proofs.lemmas.Iterator.Search.{all_from_yields_List}
+use Rattle.residue.specs.Lists.{all_zero}
+use Rattle.points.proofs.weights.Weights.{in_weights, weighs_both}
 use Rattle.points.proofs.weights.weighs_first.Goals as goal
+use Rattle.points.proofs.weights.weighs_first.Goals.{After-all}
 
-pub loop-k-init : goal.loop-k-init
-loop-k-init c = let s = c in
-    let e : s.args.m - 0 ≡ s.args.m = omega arith in
-    (omega arith, ap (λ (k : ℕ). weighs_first k s.args.weights.now) e)
+gone_through : (c : After-all) → c.all.result ≡ list_all in_weights (take c.args.m c.args.weights.now)
+gone_through c =
+    all_from_yields_List {s = c.iter.result} in_weights c.all.new.self _ _ c.all.ensures.ran (YieldsList-from_slice (take c.args.m c.args.weights.now) cc)
+    (λ x r q k. search (rules, tests))
 
-pub bounds-weights-k : goal.bounds-weights-k
-bounds-weights-k c = omega (arith, c.requires.1)
+pub returns-then-all : goal.returns-then-all
+returns-then-all c =
+    let m : ℕ = c.args.m in
+    let w : List ℕ = c.args.weights.now in
+    let first = sym (gone_through (goal.at.returns-then-all c).After-all) ∙ c.if-all.true in
+    c.all_zero.ensures ∙ ap all_zero (take_all (8 - m) (drop m w) (simp length-drop (omega arith))) ∙ sym (weighs_both m w (omega arith) ∙ rw first refl)
 
-pub returns-then-not-is_weight : goal.returns-then-not-is_weight
-returns-then-not-is_weight c = let a = c in
-    let l = a in
-    let s = l in
-    weight_stop s.args.weights.now s.args.m l.loop-k.k (omega (arith, s.requires.1)) (sym a.is_weight.ensures ∙ c.if-not-is_weight.true) ∙ l.loop-k.invariant.1
-
-pub loop-k-preserved : goal.loop-k-preserved
-loop-k-preserved c = let a = c in
-    let l = a in
-    let s = l in (
-      omega arith,
-      weight_on s.args.weights.now s.args.m l.loop-k.k (omega (arith, s.requires.1)) (sym a.is_weight.ensures ∙ c.if-not-is_weight.false) ∙ l.loop-k.invariant.1,
-    )
-
-pub returns : goal.returns
-returns c = let l = c in
-    let s = l in
-    let e : l.loop-k.k ≡ 8 = omega (arith, l.loop-k.invariant.0) in
-    weight_end s.args.weights.now s.args.m s.requires.0 s.requires.1
-    ∙ ap (λ (k : ℕ). weighs_first (s.args.m - k) (drop k s.args.weights.now)) (sym e) ∙ l.loop-k.invariant.1
+pub returns-else-all : goal.returns-else-all
+returns-else-all c =
+    let m : ℕ = c.args.m in
+    let w : List ℕ = c.args.weights.now in
+    let first = sym (gone_through (goal.at.returns-else-all c).After-all) ∙ c.if-all.false in
+    c.if-all.false ∙ sym (weighs_both m w (omega arith) ∙ rw first refl)

@@ -70,9 +70,6 @@ module _ (w : After-put_residues) where
       w.put_residues.ensures ∙ ap (over (named (s e))) (s e).requires.1.1
       ∙ over_zeros (named (s e)) 8 (omega (arith, length_residues (s e).args.settings.modulus (s e).args.levels.now, long e, (good e).settings.few))
 
-pub look-requires : goal.look-requires
-look-requires c = (c.requires.0, c.requires.1.0)
-
 pub returns-in_err-look : goal.returns-in_err-look
 unfolding refusal_of
 returns-in_err-look c =
