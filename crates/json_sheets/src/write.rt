@@ -5,7 +5,7 @@ ghost use Rattle.json_sheets.specs.Calls.{wrote, write_outcome};
 
 use crate::judging::judge;
 use json_text::document_text::put_document;
-use json_text::documents::Shape;
+use json_text::documents::{Lists, Shape};
 use specification::settings::Settings;
 
 // How many bytes the buffer has that is lent for a text.
@@ -57,16 +57,15 @@ pub fn write_json(
         n: n as usize,
         r: r as usize,
     };
-    let count = put_document(
-        out,
-        shape,
+    let lists = Lists {
         coefficients,
         counts,
         leads,
-        states,
+        points: states,
         standard,
-        &weights,
-    );
+        weights: &weights,
+    };
+    let count = put_document(out, shape, lists);
     Written {
         refusal: 0,
         count: count as u32,

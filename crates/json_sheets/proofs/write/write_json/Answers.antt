@@ -53,8 +53,8 @@ overflow_cast-shape-2 c = let e = c in omega (arith, (good (goal.at.overflow_cas
 pub overflow_cast-shape-3 : goal.overflow_cast-shape-3
 overflow_cast-shape-3 c = let e = c in omega (arith, (good (goal.at.overflow_cast-shape-3 e).Else-refusal-ne0).settings.order)
 
-pub slice_bounds-put_document-end : goal.slice_bounds-put_document-end
-slice_bounds-put_document-end c = sym (eight (b (goal.at.slice_bounds-put_document-end c).Else-refusal-ne0))
+pub slice_bounds-lists-end : goal.slice_bounds-lists-end
+slice_bounds-lists-end c = sym (eight (b (goal.at.slice_bounds-lists-end c).Else-refusal-ne0))
 
 pub put_document-count-requires : goal.put_document-count-requires
 unfolding document_of
