@@ -5,7 +5,7 @@ ghost use Rattle.json_sheets.specs.Calls.{written_of, wrote, write_outcome};
 
 use crate::judging::judge;
 use json_text::document_text::put_document;
-use json_text::documents::Shape;
+use json_text::documents::{Lists, Shape};
 use specification::refusals::Refusal;
 use specification::settings::Settings;
 use specification::tables::TablesRef;
@@ -31,15 +31,14 @@ pub fn write_json(
         n: n as usize,
         r: r as usize,
     };
-    let count = put_document(
-        out,
-        shape,
-        tables.coefficients,
-        tables.counts,
-        tables.leads,
-        tables.states,
-        tables.standard,
-        &settings.weights,
-    );
+    let lists = Lists {
+        coefficients: tables.coefficients,
+        counts: tables.counts,
+        leads: tables.leads,
+        points: tables.states,
+        standard: tables.standard,
+        weights: &settings.weights,
+    };
+    let count = put_document(out, shape, lists);
     Ok(count as u32)
 }

@@ -8,6 +8,7 @@ use Rattle.writing.specs.Rows.{in_table}
 use Rattle.json_text.specs.Documents.{Document, weight_count}
 use Rattle.json_text.specs.Reading.{read}
 use Rattle.json_text.specs.declared.documents.Shape.{Shape}
+use Rattle.json_text.specs.declared.documents.Lists.{Lists}
 
 -- n points of m residues, n standard monomials of m exponents, r leads of m exponents, r rows of n coefficients, n counts; weights of order 3 alone
 unfoldable pub document_in : Shape → (coefficients counts leads points standard weights : List ℕ) → Document
@@ -33,6 +34,13 @@ pub record Holds (s : Shape) (coefficients counts leads points standard weights 
   pub pointed : 8 * s.n ≤ length points
   pub standing : 8 * s.n ≤ length standard
   pub weighed : weight_count s.order s.variables ≤ length weights
+
+-- the same of lists that are lent together
+abbrev pub lent_document : Shape → Lists → Document
+lent_document s l = document_in s l.coefficients.now l.counts.now l.leads.now l.points.now l.standard.now l.weights.now
+
+abbrev pub HoldsLent : Shape → Lists → Type 0
+HoldsLent s l = Holds s l.coefficients.now l.counts.now l.leads.now l.points.now l.standard.now l.weights.now
 
 -- there are as many states as counts, and as many rows as leads
 unfoldable pub shape_of : Document → Shape

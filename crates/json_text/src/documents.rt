@@ -18,6 +18,17 @@ pub struct Shape {
     pub r: usize,
 }
 
+// The lists of a document, in lent tables: rows in places of 8 bytes, those of coefficients in places of 64.
+#[derive(Clone, Copy)]
+pub struct Lists<'a> {
+    pub coefficients: &'a [u8],
+    pub counts: &'a [u8],
+    pub leads: &'a [u8],
+    pub points: &'a [u8],
+    pub standard: &'a [u8],
+    pub weights: &'a [u8],
+}
+
 // Whether rows of these lengths are so many of so many numbers.
 fn is_table(lengths: Lengths, rows: usize, columns: usize) -> bool
     ensures { (l : List (List ℕ)) → lengths ≡ lengths_of l → result ≡ is_table rows columns l }

@@ -111,8 +111,7 @@ fn read_row(
         let from = width * row;
         return read_list(text, at, &mut out[from..from + width]);
     }
-    let mut nowhere = [0u8; 1];
-    read_list(text, at, &mut nowhere)
+    read_list(text, at, &mut [])
 }
 
 // The length that all rows have in common, behind one row more of this length.

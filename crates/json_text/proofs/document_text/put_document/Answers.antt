@@ -38,22 +38,22 @@ module _ (p : After-weights_in-w) where
   abbrev given : Document
   given =
       let a = entry.args in
-      document_in a.shape a.coefficients.now a.counts.now a.leads.now a.points.now a.standard.now a.weights.now
+      document_in a.shape a.lists.coefficients.now a.lists.counts.now a.lists.leads.now a.lists.points.now a.lists.standard.now a.lists.weights.now
 
   -- the document, with so many weights
   abbrev weighing : ℕ → Document
   weighing w =
       let a = entry.args in
       record {
-        coefficients = in_table 64 a.shape.r a.shape.n a.coefficients.now;
-        counts = take a.shape.n a.counts.now;
-        leads = in_table 8 a.shape.r a.shape.variables a.leads.now;
+        coefficients = in_table 64 a.shape.r a.shape.n a.lists.coefficients.now;
+        counts = take a.shape.n a.lists.counts.now;
+        leads = in_table 8 a.shape.r a.shape.variables a.lists.leads.now;
         modulus = a.shape.modulus;
         order = a.shape.order;
-        points = in_table 8 a.shape.n a.shape.variables a.points.now;
-        standard = in_table 8 a.shape.n a.shape.variables a.standard.now;
+        points = in_table 8 a.shape.n a.shape.variables a.lists.points.now;
+        standard = in_table 8 a.shape.n a.shape.variables a.lists.standard.now;
         variables = a.shape.variables;
-        weights = take w a.weights.now;
+        weights = take w a.lists.weights.now;
       }
 
   abbrev due : Document
@@ -70,7 +70,7 @@ module _ (p : After-weights_in-w) where
   left1 = start (ap written same ∙ written_laid due) entry.requires.room
 
   abbrev held : let a = entry.args in
-      Holds a.shape a.coefficients.now a.counts.now a.leads.now a.points.now a.standard.now a.weights.now
+      Holds a.shape a.lists.coefficients.now a.lists.counts.now a.lists.leads.now a.lists.points.now a.lists.standard.now a.lists.weights.now
   held = entry.requires.holds
 
 -- Behind each member: where it began, and what is left.
@@ -79,7 +79,7 @@ module _ (c : After-put_rows_member-next) where
   begun1 = (goal.at.After-put_rows_member-next c).After-weights_in-w
 
   left2 : Left begun1 (from2 (due begun1) []) c.put_rows_member-next.new.out c.put_rows_member-next.result
-  left2 = going_on ((123 ∷ key coefficients_name) ++ rows_text (due begun1).coefficients) _ (left1 (goal.at.After-put_rows_member-next c).After-weights_in-w) (wrote 64 (entry begun1).args.shape.r (entry begun1).args.shape.n (entry begun1).args.coefficients.now c.rows.ensures.value (123 ∷ key coefficients_name) c.put_rows_member-next.ensures)
+  left2 = going_on ((123 ∷ key coefficients_name) ++ rows_text (due begun1).coefficients) _ (left1 (goal.at.After-put_rows_member-next c).After-weights_in-w) (wrote 64 (entry begun1).args.shape.r (entry begun1).args.shape.n (entry begun1).args.lists.coefficients.now c.rows.ensures.value (123 ∷ key coefficients_name) c.put_rows_member-next.ensures)
 
 module _ (c : After-put_list_member-next) where
   abbrev begun2 : After-weights_in-w
@@ -93,7 +93,7 @@ module _ (c : After-put_rows_member-next-2) where
   begun3 = begun2 (goal.at.After-put_rows_member-next-2 c).After-put_list_member-next
 
   left4 : Left begun3 (from4 (due begun3) []) c.put_rows_member-next-2.new.out c.put_rows_member-next-2.result
-  left4 = going_on ((44 ∷ key leads_name) ++ rows_text (due begun3).leads) _ (left3 (goal.at.After-put_rows_member-next-2 c).After-put_list_member-next) (wrote 8 (entry begun3).args.shape.r (entry begun3).args.shape.variables (entry begun3).args.leads.now c.rows-2.ensures.value (44 ∷ key leads_name) c.put_rows_member-next-2.ensures)
+  left4 = going_on ((44 ∷ key leads_name) ++ rows_text (due begun3).leads) _ (left3 (goal.at.After-put_rows_member-next-2 c).After-put_list_member-next) (wrote 8 (entry begun3).args.shape.r (entry begun3).args.shape.variables (entry begun3).args.lists.leads.now c.rows-2.ensures.value (44 ∷ key leads_name) c.put_rows_member-next-2.ensures)
 
 module _ (c : After-put_number_member-next) where
   abbrev begun4 : After-weights_in-w
@@ -114,14 +114,14 @@ module _ (c : After-put_rows_member-next-3) where
   begun6 = begun5 (goal.at.After-put_rows_member-next-3 c).After-put_number_member-next-2
 
   left7 : Left begun6 (from7 (due begun6) []) c.put_rows_member-next-3.new.out c.put_rows_member-next-3.result
-  left7 = going_on ((44 ∷ key points_name) ++ rows_text (due begun6).points) _ (left6 (goal.at.After-put_rows_member-next-3 c).After-put_number_member-next-2) (wrote 8 (entry begun6).args.shape.n (entry begun6).args.shape.variables (entry begun6).args.points.now c.rows-3.ensures.value (44 ∷ key points_name) c.put_rows_member-next-3.ensures)
+  left7 = going_on ((44 ∷ key points_name) ++ rows_text (due begun6).points) _ (left6 (goal.at.After-put_rows_member-next-3 c).After-put_number_member-next-2) (wrote 8 (entry begun6).args.shape.n (entry begun6).args.shape.variables (entry begun6).args.lists.points.now c.rows-3.ensures.value (44 ∷ key points_name) c.put_rows_member-next-3.ensures)
 
 module _ (c : After-put_rows_member-next-4) where
   abbrev begun7 : After-weights_in-w
   begun7 = begun6 (goal.at.After-put_rows_member-next-4 c).After-put_rows_member-next-3
 
   left8 : Left begun7 (from8 (due begun7) []) c.put_rows_member-next-4.new.out c.put_rows_member-next-4.result
-  left8 = going_on ((44 ∷ key standard_name) ++ rows_text (due begun7).standard) _ (left7 (goal.at.After-put_rows_member-next-4 c).After-put_rows_member-next-3) (wrote 8 (entry begun7).args.shape.n (entry begun7).args.shape.variables (entry begun7).args.standard.now c.rows-4.ensures.value (44 ∷ key standard_name) c.put_rows_member-next-4.ensures)
+  left8 = going_on ((44 ∷ key standard_name) ++ rows_text (due begun7).standard) _ (left7 (goal.at.After-put_rows_member-next-4 c).After-put_rows_member-next-3) (wrote 8 (entry begun7).args.shape.n (entry begun7).args.shape.variables (entry begun7).args.lists.standard.now c.rows-4.ensures.value (44 ∷ key standard_name) c.put_rows_member-next-4.ensures)
 
 module _ (c : After-put_number_member-next-3) where
   abbrev begun8 : After-weights_in-w
@@ -143,7 +143,7 @@ left11 c = going_on (125 ∷ []) [] (left10 (goal.at.After-put_byte c).After-put
 pub put_rows_member-next-requires : goal.put_rows_member-next-requires
 put_rows_member-next-requires c = let p = (goal.at.put_rows_member-next-requires c).After-weights_in-w in
     let d = due p in let a = (entry p).args in
-    (omega arith, ((held p).few, roomy 64 a.shape.r a.shape.n a.coefficients.now c.rows.ensures.value (123 ∷ key coefficients_name) _ _ (going_room ((123 ∷ key coefficients_name) ++ rows_text d.coefficients) (from2 d []) (left1 p))))
+    (omega arith, ((held p).few, roomy 64 a.shape.r a.shape.n a.lists.coefficients.now c.rows.ensures.value (123 ∷ key coefficients_name) _ _ (going_room ((123 ∷ key coefficients_name) ++ rows_text d.coefficients) (from2 d []) (left1 p))))
 
 pub put_list_member-next-requires : goal.put_list_member-next-requires
 put_list_member-next-requires c = let q = (goal.at.put_list_member-next-requires c).After-put_rows_member-next in
@@ -154,7 +154,7 @@ pub put_rows_member-next-requires-2 : goal.put_rows_member-next-requires-2
 put_rows_member-next-requires-2 c = let q = (goal.at.put_rows_member-next-requires-2 c).After-put_list_member-next in
     let p = begun2 q in
     let d = due p in let a = (entry p).args in
-    (omega arith, ((held p).narrow, roomy 8 a.shape.r a.shape.variables a.leads.now c.rows-2.ensures.value (44 ∷ key leads_name) _ _ (going_room ((44 ∷ key leads_name) ++ rows_text d.leads) (from4 d []) (left3 q))))
+    (omega arith, ((held p).narrow, roomy 8 a.shape.r a.shape.variables a.lists.leads.now c.rows-2.ensures.value (44 ∷ key leads_name) _ _ (going_room ((44 ∷ key leads_name) ++ rows_text d.leads) (from4 d []) (left3 q))))
 
 pub put_number_member-next-requires : goal.put_number_member-next-requires
 put_number_member-next-requires c = let q = (goal.at.put_number_member-next-requires c).After-put_rows_member-next-2 in
@@ -170,13 +170,13 @@ pub put_rows_member-next-requires-3 : goal.put_rows_member-next-requires-3
 put_rows_member-next-requires-3 c = let q = (goal.at.put_rows_member-next-requires-3 c).After-put_number_member-next-2 in
     let p = begun5 q in
     let d = due p in let a = (entry p).args in
-    (omega arith, ((held p).narrow, roomy 8 a.shape.n a.shape.variables a.points.now c.rows-3.ensures.value (44 ∷ key points_name) _ _ (going_room ((44 ∷ key points_name) ++ rows_text d.points) (from7 d []) (left6 q))))
+    (omega arith, ((held p).narrow, roomy 8 a.shape.n a.shape.variables a.lists.points.now c.rows-3.ensures.value (44 ∷ key points_name) _ _ (going_room ((44 ∷ key points_name) ++ rows_text d.points) (from7 d []) (left6 q))))
 
 pub put_rows_member-next-requires-4 : goal.put_rows_member-next-requires-4
 put_rows_member-next-requires-4 c = let q = (goal.at.put_rows_member-next-requires-4 c).After-put_rows_member-next-3 in
     let p = begun6 q in
     let d = due p in let a = (entry p).args in
-    (omega arith, ((held p).narrow, roomy 8 a.shape.n a.shape.variables a.standard.now c.rows-4.ensures.value (44 ∷ key standard_name) _ _ (going_room ((44 ∷ key standard_name) ++ rows_text d.standard) (from8 d []) (left7 q))))
+    (omega arith, ((held p).narrow, roomy 8 a.shape.n a.shape.variables a.lists.standard.now c.rows-4.ensures.value (44 ∷ key standard_name) _ _ (going_room ((44 ∷ key standard_name) ++ rows_text d.standard) (from8 d []) (left7 q))))
 
 pub put_number_member-next-requires-3 : goal.put_number_member-next-requires-3
 put_number_member-next-requires-3 c = let q = (goal.at.put_number_member-next-requires-3 c).After-put_rows_member-next-4 in
