@@ -3,14 +3,13 @@ pub mod entries;
 mod gathering;
 pub mod records;
 
-ghost use Rattle.std.specs.Prelude.{◌≡◌, ◌≤◌, length, drop};
+ghost use Rattle.std.specs.Prelude.{◌≡◌, ◌≤◌, length, drop, Ok};
 ghost use Rattle.specification.specs.Refusal.{first_of};
 ghost use Rattle.comma_text.specs.reading.Text.{short_buffers, header_cases, not_refused, text_ended, read_outcome};
 ghost use Rattle.comma_text.specs.reading.Records.{entries_at, counted_entries};
 ghost use Rattle.comma_text.specs.reading.Points.{entries_outcome};
-ghost use Rattle.comma_text.specs.declared.reading.records.Entries.TheVariants.{Count};
 
-use crate::reading::records::{Entries, HeaderAt};
+use crate::reading::records::{HeaderAt, Refused};
 use points::weights::right_weights;
 use residue::{bytes, sizes};
 use specification::settings::Settings;
@@ -98,7 +97,7 @@ fn read_entries(
 ) -> Read
     requires from_in_bounds { (from ≤ length text.now) × (length text.now ≤ 16384) }
     requires order_bound { (settings.order ≤ 3) × (length settings.weights ≡ 8) }
-    requires text_value { counted_entries 0 (entries_at settings.variables (drop from text.now)) ≡ Count entries }
+    requires text_value { counted_entries 0 (entries_at settings.variables (drop from text.now)) ≡ Ok entries }
     ensures { text_ended result states.new values.new counts.new weights.new
         ≡ entries_outcome settings (drop from text.now) states.old values.old counts.old weights.old }
 {
@@ -157,18 +156,20 @@ pub fn read_text(
         return refused(1, 0);
     }
     let mut said = [0u8; 8];
-    let HeaderAt::Header {
-        modulus,
-        variables,
-        order,
-        next,
-    } = records::read_header(text, &mut said)
+    let Some(
+        HeaderAt {
+            modulus,
+            variables,
+            order,
+            next,
+        },
+    ) = records::read_header(text, &mut said)
     else {
         return refused(2, 1);
     };
     match records::check_entries(text, next, variables) {
-        Entries::Refused { refusal, at } => refused(refusal, at as u16),
-        Entries::Count(n) => {
+        Err(Refused { refusal, at }) => refused(refusal, at as u16),
+        Ok(n) => {
             let settings = Settings {
                 modulus: modulus as u64,
                 variables: variables as u64,

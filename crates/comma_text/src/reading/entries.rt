@@ -9,7 +9,6 @@ ghost use Rattle.comma_text.specs.reading.Records.{level_field, entry_part};
 ghost use Rattle.comma_text.specs.reading.Points.{PlacedAs, levels_in, PointAs, FilledAs};
 
 use crate::reading::records;
-use crate::reading::records::LevelAt;
 use residue::level;
 use residue::level::Level;
 
@@ -41,31 +40,19 @@ fn residue_at(text: &[u8], at: usize, p: u8) -> Placed
     requires fact { level_field (drop at text.now) ≡ broken → ⊥ }
     ensures { PlacedAs p text.now (level_field (drop at text.now)) result }
 {
-    let LevelAt::Level {
-        negative,
-        size,
-        more: _,
-        next,
-    } = records::level_at(text, at)
-    else {
-        // The records have been checked.
-        return Placed {
+    // The records have been checked.
+    let level = records::level_at(text, at).unwrap();
+    match residue_of(p, level.negative, level.size) {
+        Level::Residue(residue) => Placed {
+            inside: true,
+            residue,
+            next: level.next,
+        },
+        Level::Outside => Placed {
             inside: false,
             residue: 0,
-            next: at,
-        };
-    };
-    let Level::Residue(residue) = residue_of(p, negative, size) else {
-        return Placed {
-            inside: false,
-            residue: 0,
-            next,
-        };
-    };
-    Placed {
-        inside: true,
-        residue,
-        next,
+            next: level.next,
+        },
     }
 }
 

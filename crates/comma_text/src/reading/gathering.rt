@@ -1,12 +1,11 @@
 // The distinct points of a text, with their counts and the values of their first records.
-ghost use Rattle.std.specs.Prelude.{◌≡◌, cond, ◌||◌, [], ◌∷◌, suc, ◌<◌, ◌≤◌, eqb, length, get_or, set, drop};
+ghost use Rattle.std.specs.Prelude.{◌≡◌, cond, ◌||◌, [], ◌∷◌, suc, ◌<◌, ◌≤◌, eqb, length, get_or, set, drop, Ok};
 ghost use Rattle.residue.specs.Sizes.{most_points, states_size, counts_size};
 ghost use Rattle.residue.specs.Layout.{fill};
 ghost use Rattle.specification.specs.Refusal.{first_of};
 ghost use Rattle.comma_text.specs.reading.Text.{not_refused, entry_case};
 ghost use Rattle.comma_text.specs.reading.Records.{entries_at, counted_entries};
 ghost use Rattle.comma_text.specs.reading.Points.{levels_at, earlier_place, answered, GatheredAs};
-ghost use Rattle.comma_text.specs.declared.reading.records.Entries.TheVariants.{Count};
 
 use crate::reading::entries::fill_entry;
 use points::gathering::{HINTS, enter};
@@ -106,7 +105,7 @@ pub fn gather_entries(
     values: &mut [u8],
 ) -> Gathered
     requires at_in_bounds { (at ≤ length text.now) × (1 ≤ variables) × (variables ≤ 8) × (entries ≤ 16384) × (p ≤ 128) }
-    requires text_value { counted_entries 0 (entries_at variables (drop at text.now)) ≡ Count entries }
+    requires text_value { counted_entries 0 (entries_at variables (drop at text.now)) ≡ Ok entries }
     requires points_value { (points.old ≡ fill states_size []) × (counts.old ≡ fill counts_size []) × (values.old ≡ fill most_points []) }
     ensures { GatheredAs p variables (levels_at variables (drop at text.now)) result
         points.new counts.new values.new }

@@ -17,7 +17,7 @@ use Rattle.comma_text.specs.reading.Records.{level_field, entry_part, entries_at
 use Rattle.comma_text.specs.reading.Text.{last_level}
 use Rattle.comma_text.specs.reading.Points.{level_in, behind_level, levels_in, levels_at, PointAs}
 use Rattle.comma_text.specs.declared.reading.entries.Point.{Point}
-use Rattle.comma_text.specs.declared.reading.records.Entries.TheVariants as N
+use Rattle.std.specs.Prelude.{Ok}
 use Rattle.comma_text.proofs.reading.EntryLengths.{point_long}
 use Rattle.comma_text.proofs.reading.entries.EntryFilled.{last_column}
 use Rattle.comma_text.proofs.reading.entries.EntriesRead.{ReadOn, begun, next, next_long, levels, one_more, goes_on, all_read}
@@ -61,7 +61,7 @@ pub record RecordsOn (p m n : ℕ) (t : List ℕ) (S : List (List ℤ)) (records
   pub column : numbers ≡ fill most_records (courses p m (take i S))
 
 pub none_read : (p m n : ℕ) (t : List ℕ) (at : ℕ) {records numbers : List ℕ} → 1 ≤ m → at ≤ length t → length t ≤ 16384
-    → counted_entries 0 (entries_at m (drop at t)) ≡ N.Count n → records ≡ fill records_size [] → numbers ≡ fill most_records []
+    → counted_entries 0 (entries_at m (drop at t)) ≡ Ok n → records ≡ fill records_size [] → numbers ≡ fill most_records []
     → RecordsOn p m n t (levels_at m (drop at t)) records numbers at 0
 unfolding first_fault all_timed in_places
 none_read p m n t at h w l c er en =

@@ -12,7 +12,7 @@ use Rattle.comma_text.specs.reading.Points.{entries_outcome}
 use Rattle.comma_text.specs.declared.reading.Read.{Read}
 use Rattle.comma_text.proofs.reading.WholeText.{too_long, header_broken, header_order, entry_broken, form_right, record_small}
 use Rattle.comma_text.proofs.reading.read_text.Goals as goal
-use Rattle.comma_text.proofs.reading.read_text.Goals.{After-check_entries, After-read_header, Else-text-gt16384, In-Count, In-Header, Start}
+use Rattle.comma_text.proofs.reading.read_text.Goals.{After-check_entries, After-read_header, Else-text-gt16384, In-Ok, In-Some, Start}
 
 module _ (s : Start) where
   abbrev text : List ℕ
@@ -34,8 +34,8 @@ module _ (s : Start) where
   ended : {x y : Read} → x ≡ y → text_ended x states values counts weights ≡ text_ended y states values counts weights
   ended e = ap (λ (x : Read). text_ended x states values counts weights) e
 
-abbrev read : In-Header → After-read_header
-read c = (goal.at.In-Header c).After-read_header
+abbrev read : In-Some → After-read_header
+read c = (goal.at.In-Some c).After-read_header
 
 -- the text is short enough
 abbrev short : After-read_header → Else-text-gt16384
@@ -45,22 +45,22 @@ short r = (goal.at.After-read_header r).Else-text-gt16384
 abbrev left : After-read_header → List ℕ
 left r = r.read_header.new.weights
 
-abbrev start : In-Header → Start
+abbrev start : In-Some → Start
 start c = (goal.at.Else-text-gt16384 (short (read c))).Start
 
-abbrev next : In-Header → ℕ
-next c = c.in-Header.next
+abbrev next : In-Some → ℕ
+next c = c.in-Some.field-0.next
 
-abbrev header : In-Header → Header
-header c = let g = c.in-Header in
+abbrev header : In-Some → Header
+header c = let g = c.in-Some.field-0 in
     record { variables = g.variables; modulus = g.modulus; order = g.order; weights = left (read c) }
 
-said : (c : In-Header) → header_part (text (start c)) ≡ part (header c) (drop (next c) (text (start c)))
+said : (c : In-Some) → header_part (text (start c)) ≡ part (header c) (drop (next c) (text (start c)))
 unfolding header_said
-said c = sym (ap (header_said (text (start c)) (left (read c))) (sym c.in-Header.is) ∙ (read c).read_header.ensures.said)
+said c = sym (ap (header_said (text (start c)) (left (read c))) (sym c.in-Some.is) ∙ (read c).read_header.ensures.said)
 
-within : (c : In-Header) → next c ≤ length (text (start c))
-within c = subst (HeaderWithin (length (text (start c)))) c.in-Header.is (read c).read_header.ensures.within
+within : (c : In-Some) → next c ≤ length (text (start c))
+within c = subst (HeaderWithin (length (text (start c)))) c.in-Some.is (read c).read_header.ensures.within
 
 pub returns-then-text-gt16384 : goal.returns-then-text-gt16384
 unfolding text_refused
@@ -76,42 +76,42 @@ returns-in_default c = let r = c in
     (sym (ap (header_said (text (goal.at.Else-text-gt16384 s).Start) (left (goal.at.returns-in_default r).After-read_header)) (sym c.in_default.is) ∙ r.read_header.ensures.said))
 
 pub check_entries-requires : goal.check_entries-requires
-check_entries-requires c = (within (goal.at.check_entries-requires c).In-Header, (short (read (goal.at.check_entries-requires c).In-Header)).if-text-gt16384.false)
+check_entries-requires c = (within (goal.at.check_entries-requires c).In-Some, (short (read (goal.at.check_entries-requires c).In-Some)).if-text-gt16384.false)
 
 pub overflow_cast-at : goal.overflow_cast-at
 overflow_cast-at c = let d = c in
-    let s = start (goal.at.overflow_cast-at d).In-Header in
-    let l = length-drop (next (goal.at.overflow_cast-at d).In-Header) (text s) in
-    let b = (short (read (goal.at.overflow_cast-at d).In-Header)).if-text-gt16384.false in
-    let h = record_small (header (goal.at.overflow_cast-at d).In-Header).variables c.in-Refused.refusal c.in-Refused.at (drop (next (goal.at.overflow_cast-at d).In-Header) (text s)) (omega arith)
-    (sym c.in-Refused.is ∙ c.check_entries.ensures) in
+    let s = start (goal.at.overflow_cast-at d).In-Some in
+    let l = length-drop (next (goal.at.overflow_cast-at d).In-Some) (text s) in
+    let b = (short (read (goal.at.overflow_cast-at d).In-Some)).if-text-gt16384.false in
+    let h = record_small (header (goal.at.overflow_cast-at d).In-Some).variables c.in-Err.field-0.refusal c.in-Err.field-0.at (drop (next (goal.at.overflow_cast-at d).In-Some) (text s)) (omega arith)
+    (sym c.in-Err.is ∙ c.check_entries.ensures) in
     omega arith
 
 -- The places behind: the entries were counted.
-abbrev counted : In-Count → After-check_entries
-counted c = (goal.at.In-Count c).After-check_entries
+abbrev counted : In-Ok → After-check_entries
+counted c = (goal.at.In-Ok c).After-check_entries
 
 pub read_entries-requires : goal.read_entries-requires
 read_entries-requires c = let k = c in
-    let e = counted (goal.at.read_entries-requires k).In-Count in
+    let e = counted (goal.at.read_entries-requires k).In-Ok in
     let d = e in
-    let r = read (goal.at.After-check_entries d).In-Header in record { from_in_bounds = (within (goal.at.After-check_entries d).In-Header, (short r).if-text-gt16384.false); order_bound = (header_order (header (goal.at.After-check_entries d).In-Header) (drop (next (goal.at.After-check_entries d).In-Header) (text (start (goal.at.After-check_entries d).In-Header))) (text (start (goal.at.After-check_entries d).In-Header)) (said (goal.at.After-check_entries d).In-Header), r.read_header.auto.weights); text_value = sym e.check_entries.ensures ∙ k.in-Count.is }
+    let r = read (goal.at.After-check_entries d).In-Some in record { from_in_bounds = (within (goal.at.After-check_entries d).In-Some, (short r).if-text-gt16384.false); order_bound = (header_order (header (goal.at.After-check_entries d).In-Some) (drop (next (goal.at.After-check_entries d).In-Some) (text (start (goal.at.After-check_entries d).In-Some))) (text (start (goal.at.After-check_entries d).In-Some)) (said (goal.at.After-check_entries d).In-Some), r.read_header.auto.weights); text_value = sym e.check_entries.ensures ∙ k.in-Ok.is }
 
-pub returns-in-Refused : goal.returns-in-Refused
+pub returns-in-Err : goal.returns-in-Err
 unfolding text_refused
-returns-in-Refused c = let d = c in
-    let s = start (goal.at.returns-in-Refused d).In-Header in
-    ended s c.refused-in-Refused.ensures
-    ∙ entry_broken (text s) (states s) (values s) (counts s) (weights s) (short (read (goal.at.returns-in-Refused d).In-Header)).if-text-gt16384.false (header (goal.at.returns-in-Refused d).In-Header) (drop (next (goal.at.returns-in-Refused d).In-Header) (text s)) (said (goal.at.returns-in-Refused d).In-Header) _ _
-    (sym c.in-Refused.is ∙ c.check_entries.ensures)
+returns-in-Err c = let d = c in
+    let s = start (goal.at.returns-in-Err d).In-Some in
+    ended s c.refused-in-Err.ensures
+    ∙ entry_broken (text s) (states s) (values s) (counts s) (weights s) (short (read (goal.at.returns-in-Err d).In-Some)).if-text-gt16384.false (header (goal.at.returns-in-Err d).In-Some) (drop (next (goal.at.returns-in-Err d).In-Some) (text s)) (said (goal.at.returns-in-Err d).In-Some) _ _
+    (sym c.in-Err.is ∙ c.check_entries.ensures)
 
-pub returns-in-Count : goal.returns-in-Count
-returns-in-Count c = let r = c in
+pub returns-in-Ok : goal.returns-in-Ok
+returns-in-Ok c = let r = c in
     let k = r in
-    let e = counted (goal.at.returns-in-Count k).In-Count in
+    let e = counted (goal.at.returns-in-Ok k).In-Ok in
     let d = e in
-    let s = start (goal.at.After-check_entries d).In-Header in
-    ◌∙◌ {b = entries_outcome (settings_by (header (goal.at.After-check_entries d).In-Header)) (drop (next (goal.at.After-check_entries d).In-Header) (text s)) (states s) (values s) (counts s) (weights s)}
+    let s = start (goal.at.After-check_entries d).In-Some in
+    ◌∙◌ {b = entries_outcome (settings_by (header (goal.at.After-check_entries d).In-Some)) (drop (next (goal.at.After-check_entries d).In-Some) (text s)) (states s) (values s) (counts s) (weights s)}
     r.read_entries.ensures
-    (form_right (text s) (states s) (values s) (counts s) (weights s) (short (read (goal.at.After-check_entries d).In-Header)).if-text-gt16384.false (header (goal.at.After-check_entries d).In-Header) (drop (next (goal.at.After-check_entries d).In-Header) (text s)) (said (goal.at.After-check_entries d).In-Header)
-    k.in-Count.n (sym k.in-Count.is ∙ e.check_entries.ensures))
+    (form_right (text s) (states s) (values s) (counts s) (weights s) (short (read (goal.at.After-check_entries d).In-Some)).if-text-gt16384.false (header (goal.at.After-check_entries d).In-Some) (drop (next (goal.at.After-check_entries d).In-Some) (text s)) (said (goal.at.After-check_entries d).In-Some)
+    k.in-Ok.n (sym k.in-Ok.is ∙ e.check_entries.ensures))

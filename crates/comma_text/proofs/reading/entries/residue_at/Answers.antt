@@ -6,35 +6,34 @@ use lib.ListN.{length, drop}
 use Rattle.notation.specs.Fields.{field}
 use Rattle.notation.specs.Said.{with_sign}
 use Rattle.comma_text.specs.reading.Records.{level_field, level_at_said, LevelWithin}
+use Rattle.comma_text.specs.declared.reading.records.LevelAt.{LevelAt}
+use Rattle.comma_text.proofs.reading.records.Numbers.{some_level}
 use Rattle.comma_text.proofs.reading.entries.LevelResidues.{placed_out, placed_in}
 use Rattle.comma_text.proofs.reading.entries.residue_at.Goals as goal
-use Rattle.comma_text.proofs.reading.entries.residue_at.Goals.{In-Level, Start}
+use Rattle.comma_text.proofs.reading.entries.residue_at.Goals.{After-unwrap-level}
 
-abbrev text : Start → List ℕ
-text s = s.args.text.now
+-- The place: the level was read.
+module _ (c : After-unwrap-level) where
+  abbrev text : List ℕ
+  text = c.args.text.now
 
-abbrev start : In-Level → Start
-start c = (goal.at.In-Level c).Start
+  abbrev level : LevelAt
+  level = c.unwrap-level.result
 
-said : (c : In-Level)
-    → field (with_sign c.in-Level.negative c.in-Level.size) c.in-Level.more (drop c.in-Level.next (text (start c)))
-    ≡ level_field (drop (start c).args.at (text (start c)))
-unfolding level_at_said
-said c = ap (level_at_said (text (start c))) (sym c.in-Level.is) ∙ c.level_at.ensures.said
+  said : field (with_sign level.negative level.size) level.more (drop level.next text) ≡ level_field (drop c.args.at text)
+  unfolding level_at_said
+  said = ap (level_at_said text) (sym c.unwrap-level.ensures) ∙ c.level_at.ensures.said
 
-within : (c : In-Level) → c.in-Level.next ≤ length (text (start c))
-within c = subst (LevelWithin (length (text (start c)))) c.in-Level.is c.level_at.ensures.within
+  within : level.next ≤ length text
+  within = subst (LevelWithin (length text)) c.unwrap-level.ensures c.level_at.ensures.within
 
-pub returns-in_default : goal.returns-in_default
-unfolding level_at_said
-returns-in_default c = absurd (c.requires.fact (sym (ap (level_at_said (text (goal.at.returns-in_default c).Start)) (sym c.in_default.is) ∙ c.level_at.ensures.said)))
+pub unwrap-level-requires : goal.unwrap-level-requires
+unwrap-level-requires c = some_level _ _ c.level_at.result c.level_at.ensures c.requires.fact
 
-pub returns-in_default-residue_of : goal.returns-in_default-residue_of
-returns-in_default-residue_of c = let d = c in
-    placed_out (start (goal.at.returns-in_default-residue_of d).In-Level).args.p (text (start (goal.at.returns-in_default-residue_of d).In-Level)) (level_field (drop (start (goal.at.returns-in_default-residue_of d).In-Level).args.at (text (start (goal.at.returns-in_default-residue_of d).In-Level)))) _ _ _ (said (goal.at.returns-in_default-residue_of d).In-Level) (within (goal.at.returns-in_default-residue_of d).In-Level)
-    (sym c.in_default-residue_of.is ∙ c.residue_of.ensures)
+pub returns-in-Outside : goal.returns-in-Outside
+returns-in-Outside c = let k = (goal.at.returns-in-Outside c).After-unwrap-level in
+    placed_out c.args.p (text k) _ _ _ _ (said k) (within k) (sym c.in-Outside.is ∙ c.residue_of.ensures)
 
-pub returns : goal.returns
-returns c = let d = c in
-    placed_in (start (goal.at.returns d).In-Level).args.p (text (start (goal.at.returns d).In-Level)) (level_field (drop (start (goal.at.returns d).In-Level).args.at (text (start (goal.at.returns d).In-Level)))) _ _ _ (said (goal.at.returns d).In-Level) (within (goal.at.returns d).In-Level) _
-    (sym c.in-Residue.is ∙ c.residue_of.ensures)
+pub returns-in-Residue : goal.returns-in-Residue
+returns-in-Residue c = let k = (goal.at.returns-in-Residue c).After-unwrap-level in
+    placed_in c.args.p (text k) _ _ _ _ (said k) (within k) _ (sym c.in-Residue.is ∙ c.residue_of.ensures)
