@@ -6,7 +6,6 @@ ghost use Rattle.residue.specs.Layout.{fill, in_places, over};
 ghost use Rattle.specification.specs.Levels.{residue_or0, in_range, residues};
 ghost use Rattle.specification.specs.Tables.{points_in};
 
-use residue::level::Level;
 use residue::{arithmetic, level};
 use specification::settings::Settings;
 
@@ -23,14 +22,11 @@ pub fn in_range(p: u8, levels: &[i8]) -> bool
     outside == 0
 }
 
-// The residue of a level that has one.
+// The residue of a level, or 0 in the place of one.
 fn residue_or_0(p: u8, level: i8) -> u8
     ensures { result ≡ residue_or0 (residue_of p level) }
 {
-    let Level::Residue(x) = level::residue(p, level) else {
-        return 0;
-    };
-    x
+    level::residue(p, level).unwrap_or(0)
 }
 
 // The residues of levels at the front of lent bytes.

@@ -1,4 +1,3 @@
 -- Laws of moduli and of levels.
 pub mod Moduli
 pub mod Levels
-pub mod SignedBytes

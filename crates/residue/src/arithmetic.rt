@@ -28,11 +28,7 @@ fn double(p: u8, x: u8) -> u8
     requires x_lt_p { x < p }
     ensures { result ≡ (2 * x) % p }
 {
-    let twice = sum(p, x, x);
-    if twice < p {
-        return twice;
-    }
-    twice - p
+    add(p, x, x)
 }
 
 pub fn neg(p: u8, x: u8) -> u8
@@ -58,14 +54,14 @@ fn chosen(x: u8, y: u8, k: u8) -> u8
 }
 
 // The product with a number of so many bits, by doubling and adding from its highest bit on: no number in its way is greater than a sum of two residues.
-pub fn product(p: u8, bits: u8, x: u8, y: u8) -> u8
-    requires p_bound { (p ≤ 61) × (bits ≤ 8) }
-    requires x_lt_p { (x < p) × (y < 2 ^ bits) }
+pub fn product<const BITS: u8>(p: u8, x: u8, y: u8) -> u8
+    requires p_bound { (p ≤ 61) × (BITS ≤ 8) }
+    requires x_lt_p { (x < p) × (y < 2 ^ BITS) }
     ensures { result ≡ (x * y) % p }
 {
     let mut sum = 0;
-    for i in 0..bits {
-        sum = add(p, double(p, sum), chosen(x, y, bits - 1 - i));
+    for k in (0..BITS).rev() {
+        sum = add(p, double(p, sum), chosen(x, y, k));
     }
     sum
 }
@@ -75,7 +71,7 @@ pub fn mul(p: u8, x: u8, y: u8) -> u8
     requires x_lt_p { (x < p) × (y < p) }
     ensures { result ≡ (x * y) % p }
 {
-    product(p, 6, x, y)
+    product::<6>(p, x, y)
 }
 
 // Any byte, reduced.
@@ -83,7 +79,7 @@ pub fn reduce(p: u8, x: u8) -> u8
     requires { (2 ≤ p) × (p ≤ 61) }
     ensures { result ≡ x % p }
 {
-    product(p, 8, 1, x)
+    product::<8>(p, 1, x)
 }
 
 // x to the power e by squares; anything to the power 0 is 1.
@@ -100,7 +96,7 @@ pub fn power(p: u8, x: u8, e: u8) -> u8
             product = mul(p, product, square);
         }
         square = mul(p, square, square);
-        left = left / 2;
+        left /= 2;
     }
     product
 }

@@ -36,12 +36,11 @@ pub fn inverse(p: u8, x: u8) -> u8
         return 0;
     }
     let mut start: usize = 0;
-    for i in 0..18 {
-        let prime = PRIMES[i] as usize;
-        if prime == p as usize {
+    for prime in PRIMES {
+        if prime == p {
             return INVERSES[start + x as usize];
         }
-        start += prime;
+        start += prime as usize;
     }
     0
 }

@@ -12,50 +12,33 @@ pub(crate) const PRIMES: [u8; 18] = [
 pub fn is_modulus(p: u64) -> bool
     ensures { result ≡ is_modulus p }
 {
-    for i in 0..18 {
-        if PRIMES[i] as u64 == p {
-            return true;
-        }
-    }
-    false
+    PRIMES.iter().any(|prime| p == u64::from(*prime))
 }
 
-#[derive(Drop)]
-pub enum Level {
-    Residue(u8),
-    Outside,
-}
-
-// How far a level is from 0. It is widened before it is negated: -128 has no negation of its own width.
+// How far a level is from 0: a byte without a sign, since -128 is that far from it too.
 pub fn magnitude(level: i8) -> u8
     ensures { result ≡ nat_abs level }
 {
-    if level < 0 {
-        return (-(level as i16)) as u8;
-    }
-    level as u8
+    level.unsigned_abs()
 }
 
-// The residue of a level. The sign is looked at last, so that it costs no branch.
-pub fn residue(p: u8, level: i8) -> Level
+// The residue of a level, where it has one. The sign is looked at last, so that it costs no branch.
+pub fn residue(p: u8, level: i8) -> Option<u8>
     ensures { result ≡ residue_of p level }
 {
     let size = magnitude(level);
     if size < p {
         if level < 0 {
-            return Level::Residue(p - size);
+            return Some(p - size);
         }
-        return Level::Residue(size);
+        return Some(size);
     }
-    Level::Outside
+    None
 }
 
 // The signed byte of the same bits.
 pub fn signed(b: u8) -> i8
     ensures { result ≡ signed_of b }
 {
-    if b < 128 {
-        return b as i8;
-    }
-    (b as i16 - 256) as i8
+    b.cast_signed()
 }

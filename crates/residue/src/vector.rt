@@ -1,9 +1,30 @@
 // Vectors of residues, the inner loops of the whole: flat, so that they are compiled to packed instructions.
-ghost use Rattle.std.specs.Prelude.{◌≡◌, ◌%◌, ◌^◌, ◌<◌, ◌≤◌, length};
+ghost use Rattle.std.specs.Prelude.{◌≡◌, ℕ, ◌%◌, ◌^◌, ◌<◌, ◌≤◌, length, get_or};
 ghost use Rattle.residue.specs.Vector.{Below, add_scaled, scaled, pointwise, powered, squares_left, dot_of};
 
 use crate::arithmetic::{add, mul, product};
 use crate::bytes::copy;
+
+// Puts f of an entry in the place of each.
+fn each<F: Fn(u8) -> u8>(dst: &mut [u8], f: F)
+    requires { (i : ℕ) → i < length dst.old → F.pre f (get_or dst.old i 0) }
+    ensures { (i : ℕ) → i < length dst.old → F.post f (get_or dst.old i 0) (get_or dst.new i 0) }
+{
+    for x in dst.iter_mut() {
+        *x = f(*x);
+    }
+}
+
+// Puts f of an entry and of the one at its place in src in the place of each.
+pub fn each_with<F: Fn(u8, u8) -> u8>(dst: &mut [u8], src: &[u8], f: F)
+    requires dst_len { length dst.old ≡ length src.now }
+    requires callable { (i : ℕ) → i < length dst.old → F.pre f (get_or dst.old i 0) (get_or src.now i 0) }
+    ensures { (i : ℕ) → i < length dst.old → F.post f (get_or dst.old i 0) (get_or src.now i 0) (get_or dst.new i 0) }
+{
+    for (i, y) in src.iter().enumerate() {
+        dst[i] = f(dst[i], *y);
+    }
+}
 
 // Adds c times src to dst.
 pub fn add_scaled(p: u8, dst: &mut [u8], c: u8, src: &[u8])
@@ -14,9 +35,7 @@ pub fn add_scaled(p: u8, dst: &mut [u8], c: u8, src: &[u8])
     requires below_2 { Below p src.now }
     ensures { dst.new ≡ add_scaled p c dst.old src.now }
 {
-    for i in 0..dst.len() {
-        dst[i] = add(p, dst[i], mul(p, c, src[i]));
-    }
+    each_with(dst, src, |x, y| add(p, x, mul(p, c, y)));
 }
 
 // Multiplies each entry of dst by c.
@@ -26,22 +45,7 @@ pub fn scale(p: u8, dst: &mut [u8], c: u8)
     requires c_lt_p { c < p }
     ensures { dst.new ≡ scaled p c dst.old }
 {
-    for i in 0..dst.len() {
-        dst[i] = mul(p, c, dst[i]);
-    }
-}
-
-// Multiplies each entry of dst by that of src, a number of so many bits.
-fn multiply_bits(p: u8, bits: u8, dst: &mut [u8], src: &[u8])
-    requires p_bound { (p ≤ 61) × ((bits ≤ 8) × (p ≤ 2 ^ bits)) }
-    requires dst_len { length dst.old ≡ length src.now }
-    requires below { Below p dst.old }
-    requires below_2 { Below p src.now }
-    ensures { dst.new ≡ pointwise p dst.old src.now }
-{
-    for i in 0..dst.len() {
-        dst[i] = product(p, bits, dst[i], src[i]);
-    }
+    each(dst, |x| mul(p, c, x));
 }
 
 // Multiplies each entry of dst by that of src. Residues modulo 7 and less have three bits, which are doubled in half the time.
@@ -53,9 +57,9 @@ pub fn multiply(p: u8, dst: &mut [u8], src: &[u8])
     ensures { dst.new ≡ pointwise p dst.old src.now }
 {
     if p <= 7 {
-        multiply_bits(p, 3, dst, src);
+        each_with(dst, src, |x, y| product::<3>(p, x, y));
     } else {
-        multiply_bits(p, 6, dst, src);
+        each_with(dst, src, |x, y| mul(p, x, y));
     }
 }
 
@@ -65,9 +69,7 @@ fn square(p: u8, dst: &mut [u8])
     requires below { Below p dst.old }
     ensures { dst.new ≡ pointwise p dst.old dst.old }
 {
-    for i in 0..dst.len() {
-        dst[i] = mul(p, dst[i], dst[i]);
-    }
+    each(dst, |x| mul(p, x, x));
 }
 
 // Multiplies each entry of dst by that of base to the power e, by squares, the last of which is left in base.
@@ -84,7 +86,7 @@ pub fn multiply_powers(p: u8, dst: &mut [u8], base: &mut [u8], e: u8)
             multiply(p, dst, base);
         }
         square(p, base);
-        left = left / 2;
+        left /= 2;
     }
 }
 
@@ -102,8 +104,8 @@ pub fn dot(p: u8, a: &[u8], b: &[u8]) -> u8
     copy(a, &mut products);
     multiply(p, &mut products[..n], b);
     let mut total = 0;
-    for i in 0..n {
-        total = add(p, total, products[i]);
+    for x in &products[..n] {
+        total = add(p, total, *x);
     }
     total
 }

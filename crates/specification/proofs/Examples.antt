@@ -15,7 +15,7 @@ use Rattle.residue.specs.Lists.{Among, same_list}
 use Rattle.residue.specs.Modulus.{primes, is_one_of, is_modulus}
 use Rattle.residue.specs.Inverse.{inverse_below, inverse_of}
 use Rattle.residue.specs.Level.{residue_of}
-use Rattle.residue.specs.declared.level.Level.TheVariants.{Residue}
+use Rattle.std.proofs.Common.{Some}
 use Rattle.residue.specs.Layout.{groups, fill, begins, length_fill}
 use Rattle.residue.proofs.level.Moduli.{below, below_at}
 use Rattle.residue.proofs.Tests.{and_left, and_right}
@@ -159,7 +159,7 @@ all = (under_each 5 2 (1 ∷ []) A _ _ _ tt, (under_each 5 2 (0 ∷ []) A _ _ _ 
     single order a b ho ha hb = of_test (settings_of 5 2 order) ((a ∷ b ∷ []) ∷ []) ((0 ∷ 0 ∷ []) ∷ []) ((0 ∷ 1 ∷ []) ∷ (1 ∷ 0 ∷ []) ∷ []) (((5 - b) % 5 ∷ []) ∷ ((5 - a) % 5 ∷ []) ∷ [])
         (below_at (one order a) 5 (below_at (λ c. below (one order c) 5) 5 (below_at (λ o. below (λ c. below (one o c) 5) 5) 3 tt order (known_order order ho)) a ha) b hb)
 
-    lowest : (e : ℕ × ℤ × ℕ) → Among e ((5, negsuc 0, 4) ∷ (3, negsuc 0, 2) ∷ (2, negsuc 0, 1) ∷ []) → residue_of e.0 e.1 ≡ Residue e.2
+    lowest : (e : ℕ × ℤ × ℕ) → Among e ((5, negsuc 0, 4) ∷ (3, negsuc 0, 2) ∷ (2, negsuc 0, 1) ∷ []) → residue_of e.0 e.1 ≡ Some e.2
     lowest e (inl q) = rw q
     lowest e (inr (inl q)) = rw q
     lowest e (inr (inr (inl q))) = rw q

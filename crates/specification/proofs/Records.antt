@@ -9,7 +9,7 @@ use native.Mathlib.Nat.{mod-lt, mul-mod_right, mul-div_right}
 use Rattle.residue.specs.Sizes.{counts_size}
 use Rattle.residue.specs.Lists.{Among}
 use Rattle.residue.specs.Level.{residue_of}
-use Rattle.residue.specs.declared.level.Level.TheVariants.{Residue}
+use Rattle.std.proofs.Common.{Some}
 use Rattle.residue.proofs.level.Moduli.{modulus_range}
 use Rattle.specification.specs.Points.{IsPoint}
 use Rattle.specification.specs.Instance.{reduced}
@@ -38,7 +38,7 @@ module _ (s : Settings) (ok : Accepted s) where
   abbrev p : ℕ
   p = s.modulus
 
-  own_level : (k : ℕ) → k < p → residue_of p (pos k) ≡ Residue k
+  own_level : (k : ℕ) → k < p → residue_of p (pos k) ≡ Some k
   unfolding residue_of
   own_level k h = rw (lt-ltb k p h) refl
 

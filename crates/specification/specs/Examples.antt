@@ -1,9 +1,8 @@
 -- The eleven examples marked * in docs/SCOPE.md, 'Examples', as one list, and what each of them says.
-use Rattle.std.specs.Prelude.{◌≡◌, List, [], ◌∷◌, ◌++◌, map, ℕ, suc, ◌+◌, ◌-◌, ◌%◌, ◌≤◌, ◌<◌, ℤ, pos, negsuc, length, replicate, T}
+use Rattle.std.specs.Prelude.{◌≡◌, List, [], ◌∷◌, ◌++◌, map, ℕ, suc, ◌+◌, ◌-◌, ◌%◌, ◌≤◌, ◌<◌, ℤ, pos, negsuc, length, replicate, T, Some}
 use Rattle.residue.specs.Sizes.{states_size, standard_size, leads_size, coefficients_size, counts_size}
 use Rattle.residue.specs.Lists.{Among}
 use Rattle.residue.specs.Level.{residue_of}
-use Rattle.residue.specs.declared.level.Level.TheVariants.{Residue}
 use Rattle.monomial.specs.Order.{order_of, cmp}
 use Rattle.monomial.specs.Increasing.{Increasing}
 use Rattle.specification.specs.declared.settings.Settings.{Settings}
@@ -61,7 +60,7 @@ Holds one_point = (order a b : ℕ) → Among order any_order → a < 5 → b < 
 Holds (interpolant s S values coefficients names) =
     (interpolant_of (space_under s) (points_under s S) values ≡ coefficients) × (wiring_of s.variables S values ≡ names)
 Holds (remainder s S coefficients exponents left) = remainder_of (space_under s) (points_under s S) (polynomial_of s.variables coefficients exponents) ≡ left
-Holds (levels l) = (e : ℕ × ℤ × ℕ) → Among e l → residue_of e.0 e.1 ≡ Residue e.2
+Holds (levels l) = (e : ℕ × ℤ × ℕ) → Among e l → residue_of e.0 e.1 ≡ Some e.2
 Holds (additions p m offered due held) = (order : ℕ) → Among order any_order → let end = held_at_end (settings_of p m order) fresh (map addition offered) in
     (numbers (settings_of p m order) fresh (map addition offered) ≡ due) × (held_in (settings_of p m order) end.n end.tables ≡ held)
 -- under every m and order, in any place of m levels of which the others are in range

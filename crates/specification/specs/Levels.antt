@@ -1,22 +1,19 @@
 -- Levels and their residues: docs/SCOPE.md, 'What the desk does'. A level that is out of range has no residue; 0 stands in its place, and no accepted call
 -- has one.
-use Rattle.std.specs.Prelude.{Bool, true, not, ◌&&◌, List, [], ◌∷◌, map, ℕ, ℤ, eqb}
+use Rattle.std.specs.Prelude.{Bool, true, not, ◌&&◌, List, [], ◌∷◌, map, ℕ, ℤ, eqb, Option, Some, None, unwrap_or}
 use Rattle.residue.specs.Level.{residue_of}
-use Rattle.residue.specs.declared.level.Level.{Level}
-use Rattle.residue.specs.declared.level.Level.TheVariants.{Residue, Outside}
 use Rattle.residue.specs.Lists.{every, some, same_list}
 
 -- the number of the list of refusals for each answer
-abbrev pub level_number : Level → ℕ
-level_number (Residue x) = 0
-level_number Outside = 9
+abbrev pub level_number : Option ℕ → ℕ
+level_number (Some x) = 0
+level_number None = 9
 
-unfoldable pub is_residue : Level → Bool
+unfoldable pub is_residue : Option ℕ → Bool
 is_residue l = eqb (level_number l) 0
 
-unfoldable pub residue_or0 : Level → ℕ
-residue_or0 (Residue x) = x
-residue_or0 Outside = 0
+unfoldable pub residue_or0 : Option ℕ → ℕ
+residue_or0 l = unwrap_or l 0
 
 -- each level is from -(p-1) to p-1
 unfoldable pub in_range : ℕ → List ℤ → Bool

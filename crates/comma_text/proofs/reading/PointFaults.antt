@@ -12,8 +12,7 @@ use borrow.Author.Tests.{ltb-true, lt-ltb, ne_eqb, eqb-false, not-true}
 use Rattle.residue.specs.Lists.{Among, same_list}
 use Rattle.residue.specs.Lists as Lists
 use Rattle.residue.specs.Level.{residue_of}
-use Rattle.residue.specs.declared.level.Level.{Level}
-use Rattle.residue.specs.declared.level.Level.TheVariants.{Residue, Outside}
+use Rattle.std.proofs.Common.{Option, Some, None}
 use Rattle.residue.proofs.Tests.{Decides, so, not_so, by_test, true_of, of_true, and_left, and_right}
 use Rattle.residue.proofs.Searches.{one_of, of_one}
 use Rattle.residue.proofs.bytes.Equality.{same_is, same_self}
@@ -26,17 +25,17 @@ use Rattle.comma_text.specs.reading.Text.{Valued, is_outside, too_many, too_ofte
 use Rattle.comma_text.specs.reading.Causes.{OutOfRange, points_to, TooMany, TooOften, FirstValue, OtherValue}
 
 -- 9: a level out of range
-level_told : (l : Level) → Decides (l ≡ Outside) (not (is_residue l))
+level_told : (l : Option ℕ) → Decides (l ≡ None) (not (is_residue l))
 unfolding is_residue
-level_told (Residue x) = not_so (λ e. let z : ◌≡◌ {A = ℕ} 0 1 = cc in omega arith)
-level_told Outside = so refl
+level_told (Some x) = not_so (λ e. let z : ◌≡◌ {A = ℕ} 0 1 = cc in omega arith)
+level_told None = so refl
 
 pub range_told : (p : ℕ) (zs : List ℤ) → Decides (OutOfRange p [] zs) (is_outside p zs)
 unfolding is_outside in_range
 range_told p [] = not_so (λ w. w.1)
 range_told p (z ∷ zs) = go (is_residue (residue_of p z)) (in_range p zs) (level_told (residue_of p z)) (range_told p zs)
   where
-    go : (b c : Bool) → Decides (residue_of p z ≡ Outside) (not b) → Decides (OutOfRange p [] zs) (not c) → Decides (OutOfRange p [] (z ∷ zs)) (not (b && c))
+    go : (b c : Bool) → Decides (residue_of p z ≡ None) (not b) → Decides (OutOfRange p [] zs) (not c) → Decides (OutOfRange p [] (z ∷ zs)) (not (b && c))
     go true true (not_so n) (not_so k) = not_so (λ w. elim w.1 [ inl e ↦ n (ap (residue_of p) (sym e) ∙ w.2) | inr y ↦ k (w.0, y, w.2) ])
     go true false (not_so n) (so w) = so (w.0, inr w.1, w.2)
     go false c (so x) k = so (z, inl refl, x)

@@ -1,10 +1,9 @@
 -- For what a text is refused, said by existence: docs/SCOPE.md, 'Refused, in this order of checking'.
-use Rattle.std.specs.Prelude.{◌≡◌, List, [], ◌∷◌, ◌++◌, map, ◌⊎◌, ◌≢◌, ◌↔◌, ℕ, suc, ◌<◌, ℤ, length, get_or, T}
+use Rattle.std.specs.Prelude.{◌≡◌, List, [], ◌∷◌, ◌++◌, map, ◌⊎◌, ◌≢◌, ◌↔◌, ℕ, suc, ◌<◌, ℤ, length, get_or, T, None}
 use Rattle.residue.specs.Sizes.{most_points, states_size, counts_size}
 use Rattle.residue.specs.Lists.{Among}
 use Rattle.residue.specs.Modulus.{primes}
 use Rattle.residue.specs.Level.{residue_of}
-use Rattle.residue.specs.declared.level.Level.TheVariants.{Outside}
 use Rattle.specification.specs.Levels.{no_repeat}
 use Rattle.specification.specs.Counted.{points_of, times_in}
 use Rattle.notation.specs.Forms.{Header}
@@ -13,7 +12,7 @@ use Rattle.comma_text.specs.reading.Faults.{FirstAt, Says, Wrong, TextFault}
 
 -- a level or the value of an entry is not between -(p-1) and p-1
 abbrev pub OutOfRange : ℕ → List (List ℤ) → List ℤ → Type 0
-OutOfRange p before zs = (z : ℤ) × Among z zs × (residue_of p z ≡ Outside)
+OutOfRange p before zs = (z : ℤ) × Among z zs × (residue_of p z ≡ None)
 
 -- the points of the entries up to this one
 abbrev pub points_to : List Valued → Valued → List (List ℕ)

@@ -6,7 +6,7 @@ use Rattle.residue.specs.Level.{residue_of}
 use Rattle.residue.specs.Lists.{key_of}
 use Rattle.residue.specs.Layout.{fill}
 use Rattle.specification.specs.declared.settings.Settings.{Settings}
-use Rattle.specification.specs.Levels.{is_residue, residue_or0, in_range}
+use Rattle.specification.specs.Levels.{in_range}
 use Rattle.specification.specs.Counted.{points_of, counts_of, gathered}
 use Rattle.specification.specs.Tables.{states_table}
 use Rattle.notation.specs.Fields.{Field, field, broken, Part, part, faulty}
@@ -29,10 +29,9 @@ unfoldable pub behind_level : Field ℤ → List ℕ
 behind_level (field level more rest) = rest
 behind_level broken = []
 
--- the residue of that level, 0 where it is out of range
+-- the residue of that level
 pub record PlacedAs (p : ℕ) (text : List ℕ) (f : Field ℤ) (r : Placed) : Type 0 where
-  pub inside : r.inside ≡ is_residue (residue_of p (level_in f))
-  pub residue : r.residue ≡ residue_or0 (residue_of p (level_in f))
+  pub residue : r.residue ≡ residue_of p (level_in f)
   pub rest : drop r.next text ≡ behind_level f
   pub within : r.next ≤ length text
 

@@ -16,7 +16,7 @@ use mir.Syntax.{w8}
 use mir.Val.{to_z, of_z}
 use mir.Facts.{to_z-of_z}
 use Rattle.residue.specs.Level.{residue_of}
-use Rattle.residue.specs.declared.level.Level.TheVariants.{Residue, Outside}
+use Rattle.std.proofs.Common.{Some, None}
 use Rattle.residue.specs.Vector.{Below}
 use Rattle.residue.proofs.vector.Vectors.{map_at}
 use Rattle.specification.specs.Levels.{level_number, is_residue, in_range, residues}
@@ -32,7 +32,7 @@ inside : (p : ℕ) (z : ℤ) → is_residue (residue_of p z) ≡ ltb (nat_abs z)
 unfolding is_residue residue_of
 inside p z = by_sign z
   where
-    chosen : (b : Bool) (x : ℕ) → eqb (level_number (cond b (Residue x) Outside)) 0 ≡ b
+    chosen : (b : Bool) (x : ℕ) → eqb (level_number (cond b (Some x) None)) 0 ≡ b
     chosen true x = refl
     chosen false x = refl
 

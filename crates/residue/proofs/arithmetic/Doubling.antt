@@ -1,28 +1,25 @@
 -- A product by doubling and adding, from the highest bit of a number on.
 use mathlib.Core.Path.{◌≡◌, sym, ap, ◌∙◌}
-use Prim.Native.Nat.{ℕ, zero, suc, ◌+◌, ◌*◌, ◌-◌, ◌/◌, ◌%◌, ◌^◌, ◌<◌}
+use Prim.Native.Nat.{ℕ, ◌+◌, ◌*◌, ◌-◌, ◌/◌, ◌%◌, ◌^◌, ◌<◌}
 use native.Mathlib.Nat.{mod-eq_of_lt, div-eq_of_lt}
 use native.Mathlib.Omega.{arith}
 use lib.Pow.{shr-shr}
 use Rattle.residue.proofs.Congruence.{rfl, of, reduce, scale, ◌then◌, ◌plus◌}
 
-module _ (p x y bits : ℕ) where
+module _ (p x y : ℕ) where
   -- nothing stands above the bits
-  pub no_bits : 0 < p → y < 2 ^ bits → 0 ≡ (x * (y / 2 ^ (bits - 0))) % p
-  no_bits z h =
-      let n : bits - 0 ≡ bits = omega arith in
+  pub no_bits : (bits : ℕ) → 0 < p → y < 2 ^ bits → 0 ≡ (x * (y / 2 ^ bits)) % p
+  no_bits bits z h =
       let f : x * 0 ≡ 0 = omega arith in
-      sym (ap (λ (k : ℕ). (x * (y / 2 ^ k)) % p) n ∙ ap (λ (u : ℕ). (x * u) % p) (div-eq_of_lt h) ∙ ap (λ (u : ℕ). u % p) f ∙ mod-eq_of_lt z)
+      sym (ap (λ (u : ℕ). (x * u) % p) (div-eq_of_lt h) ∙ ap (λ (u : ℕ). u % p) f ∙ mod-eq_of_lt z)
 
-  -- one bit more: i are done
-  pub one_bit : (i sum : ℕ) → i < bits → sum ≡ (x * (y / 2 ^ (bits - i))) % p
-      → ((2 * sum) % p + y / 2 ^ (bits - 1 - i) % 2 * x) % p ≡ (x * (y / 2 ^ (bits - (i + 1)))) % p
-  one_bit i sum h e =
-      let up : bits - i ≡ bits - 1 - i + 1 = omega arith in
-      let down : bits - 1 - i ≡ bits - (i + 1) = omega arith in
-      let half : y / 2 ^ (bits - 1 - i) / 2 ≡ y / 2 ^ (bits - i) = shr-shr y (bits - 1 - i) 1 ∙ ap (λ (n : ℕ). y / 2 ^ n) (sym up) in
-      ((reduce p (2 * sum) then scale 2 (of e then reduce p (x * (y / 2 ^ (bits - i))))) plus rfl {x = y / 2 ^ (bits - 1 - i) % 2 * x}
-      then of (ap (λ (u : ℕ). 2 * (x * u) + y / 2 ^ (bits - 1 - i) % 2 * x) (sym half) ∙ joined (y / 2 ^ (bits - 1 - i)) ∙ ap (λ (n : ℕ). x * (y / 2 ^ n)) down)).same
+  -- one bit more: k were left
+  pub one_bit : (k sum : ℕ) → 0 < k → sum ≡ (x * (y / 2 ^ k)) % p → ((2 * sum) % p + y / 2 ^ (k - 1) % 2 * x) % p ≡ (x * (y / 2 ^ (k - 1))) % p
+  one_bit k sum h e =
+      let up : k ≡ k - 1 + 1 = omega arith in
+      let half : y / 2 ^ (k - 1) / 2 ≡ y / 2 ^ k = shr-shr y (k - 1) 1 ∙ ap (λ (n : ℕ). y / 2 ^ n) (sym up) in
+      ((reduce p (2 * sum) then scale 2 (of e then reduce p (x * (y / 2 ^ k)))) plus rfl {x = y / 2 ^ (k - 1) % 2 * x}
+      then of (ap (λ (u : ℕ). 2 * (x * u) + y / 2 ^ (k - 1) % 2 * x) (sym half) ∙ joined (y / 2 ^ (k - 1)))).same
     where
       joined : (u : ℕ) → 2 * (x * (u / 2)) + u % 2 * x ≡ x * u
       joined u = let e : 2 * (u / 2) + u % 2 ≡ u = omega arith in shape (u / 2) (u % 2) ∙ ap (λ (v : ℕ). x * v) e
@@ -31,17 +28,7 @@ module _ (p x y bits : ℕ) where
           shape a b = omega arith
 
   -- all bits done
-  pub all_bits : (i : ℕ) → i ≡ bits → (x * (y / 2 ^ (bits - i))) % p ≡ (x * y) % p
-  all_bits i e =
-      let z : bits - i ≡ 0 = omega arith in
+  pub all_bits : (k : ℕ) → k ≡ 0 → (x * (y / 2 ^ k)) % p ≡ (x * y) % p
+  all_bits k z =
       let o : y / 2 ^ 0 ≡ y = omega arith in
       ap (λ (n : ℕ). (x * (y / 2 ^ n)) % p) z ∙ ap (λ (u : ℕ). (x * u) % p) o
-
--- what is chosen is a residue
-pub chosen_below : (p x n : ℕ) {r : ℕ} → x < p → r ≡ n % 2 * x → r < p
-chosen_below p x n h e = rw e (go (n % 2) (omega arith))
-  where
-    go : (b : ℕ) → b < 2 → b * x < p
-    go zero l = omega arith
-    go (suc zero) l = omega arith
-    go (suc (suc b)) l = absurd (omega arith)

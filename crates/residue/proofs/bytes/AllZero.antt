@@ -1,37 +1,22 @@
 -- Whether all bytes are 0.
 use mathlib.Core.Path.{◌≡◌, ◌∙◌, sym, ap, refl}
-use mathlib.Core.Bool.{Bool, ◌&&◌, and-true, and_assoc, true, false, and-false}
+use mathlib.Core.Bool.{Bool, ◌&&◌, and-true, and_assoc}
 use mathlib.Core.List.{List, [], ◌∷◌}
-use Prim.Native.Nat.{ℕ, suc, ◌+◌, ◌<◌, ◌≤◌, zero}
+use Prim.Native.Nat.{ℕ, zero, suc, max}
+use native.Mathlib.Nat.{zero-max}
 use native.Mathlib.Omega.{arith}
-use native.Mathlib.Nat.{not-suc-le-zero, le_of_suc-le-suc}
-use native.Mathlib.Numerals.{add-one}
-use lib.ListN.{get_or, length, take}
-use lib.Dec.{eqb}
-use borrow.Author.Tests.{eq-eqb, ne_eqb, eqb-true}
+use lib.Dec.{eqb, eqb-suc-zero}
+use borrow.Author.Tests.{ne_eqb}
+use Rattle.std.specs.List.{fold}
 use Rattle.residue.specs.Lists.{all_zero}
 
--- Whether all are 0, from the front: one number more, which is at most the largest or larger than all before.
-zero_more : (l : List ℕ) (i : ℕ) → i < length l → all_zero (take (suc i) l) ≡ (all_zero (take i l) && eqb (get_or l i 0) 0)
+max_zero : (m x : ℕ) → eqb (max m x) 0 ≡ (eqb m 0 && eqb x 0)
+max_zero zero x = rw zero-max refl
+max_zero (suc m) x = rw eqb-suc-zero (ne_eqb (max (suc m) x) 0 (λ z. omega arith))
+
+-- the largest of some numbers is 0 exactly where they all are
+pub largest_zero : (m : ℕ) (l : List ℕ) → eqb (fold max m l) 0 ≡ (eqb m 0 && all_zero l)
 unfolding all_zero
-zero_more [] i h = absurd (not-suc-le-zero h)
-zero_more (x ∷ l) zero h = and-true (eqb x 0)
-zero_more (x ∷ l) (suc i) h =
-    ap (λ (z : Bool). eqb x 0 && z) (zero_more l i (le_of_suc-le-suc h)) ∙ sym (and_assoc (eqb x 0) (all_zero (take i l)) (eqb (get_or l i 0) 0))
-
-pub zero_none : true ≡ all_zero []
-unfolding all_zero
-zero_none = refl
-
-module _ (l : List ℕ) (i largest : ℕ) (h : i < length l) (e : eqb largest 0 ≡ all_zero (take i l)) where
-  pub zero_larger : largest < get_or l i 0 → eqb (get_or l i 0) 0 ≡ all_zero (take (i + 1) l)
-  zero_larger k =
-      let f : eqb (get_or l i 0) 0 ≡ false = ne_eqb (get_or l i 0) 0 (λ z. omega arith) in
-      rw (add-one i, zero_more l i h, f) (sym (and-false (all_zero (take i l))))
-
-  pub zero_kept : get_or l i 0 ≤ largest → eqb largest 0 ≡ all_zero (take (i + 1) l)
-  zero_kept k = rw (add-one i, zero_more l i h, sym e) (go (eqb largest 0) refl)
-    where
-      go : (b : Bool) → eqb largest 0 ≡ b → b ≡ (b && eqb (get_or l i 0) 0)
-      go true z = let y = eqb-true largest 0 z in sym (eq-eqb (get_or l i 0) 0 (omega arith))
-      go false z = refl
+largest_zero m [] = sym (and-true (eqb m 0))
+largest_zero m (x ∷ l) =
+    largest_zero (max m x) l ∙ ap (λ (b : Bool). b && all_zero l) (max_zero m x) ∙ and_assoc (eqb m 0) (eqb x 0) (all_zero l)

@@ -2,13 +2,12 @@
 use mathlib.Core.Path.{◌≡◌, refl, sym, ◌∙◌, ap}
 use mathlib.Core.Bool.{Bool, ◌&&◌, and-true, and_assoc, true, false, and-false}
 use mathlib.Core.List.{List, [], ◌∷◌}
-use Prim.Native.Nat.{ℕ, zero, suc, ◌<◌, ◌+◌, ◌≤◌}
+use Prim.Native.Nat.{ℕ, zero, suc, ◌<◌, ◌≤◌}
 use native.Mathlib.Nat.{not-suc-le-zero, le_of_suc-le-suc}
-use native.Mathlib.Numerals.{add-one}
 use native.Mathlib.Omega.{arith}
 use lib.ListN.{length, get_or, take}
 use lib.Dec.{T, eqb, eqb→eq, eqb_refl}
-use borrow.Author.Tests.{eq-eqb, ne_eqb}
+use lib.Pointwise.{pointwise}
 use Rattle.residue.specs.Lists.{same_list}
 use Rattle.residue.specs.Layout.{fill}
 use Rattle.residue.proofs.Tests.{and_left, and_right, and_both, true_of}
@@ -27,6 +26,14 @@ pub same_self : (l : List ℕ) → T (same_list l l)
 unfolding same_list
 same_self [] = tt
 same_self (a ∷ l) = and_both (eqb a a) (same_list l l) (eqb_refl a) (same_self l)
+
+-- `==` of slices is this test
+pub same_eq : (k l : List ℕ) → pointwise eqb k l ≡ same_list k l
+unfolding same_list
+same_eq [] [] = refl
+same_eq [] (b ∷ l) = refl
+same_eq (a ∷ k) [] = refl
+same_eq (a ∷ k) (b ∷ l) = ap (λ (z : Bool). eqb a b && z) (same_eq k l)
 
 -- lists of two lengths are not equal
 pub same_length : (a b : List ℕ) → (length a ≡ length b → ⊥) → same_list a b ≡ false
@@ -50,13 +57,6 @@ same_more (x ∷ a) (y ∷ b) (suc i) h k =
 pub same_none : true ≡ same_list [] []
 unfolding same_list
 same_none = refl
-
-module _ (a b : List ℕ) (i : ℕ) (h : i < length a) (k : i < length b) where
-  pub same_on : get_or a i 0 ≡ get_or b i 0 → same_list (take (i + 1) a) (take (i + 1) b) ≡ same_list (take i a) (take i b)
-  same_on e = rw add-one (same_more a b i h k ∙ rw (eq-eqb (get_or a i 0) (get_or b i 0) e) (and-true (same_list (take i a) (take i b))))
-
-  pub same_off : (get_or a i 0 ≡ get_or b i 0 → ⊥) → same_list (take (i + 1) a) (take (i + 1) b) ≡ false
-  same_off e = rw add-one (same_more a b i h k ∙ rw (ne_eqb (get_or a i 0) (get_or b i 0) e) (and-false (same_list (take i a) (take i b))))
 
 -- Rows of one length are equal exactly where they are so filled up.
 pub same_filled : (k : ℕ) (a b : List ℕ) → length a ≡ length b → length a ≤ k → same_list (fill k a) (fill k b) ≡ same_list a b

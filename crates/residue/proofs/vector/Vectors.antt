@@ -154,3 +154,15 @@ part_small b k at l z h v = go (dec_lt v k)
     go : Dec (v < k) → get_or (take k (drop at l)) v 0 < b
     go (yes u) = rw (get_or-take k (drop at l) v 0 u, get_or-drop at l v 0) (h (at + v))
     go (no u) = let e : length (take k (drop at l)) ≤ v = omega (arith, length-take k (drop at l)) in rw (get_or-eq_default (take k (drop at l)) 0 e) z
+
+-- a list that was changed entry by entry, and one that was joined with another so
+pub mapped_is : (f : ℕ → ℕ) (l new : List ℕ) → length new ≡ length l → ((i : ℕ) → i < length l → get_or new i 0 ≡ f (get_or l i 0)) → new ≡ map f l
+mapped_is f l new n e =
+    let m = length-map l f in
+    ext_get_or 0 new (map f l) (omega arith) (λ i h. let k : i < length l = omega arith in e i k ∙ sym (map_at f l 0 0 i k))
+
+pub joined_is : (f : ℕ → ℕ → ℕ) (a b new : List ℕ) → length a ≡ length b → length new ≡ length a
+    → ((i : ℕ) → i < length a → get_or new i 0 ≡ f (get_or a i 0) (get_or b i 0)) → new ≡ zip_with f a b
+joined_is f a b new s n e =
+    let m = zip_length f a b s in
+    ext_get_or 0 new (zip_with f a b) (omega arith) (λ i h. let k : i < length a = omega arith in e i k ∙ sym (zip_at f a b 0 0 0 i k s))

@@ -12,8 +12,7 @@ use lib.Dec.{T, not_T, T_not}
 use Rattle.residue.specs.Sizes.{states_size}
 use Rattle.residue.specs.Lists.{Among}
 use Rattle.residue.specs.Level.{residue_of}
-use Rattle.residue.specs.declared.level.Level.{Level}
-use Rattle.residue.specs.declared.level.Level.TheVariants.{Residue, Outside}
+use Rattle.std.proofs.Common.{Option, Some, None}
 use Rattle.residue.specs.Layout.{groups, fill, in_places, over}
 use Rattle.residue.proofs.level.Levels.{residue_below}
 use Rattle.residue.proofs.Tests.{and_left, and_right, and_both}
@@ -79,9 +78,9 @@ residue_small : (p : ℕ) (z : ℤ) → T (is_residue (residue_of p z)) → resi
 unfolding is_residue residue_or0
 residue_small p z h = go (residue_of p z) refl h
   where
-    go : (r : Level) → residue_of p z ≡ r → T (is_residue r) → residue_or0 r < p
-    go (Residue k) e t = residue_below p k z e
-    go Outside e t = absurd t
+    go : (r : Option ℕ) → residue_of p z ≡ r → T (is_residue r) → residue_or0 r < p
+    go (Some k) e t = residue_below p k z e
+    go None e t = absurd t
 
 pub residues_same : (p : ℕ) (zs : List ℤ) → 0 < p → T (in_range p zs) → reduced (p - 1) (residues p zs) ≡ residues p zs
 unfolding residues in_range

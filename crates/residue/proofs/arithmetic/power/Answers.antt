@@ -4,19 +4,9 @@ use mathlib.Core.Logic.{⊎_elim}
 use Prim.Native.Nat.{◌<◌}
 use native.Mathlib.Nat.{mod-lt}
 use native.Mathlib.Omega.{arith}
-use Rattle.residue.proofs.Congruence.{of}
 use Rattle.residue.proofs.arithmetic.Reduction.{kept}
 use Rattle.residue.proofs.arithmetic.Powers.{even, odd, whole}
 use Rattle.residue.proofs.arithmetic.power.Goals as goal
-
-pub loop-left-init : goal.loop-left-init
-loop-left-init c = (omega arith, (omega arith, of (omega arith)))
-
-pub mul-product-requires : goal.mul-product-requires
-mul-product-requires c = let r = c in record { p_bound = r.requires.le_p.1; x_lt_p = (omega arith, omega arith) }
-
-pub mul-square-requires : goal.mul-square-requires
-mul-square-requires c = let r = c in record { p_bound = r.requires.le_p.1; x_lt_p = (omega arith, omega arith) }
 
 pub loop-left-preserved : goal.loop-left-preserved
 loop-left-preserved c = let l = c in

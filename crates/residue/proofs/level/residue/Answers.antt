@@ -1,41 +1,31 @@
 -- `level::residue` meets its contract, by the size of the level and its sign.
-use mathlib.Core.Path.{◌≡◌, sym, ap, subst, ◌∙◌}
-use mathlib.Core.Bool.{Bool}
-use Prim.Native.Nat.{ℕ, ◌<◌, ◌≤◌, ◌-◌}
+use mathlib.Core.Path.{◌≡◌, sym, ap, ◌∙◌}
 use lib.IntN.{ℤ, pos, nat_abs}
 use lib.Signed.{lt_z}
 use mir.Syntax.{w8}
-use mir.Val.{to_z, of_z}
+use mir.Val.{SFits, to_z, of_z}
 use mir.Facts.{to_z-of_z}
-use Rattle.residue.specs.declared.level.Level.TheVariants.{Residue}
 use Rattle.residue.proofs.level.Levels.{of_negative, of_kept, of_outside}
 use Rattle.residue.proofs.level.residue.Goals as goal
-use Rattle.residue.proofs.level.residue.Goals.{After-magnitude-size}
 
-module _ (c : After-magnitude-size) where
-  abbrev p : ℕ
-  p = c.args.p
+-- a level is read as it was written
+read : (z : ℤ) → SFits w8 z → to_z w8 (of_z w8 z) ≡ z
+read z = to_z-of_z {w = w8}
 
-  abbrev z : ℤ
-  z = c.args.level
-
-  read : to_z w8 (of_z w8 z) ≡ z
-  read = to_z-of_z {w = w8} c.ranges.level
-
-  size : c.magnitude-size.result ≡ nat_abs z
-  size = c.magnitude-size.ensures ∙ ap nat_abs read
-
-  sign : {b : Bool} → lt_z (to_z w8 (of_z w8 z)) (pos 0) ≡ b → lt_z z (pos 0) ≡ b
-  sign e = sym (ap (λ (y : ℤ). lt_z y (pos 0)) read) ∙ e
+sign : (z : ℤ) → SFits w8 z → lt_z z (pos 0) ≡ lt_z (to_z w8 (of_z w8 z)) (pos 0)
+sign z f = sym (ap (λ (y : ℤ). lt_z y (pos 0)) (read z f))
 
 pub returns-then-level-lt0 : goal.returns-then-level-lt0
-returns-then-level-lt0 c = let m = c in
-    ap (λ (k : ℕ). Residue (p (goal.at.returns-then-level-lt0 m).After-magnitude-size - k)) (size (goal.at.returns-then-level-lt0 m).After-magnitude-size) ∙ of_negative (p (goal.at.returns-then-level-lt0 m).After-magnitude-size) (z (goal.at.returns-then-level-lt0 m).After-magnitude-size) (sign (goal.at.returns-then-level-lt0 m).After-magnitude-size c.if-level-lt0.true) (subst (λ (k : ℕ). k < p (goal.at.returns-then-level-lt0 m).After-magnitude-size) (size (goal.at.returns-then-level-lt0 m).After-magnitude-size) c.if-size-p.true)
+returns-then-level-lt0 c =
+    let z = c.args.level in
+    let f = c.ranges.level in
+    of_negative c.args.p _ z (c.magnitude-size.ensures ∙ ap nat_abs (read z f)) (sign z f ∙ c.if-level-lt0.true) c.if-size-p.true
 
 pub returns-then-size-p : goal.returns-then-size-p
-returns-then-size-p c = let m = c in
-    ap Residue (size (goal.at.returns-then-size-p m).After-magnitude-size) ∙ of_kept (p (goal.at.returns-then-size-p m).After-magnitude-size) (z (goal.at.returns-then-size-p m).After-magnitude-size) (sign (goal.at.returns-then-size-p m).After-magnitude-size c.if-level-lt0.false) (subst (λ (k : ℕ). k < p (goal.at.returns-then-size-p m).After-magnitude-size) (size (goal.at.returns-then-size-p m).After-magnitude-size) c.if-size-p.true)
+returns-then-size-p c =
+    let z = c.args.level in
+    let f = c.ranges.level in
+    of_kept c.args.p _ z (c.magnitude-size.ensures ∙ ap nat_abs (read z f)) (sign z f ∙ c.if-level-lt0.false) c.if-size-p.true
 
 pub returns : goal.returns
-returns c = let m = c in
-    of_outside (p (goal.at.returns m).After-magnitude-size) (z (goal.at.returns m).After-magnitude-size) (subst (λ (k : ℕ). p (goal.at.returns m).After-magnitude-size ≤ k) (size (goal.at.returns m).After-magnitude-size) c.if-size-p.false)
+returns c = let z = c.args.level in of_outside c.args.p _ z (c.magnitude-size.ensures ∙ ap nat_abs (read z c.ranges.level)) c.if-size-p.false

@@ -7,7 +7,6 @@ use native.Mathlib.Omega.{arith}
 use lib.ListN.{length, get_or}
 use lib.Seq.{ext_get_or}
 use Rattle.residue.specs.Vector.{Below, pointwise, squares_left}
-use Rattle.residue.proofs.Congruence.{rfl}
 use Rattle.residue.proofs.arithmetic.Reduction.{kept}
 use Rattle.residue.proofs.arithmetic.Powers.{even, odd, whole}
 use Rattle.residue.proofs.vector.Vectors.{pointwise_length, pointwise_at, pointwise_below, powered_length, powered_at, squares_turn, squares_none}
@@ -49,15 +48,6 @@ module _ (p e : ℕ) (dst₀ base₀ dst base base' : List ℕ) (left : ℕ) (z 
     left_over some,
   )
 
-pub loop-left-init : goal.loop-left-init
-loop-left-init c = let s = c in (refl, sym s.requires.dst_len, s.requires.below.0, s.requires.below.1, (λ i h. rfl), refl)
-
-pub multiply-requires : goal.multiply-requires
-multiply-requires c = let l = c in record { le_p = l.requires.le_p; dst_len = l.loop-left.invariant.0 ∙ sym l.loop-left.invariant.1; below = l.loop-left.invariant.2; below_2 = l.loop-left.invariant.3 }
-
-pub square-requires : goal.square-requires
-square-requires c = let l = c in record { le_p = l.requires.le_p; below = l.loop-left.invariant.3 }
-
 pub loop-left-preserved : goal.loop-left-preserved
 loop-left-preserved c = let l = c in
     let s = l in
@@ -67,12 +57,6 @@ loop-left-preserved c = let l = c in
     (λ w. odd_turn s.args.p s.args.e s.args.dst.now s.args.base.now l.loop-left.dst l.loop-left.base _ l.loop-left.left z l.loop-left.invariant q _ w.if-left-eq1.true (w.dst-is ∙ w.multiply.ensures))
     (λ w. even_turn s.args.p s.args.e s.args.dst.now s.args.base.now l.loop-left.dst l.loop-left.base _ l.loop-left.left z l.loop-left.invariant q (omega arith) _ w.if-left-eq1.false w.dst-is)
     c.if-left-eq1.branch-raw
-
-pub shape_of-dst : goal.shape_of-dst
-shape_of-dst c = c.loop-left.invariant.0
-
-pub shape_of-base : goal.shape_of-base
-shape_of-base c = c.loop-left.invariant.1 ∙ c.requires.dst_len
 
 pub returns : goal.returns
 returns c = let l = c in

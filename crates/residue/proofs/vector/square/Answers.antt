@@ -1,62 +1,11 @@
--- `vector::square` meets its contract. The loop has written the entries before i, each as the definition has it.
-use mathlib.Core.Path.{◌≡◌, refl, ap, ◌∙◌}
-use Prim.Native.Nat.{ℕ, ◌*◌, ◌%◌, ◌<◌}
-use native.Mathlib.Omega.{arith}
-use lib.ListN.{length, get_or}
-use Rattle.residue.proofs.vector.Filled.{filled_none, kept_length, own, filled_more, filled_all}
-use Rattle.residue.proofs.vector.Vectors.{pointwise_length, pointwise_at}
-use Rattle.residue.proofs.vector.square.Invariants.{entry}
+-- `vector::square` meets its contract: each entry is as the definition has it.
+use Rattle.std.proofs.Common.{rules, refl, ◌*◌, ◌%◌}
+use Rattle.residue.specs.Vector.{pointwise}
+use Rattle.residue.proofs.vector.Vectors.{joined_is}
 use Rattle.residue.proofs.vector.square.Goals as goal
-use Rattle.residue.proofs.vector.square.Goals.{At-loop-i, In-loop-i, Start}
-
--- at the loop's head
-module _ (l : At-loop-i) where
-  abbrev start : Start
-  start = (goal.at.At-loop-i l).Start
-
-  abbrev g : ℕ → ℕ
-  g = entry start.args.p start.args.dst.now
-
-  long : length l.loop-i.dst ≡ length start.args.dst.now
-  long = kept_length g l.loop-i.i start.args.dst.now l.loop-i.dst l.loop-i.invariant.1
-
-  here : get_or l.loop-i.dst l.loop-i.i 0 ≡ get_or start.args.dst.now l.loop-i.i 0
-  here = own g l.loop-i.i start.args.dst.now l.loop-i.dst l.loop-i.invariant.1 0
-
--- in a turn: the entries are residues
-module _ (c : In-loop-i) where
-  abbrev s : Start
-  s = start (goal.at.In-loop-i c).At-loop-i
-
-  own_residue : get_or c.loop-i.dst c.loop-i.i 0 < s.args.p
-  own_residue = rw (here (goal.at.In-loop-i c).At-loop-i) (s.requires.below c.loop-i.i c.loop-i-test.true)
-
-pub loop-i-init : goal.loop-i-init
-loop-i-init c = (omega arith, filled_none _ _)
-
-pub bounds-dst-i : goal.bounds-dst-i
-bounds-dst-i c = omega (arith, long (goal.at.bounds-dst-i c).At-loop-i)
-
-pub bounds-dst-i-in-loop-i : goal.bounds-dst-i-in-loop-i
-bounds-dst-i-in-loop-i c = omega (arith, long (goal.at.bounds-dst-i-in-loop-i c).At-loop-i)
-
-pub mul-requires : goal.mul-requires
-mul-requires c = let t = c in record { p_bound = (s (goal.at.mul-requires t).In-loop-i).requires.le_p.1; x_lt_p = (own_residue (goal.at.mul-requires t).In-loop-i, own_residue (goal.at.mul-requires t).In-loop-i) }
-
-pub bounds-dst-i-in-loop-i-2 : goal.bounds-dst-i-in-loop-i-2
-bounds-dst-i-in-loop-i-2 c = omega (arith, long (goal.at.bounds-dst-i-in-loop-i-2 c).At-loop-i)
-
-pub loop-i-preserved : goal.loop-i-preserved
-loop-i-preserved c = let l = c in
-    let e = ap (λ (d : ℕ). (d * d) % (start (goal.at.loop-i-preserved l).At-loop-i).args.p) (here (goal.at.loop-i-preserved l).At-loop-i) in
-    (omega arith, filled_more (g (goal.at.loop-i-preserved l).At-loop-i) l.loop-i.i (start (goal.at.loop-i-preserved l).At-loop-i).args.dst.now l.loop-i.dst l.loop-i.invariant.1 c.mul.result (omega arith) (c.mul.ensures ∙ e))
-
-pub shape_of-dst : goal.shape_of-dst
-shape_of-dst c = long (goal.at.shape_of-dst c).At-loop-i
 
 pub returns : goal.returns
-returns c = let l = c in
-    let s = start (goal.at.returns l).At-loop-i in
-    l.loop-i.invariant.1
-    ∙ filled_all (g (goal.at.returns l).At-loop-i) l.loop-i.i _ s.args.dst.now 0 (omega arith) (pointwise_length s.args.p s.args.dst.now s.args.dst.now refl)
-    (pointwise_at s.args.p s.args.dst.now s.args.dst.now refl)
+unfolding pointwise
+returns c =
+    let a = c.args in
+    joined_is (λ x y. (x * y) % a.p) a.dst.now a.dst.now c.each.new.dst refl c.each.auto.dst (λ i h. let f = c.each.ensures i h in search rules)
