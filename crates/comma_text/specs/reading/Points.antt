@@ -1,5 +1,5 @@
 -- What the readers of residues answer, in the terms of the definitions.
-use Rattle.std.specs.Prelude.{◌≡◌, Bool, cond, List, [], ◌++◌, map, ℕ, ◌*◌, ◌-◌, ◌^◌, ◌≤◌, ℤ, pos, length, take, drop, eqb}
+use Rattle.std.specs.Prelude.{◌≡◌, Bool, cond, List, [], ◌++◌, map, ℕ, suc, ◌*◌, ◌-◌, ◌^◌, ◌≤◌, ℤ, pos, length, take, drop, eqb, Option, Some, None}
 use Rattle.std.proofs.Math.Option.{get_or}
 use Rattle.residue.specs.Sizes.{counts_size}
 use Rattle.residue.specs.Level.{residue_of}
@@ -77,6 +77,11 @@ entries_outcome s l states values counts weights =
     let said = saying s l in
     let short = short_buffers (length states) (length values) (length counts) (length weights) in
     text_decided (first_of not_refused (header_cases s short ++ entries_cases said)) (text_accepted said states values counts weights) states values counts weights
+
+-- the place, from 1, of the entry that was found; 0 where there is none
+unfoldable pub place_of : Option ℕ → ℕ
+place_of (Some entry) = suc entry
+place_of None = 0
 
 -- the first place found, or this one if it has a fault
 unfoldable pub earlier_place : ℕ → Bool → ℕ → ℕ

@@ -5,7 +5,7 @@ ghost use Rattle.residue.specs.Layout.{fill};
 ghost use Rattle.specification.specs.Refusal.{first_of};
 ghost use Rattle.comma_text.specs.reading.Text.{not_refused, entry_case};
 ghost use Rattle.comma_text.specs.reading.Records.{entries_at, counted_entries};
-ghost use Rattle.comma_text.specs.reading.Points.{levels_at, earlier_place, answered, GatheredAs};
+ghost use Rattle.comma_text.specs.reading.Points.{levels_at, place_of, answered, GatheredAs};
 
 use crate::reading::entries::fill_entry;
 use points::gathering::{HINTS, enter};
@@ -37,19 +37,6 @@ fn keep_value(n: usize, at: usize, values: &mut [u8], value: u8) -> Kept
     }
 }
 
-// The first place found so far, or this one if it has a fault: later places must not hide an earlier one.
-fn first_place(found: usize, inside: bool, place: usize) -> usize
-    ensures { result ≡ earlier_place found inside place }
-{
-    if found != 0 {
-        return found;
-    }
-    if inside {
-        return 0;
-    }
-    place
-}
-
 // The refusal with the record at fault and no points, or 0 with the number of distinct points.
 #[derive(Drop)]
 pub struct Gathered {
@@ -58,31 +45,32 @@ pub struct Gathered {
     pub n: u8,
 }
 
-// A refusal at the entry of this place, from 1; the header is record 1.
-fn refused_at(refusal: u8, place: usize) -> Gathered
-    requires { place ≤ 16384 }
-    ensures { result ≡ record { refusal = refusal; at = suc place; n = 0 } }
+// A refusal at this entry, the first being 0; the header is record 1.
+fn refused_at(refusal: u8, entry: usize) -> Gathered
+    requires { entry < 16384 }
+    ensures { result ≡ record { refusal = refusal; at = suc (suc entry); n = 0 } }
 {
     Gathered {
         refusal,
-        at: place as u16 + 1,
+        at: entry as u16 + 2,
         n: 0,
     }
 }
 
-// 8 before 13 before 14, by the places from 1 at which they were met; 0 where one was not.
-fn decided(n: usize, full: usize, often: usize, other: usize) -> Gathered
-    requires { (n ≤ 64) × (full ≤ 16384) × (often ≤ 16384) × (other ≤ 16384) }
-    ensures { result ≡ answered (first_of not_refused (entry_case 8 full ∷ entry_case 13 often ∷ entry_case 14 other ∷ [])) n }
+// 8 before 13 before 14, by the first entries at which they were met.
+fn decided(n: usize, full: Option<usize>, often: Option<usize>, other: Option<usize>) -> Gathered
+    requires { (n ≤ 64) × (place_of full ≤ 16384) × (place_of often ≤ 16384) × (place_of other ≤ 16384) }
+    ensures { result ≡ answered (first_of not_refused
+        (entry_case 8 (place_of full) ∷ entry_case 13 (place_of often) ∷ entry_case 14 (place_of other) ∷ [])) n }
 {
-    if full != 0 {
-        return refused_at(8, full);
+    if let Some(entry) = full {
+        return refused_at(8, entry);
     }
-    if often != 0 {
-        return refused_at(13, often);
+    if let Some(entry) = often {
+        return refused_at(13, entry);
     }
-    if other != 0 {
-        return refused_at(14, other);
+    if let Some(entry) = other {
+        return refused_at(14, entry);
     }
     Gathered {
         refusal: 0,
@@ -113,27 +101,28 @@ pub fn gather_entries(
     let mut hints = [0u8; HINTS];
     let mut from = at;
     let mut n = 0;
-    let mut full = 0;
-    let mut often = 0;
-    let mut other = 0;
+    let mut full = None;
+    let mut often = None;
+    let mut other = None;
     for i in 0..entries {
         let mut point = [0u8; 8];
         let entry = fill_entry(text, from, p, variables, &mut point);
         if !entry.inside {
-            return refused_at(9, i + 1);
+            return refused_at(9, i);
         }
         from = entry.next;
-        if full != 0 {
+        if full.is_some() {
             continue;
         }
         let met = enter(n, points, counts, &mut hints, &point, entry.key);
         if met.at == 64 {
-            full = i + 1;
+            full = Some(i);
             continue;
         }
         let kept = keep_value(n, met.at, values, entry.value);
-        often = first_place(often, !met.over, i + 1);
-        other = first_place(other, kept.same, i + 1);
+        // Later entries must not hide an earlier one.
+        often = often.or(met.over.then_some(i));
+        other = other.or((!kept.same).then_some(i));
         n = kept.n;
     }
     decided(n, full, often, other)
