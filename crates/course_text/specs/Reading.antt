@@ -1,5 +1,5 @@
 -- What the readers of a time course's records answer, in the terms of the definitions.
-use Rattle.std.specs.Prelude.{◌≡◌, cond, List, [], ◌∷◌, ◌++◌, ℕ, ◌+◌, ◌≤◌, ℤ, length, take, drop, Result, Ok}
+use Rattle.std.specs.Prelude.{◌≡◌, cond, List, [], ◌∷◌, ◌++◌, ℕ, suc, ◌+◌, ◌≤◌, ℤ, length, take, drop, Result, Ok, Err}
 use Rattle.std.proofs.Math.Option.{Option}
 use Rattle.specification.specs.Levels.{in_range}
 use Rattle.notation.specs.Fields.{Part}
@@ -23,7 +23,12 @@ pub record TimedAs (p m : ℕ) (text : List ℕ) (e : Part (List ℤ)) (r : Time
   pub rest : drop r.next text ≡ behind_entry e
   pub within : r.next ≤ length text
 
--- `read_records`: the first place with a level out of range, or 0 and the records in the tables
-pub record ReadAs (p m : ℕ) (E : List (List ℤ)) (r : ℕ) (records numbers : List ℕ) : Type 0 where
-  pub place : r ≡ first_state_outside p m E
-  pub recorded : r ≡ 0 → RecordedAs (all_timed p m E) records numbers
+-- the place, from 1, of the record that was out of range; 0 where all were read
+unfoldable pub place_outside : Result (Unit {0}) ℕ → ℕ
+place_outside (Ok u) = 0
+place_outside (Err «record») = suc «record»
+
+-- `read_records`: the first place with a level out of range, or the records in the tables
+pub record ReadAs (p m : ℕ) (E : List (List ℤ)) (r : Result (Unit {0}) ℕ) (records numbers : List ℕ) : Type 0 where
+  pub place : place_outside r ≡ first_state_outside p m E
+  pub recorded : place_outside r ≡ 0 → RecordedAs (all_timed p m E) records numbers

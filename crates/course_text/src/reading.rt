@@ -91,8 +91,8 @@ fn read_record(text: &[u8], at: usize, p: u8, variables: usize, row: &mut [u8]) 
     }
 }
 
-// The states and the course numbers of the records from `at` on, so many, into two tables of zeros; 0, or the place, from 1, of the first
-// record that has a level out of range.
+// The states and the course numbers of the records from `at` on, so many, into two tables of zeros; or the first record, from 0, that has a level
+// out of range.
 pub fn read_records(
     text: &[u8],
     at: usize,
@@ -101,7 +101,7 @@ pub fn read_records(
     entries: usize,
     records: &mut [u8],
     numbers: &mut [u8],
-) -> usize
+) -> Result<(), usize>
     requires at_in_bounds { (at ≤ length text.now) × (length text.now ≤ 16384) × (1 ≤ variables) × (variables ≤ 8) × (p ≤ 128) }
     requires text_value { counted_entries 0 (entries_at variables (drop at text.now)) ≡ Ok entries }
     requires records_value { (records.old ≡ fill records_size []) × (numbers.old ≡ fill most_records []) }
@@ -112,10 +112,10 @@ pub fn read_records(
         let place = 8 * i;
         let timed = read_record(text, from, p, variables, &mut records[place..place + 8]);
         if !timed.inside {
-            return i + 1;
+            return Err(i);
         }
         numbers[i] = timed.number;
         from = timed.next;
     }
-    0
+    Ok(())
 }

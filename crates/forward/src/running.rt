@@ -231,9 +231,8 @@ fn run_records(
     let m = settings.variables as usize;
     let mut records = [0u8; RECORD_STATES];
     let mut numbers = [0u8; RECORDS];
-    let outside = read_records(text, from, p, m, entries, &mut records, &mut numbers);
-    if outside != 0 {
-        return refused(9, outside as u16 + 1);
+    if let Err(record) = read_records(text, from, p, m, entries, &mut records, &mut numbers) {
+        return refused(9, record as u16 + 2);
     }
     let mut points = [0u8; sizes::STATES];
     let mut times = [0u8; sizes::COUNTS];
