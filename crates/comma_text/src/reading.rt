@@ -3,15 +3,14 @@ pub mod entries;
 mod gathering;
 pub mod records;
 
-ghost use Rattle.std.specs.Prelude.{◌≡◌, ◌≤◌, length, drop};
+ghost use Rattle.std.specs.Prelude.{◌≡◌, ◌≤◌, length, drop, Ok};
 ghost use Rattle.specification.specs.Refusal.{first_of};
 ghost use Rattle.comma_text.specs.reading.Answers.{fault_of, read_of};
 ghost use Rattle.comma_text.specs.reading.Text.{short_buffers, header_cases, not_refused, text_ended, read_outcome};
 ghost use Rattle.comma_text.specs.reading.Records.{entries_at, counted_entries};
 ghost use Rattle.comma_text.specs.reading.Points.{entries_outcome};
-ghost use Rattle.comma_text.specs.declared.reading.records.Entries.TheVariants.{Count};
 
-use crate::reading::records::{Entries, HeaderAt};
+use crate::reading::records::{HeaderAt, Refused};
 use points::weights::right_weights;
 use residue::{bytes, sizes};
 use specification::refusals::{Fault, Refusal};
@@ -77,7 +76,7 @@ fn read_entries(
 ) -> Result<Read, Fault>
     requires from_in_bounds { (from ≤ length text.now) × (length text.now ≤ 16384) }
     requires order_bound { (settings.order ≤ 3) × (length settings.weights ≡ 8) }
-    requires text_value { counted_entries 0 (entries_at settings.variables (drop from text.now)) ≡ Count entries }
+    requires text_value { counted_entries 0 (entries_at settings.variables (drop from text.now)) ≡ Ok entries }
     ensures { text_ended (read_of result) states.new values.new counts.new weights.new
         ≡ entries_outcome settings (drop from text.now) states.old values.old counts.old weights.old }
 {
@@ -129,21 +128,23 @@ pub fn read_text(
         });
     }
     let mut said = [0u8; 8];
-    let HeaderAt::Header {
-        modulus,
-        variables,
-        order,
-        next,
-    } = records::read_header(text, &mut said)
+    let Some(
+        HeaderAt {
+            modulus,
+            variables,
+            order,
+            next,
+        },
+    ) = records::read_header(text, &mut said)
     else {
         return Err(in_header(Refusal::Form));
     };
     match records::check_entries(text, next, variables) {
-        Entries::Refused { refusal: _, at } => Err(Fault {
+        Err(Refused { refusal: _, at }) => Err(Fault {
             refusal: Refusal::Form,
             at: at as u16,
         }),
-        Entries::Count(n) => {
+        Ok(n) => {
             let settings = Settings {
                 modulus: modulus as u64,
                 variables: variables as u64,

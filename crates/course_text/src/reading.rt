@@ -1,18 +1,17 @@
 // The records of a time course's text: their form, and their states and course numbers in tables.
-ghost use Rattle.std.specs.Prelude.{◌≡◌, not, ◌&&◌, ◌||◌, [], ◌<◌, ◌≤◌, eqb, length, get_or, drop};
+ghost use Rattle.std.specs.Prelude.{◌≡◌, not, ◌&&◌, ◌||◌, [], ◌<◌, ◌≤◌, eqb, length, get_or, drop, Ok};
 ghost use Rattle.residue.specs.Layout.{fill, over};
 ghost use Rattle.notation.specs.Fields.{faulty};
 ghost use Rattle.notation.specs.Said.{with_sign};
 ghost use Rattle.comma_text.specs.reading.Records.{entry_part, entries_at, counted_entries};
 ghost use Rattle.comma_text.specs.reading.Points.{levels_in, levels_at};
 ghost use Rattle.comma_text.specs.reading.Text.{entry_point};
-ghost use Rattle.comma_text.specs.declared.reading.records.Entries.TheVariants.{Count};
 ghost use Rattle.courses.specs.Records.{most_records, records_size};
 ghost use Rattle.course_text.specs.Form.{course_in};
 ghost use Rattle.course_text.specs.Reading.{counted_courses, TimedAs, ReadAs};
 
 use comma_text::reading::entries::fill_point;
-use comma_text::reading::records::{Entries, Entry, LevelAt, check_entry, level_at};
+use comma_text::reading::records::{Refused, check_entry, level_at};
 
 // The course number that the last column's level is, 0 where it is none.
 fn course_number(negative: bool, size: u16) -> u8
@@ -42,39 +41,29 @@ fn wrong_number(number: u8, latest: u8, marks: &[u8]) -> bool
 }
 
 // Whether all records from `at` on, behind the header, are entries of so many variables whose numbers are courses' and stand in runs, and how many there are.
-pub fn check_courses(text: &[u8], at: usize, variables: usize) -> Entries
+pub fn check_courses(text: &[u8], at: usize, variables: usize) -> Result<usize, Refused>
     requires { (at ≤ length text.now) × (length text.now ≤ 16384) }
     ensures { result ≡ counted_courses variables [] (entries_at variables (drop at text.now)) }
 {
     let mut marks = [0u8; 100];
-    let mut latest = 0u8;
+    let mut latest = 0;
     let mut from = at;
     let mut n = 0;
     while from < text.len() {
-        match check_entry(text, from, variables, n + 2) {
-            Entry::Refused { refusal, at } => {
-                return Entries::Refused { refusal, at };
-            }
-            Entry::Ends {
-                negative,
-                size,
-                next,
-            } => {
-                let number = course_number(negative, size);
-                if wrong_number(number, latest, &marks) {
-                    return Entries::Refused {
-                        refusal: 2,
-                        at: n + 2,
-                    };
-                }
-                marks[number as usize] = 1;
-                latest = number;
-                from = next;
-                n += 1;
-            }
+        let entry = check_entry(text, from, variables, n + 2)?;
+        let number = course_number(entry.negative, entry.size);
+        if wrong_number(number, latest, &marks) {
+            return Err(Refused {
+                refusal: 2,
+                at: n + 2,
+            });
         }
+        marks[number as usize] = 1;
+        latest = number;
+        from = entry.next;
+        n += 1;
     }
-    Entries::Count(n)
+    Ok(n)
 }
 
 // Whether the levels of a record are in range, its course number, and where it ends.
@@ -93,29 +82,17 @@ fn read_record(text: &[u8], at: usize, p: u8, variables: usize, row: &mut [u8]) 
     ensures fact_2 { row.new ≡ over (entry_point p variables (levels_in (entry_part variables (drop at text.now)))) row.old }
 {
     let point = fill_point(text, at, p, variables, row);
-    let LevelAt::Level {
-        negative,
-        size,
-        more: _,
-        next,
-    } = level_at(text, point.next)
-    else {
-        // The records have been checked.
-        return Timed {
-            inside: false,
-            number: 0,
-            next: at,
-        };
-    };
+    // The records have been checked.
+    let level = level_at(text, point.next).unwrap();
     Timed {
         inside: point.inside,
-        number: course_number(negative, size),
-        next,
+        number: course_number(level.negative, level.size),
+        next: level.next,
     }
 }
 
-// The states and the course numbers of the records from `at` on, so many, into two tables of zeros; 0, or the place, from 1, of the first
-// record that has a level out of range.
+// The states and the course numbers of the records from `at` on, so many, into two tables of zeros; or the first record, from 0, that has a level
+// out of range.
 pub fn read_records(
     text: &[u8],
     at: usize,
@@ -124,9 +101,9 @@ pub fn read_records(
     entries: usize,
     records: &mut [u8],
     numbers: &mut [u8],
-) -> usize
+) -> Result<(), usize>
     requires at_in_bounds { (at ≤ length text.now) × (length text.now ≤ 16384) × (1 ≤ variables) × (variables ≤ 8) × (p ≤ 128) }
-    requires text_value { counted_entries 0 (entries_at variables (drop at text.now)) ≡ Count entries }
+    requires text_value { counted_entries 0 (entries_at variables (drop at text.now)) ≡ Ok entries }
     requires records_value { (records.old ≡ fill records_size []) × (numbers.old ≡ fill most_records []) }
     ensures { ReadAs p variables (levels_at variables (drop at text.now)) result records.new numbers.new }
 {
@@ -135,10 +112,10 @@ pub fn read_records(
         let place = 8 * i;
         let timed = read_record(text, from, p, variables, &mut records[place..place + 8]);
         if !timed.inside {
-            return i + 1;
+            return Err(i);
         }
         numbers[i] = timed.number;
         from = timed.next;
     }
-    0
+    Ok(())
 }

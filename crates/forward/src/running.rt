@@ -1,19 +1,18 @@
 // Running a time course forward. Every refusal is decided before a lent byte is written.
-ghost use Rattle.std.specs.Prelude.{◌≡◌, false, ◌||◌, List, [], ℕ, ◌+◌, ◌*◌, ◌<◌, ◌≤◌, ltb, length, get_or, drop, replicate};
+ghost use Rattle.std.specs.Prelude.{◌≡◌, false, ◌||◌, List, [], ℕ, ◌+◌, ◌*◌, ◌<◌, ◌≤◌, ltb, length, get_or, drop, replicate, Ok};
 ghost use Rattle.residue.specs.Sizes.{states_size, counts_size, most_points};
 ghost use Rattle.residue.specs.Vector.{Below};
 ghost use Rattle.specification.specs.Tables.{five_tables, too_short};
 ghost use Rattle.construction.specs.Drawing.{PointsGiven};
 ghost use Rattle.comma_text.specs.reading.Text.{refusal_at};
 ghost use Rattle.comma_text.specs.reading.Records.{entries_at, counted_entries};
-ghost use Rattle.comma_text.specs.declared.reading.records.Entries.TheVariants.{Count};
 ghost use Rattle.courses.specs.TimeCourse.{Timed};
 ghost use Rattle.courses.specs.Records.{most_records, records_size, HeldIn};
 ghost use Rattle.forward.specs.Outcome.{refused_course, course_ended, course_outcome};
 ghost use Rattle.forward.specs.Running.{DecidedAs, CourseWritten, run_ended, run_outcome};
 
 use basis::drawing::draw_points;
-use comma_text::reading::records::{Entries, HeaderAt, read_header};
+use comma_text::reading::records::{HeaderAt, Refused, read_header};
 use comma_text::reading::settings_refusal;
 use course_text::reading::{check_courses, read_records};
 use courses::moves::{first_of_course, gather_moves};
@@ -216,7 +215,7 @@ fn run_records(
 ) -> Course
     requires from_in_bounds { (from ≤ length text.now) × (length text.now ≤ 16384) }
     requires order_bound { (settings.order ≤ 3) × (length settings.weights ≡ 8) }
-    requires text_value { counted_entries 0 (entries_at settings.variables (drop from text.now)) ≡ Count entries }
+    requires text_value { counted_entries 0 (entries_at settings.variables (drop from text.now)) ≡ Ok entries }
     requires counts_value { short ≡ false → (too_short (five_tables states.old standard.old leads.old coefficients.old counts.old) ≡ false)
         × (512 ≤ length interpolants.old) }
     ensures { run_ended result states.new standard.new leads.new coefficients.new counts.new
@@ -234,9 +233,8 @@ fn run_records(
     let m = settings.variables as usize;
     let mut records = [0u8; RECORD_STATES];
     let mut numbers = [0u8; RECORDS];
-    let outside = read_records(text, from, p, m, entries, &mut records, &mut numbers);
-    if outside != 0 {
-        return refused(9, outside as u16 + 1);
+    if let Err(record) = read_records(text, from, p, m, entries, &mut records, &mut numbers) {
+        return refused(9, record as u16 + 2);
     }
     let mut points = [0u8; sizes::STATES];
     let mut times = [0u8; sizes::COUNTS];
@@ -294,18 +292,20 @@ pub fn time_course(
         return refused(1, 0);
     }
     let mut said = [0u8; 8];
-    let HeaderAt::Header {
-        modulus,
-        variables,
-        order,
-        next,
-    } = read_header(text, &mut said)
+    let Some(
+        HeaderAt {
+            modulus,
+            variables,
+            order,
+            next,
+        },
+    ) = read_header(text, &mut said)
     else {
         return refused(2, 1);
     };
     match check_courses(text, next, variables) {
-        Entries::Refused { refusal, at } => refused(refusal, at as u16),
-        Entries::Count(n) => {
+        Err(Refused { refusal, at }) => refused(refusal, at as u16),
+        Ok(n) => {
             let settings = Settings {
                 modulus: modulus as u64,
                 variables: variables as u64,

@@ -13,14 +13,9 @@ use Rattle.notation.specs.Said.{form_number, leading_said, leading_number, Leadi
 use Rattle.notation.specs.Said.{order_said, order_number, OrderRead, last_said, last_number, LastRead}
 use Rattle.notation.specs.Spans.{field_number, ended_by, end_number, EndWithin, ending_in, EndRead, spanned, span_number, SpanWithin, SpanAt, SpanRead}
 use Rattle.notation.specs.declared.digits.Leading.{Leading}
-use Rattle.notation.specs.declared.forms.Word.{Word}
-use Rattle.notation.specs.declared.forms.Word.TheVariants as W
-use Rattle.notation.specs.declared.forms.Last.{Last}
-use Rattle.notation.specs.declared.forms.Last.TheVariants as L
+use Rattle.notation.specs.declared.forms.Settings.{Settings}
 use Rattle.notation.specs.declared.fields.End.{End}
-use Rattle.notation.specs.declared.fields.End.TheVariants as E
 use Rattle.notation.specs.declared.fields.Span.{Span}
-use Rattle.notation.specs.declared.fields.Span.TheVariants as S
 
 leading_number_lem : (r : Answer Leading) → leading_number r ≡ form_number (leading_said r)
 unfolding leading_number form_number leading_said
@@ -30,36 +25,36 @@ leading_number_lem None = refl
 pub leading_says : {t : List ℕ} {r : Answer Leading} → leading_said r ≡ decimal_number (take (front is_digit t) t) → LeadingEnds (front is_digit t) r → LeadingRead t r
 leading_says {t} {r} e f = record { said = e; number = leading_number_lem r ∙ ap form_number e; ends = f }
 
-order_number_lem : (weights : List ℕ) (r : Word) → order_number r ≡ form_number (order_said weights r)
+order_number_lem : (weights : List ℕ) (r : Answer ℕ) → order_number r ≡ form_number (order_said weights r)
 unfolding order_number form_number order_said
-order_number_lem weights (W.Order k) = refl
-order_number_lem weights W.Broken = refl
+order_number_lem weights (Some k) = refl
+order_number_lem weights None = refl
 
-pub order_says : {reads : Option Ordered} {weights : List ℕ} {r : Word} → order_said weights r ≡ reads → OrderRead reads weights r
+pub order_says : {reads : Option Ordered} {weights : List ℕ} {r : Answer ℕ} → order_said weights r ≡ reads → OrderRead reads weights r
 order_says {weights = weights} {r = r} e = record { said = e; number = order_number_lem weights r ∙ ap form_number e }
 
-last_number_lem : (m : ℕ) (weights : List ℕ) (r : Last) → last_number r ≡ form_number (last_said m weights r)
+last_number_lem : (m : ℕ) (weights : List ℕ) (r : Answer Settings) → last_number r ≡ form_number (last_said m weights r)
 unfolding last_number form_number last_said
-last_number_lem m weights (L.Settings modulus order) = refl
-last_number_lem m weights L.Broken = refl
+last_number_lem m weights (Some s) = refl
+last_number_lem m weights None = refl
 
-pub last_says : {m : ℕ} {reads : Option Header} {weights : List ℕ} {r : Last} → last_said m weights r ≡ reads → LastRead m reads weights r
+pub last_says : {m : ℕ} {reads : Option Header} {weights : List ℕ} {r : Answer Settings} → last_said m weights r ≡ reads → LastRead m reads weights r
 last_says {m} {weights = weights} {r = r} e = record { said = e; number = last_number_lem m weights r ∙ ap form_number e }
 
-end_number_lem : (text content : List ℕ) (r : End) → end_number r ≡ field_number (ended_by text content r)
+end_number_lem : (text content : List ℕ) (r : Answer End) → end_number r ≡ field_number (ended_by text content r)
 unfolding end_number field_number ended_by
-end_number_lem text content (E.At more next) = refl
-end_number_lem text content E.Broken = refl
+end_number_lem text content (Some e) = refl
+end_number_lem text content None = refl
 
-pub end_says : {text : List ℕ} {at : ℕ} {quotes : Bool} {r : End}
+pub end_says : {text : List ℕ} {at : ℕ} {quotes : Bool} {r : Answer End}
     → ((content : List ℕ) → ended_by text content r ≡ ending_in quotes content (drop at text)) → EndWithin (length text) r → EndRead text at quotes r
 end_says {text} {r = r} e w = record { said = e; number = λ content. end_number_lem text content r ∙ ap field_number (e content); within = w }
 
-span_number_lem : (text : List ℕ) (r : Span) → span_number r ≡ field_number (spanned text r)
+span_number_lem : (text : List ℕ) (r : Answer Span) → span_number r ≡ field_number (spanned text r)
 unfolding span_number field_number spanned
-span_number_lem text (S.Content from to more next) = refl
-span_number_lem text S.Broken = refl
+span_number_lem text (Some s) = refl
+span_number_lem text None = refl
 
-pub span_says : {text : List ℕ} {f : Field (List ℕ)} {start end : ℕ} {r : Span}
+pub span_says : {text : List ℕ} {f : Field (List ℕ)} {start end : ℕ} {r : Answer Span}
     → spanned text r ≡ f → SpanAt start end r → SpanWithin (length text) r → SpanRead text f start end r
 span_says {text} {r = r} e p w = record { said = e; number = span_number_lem text r ∙ ap field_number e; places = p; within = w }

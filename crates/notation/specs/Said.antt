@@ -8,11 +8,7 @@ use Rattle.notation.specs.Fields.{front, Part, part, faulty}
 use Rattle.notation.specs.Forms.{negative, Ordered, Header}
 use Rattle.notation.specs.declared.digits.Leading.{Leading}
 use Rattle.notation.specs.declared.forms.Weight.{Weight}
-use Rattle.notation.specs.declared.forms.Weight.TheVariants as Wt
-use Rattle.notation.specs.declared.forms.Word.{Word}
-use Rattle.notation.specs.declared.forms.Word.TheVariants as W
-use Rattle.notation.specs.declared.forms.Last.{Last}
-use Rattle.notation.specs.declared.forms.Last.TheVariants as L
+use Rattle.notation.specs.declared.forms.Settings.{Settings}
 
 -- of what a definition reads, or does not
 unfoldable pub form_number : {A : Type 0} → Option A → ℕ
@@ -41,24 +37,24 @@ pub record LeadingRead (content : List ℕ) (r : Answer Leading) : Type 0 where
   pub ends : LeadingEnds (front is_digit content) r
 
 -- a weight, and where the content goes on
-unfoldable pub weight_said : List ℕ → Weight → Part ℕ
-weight_said content (Wt.At w next) = part w (drop next content)
-weight_said content Wt.Broken = faulty
+unfoldable pub weight_said : List ℕ → Answer Weight → Part ℕ
+weight_said content (Some w) = part w.weight (drop w.next content)
+weight_said content None = faulty
 
-abbrev pub WeightWithin : ℕ → Weight → Type 0
-WeightWithin n (Wt.At w next) = next ≤ n
-WeightWithin n Wt.Broken = Unit {0}
+abbrev pub WeightWithin : ℕ → Answer Weight → Type 0
+WeightWithin n (Some w) = w.next ≤ n
+WeightWithin n None = Unit {0}
 
 -- the order, with the weights in the lent buffer
-unfoldable pub order_said : List ℕ → Word → Option Ordered
-order_said weights (W.Order k) = some (k, weights)
-order_said weights W.Broken = none
+unfoldable pub order_said : List ℕ → Answer ℕ → Option Ordered
+order_said weights (Some k) = some (k, weights)
+order_said weights None = none
 
-unfoldable pub order_number : Word → ℕ
-order_number (W.Order k) = 0
-order_number W.Broken = 2
+unfoldable pub order_number : Answer ℕ → ℕ
+order_number (Some k) = 0
+order_number None = 2
 
-pub record OrderRead (reads : Option Ordered) (weights : List ℕ) (r : Word) : Type 0 where
+pub record OrderRead (reads : Option Ordered) (weights : List ℕ) (r : Answer ℕ) : Type 0 where
   pub said : order_said weights r ≡ reads
   pub number : order_number r ≡ form_number reads
 
@@ -68,15 +64,15 @@ with_sign true size = negative size
 with_sign false size = pos size
 
 -- the last header field, behind m names, with the weights in the lent buffer
-unfoldable pub last_said : ℕ → List ℕ → Last → Option Header
-last_said m weights (L.Settings modulus order) = some (record { variables = m; modulus = modulus; order = order; weights = weights })
-last_said m weights L.Broken = none
+unfoldable pub last_said : ℕ → List ℕ → Answer Settings → Option Header
+last_said m weights (Some s) = some (record { variables = m; modulus = s.modulus; order = s.order; weights = weights })
+last_said m weights None = none
 
-unfoldable pub last_number : Last → ℕ
-last_number (L.Settings modulus order) = 0
-last_number L.Broken = 2
+unfoldable pub last_number : Answer Settings → ℕ
+last_number (Some s) = 0
+last_number None = 2
 
 -- what a definition reads behind m names: the whole field, or what stands behind `mod ` in it
-pub record LastRead (m : ℕ) (reads : Option Header) (weights : List ℕ) (r : Last) : Type 0 where
+pub record LastRead (m : ℕ) (reads : Option Header) (weights : List ℕ) (r : Answer Settings) : Type 0 where
   pub said : last_said m weights r ≡ reads
   pub number : last_number r ≡ form_number reads

@@ -16,16 +16,7 @@ const CR: u8 = 13;
 fn is_plain(b: u8) -> bool
     ensures { result ≡ is_plain b }
 {
-    if b == COMMA {
-        return false;
-    }
-    if b == QUOTE {
-        return false;
-    }
-    if b == CR {
-        return false;
-    }
-    b != LF
+    !matches!(b, COMMA | QUOTE | CR | LF)
 }
 
 // Where the bytes from `at` on that an unquoted field may hold end.
@@ -33,14 +24,11 @@ fn plain_end(text: &[u8], at: usize) -> usize
     requires { at ≤ length text.now }
     ensures { result ≡ at + front is_plain (drop at text.now) }
 {
-    let mut i = at;
-    while i < text.len() {
-        if !is_plain(text[i]) {
-            return i;
-        }
-        i += 1;
-    }
-    i
+    let rest = &text[at..];
+    at + rest
+        .iter()
+        .position(|b| !is_plain(*b))
+        .unwrap_or(rest.len())
 }
 
 // Where the quote that closes a quoted field stands, its content beginning at `at`; the text's end where there is none.
@@ -66,117 +54,92 @@ fn quote_end(text: &[u8], at: usize) -> usize
 }
 
 // What stands behind a field's content: another field of its record follows or not, and where the text goes on.
-#[derive(Drop)]
-pub enum End {
-    At { more: bool, next: usize },
-    Broken,
+#[derive(Clone, Copy)]
+pub struct End {
+    pub more: bool,
+    pub next: usize,
 }
 
-fn read_end(text: &[u8], at: usize) -> End
+fn read_end(text: &[u8], at: usize) -> Option<End>
     requires { at ≤ length text.now }
     ensures { EndRead text.now at false result }
 {
-    if at == text.len() {
-        return End::At {
+    match &text[at..] {
+        [] => Some(End {
             more: false,
             next: at,
-        };
-    }
-    let b = text[at];
-    if b == COMMA {
-        return End::At {
+        }),
+        [COMMA, ..] => Some(End {
             more: true,
             next: at + 1,
-        };
-    }
-    if b == LF {
-        return End::At {
+        }),
+        [LF, ..] => Some(End {
             more: false,
             next: at + 1,
-        };
-    }
-    if b != CR {
-        return End::Broken;
-    }
-    if at + 1 == text.len() {
-        return End::Broken;
-    }
-    if text[at + 1] != LF {
-        return End::Broken;
-    }
-    End::At {
-        more: false,
-        next: at + 2,
+        }),
+        [CR, LF, ..] => Some(End {
+            more: false,
+            next: at + 2,
+        }),
+        _ => None,
     }
 }
 
 // What stands behind a content: in a field with quotes the one that closes it comes first.
-pub fn content_end(text: &[u8], at: usize, quotes: bool) -> End
+pub fn content_end(text: &[u8], at: usize, quotes: bool) -> Option<End>
     requires { at ≤ length text.now }
     ensures { EndRead text.now at quotes result }
 {
     if !quotes {
         return read_end(text, at);
     }
-    if at == text.len() {
-        return End::Broken;
-    }
-    if text[at] != QUOTE {
-        return End::Broken;
-    }
+    let [QUOTE, ..] = &text[at..] else {
+        return None;
+    };
     read_end(text, at + 1)
 }
 
 // A field: its bytes, inside its quotes if it has them, are those from one place to the other.
-#[derive(Drop)]
-pub enum Span {
-    Content {
-        from: usize,
-        to: usize,
-        more: bool,
-        next: usize,
-    },
-    Broken,
+#[derive(Clone, Copy)]
+pub struct Span {
+    pub from: usize,
+    pub to: usize,
+    pub more: bool,
+    pub next: usize,
 }
 
 // A quoted field whose content begins at `from`, behind the opening quote.
-fn read_quoted(text: &[u8], from: usize) -> Span
+fn read_quoted(text: &[u8], from: usize) -> Option<Span>
     requires { from ≤ length text.now }
     ensures { SpanRead text.now (quoted (drop from text.now))
         from (from + closing (drop from text.now)) result }
 {
     let to = quote_end(text, from);
-    let End::At { more, next } = content_end(text, to, true) else {
-        return Span::Broken;
-    };
-    Span::Content {
+    let End { more, next } = content_end(text, to, true)?;
+    Some(Span {
         from,
         to,
         more,
         next,
-    }
+    })
 }
 
 // The field that begins at `at`.
-pub fn read_field(text: &[u8], at: usize) -> Span
+pub fn read_field(text: &[u8], at: usize) -> Option<Span>
     requires { at ≤ length text.now }
     ensures { SpanRead text.now (field_of (drop at text.now))
         (at + opening (drop at text.now))
         (at + opening (drop at text.now) + content_length (drop at text.now)) result }
 {
-    if at < text.len() {
-        if text[at] == QUOTE {
-            return read_quoted(text, at + 1);
-        }
+    if let [QUOTE, ..] = &text[at..] {
+        return read_quoted(text, at + 1);
     }
     let to = plain_end(text, at);
-    let End::At { more, next } = read_end(text, to) else {
-        return Span::Broken;
-    };
-    Span::Content {
+    let End { more, next } = read_end(text, to)?;
+    Some(Span {
         from: at,
         to,
         more,
         next,
-    }
+    })
 }

@@ -5,37 +5,31 @@ ghost use Rattle.notation.specs.Forms.{weight_first, weights_of, weighted, order
 ghost use Rattle.notation.specs.Said.{weight_said, WeightWithin, OrderRead, LastRead};
 
 use crate::digits::read_leading;
-use residue::bytes::same;
 
-#[derive(Drop)]
-pub enum Weight {
-    At { weight: u8, next: usize },
-    Broken,
+// A weight, and where the content goes on behind it.
+#[derive(Clone, Copy)]
+pub struct Weight {
+    pub weight: u8,
+    pub next: usize,
 }
 
 // The weight at `at`, a space and one or two digits.
-fn read_weight(content: &[u8], at: usize) -> Weight
+fn read_weight(content: &[u8], at: usize) -> Option<Weight>
     requires { at ≤ length content.now }
     ensures fact_1 { weight_said content.now result ≡ weight_first (drop at content.now) }
     ensures fact_2 { WeightWithin (length content.now) result }
 {
-    if at == content.len() {
-        return Weight::Broken;
-    }
-    if content[at] != 32 {
-        return Weight::Broken;
-    }
-    let from = at + 1;
-    let Some(number) = read_leading(&content[from..]) else {
-        return Weight::Broken;
+    let [b' ', digits @ ..] = &content[at..] else {
+        return None;
     };
+    let number = read_leading(digits)?;
     if 2 < number.count {
-        return Weight::Broken;
+        return None;
     }
-    Weight::At {
+    Some(Weight {
         weight: number.size as u8,
-        next: from + number.count,
-    }
+        next: at + 1 + number.count,
+    })
 }
 
 // Keeps the weight of a variable; one beyond the last place is not kept, since more variables than places are refused.
@@ -47,93 +41,64 @@ fn keep_weight(weights: &mut [u8], i: usize, weight: u8)
     }
 }
 
-#[derive(Drop)]
-pub enum Word {
-    Order(u8),
-    Broken,
-}
-
-// As many weights as there are names, into eight zeros.
-fn read_weights(content: &[u8], names: usize, weights: &mut [u8]) -> Word
+// As many weights as there are names, into eight zeros: the order is then by weights.
+fn read_weights(content: &[u8], names: usize, weights: &mut [u8]) -> Option<u8>
     requires { weights.old ≡ replicate 8 0 }
     ensures { OrderRead (map weighted (weights_of names content.now)) weights.new result }
 {
     let mut at = 0;
     for i in 0..names {
-        let Weight::At { weight, next } = read_weight(content, at) else {
-            return Word::Broken;
-        };
+        let Weight { weight, next } = read_weight(content, at)?;
         keep_weight(weights, i, weight);
         at = next;
     }
     if at < content.len() {
-        return Word::Broken;
+        return None;
     }
-    Word::Order(3)
+    Some(3)
 }
 
 // The order of a text without the word: grevlex.
 const DEFAULT_ORDER: u8 = 2;
 
 // The order's number, by what stands behind the digits; its weights into eight zeros.
-fn read_order(word: &[u8], names: usize, weights: &mut [u8]) -> Word
+fn read_order(word: &[u8], names: usize, weights: &mut [u8]) -> Option<u8>
     requires { weights.old ≡ replicate 8 0 }
     ensures { OrderRead (order_word names word.now) weights.new result }
 {
-    if word.len() == 0 {
-        return Word::Order(DEFAULT_ORDER);
+    match word {
+        b"" => Some(DEFAULT_ORDER),
+        b" lex" => Some(0),
+        b" grlex" => Some(1),
+        b" grevlex" => Some(2),
+        _ => read_weights(word.strip_prefix(b" weight")?, names, weights),
     }
-    if same(word, b" lex") {
-        return Word::Order(0);
-    }
-    if same(word, b" grlex") {
-        return Word::Order(1);
-    }
-    if same(word, b" grevlex") {
-        return Word::Order(2);
-    }
-    if word.len() < 7 {
-        return Word::Broken;
-    }
-    if !same(&word[..7], b" weight") {
-        return Word::Broken;
-    }
-    read_weights(&word[7..], names, weights)
 }
 
-#[derive(Drop)]
-pub enum Last {
-    Settings { modulus: u16, order: u8 },
-    Broken,
+// What the last field of a header says.
+#[derive(Clone, Copy)]
+pub struct Settings {
+    pub modulus: u16,
+    pub order: u8,
 }
 
 // Digits, and the order if it is said.
-fn read_settings(content: &[u8], names: usize, weights: &mut [u8]) -> Last
+fn read_settings(content: &[u8], names: usize, weights: &mut [u8]) -> Option<Settings>
     requires { weights.old ≡ replicate 8 0 }
     ensures { LastRead names (modulus_and_order names content.now) weights.new result }
 {
-    let Some(number) = read_leading(content) else {
-        return Last::Broken;
-    };
-    let Word::Order(order) = read_order(&content[number.count..], names, weights) else {
-        return Last::Broken;
-    };
-    Last::Settings {
+    let number = read_leading(content)?;
+    let order = read_order(&content[number.count..], names, weights)?;
+    Some(Settings {
         modulus: number.size,
         order,
-    }
+    })
 }
 
 // The last field of a header of so many names; the weights of the settings into eight zeros.
-pub fn read_last(content: &[u8], names: usize, weights: &mut [u8]) -> Last
+pub fn read_last(content: &[u8], names: usize, weights: &mut [u8]) -> Option<Settings>
     requires { weights.old ≡ replicate 8 0 }
     ensures { LastRead names (last_field names content.now) weights.new result }
 {
-    if content.len() < 4 {
-        return Last::Broken;
-    }
-    if !same(&content[..4], b"mod ") {
-        return Last::Broken;
-    }
-    read_settings(&content[4..], names, weights)
+    read_settings(content.strip_prefix(b"mod ")?, names, weights)
 }

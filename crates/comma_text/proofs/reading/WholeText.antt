@@ -22,7 +22,9 @@ use Rattle.comma_text.specs.reading.Text.{text_accepted, text_refused, text_deci
 use Rattle.comma_text.specs.reading.Records.{reads, header_part, entries_at, counted_entries}
 use Rattle.comma_text.specs.reading.Points.{levels_at, saying, entries_outcome}
 use Rattle.comma_text.specs.reading.Answers.{Refusal}
-use Rattle.comma_text.specs.declared.reading.records.Entries.TheVariants as N
+use Rattle.std.specs.Prelude.{Ok}
+use Rattle.comma_text.specs.declared.reading.records.Refused.{Refused}
+use Rattle.comma_text.specs.reading.Records.{refused_at}
 use Rattle.notation.proofs.fields.EnoughTurns.{records_unroll}
 use Rattle.comma_text.proofs.reading.entries.EntriesRead.{all_entries}
 use Rattle.comma_text.proofs.reading.FirstPlaces.{fault_le}
@@ -84,20 +86,20 @@ pub record Fault (j k a : ℕ) (es : List (Option (List ℤ))) : Type 0 where
   pub at : a ≡ j + suc (first_fault is_none es)
   pub found : first_fault is_none es ≡ 0 → ⊥
 
-pub counted_refused : (j k a : ℕ) (es : List (Option (List ℤ))) → N.Refused k a ≡ counted_entries j es → Fault j k a es
+pub counted_refused : (j k a : ℕ) (es : List (Option (List ℤ))) → refused_at k a ≡ counted_entries j es → Fault j k a es
 unfolding counted_entries first_fault is_none further
 counted_refused j k a [] e = let z : ◌≡◌ {A = ℕ} 0 1 = cc in absurd (omega arith)
 counted_refused j k a (none ∷ es) e =
-    let p : k ≡ 2 = cc in
-    let q : a ≡ j + 2 = cc in
-    record { refusal = p; at = q; found = λ z. omega arith }
+    let r : ◌≡◌ {A = Refused} (record { refusal = k; at = a }) (record { refusal = 2; at = j + 2 }) = cc in
+    let q : a ≡ j + 2 = ap (λ (x : Refused). x.at) r in
+    record { refusal = ap (λ (x : Refused). x.refusal) r; at = q; found = λ z. omega arith }
 counted_refused j k a (some zs ∷ es) e =
     let r = counted_refused (suc j) k a es e in
     let g = further_some (first_fault is_none es) r.found in
     let q = r.at in
     record { refusal = r.refusal; at = omega (arith, g, q); found = λ z. omega (arith, g) }
 
-pub counted_none : (j n : ℕ) (es : List (Option (List ℤ))) → N.Count n ≡ counted_entries j es → first_fault is_none es ≡ 0
+pub counted_none : (j n : ℕ) (es : List (Option (List ℤ))) → Ok n ≡ counted_entries j es → first_fault is_none es ≡ 0
 unfolding counted_entries first_fault is_none further
 counted_none j n [] e = refl
 counted_none j n (none ∷ es) e = let z : ◌≡◌ {A = ℕ} 0 1 = cc in absurd (omega arith)
@@ -177,7 +179,7 @@ module _ (t s v n w : List ℕ) where
           of_entries es = let f : Contents = record { header = k; entries = map (λ x. get_or x []) es } in
               text_decided (first_of not_refused (read_cases t (further (first_fault is_none es)) f short)) (text_accepted f s v n w) s v n w
 
-      pub entry_broken : (r a : ℕ) → N.Refused r a ≡ counted_entries 0 (entries_at k.variables rest)
+      pub entry_broken : (r a : ℕ) → refused_at r a ≡ counted_entries 0 (entries_at k.variables rest)
           → text_refused (refusal_at 2 a) s v n w ≡ read_outcome t s v n w
       entry_broken r a c =
           let f = counted_refused 0 r a (entries_at k.variables rest) c in
@@ -188,7 +190,7 @@ module _ (t s v n w : List ℕ) where
           ∙ text_refused_lem _ _ s v n w _ (refuse_2 t place says short h (λ z. omega arith)) (λ z. omega arith)
           ∙ sym outcome
 
-      pub form_right : (entries : ℕ) → N.Count entries ≡ counted_entries 0 (entries_at k.variables rest)
+      pub form_right : (entries : ℕ) → Ok entries ≡ counted_entries 0 (entries_at k.variables rest)
           → entries_outcome (settings_by k) rest s v n w ≡ read_outcome t s v n w
       unfolding says saying further
       form_right entries c =
@@ -198,13 +200,13 @@ module _ (t s v n w : List ℕ) where
           ∙ sym outcome
 
 -- the record of a refused entry, within its type
-pub record_small : (m k a : ℕ) (l : List ℕ) → length l ≤ 16384 → N.Refused k a ≡ counted_entries 0 (entries_at m l) → a ≤ 16385
+pub record_small : (m k a : ℕ) (l : List ℕ) → length l ≤ 16384 → refused_at k a ≡ counted_entries 0 (entries_at m l) → a ≤ 16385
 record_small m k a l h c =
     let f = (counted_refused 0 k a (entries_at m l) c).at in
     omega (arith, fault_le is_none (entries_at m l), entries_few m l)
 
 -- the number of entries, within the text's length
-pub count_small : (m n : ℕ) (l : List ℕ) → length l ≤ 16384 → counted_entries 0 (entries_at m l) ≡ N.Count n → n ≤ 16384
+pub count_small : (m n : ℕ) (l : List ℕ) → length l ≤ 16384 → counted_entries 0 (entries_at m l) ≡ Ok n → n ≤ 16384
 count_small m n l h c = omega (arith, (all_entries 0 n (entries_at m l) c).1, entries_few m l)
 
 -- No text is refused with 11, whatever it is and whatever is lent (request M-106).

@@ -1,4 +1,4 @@
 -- The distinct points of a text, with their counts and first values.
-pub mod SmallPlaces
+pub mod Places
 pub mod EntriesGathered
 pub mod AllGathered

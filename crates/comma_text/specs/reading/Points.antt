@@ -1,12 +1,12 @@
 -- What the readers of residues answer, in the terms of the definitions.
-use Rattle.std.specs.Prelude.{◌≡◌, Bool, cond, List, [], ◌++◌, map, ℕ, ◌*◌, ◌-◌, ◌^◌, ◌≤◌, ℤ, pos, length, take, drop, eqb}
+use Rattle.std.specs.Prelude.{◌≡◌, Bool, cond, List, [], ◌++◌, map, ℕ, suc, ◌*◌, ◌-◌, ◌^◌, ◌≤◌, ℤ, pos, length, take, drop, eqb, Option, Some, None}
 use Rattle.std.proofs.Math.Option.{get_or}
 use Rattle.residue.specs.Sizes.{counts_size}
 use Rattle.residue.specs.Level.{residue_of}
 use Rattle.residue.specs.Lists.{key_of}
 use Rattle.residue.specs.Layout.{fill}
 use Rattle.specification.specs.declared.settings.Settings.{Settings}
-use Rattle.specification.specs.Levels.{is_residue, residue_or0, in_range}
+use Rattle.specification.specs.Levels.{in_range}
 use Rattle.specification.specs.Counted.{points_of, counts_of, gathered}
 use Rattle.specification.specs.Tables.{states_table}
 use Rattle.notation.specs.Fields.{Field, field, broken, Part, part, faulty}
@@ -28,10 +28,9 @@ unfoldable pub behind_level : Field ℤ → List ℕ
 behind_level (field level more rest) = rest
 behind_level broken = []
 
--- the residue of that level, 0 where it is out of range
+-- the residue of that level
 pub record PlacedAs (p : ℕ) (text : List ℕ) (f : Field ℤ) (r : Placed) : Type 0 where
-  pub inside : r.inside ≡ is_residue (residue_of p (level_in f))
-  pub residue : r.residue ≡ residue_or0 (residue_of p (level_in f))
+  pub residue : r.residue ≡ residue_of p (level_in f)
   pub rest : drop r.next text ≡ behind_level f
   pub within : r.next ≤ length text
 
@@ -77,6 +76,11 @@ entries_outcome s l states values counts weights =
     let said = saying s l in
     let short = short_buffers (length states) (length values) (length counts) (length weights) in
     text_decided (first_of not_refused (header_cases s short ++ entries_cases said)) (text_accepted said states values counts weights) states values counts weights
+
+-- the place, from 1, of the entry that was found; 0 where there is none
+unfoldable pub place_of : Option ℕ → ℕ
+place_of (Some entry) = suc entry
+place_of None = 0
 
 -- the first place found, or this one if it has a fault
 unfoldable pub earlier_place : ℕ → Bool → ℕ → ℕ

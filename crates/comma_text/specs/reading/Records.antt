@@ -1,5 +1,6 @@
 -- What the readers of records answer, by places in the text, in the terms of the definitions.
-use Rattle.std.specs.Prelude.{◌≡◌, Bool, true, false, List, [], ◌∷◌, map, ℕ, suc, ◌+◌, ◌≤◌, ℤ, length, drop}
+-- `Answer` is the code's Option, with Some and None; the definitions' own has some and none.
+use Rattle.std.specs.Prelude.{◌≡◌, Bool, true, false, List, [], ◌∷◌, map, ℕ, suc, ◌+◌, ◌≤◌, ℤ, length, drop, Option as Answer, Some, None, Result, Ok, Err}
 use Rattle.std.proofs.Math.Option
 use Rattle.std.proofs.Math.Option.{Option, some, none}
 use Rattle.notation.specs.Digits.{decimal_number}
@@ -9,13 +10,9 @@ use Rattle.comma_text.specs.reading.Text.{refusal_at, not_refused, broken_at, en
 use Rattle.notation.specs.Said.{with_sign}
 use Rattle.comma_text.specs.reading.Answers.{Refusal}
 use Rattle.comma_text.specs.declared.reading.records.LevelAt.{LevelAt}
-use Rattle.comma_text.specs.declared.reading.records.LevelAt.TheVariants as L
 use Rattle.comma_text.specs.declared.reading.records.HeaderAt.{HeaderAt}
-use Rattle.comma_text.specs.declared.reading.records.HeaderAt.TheVariants as H
 use Rattle.comma_text.specs.declared.reading.records.Entry.{Entry}
-use Rattle.comma_text.specs.declared.reading.records.Entry.TheVariants as E
-use Rattle.comma_text.specs.declared.reading.records.Entries.{Entries}
-use Rattle.comma_text.specs.declared.reading.records.Entries.TheVariants as N
+use Rattle.comma_text.specs.declared.reading.records.Refused.{Refused}
 
 -- a field by what its content says, if it has the form
 unfoldable pub held : {A : Type 0} → Option A → Bool → List ℕ → Field A
@@ -59,50 +56,50 @@ unfoldable pub entries_at : ℕ → List ℕ → List (Option (List ℤ))
 entries_at m l = map (entry_in m) (records_of l)
 
 -- Of each answer what it says, and that the place where the text goes on lies within.
-unfoldable pub level_at_said : List ℕ → LevelAt → Field ℤ
-level_at_said text (L.Level negative size more next) = field (with_sign negative size) more (drop next text)
-level_at_said text L.Broken = broken
+unfoldable pub level_at_said : List ℕ → Answer LevelAt → Field ℤ
+level_at_said text (Some l) = field (with_sign l.negative l.size) l.more (drop l.next text)
+level_at_said text None = broken
 
-abbrev pub LevelWithin : ℕ → LevelAt → Type 0
-LevelWithin n (L.Level negative size more next) = next ≤ n
-LevelWithin n L.Broken = Unit {0}
+abbrev pub LevelWithin : ℕ → Answer LevelAt → Type 0
+LevelWithin n (Some l) = l.next ≤ n
+LevelWithin n None = Unit {0}
 
 -- docs/SCOPE.md's number for each case of an answer, with the record at fault: what was read is not refused, what breaks the rules of the text is, with 2
 unfoldable pub field_refusal : {A : Type 0} → ℕ → Field A → Refusal
 field_refusal «record» (field content more rest) = not_refused
 field_refusal «record» broken = broken_at «record»
 
-unfoldable pub level_refusal : ℕ → LevelAt → Refusal
-level_refusal «record» (L.Level negative size more next) = not_refused
-level_refusal «record» L.Broken = broken_at «record»
+unfoldable pub level_refusal : ℕ → Answer LevelAt → Refusal
+level_refusal «record» (Some l) = not_refused
+level_refusal «record» None = broken_at «record»
 
 -- `level_at` at a place of a record
-pub record LevelRead (text : List ℕ) (at : ℕ) (r : LevelAt) : Type 0 where
+pub record LevelRead (text : List ℕ) (at : ℕ) (r : Answer LevelAt) : Type 0 where
   pub said : level_at_said text r ≡ level_field (drop at text)
   pub number : («record» : ℕ) → level_refusal «record» r ≡ field_refusal «record» (level_field (drop at text))
   pub within : LevelWithin (length text) r
 
 -- the header, with its weights in the lent buffer
-unfoldable pub header_said : List ℕ → List ℕ → HeaderAt → Part Header
-header_said text weights (H.Header modulus variables order next) =
-    part (record { variables = variables; modulus = modulus; order = order; weights = weights }) (drop next text)
-header_said text weights H.Broken = faulty
+unfoldable pub header_said : List ℕ → List ℕ → Answer HeaderAt → Part Header
+header_said text weights (Some h) =
+    part (record { variables = h.variables; modulus = h.modulus; order = h.order; weights = weights }) (drop h.next text)
+header_said text weights None = faulty
 
-abbrev pub HeaderWithin : ℕ → HeaderAt → Type 0
-HeaderWithin n (H.Header modulus variables order next) = next ≤ n
-HeaderWithin n H.Broken = Unit {0}
+abbrev pub HeaderWithin : ℕ → Answer HeaderAt → Type 0
+HeaderWithin n (Some h) = h.next ≤ n
+HeaderWithin n None = Unit {0}
 
 unfoldable pub part_refusal : {A : Type 0} → ℕ → Part A → Refusal
 part_refusal «record» (part said rest) = not_refused
 part_refusal «record» faulty = broken_at «record»
 
 -- the header is record 1
-unfoldable pub header_refusal : HeaderAt → Refusal
-header_refusal (H.Header modulus variables order next) = not_refused
-header_refusal H.Broken = broken_at 1
+unfoldable pub header_refusal : Answer HeaderAt → Refusal
+header_refusal (Some h) = not_refused
+header_refusal None = broken_at 1
 
 -- `read_header`
-pub record HeaderRead (text weights : List ℕ) (r : HeaderAt) : Type 0 where
+pub record HeaderRead (text weights : List ℕ) (r : Answer HeaderAt) : Type 0 where
   pub said : header_said text weights r ≡ header_part text
   pub number : header_refusal r ≡ part_refusal 1 (header_part text)
   pub within : HeaderWithin (length text) r
@@ -116,24 +113,27 @@ unfoldable pub checked : ℕ → ℕ → Part (List ℤ) → Checked
 checked at m (part levels rest) = ends (last_level m levels) rest
 checked at m faulty = refuses (broken_at at)
 
-unfoldable pub entry_said : List ℕ → Entry → Checked
-entry_said text (E.Ends negative size next) = ends (with_sign negative size) (drop next text)
-entry_said text (E.Refused refusal at) = refuses (refusal_at refusal at)
+unfoldable pub entry_said : List ℕ → Result Entry Refused → Checked
+entry_said text (Ok e) = ends (with_sign e.negative e.size) (drop e.next text)
+entry_said text (Err r) = refuses (refusal_at r.refusal r.at)
 
-abbrev pub EntryWithin : ℕ → Entry → Type 0
-EntryWithin n (E.Ends negative size next) = next ≤ n
-EntryWithin n (E.Refused refusal at) = Unit {0}
+abbrev pub EntryWithin : ℕ → Result Entry Refused → Type 0
+EntryWithin n (Ok e) = e.next ≤ n
+EntryWithin n (Err r) = Unit {0}
 
 -- `check_entry` at a place, for an entry of m levels and a value whose record has this number
-pub record EntryRead (text : List ℕ) (at m «record» : ℕ) (r : Entry) : Type 0 where
+pub record EntryRead (text : List ℕ) (at m «record» : ℕ) (r : Result Entry Refused) : Type 0 where
   pub said : entry_said text r ≡ checked «record» m (entry_part m (drop at text))
   pub within : EntryWithin (length text) r
 
-abbrev pub entries_refused : Refusal → Entries
-entries_refused r = N.Refused r.refusal r.at
+abbrev pub refused_at : ℕ → ℕ → Result ℕ Refused
+refused_at refusal at = Err (record { refusal = refusal; at = at })
+
+abbrev pub entries_refused : Refusal → Result ℕ Refused
+entries_refused r = refused_at r.refusal r.at
 
 -- the count of the entries, k being passed, or the refusal of the first record that is none, the header being 1
-unfoldable pub counted_entries : ℕ → List (Option (List ℤ)) → Entries
-counted_entries k [] = N.Count k
+unfoldable pub counted_entries : ℕ → List (Option (List ℤ)) → Result ℕ Refused
+counted_entries k [] = Ok k
 counted_entries k (some levels ∷ l) = counted_entries (suc k) l
 counted_entries k (none ∷ l) = entries_refused (broken_at (k + 2))

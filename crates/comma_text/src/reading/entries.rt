@@ -1,5 +1,5 @@
 // The points and values of a text whose records are entries.
-ghost use Rattle.std.specs.Prelude.{◌≡◌, ◌&&◌, ◌≤◌, length, drop};
+ghost use Rattle.std.specs.Prelude.{◌≡◌, ◌≤◌, length, drop};
 ghost use Rattle.residue.specs.Level.{residue_of};
 ghost use Rattle.residue.specs.Layout.{over};
 ghost use Rattle.notation.specs.Fields.{broken, faulty};
@@ -9,7 +9,6 @@ ghost use Rattle.comma_text.specs.reading.Records.{level_field, entry_part};
 ghost use Rattle.comma_text.specs.reading.Points.{PlacedAs, levels_in, PointAs, FilledAs};
 
 use crate::reading::records;
-use crate::reading::records::LevelAt;
 use residue::level;
 
 // The residue of a level by its sign and size. A size that fits no signed byte is out of range like any other.
@@ -27,57 +26,29 @@ fn residue_of(p: u8, negative: bool, size: u16) -> Option<u8>
     level::residue(p, level)
 }
 
-#[derive(Drop)]
+// A level's residue, none where it is out of range, and where the text goes on.
+#[derive(Clone, Copy)]
 pub struct Placed {
-    pub inside: bool,
-    pub residue: u8,
+    pub residue: Option<u8>,
     pub next: usize,
 }
 
-// The residue of the level in the field at `at`, 0 where it is out of range.
+// The residue of the level in the field at `at`.
 fn residue_at(text: &[u8], at: usize, p: u8) -> Placed
     requires at_in_bounds { (at ≤ length text.now) × (p ≤ 128) }
     requires fact { level_field (drop at text.now) ≡ broken → ⊥ }
     ensures { PlacedAs p text.now (level_field (drop at text.now)) result }
 {
-    let LevelAt::Level {
-        negative,
-        size,
-        more: _,
-        next,
-    } = records::level_at(text, at)
-    else {
-        // The records have been checked.
-        return Placed {
-            inside: false,
-            residue: 0,
-            next: at,
-        };
-    };
-    let Some(residue) = residue_of(p, negative, size) else {
-        return Placed {
-            inside: false,
-            residue: 0,
-            next,
-        };
-    };
+    // The records have been checked.
+    let level = records::level_at(text, at).unwrap();
     Placed {
-        inside: true,
-        residue,
-        next,
+        residue: residue_of(p, level.negative, level.size),
+        next: level.next,
     }
 }
 
-fn both(a: bool, b: bool) -> bool
-    ensures { result ≡ a && b }
-{
-    if a {
-        return b;
-    }
-    false
-}
-
-#[derive(Drop)]
+// Whether the levels of a point are in range, its key, a level out of range counting as 0, and where its value begins.
+#[derive(Clone, Copy)]
 pub struct Point {
     pub inside: bool,
     pub key: u64,
@@ -96,9 +67,10 @@ pub fn fill_point(text: &[u8], at: usize, p: u8, variables: usize, row: &mut [u8
     let mut key = 0u64;
     for j in 0..variables {
         let level = residue_at(text, from, p);
-        row[j] = level.residue;
-        key = 256 * key + level.residue as u64;
-        inside = both(inside, level.inside);
+        let residue = level.residue.unwrap_or(0);
+        row[j] = residue;
+        key = 256 * key + u64::from(residue);
+        inside &= level.residue.is_some();
         from = level.next;
     }
     let zeros = 64 - 8 * variables;
@@ -110,7 +82,8 @@ pub fn fill_point(text: &[u8], at: usize, p: u8, variables: usize, row: &mut [u8
     }
 }
 
-#[derive(Drop)]
+// The same of an entry, with its value.
+#[derive(Clone, Copy)]
 pub struct Filled {
     pub inside: bool,
     pub value: u8,
@@ -128,8 +101,8 @@ pub fn fill_entry(text: &[u8], at: usize, p: u8, variables: usize, row: &mut [u8
     let point = fill_point(text, at, p, variables, row);
     let last = residue_at(text, point.next, p);
     Filled {
-        inside: both(point.inside, last.inside),
-        value: last.residue,
+        inside: point.inside & last.residue.is_some(),
+        value: last.residue.unwrap_or(0),
         key: point.key,
         next: last.next,
     }

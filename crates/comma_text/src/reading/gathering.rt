@@ -1,13 +1,12 @@
 // The distinct points of a text, with their counts and the values of their first records.
-ghost use Rattle.std.specs.Prelude.{◌≡◌, cond, ◌||◌, [], ◌∷◌, suc, ◌<◌, ◌≤◌, eqb, length, get_or, set, drop};
+ghost use Rattle.std.specs.Prelude.{◌≡◌, cond, ◌||◌, [], ◌∷◌, suc, ◌<◌, ◌≤◌, eqb, length, get_or, set, drop, Ok};
 ghost use Rattle.residue.specs.Sizes.{most_points, states_size, counts_size};
 ghost use Rattle.residue.specs.Layout.{fill};
 ghost use Rattle.specification.specs.Refusal.{first_of};
 ghost use Rattle.comma_text.specs.reading.Answers.{gathered_of};
 ghost use Rattle.comma_text.specs.reading.Text.{not_refused, entry_case};
 ghost use Rattle.comma_text.specs.reading.Records.{entries_at, counted_entries};
-ghost use Rattle.comma_text.specs.reading.Points.{levels_at, earlier_place, answered, GatheredAs};
-ghost use Rattle.comma_text.specs.declared.reading.records.Entries.TheVariants.{Count};
+ghost use Rattle.comma_text.specs.reading.Points.{levels_at, place_of, answered, GatheredAs};
 
 use crate::reading::entries::fill_entry;
 use points::gathering::{HINTS, enter};
@@ -40,44 +39,37 @@ fn keep_value(n: usize, at: usize, values: &mut [u8], value: u8) -> Kept
     }
 }
 
-// The first place found so far, or this one if it has a fault: later places must not hide an earlier one.
-fn first_place(found: usize, inside: bool, place: usize) -> usize
-    ensures { result ≡ earlier_place found inside place }
-{
-    if found != 0 {
-        return found;
-    }
-    if inside {
-        return 0;
-    }
-    place
-}
-
-// A refusal at the entry of this place, from 1; the header is record 1.
-fn at_entry(refusal: Refusal, place: usize) -> Fault
-    requires { place ≤ 16384 }
-    ensures { result ≡ record { refusal = refusal; at = suc place } }
+// A refusal at this entry, the first being 0; the header is record 1.
+fn at_entry(refusal: Refusal, entry: usize) -> Fault
+    requires { entry < 16384 }
+    ensures { result ≡ record { refusal = refusal; at = suc (suc entry) } }
 {
     Fault {
         refusal,
-        at: place as u16 + 1,
+        at: entry as u16 + 2,
     }
 }
 
-// 8 before 13 before 14, by the places from 1 at which they were met; 0 where one was not.
-#[tactic(auto, unfolding(crate::specs::reading::Answers::gathered_of, crate::specs::reading::Points::answered, specification::specs::Answers::number_of, specification::specs::Refusal::first_of))]
-fn decided(n: usize, full: usize, often: usize, other: usize) -> Result<u8, Fault>
-    requires { (n ≤ 64) × (full ≤ 16384) × (often ≤ 16384) × (other ≤ 16384) }
-    ensures { gathered_of result ≡ answered (first_of not_refused (entry_case 8 full ∷ entry_case 13 often ∷ entry_case 14 other ∷ [])) n }
+// 8 before 13 before 14, by the first entries at which they were met.
+#[tactic(auto, unfolding(crate::specs::reading::Answers::gathered_of, crate::specs::reading::Points::answered, crate::specs::reading::Points::place_of, specification::specs::Answers::number_of, specification::specs::Refusal::first_of))]
+fn decided(
+    n: usize,
+    full: Option<usize>,
+    often: Option<usize>,
+    other: Option<usize>,
+) -> Result<u8, Fault>
+    requires { (n ≤ 64) × (place_of full ≤ 16384) × (place_of often ≤ 16384) × (place_of other ≤ 16384) }
+    ensures { gathered_of result ≡ answered (first_of not_refused
+        (entry_case 8 (place_of full) ∷ entry_case 13 (place_of often) ∷ entry_case 14 (place_of other) ∷ [])) n }
 {
-    if full != 0 {
-        return Err(at_entry(Refusal::TooMany, full));
+    if let Some(entry) = full {
+        return Err(at_entry(Refusal::TooMany, entry));
     }
-    if often != 0 {
-        return Err(at_entry(Refusal::TooOften, often));
+    if let Some(entry) = often {
+        return Err(at_entry(Refusal::TooOften, entry));
     }
-    if other != 0 {
-        return Err(at_entry(Refusal::OtherValue, other));
+    if let Some(entry) = other {
+        return Err(at_entry(Refusal::OtherValue, entry));
     }
     Ok(n as u8)
 }
@@ -96,7 +88,7 @@ pub fn gather_entries(
     values: &mut [u8],
 ) -> Result<u8, Fault>
     requires at_in_bounds { (at ≤ length text.now) × (1 ≤ variables) × (variables ≤ 8) × (entries ≤ 16384) × (p ≤ 128) }
-    requires text_value { counted_entries 0 (entries_at variables (drop at text.now)) ≡ Count entries }
+    requires text_value { counted_entries 0 (entries_at variables (drop at text.now)) ≡ Ok entries }
     requires points_value { (points.old ≡ fill states_size []) × (counts.old ≡ fill counts_size []) × (values.old ≡ fill most_points []) }
     ensures { GatheredAs p variables (levels_at variables (drop at text.now)) (gathered_of result)
         points.new counts.new values.new }
@@ -104,27 +96,28 @@ pub fn gather_entries(
     let mut hints = [0u8; HINTS];
     let mut from = at;
     let mut n = 0;
-    let mut full = 0;
-    let mut often = 0;
-    let mut other = 0;
+    let mut full = None;
+    let mut often = None;
+    let mut other = None;
     for i in 0..entries {
         let mut point = [0u8; 8];
         let entry = fill_entry(text, from, p, variables, &mut point);
         if !entry.inside {
-            return Err(at_entry(Refusal::OutOfRange, i + 1));
+            return Err(at_entry(Refusal::OutOfRange, i));
         }
         from = entry.next;
-        if full != 0 {
+        if full.is_some() {
             continue;
         }
         let met = enter(n, points, counts, &mut hints, &point, entry.key);
         if met.at == 64 {
-            full = i + 1;
+            full = Some(i);
             continue;
         }
         let kept = keep_value(n, met.at, values, entry.value);
-        often = first_place(often, !met.over, i + 1);
-        other = first_place(other, kept.same, i + 1);
+        // Later entries must not hide an earlier one.
+        often = often.or(met.over.then_some(i));
+        other = other.or((!kept.same).then_some(i));
         n = kept.n;
     }
     decided(n, full, often, other)

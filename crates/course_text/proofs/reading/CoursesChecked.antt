@@ -13,7 +13,8 @@ use Rattle.notation.specs.Fields.{part, records_from, records_of}
 use Rattle.comma_text.specs.reading.Text.{refusal_at}
 use Rattle.comma_text.specs.reading.Records.{entry_part, entries_at, ends, refuses, checked}
 use Rattle.comma_text.specs.reading.Text.{last_level}
-use Rattle.comma_text.specs.declared.reading.records.Entries.TheVariants as N
+use Rattle.std.specs.Prelude.{Ok}
+use Rattle.comma_text.specs.reading.Records.{refused_at}
 use Rattle.comma_text.proofs.reading.records.EntriesChecked.{entry_shorter, entries_more, entries_none, of_ends, of_refuses}
 use Rattle.comma_text.proofs.reading.entries.OneMore.{map_snoc}
 use Rattle.course_text.specs.Form.{course_in, number_of, numbers_of, latest, comes_back, course_fault}
@@ -39,9 +40,9 @@ unfolding numbers_of latest
 none_checked m t at h = record { seen = []; within = h; few = omega arith; count = refl; marked = none_marked; newest = refl; rest = refl }
 
 module _ {m : ℕ} {t : List ℕ} {at : ℕ} {marks : List ℕ} {last from n : ℕ} (g : CheckedOn m t at marks last from n) where
-  pub all_checked : length t ≤ from → N.Count n ≡ counted_courses m [] (entries_at m (drop at t))
+  pub all_checked : length t ≤ from → Ok n ≡ counted_courses m [] (entries_at m (drop at t))
   unfolding entries_at records_of records_from counted_courses
-  all_checked h = ap N.Count (sym g.count) ∙ sym (ap (λ (l : List ℕ). counted_courses m g.seen (entries_at m l)) (drop_of_length-le t h)) ∙ g.rest
+  all_checked h = ap (λ (k : ℕ). Ok k) (sym g.count) ∙ sym (ap (λ (l : List ℕ). counted_courses m g.seen (entries_at m l)) (drop_of_length-le t h)) ∙ g.rest
 
   module _ (h : from < length t) where
     some_left : 0 < length (drop from t)
@@ -49,20 +50,20 @@ module _ {m : ℕ} {t : List ℕ} {at : ℕ} {marks : List ℕ} {last from n : �
 
     -- the next record is at fault
     fault : (e : Option (List ℤ)) (l : List (Option (List ℤ))) → entries_at m (drop from t) ≡ e ∷ l → course_fault m g.seen e ≡ true
-        → N.Refused 2 (n + 2) ≡ counted_courses m [] (entries_at m (drop at t))
+        → refused_at 2 (n + 2) ≡ counted_courses m [] (entries_at m (drop at t))
     unfolding counted_courses
     fault e l q f =
-        ap (λ (k : ℕ). N.Refused 2 (k + 2)) (sym g.count)
-        ∙ sym (ap (counted_courses m g.seen) q ∙ ap (λ (b : Bool). cond b (N.Refused 2 (length g.seen + 2)) (counted_courses m (g.seen ++ (e ∷ [])) l)) f)
+        ap (λ (k : ℕ). refused_at 2 (k + 2)) (sym g.count)
+        ∙ sym (ap (counted_courses m g.seen) q ∙ ap (λ (b : Bool). cond b (refused_at 2 (length g.seen + 2)) (counted_courses m (g.seen ++ (e ∷ [])) l)) f)
         ∙ g.rest
 
     pub no_record : (k b : ℕ) → refuses (refusal_at k b) ≡ checked (n + 2) m (entry_part m (drop from t))
-        → N.Refused k b ≡ counted_courses m [] (entries_at m (drop at t))
+        → refused_at k b ≡ counted_courses m [] (entries_at m (drop at t))
     unfolding course_fault
     no_record k b e =
         let p = of_refuses (n + 2) m k b (entry_part m (drop from t)) e in
         let q = entries_none m (drop from t) some_left p.0 in
-        ap₂ N.Refused p.1.0 p.1.1 ∙ fault none q.0 q.1 refl
+        ap₂ refused_at p.1.0 p.1.1 ∙ fault none q.0 q.1 refl
 
     module _ (z : ℤ) (next : ℕ) (w : next ≤ length t) (e : ends z (drop next t) ≡ checked (n + 2) m (entry_part m (drop from t)))
         (number : ℕ) (is : number ≡ course_in z) (wrong : Bool)
@@ -92,7 +93,7 @@ module _ {m : ℕ} {t : List ℕ} {at : ℕ} {marks : List ℕ} {last from n : �
           tested ∙ ap (λ (b : Bool). eqb number 0 || b) (back_told g.marked number last number_small g.newest)
           ∙ ap (λ (c : ℕ). eqb c 0 || comes_back (numbers_of m g.seen) c) own
 
-      pub wrong_here : wrong ≡ true → N.Refused 2 (n + 2) ≡ counted_courses m [] (entries_at m (drop at t))
+      pub wrong_here : wrong ≡ true → refused_at 2 (n + 2) ≡ counted_courses m [] (entries_at m (drop at t))
       wrong_here b = fault (some levels) (entries_at m (drop next t)) there (sym told ∙ b)
 
       pub checked_more : wrong ≡ false → CheckedOn m t at (set marks number 1) number next (n + 1)
@@ -105,7 +106,7 @@ module _ {m : ℕ} {t : List ℕ} {at : ℕ} {marks : List ℕ} {last from n : �
         marked = subst (λ (l : List ℕ). Marked l (set marks number 1)) (sym numbers) (mark_more g.marked number number_small);
         newest = sym (ap latest numbers ∙ latest_snoc (numbers_of m g.seen) number);
         rest =
-            sym (ap (λ (b : Bool). cond b (N.Refused 2 (length g.seen + 2)) (counted_courses m (g.seen ++ (some levels ∷ [])) (entries_at m (drop next t)))) (sym told ∙ b))
+            sym (ap (λ (b : Bool). cond b (refused_at 2 (length g.seen + 2)) (counted_courses m (g.seen ++ (some levels ∷ [])) (entries_at m (drop next t)))) (sym told ∙ b))
             ∙ sym (ap (counted_courses m g.seen) there) ∙ g.rest;
       }
         where

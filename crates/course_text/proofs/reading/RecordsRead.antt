@@ -2,7 +2,7 @@
 use mathlib.Core.Path.{◌≡◌, refl, sym, ap, ap₂, ◌∙◌}
 use mathlib.Core.Bool.{Bool, true, false, not}
 use mathlib.Core.List.{List, [], ◌∷◌, ◌++◌, map}
-use Prim.Native.Nat.{ℕ, ◌+◌, ◌*◌, ◌-◌, ◌<◌, ◌≤◌}
+use Prim.Native.Nat.{ℕ, suc, ◌+◌, ◌*◌, ◌-◌, ◌<◌, ◌≤◌}
 use native.Mathlib.Omega.{arith}
 use lib.IntN.{ℤ, pos}
 use lib.ListN.{length, get_or, set, take, drop, length-drop, length-map}
@@ -17,7 +17,7 @@ use Rattle.comma_text.specs.reading.Records.{level_field, entry_part, entries_at
 use Rattle.comma_text.specs.reading.Text.{last_level}
 use Rattle.comma_text.specs.reading.Points.{level_in, behind_level, levels_in, levels_at, PointAs}
 use Rattle.comma_text.specs.declared.reading.entries.Point.{Point}
-use Rattle.comma_text.specs.declared.reading.records.Entries.TheVariants as N
+use Rattle.std.specs.Prelude.{Ok, Err}
 use Rattle.comma_text.proofs.reading.EntryLengths.{point_long}
 use Rattle.comma_text.proofs.reading.entries.EntryFilled.{last_column}
 use Rattle.comma_text.proofs.reading.entries.EntriesRead.{ReadOn, begun, next, next_long, levels, one_more, goes_on, all_read}
@@ -26,7 +26,7 @@ use Rattle.comma_text.proofs.reading.entries.OneMore.{map_snoc}
 use Rattle.courses.specs.TimeCourse as C
 use Rattle.courses.specs.Records.{most_records, records_size}
 use Rattle.course_text.specs.Form.{course_in, number_of, timed_of, all_timed, state_outside, first_state_outside}
-use Rattle.course_text.specs.Reading.{TimedAs, ReadAs}
+use Rattle.course_text.specs.Reading.{TimedAs, place_outside, ReadAs}
 use Rattle.course_text.specs.declared.reading.Timed.{Timed}
 use Rattle.course_text.proofs.reading.FewRecords.{few_records}
 
@@ -61,7 +61,7 @@ pub record RecordsOn (p m n : ℕ) (t : List ℕ) (S : List (List ℤ)) (records
   pub column : numbers ≡ fill most_records (courses p m (take i S))
 
 pub none_read : (p m n : ℕ) (t : List ℕ) (at : ℕ) {records numbers : List ℕ} → 1 ≤ m → at ≤ length t → length t ≤ 16384
-    → counted_entries 0 (entries_at m (drop at t)) ≡ N.Count n → records ≡ fill records_size [] → numbers ≡ fill most_records []
+    → counted_entries 0 (entries_at m (drop at t)) ≡ Ok n → records ≡ fill records_size [] → numbers ≡ fill most_records []
     → RecordsOn p m n t (levels_at m (drop at t)) records numbers at 0
 unfolding first_fault all_timed in_places
 none_read p m n t at h w l c er en =
@@ -90,8 +90,8 @@ module _ {p m n : ℕ} {t : List ℕ} (S : List (List ℤ)) {records numbers : L
   count : length (take i S) ≡ i
   count = length-take-le i S (omega (arith, g.on.count, g.on.bound))
 
-  pub all_recorded : n ≤ i → ReadAs p m S 0 records numbers
-  unfolding first_state_outside all_timed
+  pub all_recorded : n ≤ i → ReadAs p m S (Ok tt) records numbers
+  unfolding place_outside first_state_outside all_timed
   all_recorded h =
       let a = all_read S g.on h in
       record {
@@ -111,10 +111,10 @@ module _ {p m n : ℕ} {t : List ℕ} (S : List (List ℤ)) {records numbers : L
     unfolding state_outside is_outside
     told = ap not (sym (f.inside ∙ ap (λ (l : List ℤ). in_range p (take m l)) (levels S g.on h)))
 
-    pub outside_record : r.inside ≡ false → (recs nums : List ℕ) → ReadAs p m S (i + 1) recs nums
-    unfolding first_state_outside
+    pub outside_record : r.inside ≡ false → (recs nums : List ℕ) → ReadAs p m S (Err i) recs nums
+    unfolding place_outside first_state_outside
     outside_record e recs nums = record {
-      place = outside_here (state_outside p m) S g.on h g.none r.inside told e;
+      place = let one : suc i ≡ i + 1 = omega arith in one ∙ outside_here (state_outside p m) S g.on h g.none r.inside told e;
       recorded = λ z. absurd (omega arith);
     }
 

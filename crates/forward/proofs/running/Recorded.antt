@@ -28,7 +28,7 @@ use Rattle.notation.specs.Fields.{records_of}
 use Rattle.comma_text.specs.reading.Text.{first_fault, entry_point, is_outside}
 use Rattle.comma_text.specs.reading.Records.{entries_at, counted_entries}
 use Rattle.comma_text.specs.reading.Points.{levels_at}
-use Rattle.comma_text.specs.declared.reading.records.Entries.TheVariants.{Count}
+use Rattle.std.specs.Prelude.{Ok}
 use Rattle.comma_text.proofs.reading.FirstPlaces.{fault_step}
 use Rattle.comma_text.proofs.reading.EntryLengths.{AllLong, entries_long}
 use Rattle.comma_text.proofs.reading.entries.EntriesRead.{all_entries}
@@ -45,7 +45,7 @@ none_faulty f (b ∷ l) h a (inr q) = none_faulty f l (fault_step (f b) (first_f
 none_faulty {A = A} f [] h a x'' = elim x'' [ ]
 
 -- the entries of a text of right form
-pub entries_all : (m n : ℕ) (l : List ℕ) → counted_entries 0 (entries_at m l) ≡ Count n → AllLong (suc m) (levels_at m l) × (length (levels_at m l) ≡ n)
+pub entries_all : (m n : ℕ) (l : List ℕ) → counted_entries 0 (entries_at m l) ≡ Ok n → AllLong (suc m) (levels_at m l) × (length (levels_at m l) ≡ n)
 unfolding entries_at levels_at
 entries_all m n l c = let e = all_entries 0 n (entries_at m l) c in
     ((λ zs q. entries_long m (records_of l) (map (λ e. get_or e []) (entries_at m l)) e.0 zs q), omega (arith, length-map (entries_at m l) (λ e. get_or e []), e.1))

@@ -15,7 +15,9 @@ use Rattle.specification.specs.Tables.{Tables}
 use Rattle.notation.specs.Fields.{records_of, part, faulty}
 use Rattle.notation.specs.Forms.{Header}
 use Rattle.comma_text.specs.declared.reading.Refusal.{Refusal}
-use Rattle.comma_text.specs.declared.reading.records.Entries.TheVariants as N
+use Rattle.std.specs.Prelude.{Ok}
+use Rattle.comma_text.specs.declared.reading.records.Refused.{Refused}
+use Rattle.comma_text.specs.reading.Records.{refused_at}
 use Rattle.comma_text.specs.reading.Text.{further, first_after, header_in, no_header, entry_in, entries_in, Contents, contents_of, refusal_at, not_refused, settings_by}
 use Rattle.comma_text.specs.reading.Records.{header_part, entries_at, counted_entries}
 use Rattle.comma_text.specs.reading.Points.{levels_at, saying}
@@ -33,18 +35,18 @@ eqb_off : (a b : ℕ) → eqb a b ≡ false → a ≡ b → ⊥
 eqb_off a b e q = subst T (sym (eq-eqb a b q) ∙ e) tt
 
 -- The records that were counted, those of `seen` being passed: none has a fault of form, so that all are entries.
-pub counted_free : (m n : ℕ) (seen es : List (Option (List ℤ))) → N.Count n ≡ counted_courses m seen es
-    → (first_after (course_fault m) seen es ≡ 0) × (counted_entries (length seen) es ≡ N.Count n)
+pub counted_free : (m n : ℕ) (seen es : List (Option (List ℤ))) → Ok n ≡ counted_courses m seen es
+    → (first_after (course_fault m) seen es ≡ 0) × (counted_entries (length seen) es ≡ Ok n)
 unfolding counted_courses first_after course_fault counted_entries further
 counted_free m n seen [] e = (refl, sym e)
 counted_free m n seen (none ∷ es) e = let z : ◌≡◌ {A = ℕ} 0 1 = cc in absurd (omega arith)
 counted_free m n seen (some zs ∷ es) e = go (course_fault m seen (some zs)) e (counted_free m n (seen ++ (some zs ∷ [])) es)
   where
-    go : (b : Bool) → N.Count n ≡ cond b (N.Refused 2 (length seen + 2)) (counted_courses m (seen ++ (some zs ∷ [])) es)
-        → (N.Count n ≡ counted_courses m (seen ++ (some zs ∷ [])) es
-        → (first_after (course_fault m) (seen ++ (some zs ∷ [])) es ≡ 0) × (counted_entries (length (seen ++ (some zs ∷ []))) es ≡ N.Count n))
+    go : (b : Bool) → Ok n ≡ cond b (refused_at 2 (length seen + 2)) (counted_courses m (seen ++ (some zs ∷ [])) es)
+        → (Ok n ≡ counted_courses m (seen ++ (some zs ∷ [])) es
+        → (first_after (course_fault m) (seen ++ (some zs ∷ [])) es ≡ 0) × (counted_entries (length (seen ++ (some zs ∷ []))) es ≡ Ok n))
         → (cond b 1 (cond (eqb (first_after (course_fault m) (seen ++ (some zs ∷ [])) es) 0) 0 (suc (first_after (course_fault m) (seen ++ (some zs ∷ [])) es))) ≡ 0)
-        × (counted_entries (suc (length seen)) es ≡ N.Count n)
+        × (counted_entries (suc (length seen)) es ≡ Ok n)
     go true q f = let z : ◌≡◌ {A = ℕ} 0 1 = cc in absurd (omega arith)
     go false q f =
         let w = f q in
@@ -58,18 +60,19 @@ pub record Fault (seen r at place many : ℕ) : Type 0 where
   pub found : 1 ≤ place
   pub low : place ≤ many
 
-pub counted_faulty : (m r at : ℕ) (seen es : List (Option (List ℤ))) → N.Refused r at ≡ counted_courses m seen es
+pub counted_faulty : (m r at : ℕ) (seen es : List (Option (List ℤ))) → refused_at r at ≡ counted_courses m seen es
     → Fault (length seen) r at (first_after (course_fault m) seen es) (length es)
 unfolding counted_courses first_after further
 counted_faulty m r at seen [] e = let z : ◌≡◌ {A = ℕ} 0 1 = cc in absurd (omega arith)
 counted_faulty m r at seen (x ∷ es) e = go (course_fault m seen x) e (counted_faulty m r at (seen ++ (x ∷ [])) es)
   where
-    go : (b : Bool) → N.Refused r at ≡ cond b (N.Refused 2 (length seen + 2)) (counted_courses m (seen ++ (x ∷ [])) es)
-        → (N.Refused r at ≡ counted_courses m (seen ++ (x ∷ [])) es → Fault (length (seen ++ (x ∷ []))) r at (first_after (course_fault m) (seen ++ (x ∷ [])) es) (length es))
+    go : (b : Bool) → refused_at r at ≡ cond b (refused_at 2 (length seen + 2)) (counted_courses m (seen ++ (x ∷ [])) es)
+        → (refused_at r at ≡ counted_courses m (seen ++ (x ∷ [])) es → Fault (length (seen ++ (x ∷ []))) r at (first_after (course_fault m) (seen ++ (x ∷ [])) es) (length es))
         → Fault (length seen) r at (cond b 1 (cond (eqb (first_after (course_fault m) (seen ++ (x ∷ [])) es) 0) 0 (suc (first_after (course_fault m) (seen ++ (x ∷ [])) es)))) (suc (length es))
     go true q f =
-        let a : r ≡ 2 = cc in
-        let b : at ≡ length seen + 2 = cc in
+        let s : ◌≡◌ {A = Refused} (record { refusal = r; at = at }) (record { refusal = 2; at = length seen + 2 }) = cc in
+        let a = ap (λ (x : Refused). x.refusal) s in
+        let b : at ≡ length seen + 2 = ap (λ (x : Refused). x.at) s in
         record { refusal = a; record_is = omega (arith, b); found = omega arith; low = omega arith }
     go false q f =
         let w = f q in
@@ -78,7 +81,7 @@ counted_faulty m r at seen (x ∷ es) e = go (course_fault m seen x) e (counted_
         (record { refusal = w.refusal; record_is = omega (arith, w.record_is, long); found = omega arith; low = omega (arith, w.low) })
 
 -- the record of a refused one, within its type
-pub fault_small : (m r at : ℕ) (l : List ℕ) → length l ≤ 16384 → N.Refused r at ≡ counted_courses m [] (entries_at m l) → at ≤ 16385
+pub fault_small : (m r at : ℕ) (l : List ℕ) → length l ≤ 16384 → refused_at r at ≡ counted_courses m [] (entries_at m l) → at ≤ 16385
 fault_small m r at l h c = let f = counted_faulty m r at [] (entries_at m l) c in omega (arith, f.record_is, f.low, entries_few m l)
 
 module _ (t : List ℕ) (c : ℕ) (u : Tables) (g w : List ℕ) where
@@ -134,7 +137,7 @@ module _ (t : List ℕ) (c : ℕ) (u : Tables) (g w : List ℕ) where
           of_entries es = let f : Contents = record { header = k; entries = map (λ x. get_or x []) es } in
               course_decided (first_of not_refused (time_cases t (further (first_after (course_fault k.variables) [] es)) f short c)) (course_accepted f c u g w) u g w
 
-      pub course_broken : (r at : ℕ) → N.Refused r at ≡ counted_courses k.variables [] (entries_at k.variables rest)
+      pub course_broken : (r at : ℕ) → refused_at r at ≡ counted_courses k.variables [] (entries_at k.variables rest)
           → course_refused (refusal_at r at) u g w ≡ course_outcome t c u g w
       unfolding further
       course_broken r at q =
@@ -145,7 +148,7 @@ module _ (t : List ℕ) (c : ℕ) (u : Tables) (g w : List ℕ) where
           ∙ sym outcome
 
       -- Of right form: the outcome is that of its records, with the weights.
-      module _ (n : ℕ) (q : N.Count n ≡ counted_courses k.variables [] (entries_at k.variables rest)) where
+      module _ (n : ℕ) (q : Ok n ≡ counted_courses k.variables [] (entries_at k.variables rest)) where
         abbrev f : Refusal
         f = first_of not_refused (run_cases (saying (settings_by k) rest) c short)
 

@@ -8,10 +8,10 @@ use native.Mathlib.Omega.{arith}
 use lib.ListN.{length, get_or, drop, drop_of_length-le}
 use lib.Seq.{drop-cons}
 use borrow.Author.Tests.{eq-eqb, ne_eqb}
+use Rattle.std.specs.Prelude.{Option, None}
 use Rattle.notation.specs.Fields.{quote, comma, lf, cr, field, broken, after_cr, ending, with}
 use Rattle.notation.specs.Spans.{closed, ended_by, EndRead}
 use Rattle.notation.specs.declared.fields.End.{End}
-use Rattle.notation.specs.declared.fields.End.TheVariants as E
 use Rattle.notation.proofs.Numbers.{end_says}
 use Rattle.notation.proofs.fields.Searches.{cells}
 
@@ -77,21 +77,21 @@ module _ (content : List ℕ) where
             end_crlf k f = ap (ending content) (cells t at k) ∙ first_cr _ _ n m e ∙ then_lf _ _ f
 
 -- with quotes or without, by a test
-pub tested : {t : List ℕ} {at : ℕ} {r : End} {q x : Bool} → q ≡ x → EndRead t at x r → EndRead t at q r
+pub tested : {t : List ℕ} {at : ℕ} {r : Option End} {q x : Bool} → q ≡ x → EndRead t at x r → EndRead t at q r
 tested {t = t} {at = at} {r = r} e = subst (λ (q : Bool). EndRead t at q r) (sym e)
 
 -- in a field with quotes, the one that closes it
 module _ (t : List ℕ) (at : ℕ) where
-  pub never_closed : length t ≤ at → EndRead t at true E.Broken
+  pub never_closed : length t ≤ at → EndRead t at true None
   unfolding ended_by closed
   never_closed h = end_says (λ content. rw (drop_of_length-le t h) refl) tt
 
   module _ (h : at < length t) where
-    pub not_closed : (get_or t at 0 ≡ quote → ⊥) → EndRead t at true E.Broken
+    pub not_closed : (get_or t at 0 ≡ quote → ⊥) → EndRead t at true None
     unfolding ended_by closed
     not_closed n = end_says (λ content. rw (drop-cons t at 0 h) (simp (ne_eqb (get_or t at 0) quote n))) tt
 
-    pub closed_here : (r : End) → get_or t at 0 ≡ quote → EndRead t (at + 1) false r → EndRead t at true r
+    pub closed_here : (r : Option End) → get_or t at 0 ≡ quote → EndRead t (at + 1) false r → EndRead t at true r
     unfolding closed
     closed_here r e b =
         end_says (λ content. b.said content ∙ rw (add-one, drop-cons t at 0 h) (simp (eq-eqb (get_or t at 0) quote e))) b.within

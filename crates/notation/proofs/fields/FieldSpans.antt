@@ -10,6 +10,7 @@ use lib.ListN.{length, get_or, take, drop, length-drop}
 use lib.Seq.{drop-cons, drop-drop, get_or-drop, take_all}
 use lib.Dec.{eqb}
 use borrow.Author.Tests.{eq-eqb, ne_eqb, eqb-true, eqb-false}
+use Rattle.std.specs.Prelude.{Option}
 use Rattle.notation.specs.Fields.{quote, broken, front, is_plain, ending, with, quoted, unquoted, field_of}
 use Rattle.notation.specs.Spans.{closing, undoubled, closed, ending_in, ended_by, opening, content_length}
 use Rattle.notation.specs.declared.fields.End.{End}
@@ -18,6 +19,12 @@ use Rattle.notation.proofs.fields.FieldEnds.{with_closed}
 -- what is lent of a text from a place on
 pub all_behind : (t : List ℕ) (at : ℕ) → take (length t - at) (drop at t) ≡ drop at t
 all_behind t at = take_all (length t - at) (drop at t) (omega (arith, length-drop at t))
+
+pub rest_size : (t : List ℕ) (at : ℕ) → length (take (length t - at) (drop at t)) ≡ length t - at
+rest_size t at = ap length (all_behind t at) ∙ length-drop at t
+
+pub rest_first : (t : List ℕ) (at : ℕ) → at < length t → get_or (take (length t - at) (drop at t)) 0 0 ≡ get_or t at 0
+rest_first t at h = ap (λ (l : List ℕ). get_or l 0 0) (all_behind t at) ∙ get_or-drop at t 0 0 ∙ ap (λ (j : ℕ). get_or t j 0) (add-zero at)
 
 pub front_le : (kind : ℕ → Bool) (l : List ℕ) → front kind l ≤ length l
 unfolding front
@@ -106,7 +113,7 @@ quoted_is (b ∷ c ∷ l) = pick (eqb b quote) (eqb c quote) refl (quoted_is l) 
         ap (with b) k ∙ with_closed b (undoubled x) r ∙ ap (λ (d : List ℕ). closed d r) (sym (undoubled_other b x (eqb-false b quote e)))
 
 -- a field by its places: its content has so many bytes, and what `content_end` says of every content stands behind them
-module _ (t : List ℕ) (from to : ℕ) (e : End) where
+module _ (t : List ℕ) (from to : ℕ) (e : Option End) where
   spanned_by : (q : Bool) (k : ℕ) → to ≡ from + k → ((content : List ℕ) → ended_by t content e ≡ ending_in q content (drop to t))
       → ended_by t (undoubled (take (to - from) (drop from t))) e ≡ ending_in q (undoubled (take k (drop from t))) (drop k (drop from t))
   spanned_by q k h b =

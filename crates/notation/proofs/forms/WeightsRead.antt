@@ -1,5 +1,5 @@
 -- Laws of the weights in the header's last field: one of them by its place, and all of them, the first eight kept.
-use mathlib.Core.Path.{◌≡◌, refl, sym, ap, ap₂, ◌∙◌}
+use mathlib.Core.Path.{◌≡◌, refl, sym, ap, ap₂, ◌∙◌, subst}
 use mathlib.Core.Bool.{Bool, true, false, cond}
 use mathlib.Core.List.{List, [], ◌∷◌, ◌++◌, append-nil}
 use mathlib.Core.Option.{Option, some, none, map}
@@ -13,7 +13,7 @@ use borrow.Author.Tests.{eq-eqb, ne_eqb, le-leb, lt-leb}
 use Rattle.residue.specs.Layout.{fill}
 use Rattle.residue.proofs.Layouts.{fill_zeros}
 use Rattle.notation.specs.Digits.{is_digit, decimal_number}
-use Rattle.std.specs.Prelude.{Some, None}
+use Rattle.std.specs.Prelude.{Option as Answer, Some, None}
 use Rattle.notation.specs.Fields.{front, part, faulty, kept}
 use Rattle.notation.specs.Forms.{weight_of, weight_first, behind_weight, weights_of, Ordered, weighted}
 use Rattle.notation.specs.FormGrammar.{IsNumber, one, two, three}
@@ -42,12 +42,19 @@ module _ (t : List ℕ) (at : ℕ) where
 
     -- behind the space
     abbrev pub behind : List ℕ
-    behind = take (length t - (at + 1)) (drop (at + 1) t)
+    behind = drop (at + 1) t
+
+    -- the same as it is lent
+    abbrev pub lent : List ℕ
+    lent = let rest = take (length t - at) (drop at t) in take (length rest - 1) (drop 1 rest)
+
+    pub read_behind : {r : Answer Leading} → LeadingRead lent r → LeadingRead behind r
+    read_behind {r = r} d = subst (λ (l : List ℕ). LeadingRead l r) (all_behind _ 1 ∙ ap (drop 1) (all_behind t at) ∙ drop-drop 1 at t) d
 
     module _ (e : get_or t at 0 ≡ 32) where
       first_space : kept (weight_of (digits behind)) (drop (front is_digit behind) behind) ≡ weight_first (drop at t)
       unfolding weight_first
-      first_space = rw (all_behind t (at + 1), add-one at, drop-cons t at 0 h, eq-eqb (get_or t at 0) 32 e)
+      first_space = rw (add-one at, drop-cons t at 0 h, eq-eqb (get_or t at 0) 32 e)
 
       no_weight : weight_of (digits behind) ≡ none → faulty ≡ weight_first (drop at t)
       unfolding kept
@@ -67,7 +74,7 @@ module _ (t : List ℕ) (at : ℕ) where
         first_long l = no_weight (simp (lt-leb (length (digits behind)) 2 (omega (arith, digits_count behind, d.ends))))
 
         pub first_within : at + 1 + n.count ≤ length t
-        first_within = omega (arith, d.ends, front_le is_digit behind, ap length (all_behind t (at + 1)), length-drop (at + 1) t)
+        first_within = omega (arith, d.ends, front_le is_digit behind, length-drop (at + 1) t)
 
         module _ (s : n.count ≤ 2) where
           pub first_small : n.size ≤ 99
@@ -82,7 +89,7 @@ module _ (t : List ℕ) (at : ℕ) where
               f = d.said ∙ sym (simp (le-leb (length (digits behind)) 2 (omega (arith, digits_count behind, d.ends))))
 
               g : drop (at + 1 + n.count) t ≡ drop (front is_digit behind) behind
-              g = sym (drop-drop n.count (at + 1) t) ∙ ap₂ drop d.ends (sym (all_behind t (at + 1)))
+              g = sym (drop-drop n.count (at + 1) t) ∙ ap (λ (k : ℕ). drop k behind) d.ends
 
 -- weights kept from a place on, one after the other
 unfoldable pub put : ℕ → List ℕ → List ℕ → List ℕ

@@ -14,12 +14,12 @@ use Rattle.notation.specs.Fields.{Part, part, faulty, records_from, records_of}
 use Rattle.comma_text.specs.reading.Records.{entry_part, entries_at, counted_entries}
 use Rattle.comma_text.specs.reading.Points.{levels_in, behind_entry, FilledAs, levels_at}
 use Rattle.comma_text.specs.declared.reading.entries.Filled.{Filled}
-use Rattle.comma_text.specs.declared.reading.records.Entries.TheVariants as N
+use Rattle.std.specs.Prelude.{Ok}
 use Rattle.comma_text.proofs.reading.records.EntriesChecked.{entries_more, entries_none}
 use Rattle.comma_text.proofs.reading.EntryLengths.{AllLong, entries_long}
 
 -- where the count was taken, every record is an entry
-pub all_entries : (k n : ℕ) (es : List (Option (List ℤ))) → counted_entries k es ≡ N.Count n → (es ≡ map some (map (λ e. Option.get_or e []) es)) × (n ≡ k + length es)
+pub all_entries : (k n : ℕ) (es : List (Option (List ℤ))) → counted_entries k es ≡ Ok n → (es ≡ map some (map (λ e. Option.get_or e []) es)) × (n ≡ k + length es)
 unfolding counted_entries
 all_entries k n [] e = let q : k ≡ n = cc in (refl, omega arith)
 all_entries k n (none ∷ es) e = let z : ◌≡◌ {A = ℕ} 0 1 = cc in absurd (omega arith)
@@ -55,13 +55,13 @@ pub record ReadOn (m n : ℕ) (t : List ℕ) (S : List (List ℤ)) (from i : ℕ
   pub count : length S ≡ n
   pub long : AllLong (suc m) S
 
-entries_count : (m n : ℕ) (l : List ℕ) → counted_entries 0 (entries_at m l) ≡ N.Count n → length (levels_at m l) ≡ n
+entries_count : (m n : ℕ) (l : List ℕ) → counted_entries 0 (entries_at m l) ≡ Ok n → length (levels_at m l) ≡ n
 unfolding levels_at
 entries_count m n l c =
     let h = (all_entries 0 n (entries_at m l) c).1 in
     length-map (entries_at m l) (λ e. Option.get_or e []) ∙ omega arith
 
-pub begun : (m n : ℕ) (t : List ℕ) (at : ℕ) → at ≤ length t → counted_entries 0 (entries_at m (drop at t)) ≡ N.Count n → ReadOn m n t (levels_at m (drop at t)) at 0
+pub begun : (m n : ℕ) (t : List ℕ) (at : ℕ) → at ≤ length t → counted_entries 0 (entries_at m (drop at t)) ≡ Ok n → ReadOn m n t (levels_at m (drop at t)) at 0
 unfolding levels_at entries_at
 begun m n t at w c = record {
   bound = omega arith;

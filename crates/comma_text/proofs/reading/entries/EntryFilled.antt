@@ -12,6 +12,7 @@ use Rattle.residue.specs.Level.{residue_of}
 use Rattle.residue.specs.Lists.{key_of}
 use Rattle.residue.specs.Layout.{over}
 use Rattle.residue.proofs.bytes.Keys.{digit_more, key_none, key_put, key_moved}
+use Rattle.std.specs.Prelude.{Option, Some, None, is_some, unwrap_or}
 use Rattle.specification.specs.Levels.{is_residue, residue_or0, in_range, residues}
 use Rattle.specification.proofs.agreement.Points.{length_residues}
 use Rattle.notation.specs.Fields.{Field, field, broken, Part, part, faulty, with_first}
@@ -22,6 +23,20 @@ use Rattle.comma_text.specs.declared.reading.entries.Placed.{Placed}
 use Rattle.comma_text.specs.declared.reading.entries.Point.{Point}
 use Rattle.comma_text.proofs.reading.records.EntryLevels.{entry_broken, entry_more, entry_long, entry_last, entry_short}
 use Rattle.comma_text.proofs.reading.entries.OneMore.{residues_snoc, range_snoc, over_snoc}
+
+-- a residue that is there or not, and 0 in the place of none
+module _ (p : ℕ) (z : ℤ) (r : Option ℕ) (e : r ≡ residue_of p z) where
+  as_test : {b : Bool} → b ≡ is_some r → b ≡ is_residue (residue_of p z)
+  unfolding is_residue
+  as_test g = g ∙ go r ∙ ap is_residue e
+    where
+      go : (r : Option ℕ) → is_some r ≡ is_residue r
+      go (Some x) = refl
+      go None = refl
+
+  as_value : {x : ℕ} → x ≡ unwrap_or r 0 → x ≡ residue_or0 (residue_of p z)
+  unfolding residue_or0
+  as_value y = y ∙ ap residue_or0 e
 
 -- what an entry that is not faulty is
 pub whole : (e : Part (List ℤ)) → (e ≡ faulty → ⊥) → e ≡ part (levels_in e) (behind_entry e)
@@ -152,8 +167,8 @@ module _ (p m : ℕ) (t : List ℕ) where
     pub level_there : j < m → level_field (drop from t) ≡ broken → ⊥
     level_there h = (next h).read
 
-    module _ (r : Placed) (f : PlacedAs p t (level_field (drop from t)) r) (b : Bool) (g : b ≡ (inside && r.inside)) where
-      pub step : j < m → m ≤ length old → r.residue < 256 → SoFar p m t e old (set row j r.residue) r.next b (256 * key + r.residue) (j + 1)
+    module _ (r : Placed) (f : PlacedAs p t (level_field (drop from t)) r) (b : Bool) (g : b ≡ is_some r.residue) (x : ℕ) (y : x ≡ unwrap_or r.residue 0) where
+      pub step : j < m → m ≤ length old → x < 256 → SoFar p m t e old (set row j x) r.next (inside && b) (256 * key + x) (j + 1)
       step h w byte =
           let n = next h in
           let z = level_in (level_field (drop from t)) in
@@ -162,11 +177,11 @@ module _ (p m : ℕ) (t : List ℕ) where
             within = f.within;
             left =
                 ap (entry_part (m - (j + 1))) f.rest ∙ n.then ∙ ap (λ (l : List ℤ). part l (behind_entry e)) (drop-drop 1 j (levels_in e));
-            written = row_next p j (levels_in e) z (drop 1 (drop j (levels_in e))) n.first row old r.residue (omega arith) s.written f.residue;
-            ranged = g ∙ range_next p j (levels_in e) z (drop 1 (drop j (levels_in e))) n.first inside r.inside s.ranged f.inside;
-            spelled = key_put row j r.residue (omega (arith, s.kept)) s.spelled;
+            written = row_next p j (levels_in e) z (drop 1 (drop j (levels_in e))) n.first row old x (omega arith) s.written (as_value p z r.residue f.residue y);
+            ranged = range_next p j (levels_in e) z (drop 1 (drop j (levels_in e))) n.first inside b s.ranged (as_test p z r.residue f.residue g);
+            spelled = key_put row j x (omega (arith, s.kept)) s.spelled;
             small = digit_more j s.small byte;
-            kept = length-set row j r.residue ∙ s.kept;
+            kept = length-set row j x ∙ s.kept;
           }
 
     -- the point is written, and the value is what is left
@@ -193,14 +208,14 @@ module _ (p m : ℕ) (t : List ℕ) where
     pub last_column : Last (level_field (drop q.next t)) (drop m (levels_in e)) (behind_entry e)
     last_column = entry_end (drop q.next t) (drop m (levels_in e)) (behind_entry e) f.last
 
-    pub value_done : (r : Placed) → PlacedAs p t (level_field (drop q.next t)) r → (b : Bool) → b ≡ (q.inside && r.inside)
-        → FilledAs p m t e (record { inside = b; value = r.residue; key = q.key; next = r.next }) row
-    value_done r g b h =
+    pub value_done : (r : Placed) → PlacedAs p t (level_field (drop q.next t)) r → (b : Bool) → b ≡ is_some r.residue → (x : ℕ) → x ≡ unwrap_or r.residue 0
+        → FilledAs p m t e (record { inside = q.inside && b; value = x; key = q.key; next = r.next }) row
+    value_done r g b h x y =
         let n = last_column in
         let z = level_in (level_field (drop q.next t)) in
         record {
-          inside = h ∙ range_all p m (levels_in e) z n.only q.inside r.inside f.inside g.inside;
-          value = g.residue ∙ value_last p m (levels_in e) z n.only;
+          inside = range_all p m (levels_in e) z n.only q.inside b f.inside (as_test p z r.residue g.residue h);
+          value = as_value p z r.residue g.residue y ∙ value_last p m (levels_in e) z n.only;
           key = f.key;
           rest = g.rest ∙ n.then;
           within = g.within;

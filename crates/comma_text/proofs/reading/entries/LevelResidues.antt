@@ -11,8 +11,7 @@ use mir.Facts.{to_z-of_z, to_z_pos}
 use lib.ListN.{length, drop}
 use borrow.Author.Tests.{lt-ltb, le-ltb}
 use Rattle.residue.specs.Level.{residue_of}
-use Rattle.std.proofs.Common.{Some, None}
-use Rattle.specification.specs.Levels.{is_residue, residue_or0}
+use Rattle.std.proofs.Common.{Option, None}
 use Rattle.notation.specs.Fields.{Field, field}
 use Rattle.notation.specs.Forms.{negative}
 use Rattle.notation.specs.Said.{with_sign}
@@ -57,21 +56,11 @@ module _ (size : ℕ) (h : size ≤ 127) where
   plus true e = let z : ◌≡◌ {A = ℕ} 0 1 = cc in absurd (omega arith)
   plus false e = as_byte
 
-module _ (p : ℕ) (t : List ℕ) (f : Field ℤ) (z : ℤ) (more : Bool) (next : ℕ) (e : field z more (drop next t) ≡ f) (w : next ≤ length t) where
-  pub placed_out : None ≡ residue_of p z → PlacedAs p t f (record { inside = false; residue = 0; next = next })
-  unfolding level_in behind_level is_residue residue_or0
-  placed_out h = record {
-    inside = ap is_residue (h ∙ ap (λ (g : Field ℤ). residue_of p (level_in g)) e);
-    residue = ap residue_or0 (h ∙ ap (λ (g : Field ℤ). residue_of p (level_in g)) e);
-    rest = ap behind_level e;
-    within = w;
-  }
-
-  pub placed_in : (x : ℕ) → Some x ≡ residue_of p z → PlacedAs p t f (record { inside = true; residue = x; next = next })
-  unfolding level_in behind_level is_residue residue_or0
-  placed_in x h = record {
-    inside = ap is_residue (h ∙ ap (λ (g : Field ℤ). residue_of p (level_in g)) e);
-    residue = ap residue_or0 (h ∙ ap (λ (g : Field ℤ). residue_of p (level_in g)) e);
-    rest = ap behind_level e;
-    within = w;
-  }
+pub placed : (p : ℕ) (t : List ℕ) (f : Field ℤ) (z : ℤ) (more : Bool) (next : ℕ) → field z more (drop next t) ≡ f → next ≤ length t
+    → (r : Option ℕ) → r ≡ residue_of p z → PlacedAs p t f (record { residue = r; next = next })
+unfolding level_in behind_level
+placed p t f z more next e w r h = record {
+  residue = h ∙ ap (λ (g : Field ℤ). residue_of p (level_in g)) e;
+  rest = ap behind_level e;
+  within = w;
+}

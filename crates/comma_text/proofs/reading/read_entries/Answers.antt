@@ -17,7 +17,7 @@ use Rattle.comma_text.specs.reading.Text.{Contents, valued_points, entries_cases
 use Rattle.comma_text.specs.reading.Text.{text_refused}
 use Rattle.comma_text.specs.reading.Records.{entries_at, counted_entries}
 use Rattle.comma_text.specs.reading.Points.{levels_at, saying, answered, GatheredAs}
-use Rattle.comma_text.specs.declared.reading.records.Entries.TheVariants.{Count}
+
 use Rattle.comma_text.proofs.reading.TextCases.{Allowed, room, long_buffers, first_of_both, settings_over, answer_refusal, answer_number}
 use Rattle.comma_text.proofs.reading.TextCases.{text_refused_lem, text_accepted_lem, assembled}
 use Rattle.comma_text.proofs.reading.FirstValues.{gathered_points}
@@ -35,7 +35,7 @@ wide : {a : ℕ} → (2 ≤ a) × (a ≤ 61) → a < 2 ^ 16
 wide h = omega (arith, h)
 
 -- There are no more entries than bytes.
-few : (m n from : ℕ) (text : List ℕ) → length text ≤ 16384 → counted_entries 0 (entries_at m (drop from text)) ≡ Count n → n ≤ 16384
+few : (m n from : ℕ) (text : List ℕ) → length text ≤ 16384 → counted_entries 0 (entries_at m (drop from text)) ≡ Ok n → n ≤ 16384
 few m n from text h e = count_small m n (drop from text) (omega (arith, length-drop from text, h)) e
 
 module _ (u : Settings) {b short : Bool} (e : b ≡ short) where

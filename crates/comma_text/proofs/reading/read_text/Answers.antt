@@ -9,12 +9,13 @@ use Rattle.specification.specs.Answers.{number_of}
 use Rattle.comma_text.specs.reading.Answers.{read_of}
 use Rattle.comma_text.specs.reading.Text.{text_refused}
 use Rattle.comma_text.specs.reading.Records.{header_said}
+use Rattle.comma_text.specs.declared.reading.records.HeaderAt.{HeaderAt}
 use Rattle.comma_text.proofs.reading.WholeText.{too_long, header_broken, header_order, entry_broken, form_right, record_small}
 use Rattle.comma_text.proofs.reading.read_text.Goals as goal
 
 -- what a header says, with its weights
-abbrev header : ℕ → ℕ → ℕ → List ℕ → Header
-header modulus variables order weights = record { variables = variables; modulus = modulus; order = order; weights = weights }
+abbrev header : HeaderAt → List ℕ → Header
+header h weights = record { variables = h.variables; modulus = h.modulus; order = h.order; weights = weights }
 
 pub returns-then-text-gt16384 : goal.returns-then-text-gt16384
 unfolding text_refused read_of number_of
@@ -27,25 +28,26 @@ returns-in_default c = rw c.in_header.ensures (header_broken _ _ _ _ _ c.if-text
 pub overflow_cast-result : goal.overflow_cast-result
 overflow_cast-result c =
     let b = c.if-text-gt16384.false in
-    let l = length-drop c.in-Header.next c.args.text.now in
-    let h = record_small c.in-Header.variables _ _ (drop c.in-Header.next c.args.text.now) (omega arith) c.in-Refused.ensures in
+    let g = c.in-Some.field-0 in
+    let l = length-drop g.next c.args.text.now in
+    let h = record_small g.variables _ _ (drop g.next c.args.text.now) (omega arith) c.in-Err.ensures in
     omega arith
 
 pub read_entries-requires-clause-order_bound : goal.read_entries-requires-clause-order_bound
 unfolding header_said
 read_entries-requires-clause-order_bound c =
-    let h = header c.in-Header.modulus c.in-Header.variables c.in-Header.order c.read_header.new.weights in
-    (header_order h (drop c.in-Header.next c.args.text.now) _ (sym c.in-Header.ensures.said), c.read_header.auto.weights)
+    let g = c.in-Some.field-0 in
+    (header_order (header g c.read_header.new.weights) (drop g.next c.args.text.now) _ (sym c.in-Some.ensures.said), c.read_header.auto.weights)
 
-pub returns-in-Refused : goal.returns-in-Refused
+pub returns-in-Err : goal.returns-in-Err
 unfolding text_refused read_of number_of header_said
-returns-in-Refused c =
-    let h = header c.in-Header.modulus c.in-Header.variables c.in-Header.order c.read_header.new.weights in
-    entry_broken _ _ _ _ _ c.if-text-gt16384.false h (drop c.in-Header.next c.args.text.now) (sym c.in-Header.ensures.said) _ _ c.in-Refused.ensures
+returns-in-Err c =
+    let g = c.in-Some.field-0 in
+    entry_broken _ _ _ _ _ c.if-text-gt16384.false (header g c.read_header.new.weights) (drop g.next c.args.text.now) (sym c.in-Some.ensures.said) _ _ c.in-Err.ensures
 
-pub returns-in-Count : goal.returns-in-Count
+pub returns-in-Ok : goal.returns-in-Ok
 unfolding header_said
-returns-in-Count c =
-    let h = header c.in-Header.modulus c.in-Header.variables c.in-Header.order c.read_header.new.weights in
+returns-in-Ok c =
+    let g = c.in-Some.field-0 in
     c.read_entries.ensures
-    ∙ form_right _ _ _ _ _ c.if-text-gt16384.false h (drop c.in-Header.next c.args.text.now) (sym c.in-Header.ensures.said) _ c.in-Count.ensures
+    ∙ form_right _ _ _ _ _ c.if-text-gt16384.false (header g c.read_header.new.weights) (drop g.next c.args.text.now) (sym c.in-Some.ensures.said) _ c.in-Ok.ensures

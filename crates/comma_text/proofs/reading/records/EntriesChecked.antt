@@ -14,7 +14,8 @@ use Rattle.comma_text.specs.reading.Text.{refusal_at, broken_at, entry_in}
 use Rattle.comma_text.specs.reading.Answers.{Refusal}
 use Rattle.comma_text.specs.reading.Records.{level_field, reads, entry_part, entries_at, ends, refuses, checked, counted_entries}
 use Rattle.comma_text.specs.reading.Text.{last_level}
-use Rattle.comma_text.specs.declared.reading.records.Entries.TheVariants as N
+use Rattle.std.specs.Prelude.{Ok}
+use Rattle.comma_text.specs.reading.Records.{refused_at}
 use Rattle.comma_text.proofs.reading.records.EntryLevels.{entry_broken, entry_more, entry_long, entry_last, entry_short}
 use Rattle.notation.proofs.fields.EnoughTurns.{Behind, shorter, stopped, record_left, records_unroll}
 
@@ -137,12 +138,12 @@ module _ (t : List ℕ) (m from n : ℕ) (h : from < length t) where
         ap (λ (j : ℕ). counted_entries j (entries_at m (drop next t))) (add-one n) ∙ ap (counted_entries n) (sym (entries_more m (drop from t) some_left p.0 (drop next t) p.1)),
       )
 
-  pub no_entry : (k b : ℕ) → refuses (refusal_at k b) ≡ checked (n + 2) m (entry_part m (drop from t)) → N.Refused k b ≡ counted_entries n (entries_at m (drop from t))
+  pub no_entry : (k b : ℕ) → refuses (refusal_at k b) ≡ checked (n + 2) m (entry_part m (drop from t)) → refused_at k b ≡ counted_entries n (entries_at m (drop from t))
   unfolding counted_entries
   no_entry k b e =
       let p = of_refuses (n + 2) m k b (entry_part m (drop from t)) e in
-      ap₂ N.Refused p.1.0 p.1.1 ∙ ap (counted_entries n) (sym (entries_none m (drop from t) some_left p.0).1)
+      ap₂ refused_at p.1.0 p.1.1 ∙ ap (counted_entries n) (sym (entries_none m (drop from t) some_left p.0).1)
 
-pub no_more : (t : List ℕ) (m from n : ℕ) → length t ≤ from → N.Count n ≡ counted_entries n (entries_at m (drop from t))
+pub no_more : (t : List ℕ) (m from n : ℕ) → length t ≤ from → Ok n ≡ counted_entries n (entries_at m (drop from t))
 unfolding entries_at records_of records_from counted_entries
 no_more t m from n h = rw (drop_of_length-le t h)

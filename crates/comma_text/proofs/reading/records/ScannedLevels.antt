@@ -10,6 +10,7 @@ use lib.ListN.{length, get_or, take, drop}
 use lib.Seq.{drop-cons, drop-drop}
 use lib.Dec.{eqb, leb}
 use borrow.Author.Tests.{ne_eqb, eqb-true, eqb-false}
+use Rattle.std.specs.Prelude.{Option as Answer}
 use Rattle.notation.specs.Digits.{is_digit, digits_from, decimal_number}
 use Rattle.notation.specs.Fields.{comma, quote, lf, cr, Field, field, broken, front, is_plain, after_cr, ending, with, unquoted, quoted}
 use Rattle.notation.specs.Forms.{level_of}
@@ -150,7 +151,7 @@ module _ (q sign : Bool) where
   unfolding size_of
   size_none l e = sym (size_is l ∙ ended_silent (size_of sign) q (digits l) (drop (front is_digit l) l) (ap (map (with_sign sign)) (sym e)))
 
-  pub size_ended : (t : List ℕ) (at count : ℕ) (e : End) → count ≡ front is_digit (drop at t)
+  pub size_ended : (t : List ℕ) (at count : ℕ) (e : Answer End) → count ≡ front is_digit (drop at t)
       → ((content : List ℕ) → ended_by t content e ≡ ending_in q content (drop (at + count) t)) → reading (size_of sign) (ended_by t (digits (drop at t)) e) ≡ size_field q sign (drop at t)
   size_ended t at count e h b =
       let l = drop at t in

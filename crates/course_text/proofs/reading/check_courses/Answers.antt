@@ -1,12 +1,15 @@
 -- `reading::check_courses` meets its contract. What the records from `from` on say, behind those that were passed, is what all say.
-use mathlib.Core.Path.{◌≡◌, refl, sym, ap, ◌∙◌, subst}
+use mathlib.Core.Path.{◌≡◌, refl, sym, ◌∙◌}
 use mathlib.Core.List.{List}
 use Prim.Native.Nat.{ℕ, ◌+◌, ◌<◌, ◌≤◌}
 use native.Mathlib.Omega.{arith}
 use lib.IntN.{ℤ}
 use lib.ListN.{length, drop}
+use Rattle.std.specs.Prelude.{Err}
+use Rattle.std.proofs.Common.{rules}
 use Rattle.notation.specs.Said.{with_sign}
-use Rattle.comma_text.specs.reading.Records.{entry_part, entry_said, EntryWithin, ends, checked}
+use Rattle.comma_text.specs.declared.reading.records.Entry.{Entry}
+use Rattle.comma_text.specs.reading.Records.{entry_part, entry_said, ends, checked}
 use Rattle.course_text.proofs.reading.CoursesChecked.{none_checked, all_checked, no_record, passes, number_small, wrong_here, checked_more}
 use Rattle.course_text.proofs.reading.check_courses.Goals as goal
 use Rattle.course_text.proofs.reading.check_courses.Goals.{After-course_number-number, At-loop-from, Start}
@@ -21,19 +24,22 @@ abbrev turn : After-course_number-number → At-loop-from
 turn c = (goal.at.After-course_number-number c).At-loop-from
 
 module _ (c : After-course_number-number) where
+  abbrev entry : Entry
+  entry = c.in_ok-entry.entry
+
   abbrev last : ℤ
-  last = with_sign c.in-Ends.negative c.in-Ends.size
+  last = with_sign entry.negative entry.size
 
   abbrev next : ℕ
-  next = c.in-Ends.next
+  next = entry.next
 
   within : next ≤ length (text (turn c))
-  within = subst (EntryWithin (length (text (turn c)))) c.in-Ends.is c.check_entry.ensures.within
+  within = c.in_ok-entry.ensures.within
 
   said : ends last (drop next (text (turn c)))
       ≡ checked ((turn c).loop-from.n + 2) (start (turn c)).args.variables (entry_part (start (turn c)).args.variables (drop (turn c).loop-from.from (text (turn c))))
   unfolding entry_said
-  said = ap (entry_said (text (turn c))) (sym c.in-Ends.is) ∙ c.check_entry.ensures.said
+  said = c.in_ok-entry.ensures.said
 
   taken : (turn c).loop-from.from < length (text (turn c))
   taken = c.loop-from-test.true
@@ -53,11 +59,11 @@ overflow_add-n c = omega (arith, c.loop-from.invariant.few, c.loop-from.invarian
 pub check_entry-requires : goal.check_entry-requires
 check_entry-requires c = c.loop-from.invariant.within
 
-pub returns-in-Refused : goal.returns-in-Refused
+pub returns-in_err-entry : goal.returns-in_err-entry
 unfolding entry_said
-returns-in-Refused c = let l = c in
-    no_record l.loop-from.invariant c.loop-from-test.true _ _
-    (ap (entry_said (text (goal.at.returns-in-Refused l).At-loop-from)) (sym c.in-Refused.is) ∙ c.check_entry.ensures.said)
+returns-in_err-entry c =
+    let e : c.from_residual.result ≡ Err c.in_err-entry.field-0.0 = search rules in
+    e ∙ no_record c.loop-from.invariant c.loop-from-test.true _ _ c.in_err-entry.ensures.said
 
 pub slice_bounds-wrong_number-end : goal.slice_bounds-wrong_number-end
 slice_bounds-wrong_number-end c = sym c.loop-from.invariant.marked.long
@@ -77,8 +83,8 @@ overflow_cast-marks c = omega (arith, small (goal.at.overflow_cast-marks c).Afte
 pub bounds-marks-number : goal.bounds-marks-number
 bounds-marks-number c = omega (arith, small (goal.at.bounds-marks-number c).After-course_number-number)
 
-pub overflow_add-n-in-Ends : goal.overflow_add-n-in-Ends
-overflow_add-n-in-Ends c = let l = turn (goal.at.overflow_add-n-in-Ends c).After-course_number-number in omega (arith, l.loop-from.invariant.few, l.loop-from.invariant.within)
+pub overflow_add-n-in-loop-from : goal.overflow_add-n-in-loop-from
+overflow_add-n-in-loop-from c = let l = turn (goal.at.overflow_add-n-in-loop-from c).After-course_number-number in omega (arith, l.loop-from.invariant.few, l.loop-from.invariant.within)
 
 pub loop-from-smaller : goal.loop-from-smaller
 loop-from-smaller c = let k = c in omega (arith, further (goal.at.loop-from-smaller k).After-course_number-number, taken (goal.at.loop-from-smaller k).After-course_number-number)

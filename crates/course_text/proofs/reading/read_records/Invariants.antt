@@ -1,5 +1,4 @@
 -- `reading::read_records` meets its contract. The first i records are in the tables; those behind them are to be read from `from` on.
-use Prim.Native.Nat.{◌-◌}
 use lib.ListN.{drop}
 use Rattle.comma_text.specs.reading.Points.{levels_at}
 use Rattle.course_text.proofs.reading.RecordsRead.{RecordsOn}
@@ -7,6 +6,3 @@ use Rattle.course_text.proofs.reading.read_records.Given as goal
 
 abbrev pub invariant-loop-i : goal.invariant-loop-i
 invariant-loop-i l = RecordsOn l.p l.variables l.entries l.text (levels_at l.variables (drop l.at l.text)) l.records l.numbers l.from l.i
-
-abbrev pub decreases-loop-i : goal.decreases-loop-i
-decreases-loop-i l = l.entries - l.i

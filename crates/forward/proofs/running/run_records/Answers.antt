@@ -1,11 +1,11 @@
 -- `running::run_records` meets its contract: the settings, the records' levels and the records decide, and what nothing refuses is written.
 use mathlib.Core.Path.{◌≡◌, refl, sym, ap, ◌∙◌}
 use mathlib.Core.List.{List}
-use Prim.Native.Nat.{ℕ, suc, ◌*◌, ◌≤◌}
-use native.Mathlib.Numerals.{add-one}
+use Prim.Native.Nat.{ℕ, suc, ◌+◌, ◌*◌, ◌≤◌}
 use native.Mathlib.Omega.{arith}
 use lib.IntN.{ℤ}
 use lib.ListN.{length, drop, length-drop, length-map}
+use Rattle.std.specs.Prelude.{Result, Ok, Err}
 use Rattle.residue.specs.Layout.{length_fill}
 use Rattle.residue.specs.Lists.{Among}
 use Rattle.residue.specs.Vector.{Below}
@@ -23,6 +23,7 @@ use Rattle.comma_text.proofs.reading.TextCases.{Allowed, room}
 use Rattle.comma_text.proofs.reading.WholeText.{count_small}
 use Rattle.courses.specs.TimeCourse.{Timed, course_refusal}
 use Rattle.courses.specs.Records.{RecordedAs, HeldIn}
+use Rattle.course_text.specs.Reading.{place_outside}
 use Rattle.forward.specs.declared.running.Course.{Course}
 use Rattle.course_text.specs.Form.{all_timed, timed_of, first_state_outside}
 use Rattle.forward.specs.Outcome.{refused_course}
@@ -31,7 +32,7 @@ use Rattle.forward.proofs.running.Recorded.{entries_all, each_point, held, recor
 use Rattle.forward.proofs.running.RunCases.{cases, settings_refuse, state_refuses, records_decide, run_refused, run_accepted, run_written}
 use Rattle.forward.proofs.running.Accepted.{given, inside, answer_is, tables_are, genes_told}
 use Rattle.forward.proofs.running.run_records.Goals as goal
-use Rattle.forward.proofs.running.run_records.Goals.{After-decide-decided, After-read_records-outside, After-settings_refusal-first, Else-outside-ne0, Else-refusal-ne0, Start}
+use Rattle.forward.proofs.running.run_records.Goals.{After-decide-decided, After-read_records, After-settings_refusal-first, In_default, Else-refusal-ne0, Start}
 
 -- a place of the first fault is one of the list's
 outside_few : (p m : ℕ) (E : List (List ℤ)) → first_state_outside p m E ≤ length E
@@ -80,13 +81,13 @@ module _ (b : Start) where
 abbrev start : After-settings_refusal-first → Start
 start r = (goal.at.After-settings_refusal-first r).Start
 
-abbrev passed : After-read_records-outside → Else-refusal-ne0
-passed q = (goal.at.After-read_records-outside q).Else-refusal-ne0
+abbrev passed : After-read_records → Else-refusal-ne0
+passed q = (goal.at.After-read_records q).Else-refusal-ne0
 
-abbrev found : After-decide-decided → Else-outside-ne0
-found d = (goal.at.After-decide-decided d).Else-outside-ne0
+abbrev found : After-decide-decided → In_default
+found d = (goal.at.After-decide-decided d).In_default
 
-abbrev of : After-read_records-outside → Start
+abbrev of : After-read_records → Start
 of q = start (goal.at.Else-refusal-ne0 (passed q)).After-settings_refusal-first
 
 -- settings and lengths
@@ -96,10 +97,20 @@ space c = room _ _ c.settings_refusal-first.result c.settings_refusal-first.ensu
 accepted : (c : Else-refusal-ne0) → Accepted (s (start (goal.at.Else-refusal-ne0 c).After-settings_refusal-first))
 accepted c = let h = space c in record { modulus = h.modulus; some = h.some; few = h.few; order = (start (goal.at.Else-refusal-ne0 c).After-settings_refusal-first).requires.order_bound.0; weights = h.right }
 
+-- the place, from 1, of the record that was out of range, or 0
+all_read : (r : Result (Unit {0}) ℕ) → ((k : ℕ) → r ≡ Err k → ⊥) → place_outside r ≡ 0
+unfolding place_outside
+all_read (Ok u) n = refl
+all_read (Err k) n = absurd (n k refl)
+
+one_outside : (r : Result (Unit {0}) ℕ) (k : ℕ) → r ≡ Err k → place_outside r ≡ suc k
+unfolding place_outside
+one_outside r k e = ap place_outside e
+
 -- the records are read
-module _ (c : Else-outside-ne0) where
-  abbrev q : After-read_records-outside
-  q = (goal.at.Else-outside-ne0 c).After-read_records-outside
+module _ (c : In_default) where
+  abbrev q : After-read_records
+  q = (goal.at.In_default c).After-read_records
 
   abbrev b : Start
   b = of q
@@ -107,17 +118,20 @@ module _ (c : Else-outside-ne0) where
   abbrev ok : Accepted (s b)
   ok = accepted (passed q)
 
+  all_inside : place_outside q.read_records.result ≡ 0
+  all_inside = all_read q.read_records.result c.in_default.not-Err
+
   none : first_state_outside (s b).modulus (s b).variables (E b) ≡ 0
-  none = sym q.read_records-outside.ensures.place ∙ c.if-outside-ne0.false
+  none = sym q.read_records.ensures.place ∙ all_inside
 
   abbrev table : List ℕ
-  table = q.read_records-outside.new.records
+  table = q.read_records.new.records
 
   abbrev numbers : List ℕ
-  numbers = q.read_records-outside.new.numbers
+  numbers = q.read_records.new.numbers
 
   recorded : RecordedAs (l b) table numbers
-  recorded = q.read_records-outside.ensures.recorded c.if-outside-ne0.false
+  recorded = q.read_records.ensures.recorded all_inside
 
   each : (a : Timed) → Among a (l b) → IsPoint (s b) a.0
   each = each_point (s b) ok (E b) (entries_all (s b).variables b.args.entries (text b) b.requires.text_value).0 none
@@ -139,7 +153,7 @@ module _ (c : Else-outside-ne0) where
 
 -- they are decided
 module _ (d : After-decide-decided) where
-  abbrev f : Else-outside-ne0
+  abbrev f : In_default
   f = found d
 
   abbrev a : Start
@@ -173,32 +187,34 @@ returns-then-refusal-ne0 c = let r = c in
 pub overflow_cast-p : goal.overflow_cast-p
 overflow_cast-p c = let h = modulus_range _ (space (goal.at.overflow_cast-p c).Else-refusal-ne0).modulus in omega arith
 
-pub read_records-outside-requires : goal.read_records-outside-requires
-read_records-outside-requires c = let e = c in
-    let b = start (goal.at.read_records-outside-requires e).After-settings_refusal-first in
-    let h = space (goal.at.read_records-outside-requires e).Else-refusal-ne0 in
+pub read_records-requires : goal.read_records-requires
+read_records-requires c = let e = c in
+    let b = start (goal.at.read_records-requires e).After-settings_refusal-first in
+    let h = space (goal.at.read_records-requires e).Else-refusal-ne0 in
     let k = modulus_range _ h.modulus in record { at_in_bounds = (b.requires.from_in_bounds.0, b.requires.from_in_bounds.1, h.some, h.few, omega arith); text_value = b.requires.text_value; records_value = (sym (fill_zeros 32768), sym (fill_zeros 4096)) }
 
 -- the place of a level out of range
-place_few : (q : After-read_records-outside) → q.read_records-outside.result ≤ 16384
-place_few q = let b = of q in omega (arith, q.read_records-outside.ensures.place, outside_few (s b).modulus (s b).variables (E b), all b, few b)
+place_few : (q : After-read_records) → place_outside q.read_records.result ≤ 16384
+place_few q = let b = of q in omega (arith, q.read_records.ensures.place, outside_few (s b).modulus (s b).variables (E b), all b, few b)
 
-pub overflow_cast-outside : goal.overflow_cast-outside
-overflow_cast-outside c = omega (arith, place_few (goal.at.overflow_cast-outside c).After-read_records-outside)
+pub overflow_cast-record : goal.overflow_cast-record
+overflow_cast-record c = omega (arith, one_outside _ _ c.in-Err.is, place_few (goal.at.overflow_cast-record c).After-read_records)
 
-pub overflow_add-outside : goal.overflow_add-outside
-overflow_add-outside c = omega (arith, place_few (goal.at.overflow_add-outside c).After-read_records-outside)
+pub overflow_add-record : goal.overflow_add-record
+overflow_add-record c = omega (arith, one_outside _ _ c.in-Err.is, place_few (goal.at.overflow_add-record c).After-read_records)
 
-pub returns-then-outside-ne0 : goal.returns-then-outside-ne0
-returns-then-outside-ne0 c = let q = c in
-    let b = of (goal.at.returns-then-outside-ne0 q).After-read_records-outside in
-    let k = q.read_records-outside.result in
-    ended b (c.refused-then-outside-ne0.ensures ∙ ap (λ (j : ℕ). refused_course (refusal_at 9 j)) (add-one k))
+pub returns-in-Err : goal.returns-in-Err
+returns-in-Err c = let q = (goal.at.returns-in-Err c).After-read_records in
+    let b = of q in
+    let k = place_outside c.read_records.result in
+    let i = one_outside _ _ c.in-Err.is in
+    let j : c.in-Err.record + 2 ≡ suc k = omega (arith, i) in
+    ended b (c.refused-in-Err.ensures ∙ ap (λ (j : ℕ). refused_course (refusal_at 9 j)) j)
     ∙ run_refused (s b) (text b) b.args.course b.args.short (lent b) (genes b) (refusal_at 9 (suc k))
-    (state_refuses (s b) (text b) b.args.course b.args.short (space (passed (goal.at.returns-then-outside-ne0 q).After-read_records-outside)) k q.read_records-outside.ensures.place c.if-outside-ne0.true) (λ z. omega (arith, z))
+    (state_refuses (s b) (text b) b.args.course b.args.short (space (passed q)) k c.read_records.ensures.place (λ z. omega (arith, i, z))) (λ z. omega (arith, z))
 
 pub decide-decided-requires : goal.decide-decided-requires
-decide-decided-requires c = let f = c in record { count_le_most_records = (omega (arith, (recorded (goal.at.decide-decided-requires f).Else-outside-ne0).few, many (b (goal.at.decide-decided-requires f).Else-outside-ne0)), table_long (goal.at.decide-decided-requires f).Else-outside-ne0, numbers_long (goal.at.decide-decided-requires f).Else-outside-ne0); points_value = (refl, refl, refl) }
+decide-decided-requires c = let f = c in record { count_le_most_records = (omega (arith, (recorded (goal.at.decide-decided-requires f).In_default).few, many (b (goal.at.decide-decided-requires f).In_default)), table_long (goal.at.decide-decided-requires f).In_default, numbers_long (goal.at.decide-decided-requires f).In_default); points_value = (refl, refl, refl) }
 
 -- what the records decide
 told : (d : After-decide-decided) → let a = a d in

@@ -13,7 +13,7 @@ use Rattle.notation.specs.Fields.{part}
 use Rattle.notation.specs.Forms.{Header}
 use Rattle.comma_text.specs.reading.Text.{settings_by}
 use Rattle.comma_text.specs.reading.Records.{header_part, header_said, HeaderWithin, entries_at}
-use Rattle.comma_text.specs.declared.reading.records.Entries.TheVariants as N
+use Rattle.std.specs.Prelude.{Ok}
 use Rattle.comma_text.proofs.reading.WholeText.{header_order}
 use Rattle.forward.specs.declared.running.Course.{Course}
 use Rattle.course_text.specs.Reading.{counted_courses}
@@ -22,7 +22,7 @@ use Rattle.forward.specs.Running.{RunOutcome, run_ended, run_outcome}
 use Rattle.forward.proofs.running.RunCases.{taken_long}
 use Rattle.forward.proofs.running.WholeCourse.{with_weights, counted_free, fault_small, too_long, header_broken, course_broken, course_taken, course_kept}
 use Rattle.forward.proofs.running.time_course.Goals as goal
-use Rattle.forward.proofs.running.time_course.Goals.{After-read_header, After-run_records-ran, After-short_buffers-short, Else-text-gt16384, In-Count, In-Header, Start}
+use Rattle.forward.proofs.running.time_course.Goals.{After-read_header, After-run_records-ran, After-short_buffers-short, Else-text-gt16384, In-Ok, In-Some, Start}
 
 -- buffers that are long enough
 module _ (u : Tables) (g w : List ℕ) (e : short_for u g w ≡ false) where
@@ -56,8 +56,8 @@ module _ (b : Start) where
   ended : {x y : Course} → x ≡ y → left x ≡ left y
   ended e = ap left e
 
-abbrev read : In-Header → After-read_header
-read c = (goal.at.In-Header c).After-read_header
+abbrev read : In-Some → After-read_header
+read c = (goal.at.In-Some c).After-read_header
 
 -- the text is short enough
 abbrev short : After-read_header → Else-text-gt16384
@@ -70,25 +70,25 @@ begun r = (goal.at.Else-text-gt16384 (short r)).Start
 abbrev said_weights : After-read_header → List ℕ
 said_weights r = r.read_header.new.weights
 
-abbrev start : In-Header → Start
+abbrev start : In-Some → Start
 start c = begun (read c)
 
-abbrev next : In-Header → ℕ
-next c = c.in-Header.next
+abbrev next : In-Some → ℕ
+next c = c.in-Some.field-0.next
 
-abbrev header : In-Header → Header
-header c = let g = c.in-Header in
+abbrev header : In-Some → Header
+header c = let g = c.in-Some.field-0 in
     record { variables = g.variables; modulus = g.modulus; order = g.order; weights = said_weights (read c) }
 
-abbrev rest : In-Header → List ℕ
+abbrev rest : In-Some → List ℕ
 rest c = drop (next c) (text (start c))
 
-said : (c : In-Header) → header_part (text (start c)) ≡ part (header c) (rest c)
+said : (c : In-Some) → header_part (text (start c)) ≡ part (header c) (rest c)
 unfolding header_said
-said c = sym (ap (header_said (text (start c)) (said_weights (read c))) (sym c.in-Header.is) ∙ (read c).read_header.ensures.said)
+said c = sym (ap (header_said (text (start c)) (said_weights (read c))) (sym c.in-Some.is) ∙ (read c).read_header.ensures.said)
 
-within : (c : In-Header) → next c ≤ length (text (start c))
-within c = subst (HeaderWithin (length (text (start c)))) c.in-Header.is (read c).read_header.ensures.within
+within : (c : In-Some) → next c ≤ length (text (start c))
+within c = subst (HeaderWithin (length (text (start c)))) c.in-Some.is (read c).read_header.ensures.within
 
 pub returns-then-text-gt16384 : goal.returns-then-text-gt16384
 unfolding course_refused
@@ -104,26 +104,26 @@ returns-in_default c = let r = c in
     (sym (ap (header_said (text b) (said_weights (goal.at.returns-in_default r).After-read_header)) (sym c.in_default.is) ∙ r.read_header.ensures.said))
 
 pub check_courses-requires : goal.check_courses-requires
-check_courses-requires c = (within (goal.at.check_courses-requires c).In-Header, (short (read (goal.at.check_courses-requires c).In-Header)).if-text-gt16384.false)
+check_courses-requires c = (within (goal.at.check_courses-requires c).In-Some, (short (read (goal.at.check_courses-requires c).In-Some)).if-text-gt16384.false)
 
 pub overflow_cast-at : goal.overflow_cast-at
 overflow_cast-at c = let d = c in
-    let h = fault_small (header (goal.at.overflow_cast-at d).In-Header).variables c.in-Refused.refusal c.in-Refused.at (rest (goal.at.overflow_cast-at d).In-Header)
-    (omega (arith, length-drop (next (goal.at.overflow_cast-at d).In-Header) (text (start (goal.at.overflow_cast-at d).In-Header)), (short (read (goal.at.overflow_cast-at d).In-Header)).if-text-gt16384.false)) (sym c.in-Refused.is ∙ c.check_courses.ensures) in
+    let h = fault_small (header (goal.at.overflow_cast-at d).In-Some).variables c.in-Err.field-0.refusal c.in-Err.field-0.at (rest (goal.at.overflow_cast-at d).In-Some)
+    (omega (arith, length-drop (next (goal.at.overflow_cast-at d).In-Some) (text (start (goal.at.overflow_cast-at d).In-Some)), (short (read (goal.at.overflow_cast-at d).In-Some)).if-text-gt16384.false)) (sym c.in-Err.is ∙ c.check_courses.ensures) in
     omega arith
 
 -- The places behind: the records were counted, the lengths looked at, the records run.
-abbrev counted : In-Count → In-Header
-counted k = (goal.at.In-Count k).In-Header
+abbrev counted : In-Ok → In-Some
+counted k = (goal.at.In-Ok k).In-Some
 
-count : (k : In-Count) → N.Count k.in-Count.n ≡ counted_courses (header (counted k)).variables [] (entries_at (header (counted k)).variables (rest (counted k)))
-count k = sym k.in-Count.is ∙ k.check_courses.ensures
+count : (k : In-Ok) → Ok k.in-Ok.n ≡ counted_courses (header (counted k)).variables [] (entries_at (header (counted k)).variables (rest (counted k)))
+count k = sym k.in-Ok.is ∙ k.check_courses.ensures
 
-abbrev judged : After-short_buffers-short → In-Count
-judged e = (goal.at.After-short_buffers-short e).In-Count
+abbrev judged : After-short_buffers-short → In-Ok
+judged e = (goal.at.After-short_buffers-short e).In-Ok
 
 module _ (e : After-short_buffers-short) where
-  abbrev d : In-Header
+  abbrev d : In-Some
   d = counted (judged e)
 
   abbrev a : Start
@@ -137,7 +137,7 @@ pub run_records-ran-requires : goal.run_records-ran-requires
 run_records-ran-requires c = let e = c in
     let d = d (goal.at.run_records-ran-requires e).After-short_buffers-short in
     let r = read d in
-    let a = a (goal.at.run_records-ran-requires e).After-short_buffers-short in record { from_in_bounds = (within d, (short r).if-text-gt16384.false); order_bound = (header_order (header d) (rest d) (text a) (said d), r.read_header.auto.weights); text_value = (counted_free (header d).variables (judged (goal.at.run_records-ran-requires e).After-short_buffers-short).in-Count.n [] (entries_at (header d).variables (rest d)) (count (judged (goal.at.run_records-ran-requires e).After-short_buffers-short))).1; counts_value = λ z. rooms (lent a) (genes a) (weights a) (sym (shorts (goal.at.run_records-ran-requires e).After-short_buffers-short) ∙ z) }
+    let a = a (goal.at.run_records-ran-requires e).After-short_buffers-short in record { from_in_bounds = (within d, (short r).if-text-gt16384.false); order_bound = (header_order (header d) (rest d) (text a) (said d), r.read_header.auto.weights); text_value = (counted_free (header d).variables (judged (goal.at.run_records-ran-requires e).After-short_buffers-short).in-Ok.n [] (entries_at (header d).variables (rest d)) (count (judged (goal.at.run_records-ran-requires e).After-short_buffers-short))).1; counts_value = λ z. rooms (lent a) (genes a) (weights a) (sym (shorts (goal.at.run_records-ran-requires e).After-short_buffers-short) ∙ z) }
 
 abbrev looked : After-run_records-ran → After-short_buffers-short
 looked w = (goal.at.After-run_records-ran w).After-short_buffers-short
@@ -169,13 +169,13 @@ copy-requires c = let w = c in
       weights_room (lent a) (genes a) (weights a) (taken_long (settings_by (header (d e))) (rest (d e)) a.args.course _ (lent a) (genes a) (o (goal.at.copy-requires w).After-run_records-ran) (ran (goal.at.copy-requires w).After-run_records-ran) c.if-ran-eq0.true),
     )
 
-pub returns-in-Refused : goal.returns-in-Refused
+pub returns-in-Err : goal.returns-in-Err
 unfolding course_refused
-returns-in-Refused c = let d = c in
-    let b = start (goal.at.returns-in-Refused d).In-Header in
-    ended b c.refused-in-Refused.ensures
-    ∙ course_broken (text b) b.args.course (lent b) (genes b) (weights b) (short (read (goal.at.returns-in-Refused d).In-Header)).if-text-gt16384.false (header (goal.at.returns-in-Refused d).In-Header) (rest (goal.at.returns-in-Refused d).In-Header) (said (goal.at.returns-in-Refused d).In-Header) _ _
-    (sym c.in-Refused.is ∙ c.check_courses.ensures)
+returns-in-Err c = let d = c in
+    let b = start (goal.at.returns-in-Err d).In-Some in
+    ended b c.refused-in-Err.ensures
+    ∙ course_broken (text b) b.args.course (lent b) (genes b) (weights b) (short (read (goal.at.returns-in-Err d).In-Some)).if-text-gt16384.false (header (goal.at.returns-in-Err d).In-Some) (rest (goal.at.returns-in-Err d).In-Some) (said (goal.at.returns-in-Err d).In-Some) _ _
+    (sym c.in-Err.is ∙ c.check_courses.ensures)
 
 pub returns-then-ran-eq0 : goal.returns-then-ran-eq0
 returns-then-ran-eq0 c = let w = c in

@@ -1,23 +1,24 @@
 -- `fields::content_end` meets its contract: without quotes, or behind the one that closes the field.
-use mathlib.Core.Path.{◌≡◌}
-use mathlib.Core.Bool.{true}
 use native.Mathlib.Omega.{arith}
+use lib.ListN.{length}
+use Prim.Native.Nat.{◌<◌}
+use Rattle.std.proofs.Common.{rules}
 use Rattle.notation.proofs.fields.FieldEnds.{tested, never_closed, not_closed, closed_here}
+use Rattle.notation.proofs.fields.FieldSpans.{rest_size, rest_first}
 use Rattle.notation.proofs.fields.content_end.Goals as goal
-use Rattle.notation.proofs.fields.content_end.Goals.{Else-not-quotes}
-
--- The place: the field has quotes.
-quotes : (c : Else-not-quotes) → c.args.quotes ≡ true
-quotes c = c.if-not-quotes.false
 
 pub returns-then-not-quotes : goal.returns-then-not-quotes
-returns-then-not-quotes c = tested (c.if-not-quotes.true) c.read_end.ensures
+returns-then-not-quotes c = tested c.if-not-quotes.true c.read_end.ensures
 
-pub returns-then-at-text : goal.returns-then-at-text
-returns-then-at-text c = tested (quotes (goal.at.returns-then-at-text c).Else-not-quotes) (never_closed _ _ (omega arith))
+pub returns-in_default : goal.returns-in_default
+returns-in_default c = let a = c.args in tested c.if-not-quotes.false (never_closed _ _ (omega (arith, rest_size a.text.now a.at)))
 
-pub returns-then-text-at-ne-QUOTE : goal.returns-then-text-at-ne-QUOTE
-returns-then-text-at-ne-QUOTE c = tested (quotes (goal.at.returns-then-text-at-ne-QUOTE c).Else-not-quotes) (not_closed _ _ (omega arith) c.if-text-at-ne-QUOTE.true)
+pub returns-in_default-2 : goal.returns-in_default-2
+returns-in_default-2 c = let a = c.args in
+    let h : a.at < length a.text.now = omega (arith, rest_size a.text.now a.at) in
+    tested c.if-not-quotes.false (not_closed _ _ h (rw (← rest_first a.text.now a.at h) (search rules)))
 
 pub returns : goal.returns
-returns c = tested (quotes (goal.at.returns c).Else-not-quotes) (closed_here _ _ (omega arith) _ c.if-text-at-ne-QUOTE.false c.read_end-2.ensures)
+returns c = let a = c.args in
+    let h : a.at < length a.text.now = omega (arith, rest_size a.text.now a.at) in
+    tested c.if-not-quotes.false (closed_here _ _ h _ (rw (← rest_first a.text.now a.at h) (search rules)) c.read_end-2.ensures)

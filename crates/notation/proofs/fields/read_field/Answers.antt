@@ -1,67 +1,63 @@
 -- `fields::read_field` meets its contract: with an opening quote or without.
-use mathlib.Core.Path.{◌≡◌, sym, ap, ◌∙◌, subst}
-use mathlib.Core.Logic.{⊎_elim}
+use mathlib.Core.Path.{◌≡◌, sym, ◌∙◌, subst}
 use mathlib.Core.List.{List}
-use Prim.Native.Nat.{ℕ, ◌-◌, ◌<◌, ◌≤◌}
+use Prim.Native.Nat.{ℕ, ◌+◌, ◌-◌, ◌<◌, ◌≤◌}
 use native.Mathlib.Omega.{arith}
 use lib.ListN.{length, get_or, take, drop, length-drop}
+use Rattle.std.specs.Prelude.{Option, Some, None}
+use Rattle.std.proofs.Common.{rules}
 use Rattle.notation.specs.Fields.{quote, is_plain, field_of}
-use Rattle.notation.specs.Spans.{undoubled, ended_by, EndWithin, spanned, SpanAt}
+use Rattle.notation.specs.Spans.{opening, content_length, ended_by, spanned, SpanAt, SpanRead}
 use Rattle.notation.specs.declared.fields.Span.{Span}
 use Rattle.notation.proofs.Numbers.{span_says}
-use Rattle.notation.proofs.fields.FieldSpans.{front_le, span_plain, field_quoted, field_plain, places_quoted, places_plain}
+use Rattle.notation.proofs.fields.FieldSpans.{rest_size, rest_first, front_le, span_plain, field_quoted, field_plain, places_quoted, places_plain}
 use Rattle.notation.proofs.fields.read_field.Goals as goal
-use Rattle.notation.proofs.fields.read_field.Goals.{After-plain_end-to, After-read_end, Start}
+use Rattle.notation.proofs.fields.read_field.Goals.{After-plain_end-to, then-text-at-lt1, else-text-at-lt1+in_default-1}
 
 -- places by equal numbers
-placed : (r : Span) {a b c d : ℕ} → a ≡ c → b ≡ d → SpanAt a b r → SpanAt c d r
+placed : (r : Option Span) {a b c d : ℕ} → a ≡ c → b ≡ d → SpanAt a b r → SpanAt c d r
 placed r {b = b} {c = c} e f p = subst (λ (x : ℕ). SpanAt c x r) f (subst (λ (x : ℕ). SpanAt x b r) e p)
 
-abbrev text : Start → List ℕ
-text s = s.args.text.now
+-- The place: the field begins with no quote, and its end was looked for.
+module _ (c : After-plain_end-to) where
+  abbrev text : List ℕ
+  text = c.args.text.now
 
-within : (c : After-plain_end-to) → c.plain_end-to.result ≤ length (text (goal.at.After-plain_end-to c).Start)
-within c =
-    let h = front_le is_plain (drop c.args.at (text (goal.at.After-plain_end-to c).Start)) in
-    let e = length-drop c.args.at (text (goal.at.After-plain_end-to c).Start) in
-    omega (arith, c.plain_end-to.ensures)
+  within : c.plain_end-to.result ≤ length text
+  within = omega (arith, c.plain_end-to.ensures, front_le is_plain (drop c.args.at text), length-drop c.args.at text, c.requires)
 
-abbrev content : After-plain_end-to → List ℕ
-content c = let s = c in undoubled (take (c.plain_end-to.result - s.args.at) (drop s.args.at (text (goal.at.After-plain_end-to s).Start)))
+  otherwise : c.args.at < length text → get_or text c.args.at 0 ≡ quote → ⊥
+  otherwise h =
+      elim c.if-text-at-lt1.branch [
+        | then-text-at-lt1 w ↦ let z : length (take (length text - c.args.at) (drop c.args.at text)) < 1 = search rules in λ e. absurd (omega (arith, rest_size text c.args.at))
+        | else-text-at-lt1+in_default-1 w ↦ rw (← rest_first text c.args.at h) (search rules)
+      ]
 
--- the field begins with no quote
-otherwise : (c : After-read_end) → let s = c in s.args.at < length (text (goal.at.After-read_end s).Start) → get_or (text (goal.at.After-read_end s).Start) s.args.at 0 ≡ quote → ⊥
-otherwise c = ⊎_elim (λ w h. w.if-text-at-eq-QUOTE.false) (λ w h e. omega arith) c.if-at-text.branch-raw
-
-ended : (c : After-read_end)
-    → let s = c in ended_by (text (goal.at.After-read_end s).Start) (content (goal.at.After-read_end c).After-plain_end-to) c.read_end.result ≡ field_of (drop s.args.at (text (goal.at.After-read_end s).Start))
-ended c =
-    let s = c in
-    let p = c.plain_end-to in
-    span_plain (text (goal.at.After-read_end s).Start) s.args.at p.result c.read_end.result p.ensures c.read_end.ensures.said ∙ field_plain (text (goal.at.After-read_end s).Start) s.args.at (otherwise c)
-
-pub returns-then-text-at-eq-QUOTE : goal.returns-then-text-at-eq-QUOTE
-returns-then-text-at-eq-QUOTE c = let s = c in
+pub returns-in-34 : goal.returns-in-34
+returns-in-34 c = let t = c.args.text.now in
+    let at = c.args.at in
     let r = c.read_quoted.ensures in
-    let h = c.if-at-text.true in
-    let q = c.if-text-at-eq-QUOTE.true in
-    let p = places_quoted (text (goal.at.returns-then-text-at-eq-QUOTE s).Start) s.args.at h q in
-    span_says (r.said ∙ field_quoted (text (goal.at.returns-then-text-at-eq-QUOTE s).Start) s.args.at h q) (placed c.read_quoted.result p.0 p.1 r.places) r.within
+    let h : at < length t = omega (arith, rest_size t at) in
+    let q : get_or t at 0 ≡ quote = rw (← rest_first t at h) (search rules) in
+    let p = places_quoted t at h q in
+    span_says (r.said ∙ field_quoted t at h q) (placed c.read_quoted.result p.0 p.1 r.places) r.within
 
 pub read_end-requires : goal.read_end-requires
-read_end-requires c = within (goal.at.read_end-requires c).After-plain_end-to
+read_end-requires c = within c
 
-pub returns-in_default : goal.returns-in_default
+pub returns-in_err-more : goal.returns-in_err-more
 unfolding spanned ended_by
-returns-in_default c = let d = c in
-    span_says (ap (ended_by (text (goal.at.returns-in_default d).Start) (content (goal.at.returns-in_default d).After-plain_end-to)) (sym c.in_default.is) ∙ ended (goal.at.returns-in_default d).After-read_end) tt tt
+returns-in_err-more c = let t = c.args.text.now in
+    let at = c.args.at in
+    subst (SpanRead t (field_of (drop at t)) (at + opening (drop at t)) (at + opening (drop at t) + content_length (drop at t))) (sym c.from_residual.ensures)
+    (span_says (span_plain t at c.plain_end-to.result None c.plain_end-to.ensures c.in_err-more.ensures.said ∙ field_plain t at (otherwise (goal.at.returns-in_err-more c).After-plain_end-to)) tt tt)
 
 pub returns : goal.returns
 unfolding spanned ended_by
-returns c = let d = c in
-    let s = d in
-    let h = within (goal.at.returns d).After-plain_end-to in
-    let e = d.plain_end-to.ensures in
-    let p = places_plain (text (goal.at.returns s).Start) s.args.at (otherwise (goal.at.returns d).After-read_end) in
-    span_says (ap (ended_by (text (goal.at.returns s).Start) (content (goal.at.returns d).After-plain_end-to)) (sym c.in-At.is) ∙ ended (goal.at.returns d).After-read_end) (p.0, e ∙ p.1)
-    (omega arith, h, subst (EndWithin (length (text (goal.at.returns s).Start))) c.in-At.is d.read_end.ensures.within)
+returns c = let t = c.args.text.now in
+    let at = c.args.at in
+    let begins = otherwise (goal.at.returns c).After-plain_end-to in
+    let end = c.in_ok-more.ensures in
+    let p = places_plain t at begins in
+    span_says (span_plain t at c.plain_end-to.result (Some c.in_ok-more.field-0) c.plain_end-to.ensures end.said ∙ field_plain t at begins) (p.0, c.plain_end-to.ensures ∙ p.1)
+    (omega (arith, c.plain_end-to.ensures), within (goal.at.returns c).After-plain_end-to, end.within)

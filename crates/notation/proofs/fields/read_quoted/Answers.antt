@@ -1,45 +1,33 @@
 -- `fields::read_quoted` meets its contract: what stands at the closing quote ends the field.
-use mathlib.Core.Path.{◌≡◌, refl, sym, ap, ◌∙◌, subst}
-use mathlib.Core.List.{List}
-use Prim.Native.Nat.{ℕ, ◌-◌, ◌≤◌}
+use mathlib.Core.Path.{refl, sym, subst}
+use Prim.Native.Nat.{◌+◌, ◌≤◌}
 use native.Mathlib.Omega.{arith}
-use lib.ListN.{length, take, drop, length-drop}
+use lib.ListN.{length, drop, length-drop}
+use Rattle.std.specs.Prelude.{Some, None}
 use Rattle.notation.specs.Fields.{quoted}
-use Rattle.notation.specs.Spans.{undoubled, ended_by, EndWithin, spanned}
+use Rattle.notation.specs.Spans.{closing, ended_by, spanned, SpanRead}
 use Rattle.notation.proofs.Numbers.{span_says}
 use Rattle.notation.proofs.fields.FieldSpans.{closing_le, span_quoted}
 use Rattle.notation.proofs.fields.read_quoted.Goals as goal
-use Rattle.notation.proofs.fields.read_quoted.Goals.{After-content_end, After-quote_end-to, Start}
+use Rattle.notation.proofs.fields.read_quoted.Goals.{After-quote_end-to}
 
--- The places: the closing quote was looked for, and what stands there was read. Each names the one before it.
-abbrev start : After-quote_end-to → Start
-start q = (goal.at.After-quote_end-to q).Start
-
-abbrev text : After-quote_end-to → List ℕ
-text q = (start q).args.text.now
-
-within : (q : After-quote_end-to) → q.quote_end-to.result ≤ length (text q)
-within q = omega (arith, q.quote_end-to.ensures, closing_le (drop (start q).args.from (text q)), length-drop (start q).args.from (text q), (start q).requires)
-
-abbrev content : After-quote_end-to → List ℕ
-content q = undoubled (take (q.quote_end-to.result - (start q).args.from) (drop (start q).args.from (text q)))
-
-ended : (c : After-content_end) → let q = c in ended_by (text (goal.at.After-content_end q).After-quote_end-to) (content (goal.at.After-content_end q).After-quote_end-to) c.content_end.result ≡ quoted (drop (start (goal.at.After-content_end q).After-quote_end-to).args.from (text (goal.at.After-content_end q).After-quote_end-to))
-ended c =
-    let q = c in
-    span_quoted (text (goal.at.After-content_end q).After-quote_end-to) (start (goal.at.After-content_end q).After-quote_end-to).args.from q.quote_end-to.result c.content_end.result q.quote_end-to.ensures c.content_end.ensures.said
+-- The place: the closing quote was looked for.
+within : (c : After-quote_end-to) → c.quote_end-to.result ≤ length c.args.text.now
+within c = omega (arith, c.quote_end-to.ensures, closing_le (drop c.args.from c.args.text.now), length-drop c.args.from c.args.text.now, c.requires)
 
 pub content_end-requires : goal.content_end-requires
-content_end-requires c = within (goal.at.content_end-requires c).After-quote_end-to
+content_end-requires c = within c
 
-pub returns-in_default : goal.returns-in_default
+pub returns-in_err-more : goal.returns-in_err-more
 unfolding spanned ended_by
-returns-in_default c = let d = c in
-    span_says (ap (ended_by (text (goal.at.returns-in_default d).After-quote_end-to) (content (goal.at.returns-in_default d).After-quote_end-to)) (sym c.in_default.is) ∙ ended (goal.at.returns-in_default d).After-content_end) tt tt
+returns-in_err-more c = let t = c.args.text.now in
+    let from = c.args.from in
+    subst (SpanRead t (quoted (drop from t)) from (from + closing (drop from t))) (sym c.from_residual.ensures)
+    (span_says (span_quoted t from c.quote_end-to.result None c.quote_end-to.ensures c.in_err-more.ensures.said) tt tt)
 
 pub returns : goal.returns
 unfolding spanned ended_by
-returns c = let d = c in
-    let q = d in
-    span_says (ap (ended_by (text (goal.at.returns q).After-quote_end-to) (content (goal.at.returns q).After-quote_end-to)) (sym c.in-At.is) ∙ ended (goal.at.returns d).After-content_end) (refl, q.quote_end-to.ensures)
-    (omega (arith, q.quote_end-to.ensures), within (goal.at.returns q).After-quote_end-to, subst (EndWithin (length (text (goal.at.returns q).After-quote_end-to))) c.in-At.is d.content_end.ensures.within)
+returns c = let t = c.args.text.now in
+    let end = c.in_ok-more.ensures in
+    span_says (span_quoted t c.args.from c.quote_end-to.result (Some c.in_ok-more.field-0) c.quote_end-to.ensures end.said) (refl, c.quote_end-to.ensures)
+    (omega (arith, c.quote_end-to.ensures), within (goal.at.returns c).After-quote_end-to, end.within)

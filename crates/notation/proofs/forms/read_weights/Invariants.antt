@@ -8,8 +8,7 @@ use Rattle.notation.proofs.forms.WeightsRead.{keeps}
 use Rattle.notation.proofs.forms.read_weights.Given as goal
 
 abbrev pub invariant-loop-i : goal.invariant-loop-i
-invariant-loop-i l = (l.i ≤ l.names) × (l.at ≤ length l.content) × (length l.weights ≡ length l.initial.weights)
-    × (keeps l.i l.weights (weights_of (l.names - l.i) (drop l.at l.content)) ≡ map weighted (weights_of l.names l.content))
-
-abbrev pub decreases-loop-i : goal.decreases-loop-i
-decreases-loop-i l = l.names - l.i
+invariant-loop-i l = record {
+  within : l.at ≤ length l.content;
+  kept : keeps l.i l.weights (weights_of (l.names - l.i) (drop l.at l.content)) ≡ map weighted (weights_of l.names l.content);
+}

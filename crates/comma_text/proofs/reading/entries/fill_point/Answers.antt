@@ -4,7 +4,7 @@ use native.Mathlib.Omega.{arith}
 use Rattle.residue.proofs.bytes.Keys.{digits_fit}
 use Rattle.comma_text.proofs.reading.entries.EntryFilled.{start, level_there, step, point_done}
 use Rattle.comma_text.proofs.reading.entries.fill_point.Goals as goal
-use Rattle.comma_text.proofs.reading.entries.fill_point.Goals.{After-residue_at-level, After-struct_known-1, At-loop-j, Start}
+use Rattle.comma_text.proofs.reading.entries.fill_point.Goals.{After-residue_at-level, After-unwrap_or-residue, At-loop-j, Start}
 
 -- The places: what is given before the loop, and the loop before a level that was read in it.
 abbrev given : At-loop-j → Start
@@ -17,8 +17,8 @@ turn r = (goal.at.After-residue_at-level r).At-loop-j
 key_small : (r : After-residue_at-level) → (turn r).loop-j.key < 2 ^ (8 * 7)
 key_small r = digits_fit 7 (omega (arith, r.loop-j-test.true, (given (turn r)).requires.at_in_bounds.3)) (turn r).loop-j.invariant.small
 
-byte : (c : After-struct_known-1) → c.residue_at-level.result.residue < 256
-byte c = omega (arith, c.struct_known-1.given)
+byte : (c : After-unwrap_or-residue) → c.unwrap_or-residue.result < 256
+byte c = omega arith
 
 pub loop-j-init : goal.loop-j-init
 loop-j-init c = start _ _ _ _ _ c.requires.at_in_bounds.0 c.requires.fact
@@ -32,17 +32,14 @@ bounds-row-j c = omega (arith, (turn (goal.at.bounds-row-j c).After-residue_at-l
 pub overflow_mul-key : goal.overflow_mul-key
 overflow_mul-key c = omega (arith, key_small (goal.at.overflow_mul-key c).After-residue_at-level)
 
-pub overflow_cast-key : goal.overflow_cast-key
-overflow_cast-key c = omega (arith, byte (goal.at.overflow_cast-key c).After-struct_known-1)
-
 pub overflow_add-key : goal.overflow_add-key
-overflow_add-key c = omega (arith, key_small (goal.at.overflow_add-key c).After-residue_at-level, byte (goal.at.overflow_add-key c).After-struct_known-1)
+overflow_add-key c = omega (arith, key_small (goal.at.overflow_add-key c).After-residue_at-level, byte (goal.at.overflow_add-key c).After-unwrap_or-residue, c.from.ensures)
 
 pub loop-j-preserved : goal.loop-j-preserved
-loop-j-preserved c = let r = c in
-    let l = turn (goal.at.loop-j-preserved r).After-residue_at-level in
-    step _ _ _ _ _ _ _ _ _ _ l.loop-j.invariant r.residue_at-level.result r.residue_at-level.ensures c.both-inside.result c.both-inside.ensures r.loop-j-test.true
-    (given l).requires.at_in_bounds.1 (byte (goal.at.loop-j-preserved c).After-struct_known-1)
+loop-j-preserved c = let r = (goal.at.loop-j-preserved c).After-residue_at-level in
+    let l = turn r in
+    rw c.from.ensures (step _ _ _ _ _ _ _ _ _ _ l.loop-j.invariant r.residue_at-level.result r.residue_at-level.ensures c.is_some-inside.result c.is_some-inside.ensures
+    c.unwrap_or-residue.result c.unwrap_or-residue.ensures c.loop-j-test.true (given l).requires.at_in_bounds.1 (byte (goal.at.loop-j-preserved c).After-unwrap_or-residue))
 
 -- the point's digits and as many zeros as there are bytes behind it
 pub overflow_mul-zeros : goal.overflow_mul-zeros

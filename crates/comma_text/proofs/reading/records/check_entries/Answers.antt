@@ -1,54 +1,43 @@
 -- `records::check_entries` meets its contract. The count goes on from `from`; each entry takes a byte, so there are no more of them than bytes.
-use mathlib.Core.Path.{◌≡◌, refl, sym, ap, ◌∙◌, subst}
-use mathlib.Core.List.{List}
-use Prim.Native.Nat.{ℕ, ◌+◌, ◌<◌, ◌≤◌}
+use mathlib.Core.Path.{◌≡◌, refl, ◌∙◌}
+use Prim.Native.Nat.{◌+◌, ◌<◌}
 use native.Mathlib.Omega.{arith}
-use lib.ListN.{length, drop}
-use Rattle.comma_text.specs.reading.Records.{entries_at, entry_said, EntryWithin, counted_entries}
+use lib.ListN.{drop}
+use Rattle.std.specs.Prelude.{Err}
+use Rattle.std.proofs.Common.{rules}
+use Rattle.comma_text.specs.reading.Records.{entries_at, entry_said, counted_entries}
+use Rattle.comma_text.specs.declared.reading.records.Entry.{Entry}
 use Rattle.comma_text.proofs.reading.records.EntriesChecked.{next_entry, no_entry, no_more}
 use Rattle.comma_text.proofs.reading.records.check_entries.Goals as goal
-use Rattle.comma_text.proofs.reading.records.check_entries.Goals.{At-loop-from, In-Ends, Start}
+use Rattle.comma_text.proofs.reading.records.check_entries.Goals.{In_ok-from}
 
-abbrev text : Start → List ℕ
-text s = s.args.text.now
+-- The place: an entry was passed.
+module _ (c : In_ok-from) where
+  abbrev entry : Entry
+  entry = c.in_ok-from.field-0
 
-abbrev start : At-loop-from → Start
-start l = (goal.at.At-loop-from l).Start
-
-abbrev turn : In-Ends → At-loop-from
-turn c = (goal.at.In-Ends c).At-loop-from
-
-within : (c : In-Ends) → c.in-Ends.next ≤ length (text (start (turn c)))
-within c = subst (EntryWithin (length (text (start (turn c))))) c.in-Ends.is c.check_entry.ensures.within
-
--- an entry was passed
-passed : (c : In-Ends)
-    → ((turn c).loop-from.from < c.in-Ends.next)
-    × (counted_entries ((turn c).loop-from.n + 1) (entries_at (start (turn c)).args.variables (drop c.in-Ends.next (text (start (turn c)))))
-    ≡ counted_entries (turn c).loop-from.n (entries_at (start (turn c)).args.variables (drop (turn c).loop-from.from (text (start (turn c))))))
-unfolding entry_said
-passed c =
-    next_entry (text (start (turn c))) (start (turn c)).args.variables (turn c).loop-from.from (turn c).loop-from.n c.loop-from-test.true _ c.in-Ends.next ((turn c).loop-from.n + 2)
-    (within c) (ap (entry_said (text (start (turn c)))) (sym c.in-Ends.is) ∙ c.check_entry.ensures.said)
+  passed : (c.loop-from.from < entry.next)
+      × (counted_entries (c.loop-from.n + 1) (entries_at c.args.variables (drop entry.next c.args.text.now))
+      ≡ counted_entries c.loop-from.n (entries_at c.args.variables (drop c.loop-from.from c.args.text.now)))
+  unfolding entry_said
+  passed =
+      next_entry c.args.text.now c.args.variables c.loop-from.from c.loop-from.n c.loop-from-test.true _ entry.next (c.loop-from.n + 2)
+      c.in_ok-from.ensures.within c.in_ok-from.ensures.said
 
 pub loop-from-init : goal.loop-from-init
 loop-from-init c = (omega arith, omega arith, refl)
 
-pub check_entry-requires : goal.check_entry-requires
-check_entry-requires c = c.loop-from.invariant.0
-
-pub returns-in-Refused : goal.returns-in-Refused
+pub returns-in_err-from : goal.returns-in_err-from
 unfolding entry_said
-returns-in-Refused c = let l = c in
-    let t = text (start (goal.at.returns-in-Refused l).At-loop-from) in
-    no_entry t (start (goal.at.returns-in-Refused l).At-loop-from).args.variables l.loop-from.from l.loop-from.n c.loop-from-test.true _ _
-    (ap (entry_said t) (sym c.in-Refused.is) ∙ c.check_entry.ensures.said) ∙ l.loop-from.invariant.2
+returns-in_err-from c =
+    let e : c.from_residual.result ≡ Err c.in_err-from.field-0.0 = search rules in
+    e ∙ no_entry c.args.text.now c.args.variables c.loop-from.from c.loop-from.n c.loop-from-test.true _ _ c.in_err-from.ensures.said ∙ c.loop-from.invariant.2
 
 pub loop-from-smaller : goal.loop-from-smaller
-loop-from-smaller c = let h = (passed (goal.at.loop-from-smaller c).In-Ends).0 in omega arith
+loop-from-smaller c = let h = (passed c).0 in omega arith
 
 pub loop-from-preserved : goal.loop-from-preserved
-loop-from-preserved c = let h = (passed (goal.at.loop-from-preserved c).In-Ends).0 in (within (goal.at.loop-from-preserved c).In-Ends, omega arith, (passed (goal.at.loop-from-preserved c).In-Ends).1 ∙ (turn (goal.at.loop-from-preserved c).In-Ends).loop-from.invariant.2)
+loop-from-preserved c = let h = passed c in (c.in_ok-from.ensures.within, omega arith, h.1 ∙ c.loop-from.invariant.2)
 
 pub returns : goal.returns
-returns c = no_more (text (start (goal.at.returns c).At-loop-from)) (start (goal.at.returns c).At-loop-from).args.variables c.loop-from.from c.loop-from.n c.loop-from-test.false ∙ c.loop-from.invariant.2
+returns c = no_more c.args.text.now c.args.variables c.loop-from.from c.loop-from.n c.loop-from-test.false ∙ c.loop-from.invariant.2

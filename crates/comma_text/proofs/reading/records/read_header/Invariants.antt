@@ -7,7 +7,12 @@ use Rattle.comma_text.proofs.reading.records.HeaderFields.{headed}
 use Rattle.comma_text.proofs.reading.records.read_header.Given as goal
 
 abbrev pub invariant-loop-from : goal.invariant-loop-from
-invariant-loop-from l = (l.at ≤ length l.text) × (l.variables ≤ l.at) × (headed l.variables (drop l.at l.text) ≡ header_part l.text) × (l.weights ≡ l.initial.weights)
+invariant-loop-from l = record {
+  within : l.at ≤ length l.text;
+  few : l.variables ≤ l.at;
+  whole : headed l.variables (drop l.at l.text) ≡ header_part l.text;
+  kept : l.weights ≡ l.initial.weights;
+}
 
 abbrev pub decreases-loop-from : goal.decreases-loop-from
 decreases-loop-from l = length l.text - l.at
