@@ -16,10 +16,7 @@ pub fn add(p: u8, x: u8, y: u8) -> u8
     ensures { result ≡ (x + y) % p }
 {
     let s = sum(p, x, y);
-    if s < p {
-        return s;
-    }
-    s - p
+    if s < p { s } else { s - p }
 }
 
 // Twice a residue.
@@ -36,10 +33,7 @@ pub fn neg(p: u8, x: u8) -> u8
     requires x_lt_p { x < p }
     ensures { result ≡ (p - x) % p }
 {
-    if x == 0 {
-        return 0;
-    }
-    p - x
+    if x == 0 { 0 } else { p - x }
 }
 
 // x where bit k of y is 1, else 0.
@@ -47,10 +41,7 @@ fn chosen(x: u8, y: u8, k: u8) -> u8
     requires { k < 8 }
     ensures { result ≡ y / 2 ^ k % 2 * x }
 {
-    if y >> k & 1 == 1 {
-        return x;
-    }
-    0
+    if y >> k & 1 == 1 { x } else { 0 }
 }
 
 // The product with a number of so many bits, by doubling and adding from its highest bit on: no number in its way is greater than a sum of two residues.

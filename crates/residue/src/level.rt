@@ -27,13 +27,13 @@ pub fn residue(p: u8, level: i8) -> Option<u8>
     ensures { result ≡ residue_of p level }
 {
     let size = magnitude(level);
-    if size < p {
-        if level < 0 {
-            return Some(p - size);
-        }
-        return Some(size);
+    if p <= size {
+        None
+    } else if level < 0 {
+        Some(p - size)
+    } else {
+        Some(size)
     }
-    None
 }
 
 // The signed byte of the same bits.

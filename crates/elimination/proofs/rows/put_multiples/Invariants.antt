@@ -21,6 +21,3 @@ pub record Filling (p : ℕ) (row block first last : List ℕ) (k : ℕ) : Type 
 
 abbrev pub invariant-loop-k : goal.invariant-loop-k
 invariant-loop-k l = Filling l.p l.row l.block l.first l.last l.k
-
-abbrev pub decreases-loop-k : goal.decreases-loop-k
-decreases-loop-k l = 9 - l.k
