@@ -96,11 +96,12 @@ both_cond : {A : Type 0} (x y : Bool) (u : Found A) → cond x (cond y u broken)
 both_cond true y u = refl
 both_cond false y u = refl
 
--- the same by one comparison, as the code does it
+-- two bytes, compared either way round
 same_byte : (b c : ℕ) (z : Bool) → eqb b c ≡ z → eqb c b ≡ z
 same_byte b c true e = eq-eqb c b (sym (eqb-true b c e))
 same_byte b c false e = ne_eqb c b (λ f. eqb-false b c e (sym f))
 
+-- the same by one comparison, as the code does it
 pub exactly_is : (bs text : List ℕ) (at : ℕ) → at ≤ length text → exactly_at bs text at ≡ cond (starts_with eqb (drop at text) bs) (found tt (at + length bs)) broken
 unfolding exactly_at
 exactly_is [] text at h = ap (found tt) (sym (add-zero at))
