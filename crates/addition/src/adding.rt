@@ -11,7 +11,7 @@ ghost use Rattle.growth.specs.Growing.{all_points, NewPoint};
 
 use growth::growing::add_tables;
 use recognition::naming::locate;
-use residue::{bytes, sizes};
+use residue::sizes;
 use specification::answers::Size;
 use specification::refusals::Refusal;
 use specification::settings::Settings;
@@ -52,9 +52,9 @@ fn add_state(n: usize, points: &[u8], point: &[u8], states: &mut [u8])
     requires { (n < 64) × ((length points.now ≡ states_size) × ((length point.now ≡ 8) × (length states.old ≡ states_size))) }
     ensures { states.new ≡ with_place 8 n point.now points.now }
 {
-    bytes::copy(points, states);
+    states.copy_from_slice(points);
     let from = 8 * n;
-    bytes::copy(point, &mut states[from..from + 8]);
+    states[from..from + 8].copy_from_slice(point);
 }
 
 // The new point with the count 1 and the tables of all points, written to lent tables that hold those of the points before, and the answer that says so.
