@@ -23,13 +23,10 @@ pub fn place_of(n: usize, states: &[u8], point: &[u8]) -> usize
     ensures { result ≡ place_in point.now (groups 8 n states.now) }
 {
     let own = key(point);
-    for i in 0..n {
-        let place = 8 * i;
-        if own == key(&states[place..place + 8]) {
-            return i;
-        }
-    }
-    n
+    states[..8 * n]
+        .chunks_exact(8)
+        .position(|other| own == key(other))
+        .unwrap_or(n)
 }
 
 // Whether a point is among the first n of a table.

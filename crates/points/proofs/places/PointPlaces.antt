@@ -1,11 +1,15 @@
 -- The place of a point: the search along a table, and what the place says.
 use mathlib.Core.Path.{◌≡◌, refl, sym, ap, ap₂, ◌∙◌}
-use mathlib.Core.Bool.{Bool, true, false, cond, ◌||◌}
+use mathlib.Core.Bool.{Bool, true, false, not, cond, ◌||◌}
 use mathlib.Core.Logic.{inl, inr}
 use mathlib.Core.List.{List, [], ◌∷◌, map}
 use Prim.Native.Nat.{ℕ, zero, suc, ◌+◌, ◌*◌, ◌-◌, ◌<◌, ◌≤◌}
 use native.Mathlib.Omega.{arith}
-use lib.ListN.{length, get_or, take, drop}
+use lib.ListN.{length, get_or, take, drop, length-drop}
+use lib.Seq.{length-take-le}
+use Rattle.std.proofs.Common.{Option, Some, None}
+use Rattle.std.specs.Option.{unwrap_or}
+use Rattle.std.specs.List.{position_or_len}
 use lib.Dec.{T, eqb, ltb}
 use borrow.Author.Tests.{ltb-true, ltb-false, lt-ltb, le-ltb}
 use Rattle.residue.specs.Vector.{Below}
@@ -15,7 +19,7 @@ use Rattle.residue.proofs.Tests.{of_true}
 use Rattle.residue.proofs.vector.Vectors.{below_take, below_drop}
 use Rattle.residue.proofs.bytes.Equality.{same_filled, same_is}
 use Rattle.residue.proofs.bytes.Keys.{key_same}
-use Rattle.residue.proofs.Places.{groups_step, groups_end, length_groups, groups_at}
+use Rattle.residue.proofs.Places.{length_groups, groups_at}
 use Rattle.residue.proofs.Replaced.{part_long}
 use Rattle.specification.specs.Levels.{is_among, no_repeat}
 use Rattle.specification.specs.Counted.{place_in}
@@ -30,22 +34,26 @@ keys_told P t i f g long room u v =
     sym (ap₂ eqb u (v ∙ ap (λ (k : ℕ). key_of 8 (take k (drop (8 * i) t))) e)
     ∙ key_same P (take 8 (drop (8 * i) t)) f (below_take 256 8 (drop (8 * i) t) (below_drop 256 (8 * i) t g)) long (part_long (8 * i) 8 8 t refl room))
 
-pub place_start : (P t : List ℕ) (n : ℕ) → 0 + place_in P (groups 8 (n - 0) (drop (8 * 0) t)) ≡ place_in P (groups 8 n t)
-place_start P t n = let e : n - 0 ≡ n = omega arith in rw e (omega arith)
+turned : (b : Bool) (k : ℕ) → cond (not b) (1 + k) 0 ≡ cond b 0 (suc k)
+turned true k = refl
+turned false k = omega arith
 
-module _ (P t : List ℕ) (n i : ℕ) (h : i < n) where
-  pub place_on : same_list P (take 8 (drop (8 * i) t)) ≡ false
-      → i + 1 + place_in P (groups 8 (n - (i + 1)) (drop (8 * (i + 1)) t)) ≡ i + place_in P (groups 8 (n - i) (drop (8 * i) t))
-  unfolding place_in
-  place_on e = rw (groups_step 8 n i t h) (rw e (omega arith))
+-- the search by keys finds the point's place
+pub place_by_key : {own : ℕ} (P : List ℕ) → Below 256 P → length P ≡ 8 → own ≡ key_of 8 P → (n : ℕ) (t : List ℕ) → Below 256 t → 8 * n ≤ length t
+    → position_or_len (λ (Q : List ℕ). eqb own (key_of 8 Q)) (groups 8 n t) ≡ place_in P (groups 8 n t)
+unfolding place_in groups
+place_by_key P f long u zero t g room = refl
+place_by_key {own} P f long u (suc n) t g room =
+    let same : eqb own (key_of 8 (take 8 t)) ≡ same_list P (take 8 t) = ap (λ (k : ℕ). eqb k (key_of 8 (take 8 t))) u ∙ key_same P (take 8 t) f (below_take 256 8 t g) long (length-take-le 8 t (omega arith)) in
+    turned (eqb own (key_of 8 (take 8 t))) (position_or_len (λ (Q : List ℕ). eqb own (key_of 8 Q)) (groups 8 n (drop 8 t))) ∙ ap₂ (λ (b : Bool) (k : ℕ). cond b 0 (suc k)) same (place_by_key P f long u n (drop 8 t) (below_drop 256 8 t g) (simp length-drop (omega arith)))
 
-  pub place_hit : same_list P (take 8 (drop (8 * i) t)) ≡ true → i ≡ i + place_in P (groups 8 (n - i) (drop (8 * i) t))
-  unfolding place_in
-  place_hit e = rw (groups_step 8 n i t h) (rw e (omega arith))
-
-pub place_end : (P t : List ℕ) (n i : ℕ) → n ≤ i → i ≤ n → n ≡ i + place_in P (groups 8 (n - i) t)
-unfolding place_in
-place_end P t n i h k = rw (groups_end 8 n i t h) (omega arith)
+-- and where it finds none, the place is behind the last one
+pub place_or_end : {o : Option ℕ} {k n : ℕ} → o ≡ cond (ltb k n) (Some k) None → k ≤ n → unwrap_or o n ≡ k
+place_or_end {o} {k} {n} e h = go (ltb k n) refl e
+  where
+    go : (b : Bool) → ltb k n ≡ b → o ≡ cond b (Some k) None → unwrap_or o n ≡ k
+    go true f z = rw z refl
+    go false f z = let below = ltb-false k n f in rw z (omega arith)
 
 pub place_le : (P : List ℕ) (S : List (List ℕ)) → place_in P S ≤ length S
 unfolding place_in

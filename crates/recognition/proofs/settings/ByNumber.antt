@@ -17,31 +17,10 @@ use Rattle.specification.specs.declared.settings.Settings.{Settings}
 use Rattle.specification.specs.Refusal.{Case, first_of}
 use Rattle.specification.specs.Settings.{settings_cases}
 use Rattle.specification.specs.Tables.{Tables}
+pub use Rattle.specification.proofs.Refused.{number_above_0}
 use Rattle.specification.proofs.Cases.{first_stop}
 use Rattle.specification.specs.Adding.{Outcome, ended, refused, by_refusal, draw_ended, costing}
 use Rattle.specification.specs.Solving.{Filled, filling}
-
--- a refusal's number is not 0
-pub number_above_0 : (e : Refusal) → number_of e ≡ 0 → ⊥
-unfolding number_of
-number_above_0 LongText z = omega arith
-number_above_0 Form z = omega arith
-number_above_0 Modulus z = omega arith
-number_above_0 Variables z = omega arith
-number_above_0 Order z = omega arith
-number_above_0 ShortBuffer z = omega arith
-number_above_0 Length z = omega arith
-number_above_0 TooMany z = omega arith
-number_above_0 OutOfRange z = omega arith
-number_above_0 NoBasis z = omega arith
-number_above_0 NotThere z = omega arith
-number_above_0 TooOften z = omega arith
-number_above_0 OtherValue z = omega arith
-number_above_0 Weights z = omega arith
-number_above_0 Variable z = omega arith
-number_above_0 OtherSuccessor z = omega arith
-number_above_0 NoCourse z = omega arith
-number_above_0 Json z = omega arith
 
 -- the settings are refused
 pub settings_stop : (s : Settings) (l : List Case) (e : Refusal) → number_of e ≡ first_of 0 (settings_cases s) → number_of e ≡ first_of 0 (settings_cases s ++ l)

@@ -1,48 +1,26 @@
--- `places::place_of` meets its contract: i places are passed, and the point's place among the others follows.
-use mathlib.Core.Path.{◌≡◌, ◌∙◌}
-use Prim.Native.Nat.{◌+◌, ◌*◌, ◌-◌}
+-- `places::place_of` meets its contract: the places of the table are gone through, by their keys.
+use mathlib.Core.Path.{◌∙◌}
+use mathlib.Core.List.{List}
+use Prim.Native.Nat.{ℕ}
 use native.Mathlib.Omega.{arith}
-use lib.ListN.{take, drop}
+use borrow.Author.Rules.{rules}
+use borrow.Author.Tests.{tests}
 use lib.Dec.{eqb}
-use borrow.Author.Tests.{eq-eqb, ne_eqb}
-use Rattle.residue.specs.Lists.{same_list}
-use Rattle.residue.proofs.Replaced.{part_long}
-use Rattle.points.proofs.places.PointPlaces.{keys_told, place_start, place_on, place_hit, place_end}
+use Rattle.std.proofs.lemmas.Iterator.Search.{position_from_yields_List}
+use Rattle.residue.specs.Layout.{groups}
+use Rattle.residue.specs.Lists.{key_of}
+use Rattle.residue.proofs.Chunks.{rows_given}
+use Rattle.residue.proofs.Places.{length_groups}
+use Rattle.points.proofs.places.PointPlaces.{place_by_key, place_or_end, place_few}
 use Rattle.points.proofs.places.place_of.Goals as goal
-use Rattle.points.proofs.places.place_of.Goals.{After-key, At-loop-i, Start}
-
--- what was compared is the ith place
-module _ (c : After-key) where
-  abbrev head : At-loop-i
-  head = (goal.at.After-key c).At-loop-i
-
-  abbrev start : Start
-  start = (goal.at.At-loop-i head).Start
-
-  compared : same_list start.args.point.now (take 8 (drop (8 * head.loop-i.i) start.args.states.now)) ≡ eqb head.key-own.result c.key.result
-  compared =
-      keys_told start.args.point.now start.args.states.now head.loop-i.i (λ j h. (head.shared_slice_known-2-1.given j).fits)
-      (λ j h. (head.shared_slice_known-1.given j).fits) (omega arith) (omega arith) head.key-own.ensures c.key.ensures
-
-pub loop-i-init : goal.loop-i-init
-loop-i-init c = let s = c in
-    (omega arith, place_start s.args.point.now s.args.states.now s.args.n)
-
-pub key-requires : goal.key-requires
-key-requires c = let l = c in
-    part_long (8 * l.loop-i.i) (8 * l.loop-i.i + 8 - 8 * l.loop-i.i) 8 l.args.states.now (omega arith) (omega arith)
-
-pub returns-then-own-key : goal.returns-then-own-key
-returns-then-own-key c = let l = head (goal.at.returns-then-own-key c).After-key in
-    let s = start (goal.at.returns-then-own-key c).After-key in
-    place_hit s.args.point.now s.args.states.now s.args.n l.loop-i.i (omega arith) (compared (goal.at.returns-then-own-key c).After-key ∙ eq-eqb _ _ c.if-own-key.true) ∙ l.loop-i.invariant.1
-
-pub loop-i-preserved : goal.loop-i-preserved
-loop-i-preserved c = let l = head (goal.at.loop-i-preserved c).After-key in
-    let s = start (goal.at.loop-i-preserved c).After-key in
-    (omega arith, place_on s.args.point.now s.args.states.now s.args.n l.loop-i.i (omega arith) (compared (goal.at.loop-i-preserved c).After-key ∙ ne_eqb _ _ c.if-own-key.false) ∙ l.loop-i.invariant.1)
 
 pub returns : goal.returns
-returns c = let l = c in
-    let s = l in
-    place_end s.args.point.now (drop (8 * l.loop-i.i) s.args.states.now) s.args.n l.loop-i.i (omega arith) l.loop-i.invariant.0 ∙ l.loop-i.invariant.1
+returns c =
+    let P : List ℕ = c.args.point.now in
+    let t : List ℕ = c.args.states.now in
+    let n : ℕ = c.args.n in
+    let S = groups 8 n t in
+    let found = position_from_yields_List {s = c.chunks_exact.result} (λ (Q : List ℕ). eqb c.key-own.result (key_of 8 Q)) c.position.new.self _ c.position.result c.position.ensures.ran
+    (rows_given 8 n t (omega arith) c.requires.n_in_bounds c.chunks_exact.ensures.rest c.chunks_exact.ensures.size) (λ x b q k. search (rules, tests)) in
+    let is = place_by_key P (λ j h. (c.type_inv.point j).fits) c.requires.point_len c.key-own.ensures n t (λ j h. (c.type_inv.states j).fits) c.requires.n_in_bounds in
+    c.unwrap_or.ensures ∙ place_or_end (rw (is, length_groups 8 n t) at found) (place_few P t n)
