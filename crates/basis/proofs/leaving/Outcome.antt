@@ -144,8 +144,8 @@ module _ (s : Settings) (n r : ℕ) (t : Tables) (v : ℕ) (u : Tables) (k : ℕ
     passed : Left s n r t v u
     passed = left_passed s n r t v u (sym number ∙ zero)
 
-    pub lent : too_short u ≡ false
-    lent = passed.lent
+    pub long_left : too_short u ≡ false
+    long_left = passed.lent
 
     -- the variable is one of at most 8
     pub in_settings : (1 ≤ v) × (v ≤ 8) × (1 ≤ s.variables)

@@ -1,93 +1,42 @@
 -- `drawing::draw_up` meets its contract: refused, or the distinct points are drawn up.
-use mathlib.Core.Path.{◌≡◌, refl, sym, ap, ◌∙◌}
+use mathlib.Core.Path.{◌≡◌, refl, ap, ◌∙◌}
 use mathlib.Core.Bool.{Bool}
-use mathlib.Core.List.{List}
-use Prim.Native.Nat.{ℕ}
-use lib.ListN.{length}
-use Rattle.specification.specs.Tables.{Tables, five_tables, too_short}
+use Rattle.std.proofs.Common.{rules, Err}
+use Rattle.specification.specs.Answers.{number_of, refusal_of}
+use Rattle.specification.specs.Lent.{lent_mut}
+use Rattle.specification.specs.Tables.{Tables, too_short}
+use Rattle.specification.proofs.Refused.{number_above_0}
 use Rattle.recognition.proofs.settings.ByNumber.{drawn_alone}
 use Rattle.basis.proofs.drawing.Outcomes.{draw_number, draw_refused, enough, draw_given, draw_done}
 use Rattle.basis.proofs.drawing.draw_up.Goals as goal
-use Rattle.basis.proofs.drawing.draw_up.Goals.{After-draw_points, After-draw_refusal-found, After-pivots-1, After-pivots-2-1, After-struct_known-1, After-too_short-short, Else-found-ne0, Start}
+use Rattle.basis.proofs.drawing.draw_up.Goals.{In_ok-n}
 
--- the lent tables
-abbrev tables : Start → Tables
-tables s = five_tables s.args.states.now s.args.standard.now s.args.leads.now s.args.coefficients.now s.args.counts.now
+-- nothing refuses
+none : (c : In_ok-n) → 0 ≡ draw_number c.args.settings (too_short (lent_mut c.args.tables)) c.args.levels.now
+unfolding refusal_of
+none c = c.in_ok-n.ensures.refusal_value ∙ ap (λ (b : Bool). draw_number c.args.settings b c.args.levels.now) c.too_short.ensures
 
--- it is tested whether anything refuses
-module _ (d : After-draw_refusal-found) where
-  abbrev lengths : After-too_short-short
-  lengths = (goal.at.After-draw_refusal-found d).After-too_short-short
+pub returns-in_err-n : goal.returns-in_err-n
+unfolding refusal_of
+returns-in_err-n c =
+    let t : Tables = lent_mut c.args.tables in
+    let e = c.in_err-n.field-0.0 in
+    let told : c.from_residual.result ≡ Err e = search rules in
+    let counted = c.in_err-n.ensures.refusal_value ∙ ap (λ (b : Bool). draw_number c.args.settings b c.args.levels.now) c.too_short.ensures in
+    rw told (drawn_alone e t ∙ draw_refused c.args.settings t c.args.levels.now (number_of e) counted (number_above_0 e))
 
-  abbrev s : Start
-  s = (goal.at.After-too_short-short lengths).Start
+pub draw_points-requires-clause-points_given : goal.draw_points-requires-clause-points_given
+draw_points-requires-clause-points_given c =
+    let r = (goal.at.draw_points-requires-clause-points_given c).In_ok-n in
+    let w = c.in_ok-n.ensures.tabled c.in_ok-n.n refl in
+    draw_given c.args.settings (lent_mut c.args.tables) c.args.levels.now 0 (none r) refl c.in_ok-n.n c.gather_levels.new.points w.0 w.1.0
 
-  number : d.draw_refusal-found.result.refusal ≡ draw_number s.args.settings (too_short (tables s)) s.args.levels.now
-  unfolding too_short
-  number = d.draw_refusal-found.ensures.refusal_value ∙ ap (λ (b : Bool). draw_number s.args.settings b s.args.levels.now) lengths.too_short-short.ensures
-
-  abbrev points : List ℕ
-  points = d.draw_refusal-found.new.points
-
-  abbrev times : List ℕ
-  times = d.draw_refusal-found.new.times
-
-  long_points : length points ≡ 512
-  long_points = d.draw_refusal-found.auto.points
-
-  long_times : length times ≡ 64
-  long_times = d.draw_refusal-found.auto.times
-
--- the places, one from the next: nothing refuses, and the tables are lent
-abbrev asked : After-struct_known-1 → After-draw_refusal-found
-asked c = (goal.at.After-struct_known-1 c).After-draw_refusal-found
-
-abbrev passed : After-pivots-1 → Else-found-ne0
-passed c = (goal.at.After-pivots-1 c).Else-found-ne0
-
-abbrev drawing : After-pivots-2-1 → After-draw_points
-drawing c = (goal.at.After-pivots-2-1 c).After-draw_points
-
-pub draw_refusal-found-requires : goal.draw_refusal-found-requires
-draw_refusal-found-requires c = (refl, refl)
-
-pub returns-then-found-ne0 : goal.returns-then-found-ne0
-returns-then-found-ne0 c = let d = asked (goal.at.returns-then-found-ne0 c).After-struct_known-1 in
-    let s = s d in
-    drawn_alone c.refused_drawing.ensures (tables s) ∙ draw_refused s.args.settings (tables s) s.args.levels.now d.draw_refusal-found.result.refusal (number d) c.if-found-ne0.true
-
-pub slice_bounds-draw_points-end : goal.slice_bounds-draw_points-end
-slice_bounds-draw_points-end c = sym (long_points (asked (goal.at.slice_bounds-draw_points-end c).After-struct_known-1))
-
-pub slice_bounds-draw_points-end-2 : goal.slice_bounds-draw_points-end-2
-slice_bounds-draw_points-end-2 c = sym (long_times (asked (goal.at.slice_bounds-draw_points-end-2 c).After-struct_known-1))
-
-pub draw_points-requires : goal.draw_points-requires
-draw_points-requires c = let e = passed (goal.at.draw_points-requires c).After-pivots-1 in
-    let d = asked (goal.at.Else-found-ne0 e).After-struct_known-1 in
-    let s = s d in
-    let w = d.draw_refusal-found.ensures.n_value e.if-found-ne0.false in record { points_given = draw_given s.args.settings (tables s) s.args.levels.now d.draw_refusal-found.result.refusal (number d) e.if-found-ne0.false d.draw_refusal-found.result.n (points d) w.0 w.1.0; times_len = long_times d; counts_value = enough s.args.settings (tables s) s.args.levels.now d.draw_refusal-found.result.refusal (number d) e.if-found-ne0.false; rows_long = (refl, refl) }
-
-pub shape_of-states : goal.shape_of-states
-shape_of-states c = (drawing (goal.at.shape_of-states c).After-pivots-2-1).draw_points.auto.states
-
-pub shape_of-standard : goal.shape_of-standard
-shape_of-standard c = (drawing (goal.at.shape_of-standard c).After-pivots-2-1).draw_points.auto.standard
-
-pub shape_of-leads : goal.shape_of-leads
-shape_of-leads c = (drawing (goal.at.shape_of-leads c).After-pivots-2-1).draw_points.auto.leads
-
-pub shape_of-coefficients : goal.shape_of-coefficients
-shape_of-coefficients c = (drawing (goal.at.shape_of-coefficients c).After-pivots-2-1).draw_points.auto.coefficients
-
-pub shape_of-counts : goal.shape_of-counts
-shape_of-counts c = (drawing (goal.at.shape_of-counts c).After-pivots-2-1).draw_points.auto.counts
+pub draw_points-requires-clause-counts_value : goal.draw_points-requires-clause-counts_value
+draw_points-requires-clause-counts_value c = enough c.args.settings (lent_mut c.args.tables) c.args.levels.now 0 (none (goal.at.draw_points-requires-clause-counts_value c).In_ok-n) refl
 
 pub returns : goal.returns
-returns c = let r = drawing (goal.at.returns c).After-pivots-2-1 in
-    let e = passed (goal.at.After-draw_points r).After-pivots-1 in
-    let d = asked (goal.at.Else-found-ne0 e).After-struct_known-1 in
-    let s = s d in
-    let w = d.draw_refusal-found.ensures.n_value e.if-found-ne0.false in
-    r.draw_points.ensures.counts_after
-    ∙ draw_done s.args.settings (tables s) s.args.levels.now d.draw_refusal-found.result.refusal (number d) e.if-found-ne0.false d.draw_refusal-found.result.n (points d) w.0 w.1.0 (times d) w.1.1
+returns c =
+    let r = (goal.at.returns c).In_ok-n in
+    let w = c.in_ok-n.ensures.tabled c.in_ok-n.n refl in
+    c.draw_points.ensures.counts_after
+    ∙ draw_done c.args.settings (lent_mut c.args.tables) c.args.levels.now 0 (none r) refl c.in_ok-n.n c.gather_levels.new.points w.0 w.1.0 c.gather_levels.new.times w.1.1

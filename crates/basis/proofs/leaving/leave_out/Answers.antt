@@ -1,96 +1,75 @@
 -- `leaving::leave_out` meets its contract: refused, or the points without the variable are drawn up.
-use mathlib.Core.Path.{◌≡◌, sym, ap, subst, ◌∙◌}
+use mathlib.Core.Path.{◌≡◌, refl, sym, ap, subst, ◌∙◌}
 use mathlib.Core.Bool.{Bool}
-use mathlib.Core.List.{List}
 use Prim.Native.Nat.{ℕ, ◌-◌}
+use Rattle.std.proofs.Common.{rules, Err}
 use Rattle.specification.specs.declared.settings.Settings.{Settings}
+use Rattle.specification.specs.Answers.{number_of, refusal_of, answer_of, drawn_of}
+use Rattle.specification.specs.Lent.{lent, lent_mut}
 use Rattle.specification.specs.Refusal.{first_of}
-use Rattle.specification.specs.Tables.{Tables, five_tables, too_short, points_in, held_in}
+use Rattle.specification.specs.Tables.{too_short, points_in, held_in}
 use Rattle.specification.specs.Adding.{uncosted, holding_both}
 use Rattle.specification.specs.LeaveOut.{without_variable, leave_out_cases}
+use Rattle.specification.proofs.Refused.{number_above_0}
 use Rattle.construction.specs.Drawing.{PointsGiven}
 use Rattle.points.specs.Gathering.{TabledAs}
 use Rattle.recognition.proofs.settings.ByNumber.{alone}
-use Rattle.basis.proofs.leaving.Outcome.{leave_refused, lent, in_settings, leave_given, leave_done}
+use Rattle.basis.proofs.leaving.Outcome.{leave_refused, long_left, in_settings, leave_given, leave_done}
 use Rattle.basis.proofs.leaving.leave_out.Goals as goal
-use Rattle.basis.proofs.leaving.leave_out.Goals.{After-leave_refusal-found, After-one_fewer, After-pivots-3-1, After-struct_known-1, Else-found-ne0, Start}
+use Rattle.basis.proofs.leaving.leave_out.Goals.{After-too_short, In_ok-k}
 
--- the tables that are read, and those for the result
-abbrev tables : Start → Tables
-tables s = five_tables s.args.states.now s.args.standard.now s.args.leads.now s.args.coefficients.now s.args.counts.now
-
-abbrev result : Start → Tables
-result s =
-    five_tables s.args.left_states.now s.args.left_standard.now s.args.left_leads.now s.args.left_coefficients.now
-    s.args.left_counts.now
-
--- the number is known
-module _ (g : After-leave_refusal-found) where
-  abbrev s : Start
-  s = (goal.at.After-leave_refusal-found g).Start
-
+-- the number of a call, by whether the tables for the result are too short
+module _ (c : After-too_short) where
   abbrev number_by : Bool → ℕ
-  number_by short = first_of 0 (leave_out_cases s.args.settings s.args.n s.args.r (tables s) s.args.variable short)
+  number_by short = first_of 0 (leave_out_cases c.args.settings c.args.n c.args.r (lent c.args.tables) c.args.variable short)
 
-  number : g.leave_refusal-found.result.refusal ≡ number_by (too_short (result s))
-  unfolding too_short
-  number = g.leave_refusal-found.ensures.refusal_value ∙ ap number_by g.too_short-short.ensures
-
-abbrev judged : After-struct_known-1 → After-leave_refusal-found
-judged c = (goal.at.After-struct_known-1 c).After-leave_refusal-found
+  short_is : number_by c.too_short.result ≡ number_by (too_short (lent_mut c.args.left))
+  short_is = ap number_by c.too_short.ensures
 
 -- nothing refuses
-module _ (o : After-one_fewer) where
-  abbrev x : Else-found-ne0
-  x = (goal.at.After-one_fewer o).Else-found-ne0
+module _ (c : In_ok-k) where
+  abbrev o : After-too_short
+  o = (goal.at.In_ok-k c).After-too_short
 
-  abbrev g : After-leave_refusal-found
-  g = judged (goal.at.Else-found-ne0 x).After-struct_known-1
+  none : 0 ≡ number_by o (too_short (lent_mut c.args.left))
+  unfolding refusal_of
+  none = c.in_ok-k.ensures.refusal_value ∙ short_is o
 
-  abbrev b : Start
-  b = s g
+  tabled : TabledAs (without_variable (c.args.variable - 1) (held_in c.args.settings c.args.n (lent c.args.tables))) c.in_ok-k.k c.gather_left.new.points c.gather_left.new.times
+  tabled = c.in_ok-k.ensures.tabled_as c.in_ok-k.k refl
 
-  abbrev points : List ℕ
-  points = g.leave_refusal-found.new.points
+pub returns-in_err-k : goal.returns-in_err-k
+unfolding refusal_of
+returns-in_err-k c =
+    let a = c.args in
+    let e = c.in_err-k.field-0.0 in
+    let told : c.from_residual.result ≡ Err e = search rules in
+    rw told (alone e (lent_mut a.left)
+    ∙ leave_refused a.settings a.n a.r (lent a.tables) a.variable (lent_mut a.left) (number_of e)
+    (c.in_err-k.ensures.refusal_value ∙ short_is (goal.at.returns-in_err-k c).After-too_short) (number_above_0 e))
 
-  abbrev times : List ℕ
-  times = g.leave_refusal-found.new.times
+pub one_fewer-fewer-requires : goal.one_fewer-fewer-requires
+one_fewer-fewer-requires c =
+    let a = c.args in in_settings a.settings a.n a.r (lent a.tables) a.variable (lent_mut a.left) 0 (none (goal.at.one_fewer-fewer-requires c).In_ok-k) refl
 
-  tabled : TabledAs (without_variable (b.args.variable - 1) (held_in b.args.settings b.args.n (tables b))) g.leave_refusal-found.result.n points times
-  tabled = g.leave_refusal-found.ensures.tabled_as x.if-found-ne0.false
+pub draw_points-drawn-requires-clause-points_given : goal.draw_points-drawn-requires-clause-points_given
+draw_points-drawn-requires-clause-points_given c =
+    let r = (goal.at.draw_points-drawn-requires-clause-points_given c).In_ok-k in
+    let a = c.args in
+    subst (λ (q : Settings). PointsGiven q c.in_ok-k.k c.gather_left.new.points) (sym c.one_fewer-fewer.ensures)
+    (leave_given a.settings a.n a.r (lent a.tables) a.variable (lent_mut a.left) 0 (none r) refl (tabled r))
 
--- and the points are drawn up
-abbrev fewer_by : After-pivots-3-1 → After-one_fewer
-fewer_by c = (goal.at.After-pivots-3-1 c).After-one_fewer
-
-pub returns-then-found-ne0 : goal.returns-then-found-ne0
-returns-then-found-ne0 c = let g = judged (goal.at.returns-then-found-ne0 c).After-struct_known-1 in
-    let a = (s g).args in
-    alone c.refused.ensures (result (s g))
-    ∙ leave_refused a.settings a.n a.r (tables (s g)) a.variable (result (s g)) _ (number g) c.if-found-ne0.true
-
-pub one_fewer-requires : goal.one_fewer-requires
-one_fewer-requires c = let g = judged (goal.at.one_fewer-requires c).After-struct_known-1 in
-    let a = (s g).args in
-    in_settings a.settings a.n a.r (tables (s g)) a.variable (result (s g)) _ (number g) c.if-found-ne0.false
-
-pub draw_points-drawn-requires : goal.draw_points-drawn-requires
-draw_points-drawn-requires c = let o = fewer_by (goal.at.draw_points-drawn-requires c).After-pivots-3-1 in
-    let g = g o in
-    let a = (b o).args in record {
-      points_given = subst (λ (q : Settings). PointsGiven q g.leave_refusal-found.result.n (points o)) (sym o.one_fewer.ensures)
-          (leave_given a.settings a.n a.r (tables (b o)) a.variable (result (b o)) _ (number g) (x o).if-found-ne0.false (tabled o));
-      times_len = g.leave_refusal-found.auto.times;
-      counts_value = lent a.settings a.n a.r (tables (b o)) a.variable (result (b o)) _ (number g) (x o).if-found-ne0.false;
-      rows_long = (g.leave_refusal-found.auto.rows, g.leave_refusal-found.auto.pivots);
-    }
+pub draw_points-drawn-requires-clause-counts_value : goal.draw_points-drawn-requires-clause-counts_value
+draw_points-drawn-requires-clause-counts_value c =
+    let a = c.args in
+    long_left a.settings a.n a.r (lent a.tables) a.variable (lent_mut a.left) 0 (none (goal.at.draw_points-drawn-requires-clause-counts_value c).In_ok-k) refl
 
 pub returns : goal.returns
-returns c = let w = c in
-    let o = fewer_by (goal.at.returns w).After-pivots-3-1 in
-    let g = g o in
-    let a = (b o).args in
-    let u = result (b o) in
-    ap uncosted w.draw_points-drawn.ensures.counts_after
-    ∙ ap (λ (q : Settings). holding_both q (points_in q g.leave_refusal-found.result.n (points o)) (times o) u) o.one_fewer.ensures
-    ∙ leave_done a.settings a.n a.r (tables (b o)) a.variable u _ (number g) (x o).if-found-ne0.false (tabled o)
+unfolding answer_of drawn_of
+returns c =
+    let r = (goal.at.returns c).In_ok-k in
+    let a = c.args in
+    let u = lent_mut a.left in
+    ap uncosted c.draw_points-drawn.ensures.counts_after
+    ∙ ap (λ (q : Settings). holding_both q (points_in q c.in_ok-k.k c.gather_left.new.points) c.gather_left.new.times u) c.one_fewer-fewer.ensures
+    ∙ leave_done a.settings a.n a.r (lent a.tables) a.variable u 0 (none r) refl (tabled r)
