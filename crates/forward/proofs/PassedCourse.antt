@@ -25,7 +25,7 @@ use Rattle.specification.specs.CallByCall.{HoldsBasis}
 use Rattle.specification.proofs.Numbers.{at_most, never}
 use Rattle.notation.specs.Fields.{records_of}
 use Rattle.notation.specs.Forms.{Header}
-use Rattle.comma_text.specs.declared.reading.Refusal.{Refusal}
+use Rattle.comma_text.specs.reading.Answers.{Refusal}
 use Rattle.comma_text.specs.reading.Text.{further, first_fault, first_after, is_none, header_in, no_header, entries_in, Contents, contents_of, not_refused, settings_by, header_cases, TextCase}
 use Rattle.comma_text.proofs.reading.TextCases.{passed}
 use Rattle.comma_text.proofs.reading.FirstPlaces.{fault_step}

@@ -1,15 +1,17 @@
 -- Running a time course forward from its text: the call's refusals with the record at fault, in document 02's order (M-111), and what an accepted call leaves.
-use Rattle.std.specs.Prelude.{Bool, not, cond, ◌||◌, List, ◌∷◌, ◌++◌, map, ℕ, length, eqb, ltb}
+use Rattle.std.specs.Prelude.{Bool, not, cond, ◌||◌, List, ◌∷◌, ◌++◌, map, ℕ, length, eqb, ltb, Result, Ok, Err}
 use Rattle.std.proofs.Math.Option.{get_or}
 use Rattle.residue.specs.Layout.{over}
 use Rattle.specification.specs.Refusal.{first_of}
-use Rattle.specification.specs.Tables.{Tables, five_tables, too_short}
+use Rattle.specification.specs.Answers.{number_of}
+use Rattle.specification.specs.Tables.{Tables, too_short}
+use Rattle.specification.specs.declared.refusals.Fault.{Fault}
 use Rattle.notation.specs.Fields.{records_of}
-use Rattle.comma_text.specs.declared.reading.Refusal.{Refusal}
+use Rattle.comma_text.specs.reading.Answers.{Refusal}
 use Rattle.comma_text.specs.reading.Text.{header_in, no_header, Contents, contents_of, refusal_at, not_refused, broken_at, TextCase, settings_by, header_cases, entry_case}
 use Rattle.courses.specs.TimeCourse.{Timed, course_cases, told_return, course_return, course_sheet, course_model}
 use Rattle.course_text.specs.Form.{course_form_fault, all_timed, first_state_outside}
-use Rattle.forward.specs.declared.running.Course.{Course}
+use Rattle.forward.specs.declared.running.Course as R
 
 -- the records of a text of right form
 unfoldable pub timed_by : Contents → List Timed
@@ -31,6 +33,33 @@ time_cases text fault e short c =
     ∷ (header_cases (settings_by e.header) short
     ++ (entry_case 9 (first_state_outside e.header.modulus e.header.variables e.entries) ∷ records_cases c (timed_by e)))
 
+-- The refusal with the record at fault, the header being 1; or 0 with the settings, the counts of the points' sheet, the step at which the run comes back to a
+-- state and how many steps ago that was met, 0 and 0 where it does not come back.
+pub record Course : Type 0 where
+  pub refusal : ℕ
+  pub at : ℕ
+  pub modulus : ℕ
+  pub variables : ℕ
+  pub order : ℕ
+  pub n : ℕ
+  pub r : ℕ
+  pub step : ℕ
+  pub back : ℕ
+
+unfoldable pub course_answer : Result R.Course Fault → Course
+course_answer (Ok a) = record {
+  refusal = 0;
+  at = 0;
+  modulus = a.modulus;
+  variables = a.variables;
+  order = a.order;
+  n = a.n;
+  r = a.r;
+  step = a.step;
+  back = a.back;
+}
+course_answer (Err f) = record { refusal = number_of f.refusal; at = f.at; modulus = 0; variables = 0; order = 0; n = 0; r = 0; step = 0; back = 0 }
+
 -- the answer, and the lent buffers at exit
 pub record CourseOutcome : Type 0 where
   pub answer : Course
@@ -38,9 +67,8 @@ pub record CourseOutcome : Type 0 where
   pub interpolants : List ℕ
   pub weights : List ℕ
 
-abbrev pub course_ended : Course → List ℕ → List ℕ → List ℕ → List ℕ → List ℕ → List ℕ → List ℕ → CourseOutcome
-course_ended r states standard leads coefficients counts interpolants weights =
-    record { answer = r; tables = five_tables states standard leads coefficients counts; interpolants = interpolants; weights = weights }
+abbrev pub course_ended : Course → Tables → List ℕ → List ℕ → CourseOutcome
+course_ended r tables interpolants weights = record { answer = r; tables = tables; interpolants = interpolants; weights = weights }
 
 -- 'the settings, the points' sheet, the interpolants .., and that step with the distance back to the earlier visit'
 unfoldable pub course_accepted : Contents → ℕ → Tables → List ℕ → List ℕ → CourseOutcome

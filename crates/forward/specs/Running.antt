@@ -1,11 +1,13 @@
 -- What is decided of records, and what is written of them, as the code does it. No public promise names these: they serve the contracts of
 -- the functions that run a course.
-use Rattle.std.specs.Prelude.{◌≡◌, Bool, List, [], ◌∷◌, ◌++◌, ℕ, ◌<◌, length, get_or, replicate}
+use Rattle.std.specs.Prelude.{◌≡◌, Bool, List, [], ◌∷◌, ◌++◌, ℕ, ◌<◌, length, get_or, replicate, Result, Ok, Err}
 use Rattle.residue.specs.Sizes.{pivot_rows_size}
 use Rattle.residue.specs.Layout.{fill, in_places, over, row_at}
 use Rattle.specification.specs.declared.settings.Settings.{Settings}
 use Rattle.specification.specs.Refusal.{first_of}
-use Rattle.specification.specs.Tables.{Tables, five_tables, points_in, standard_table}
+use Rattle.specification.specs.Answers.{number_of}
+use Rattle.specification.specs.Tables.{Tables, points_in, standard_table}
+use Rattle.specification.specs.declared.refusals.Fault.{Fault}
 use Rattle.specification.specs.Adding.{Outcome, holding_both}
 use Rattle.construction.specs.Drawing.{Solves, PivotBytes, pivot_rows_under}
 use Rattle.points.specs.Gathering.{TabledAs}
@@ -16,9 +18,19 @@ use Rattle.courses.specs.TimeCourse.{Timed, course_of, moves_of, points_of_moves
 use Rattle.courses.specs.Moves.{FirstsOf}
 use Rattle.steps.specs.Stepping.{solutions_of, step_of}
 use Rattle.course_text.specs.Form.{first_state_outside}
-use Rattle.forward.specs.Outcome.{CourseOutcome, timed_by, records_cases, course_accepted, course_decided}
-use Rattle.forward.specs.declared.running.Course.{Course}
-use Rattle.forward.specs.declared.running.Decided.{Decided}
+use Rattle.forward.specs.Outcome.{Course, CourseOutcome, timed_by, records_cases, course_accepted, course_decided}
+use Rattle.forward.specs.declared.running.Decided as R
+
+-- The refusal of records with the record at fault, or 0 with the number of points and where the course's first record stands.
+pub record Decided : Type 0 where
+  pub refusal : ℕ
+  pub at : ℕ
+  pub n : ℕ
+  pub first : ℕ
+
+unfoldable pub decided_of : Result R.Decided Fault → Decided
+decided_of (Ok d) = record { refusal = 0; at = 0; n = d.n; first = d.first }
+decided_of (Err f) = record { refusal = number_of f.refusal; at = f.at; n = 0; first = 0 }
 
 -- `decide`: the refusal of the records with its own record; or 0, the points with their counts and a record for each, and the place of the
 -- course's first record
@@ -62,9 +74,8 @@ pub record RunOutcome : Type 0 where
   pub tables : Tables
   pub interpolants : List ℕ
 
-abbrev pub run_ended : Course → List ℕ → List ℕ → List ℕ → List ℕ → List ℕ → List ℕ → RunOutcome
-run_ended r states standard leads coefficients counts interpolants =
-    record { answer = r; tables = five_tables states standard leads coefficients counts; interpolants = interpolants }
+abbrev pub run_ended : Course → Tables → List ℕ → RunOutcome
+run_ended r tables interpolants = record { answer = r; tables = tables; interpolants = interpolants }
 
 abbrev pub run_cases : Contents → ℕ → Bool → List TextCase
 run_cases e c short = header_cases (settings_by e.header) short

@@ -32,7 +32,7 @@ use Rattle.steps.specs.Stepping.{step_of}
 use Rattle.steps.proofs.model.ModelLaws.{next_below}
 use Rattle.courses.proofs.theory.Forward.{passes, rare_points, course_entries}
 use Rattle.steps.proofs.InBytes.{Followed, genes_are, model_bytes, run_bytes}
-use Rattle.forward.specs.declared.running.Course.{Course}
+use Rattle.forward.specs.Outcome.{Course}
 use Rattle.forward.specs.Running.{sheet_of, pivots_of, genes_in, return_in, CourseWritten}
 
 false_true : false ≡ true → ⊥

@@ -11,7 +11,7 @@ use Rattle.residue.specs.Lists.{some}
 use Rattle.residue.specs.Layout.{fill, row_at}
 use Rattle.courses.specs.TimeCourse.{Timed, course_of}
 use Rattle.courses.specs.Moves.{MovesGathered}
-use Rattle.courses.specs.declared.moves.Gathered.{Gathered}
+use Rattle.courses.specs.Moves.{Gathered}
 use Rattle.courses.proofs.moves.MovesAnswers.{course_told}
 use Rattle.forward.specs.Running.{DecidedAs}
 

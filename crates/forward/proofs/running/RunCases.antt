@@ -10,12 +10,12 @@ use borrow.Author.Tests.{eq-eqb, ne_eqb, eqb-true}
 use Rattle.specification.specs.declared.settings.Settings.{Settings}
 use Rattle.specification.specs.Refusal.{first_of}
 use Rattle.specification.specs.Tables.{Tables}
-use Rattle.comma_text.specs.declared.reading.Refusal.{Refusal}
+use Rattle.comma_text.specs.reading.Answers.{Refusal}
 use Rattle.comma_text.specs.reading.Text.{TextCase, not_refused, refusal_at, header_cases, entry_case}
 use Rattle.comma_text.specs.reading.Points.{levels_at, saying}
 use Rattle.comma_text.proofs.reading.TextCases.{Allowed, room, settings_over, first_of_both, place_refuses, place_passes}
 use Rattle.courses.specs.TimeCourse.{Timed, course_cases, course_refusal, told_return, course_return, course_sheet, course_model}
-use Rattle.forward.specs.declared.running.Course.{Course}
+use Rattle.forward.specs.Outcome.{Course}
 use Rattle.course_text.specs.Form.{all_timed, first_state_outside}
 use Rattle.forward.specs.Outcome.{timed_by, records_cases, refused_course, course_accepted, course_refused, course_decided}
 use Rattle.forward.specs.Running.{RunOutcome, without_weights, run_cases, run_outcome}

@@ -1,5 +1,5 @@
 -- The whole text of a time course, from its length to what is left.
-use mathlib.Core.Path.{◌≡◌, refl, sym, ap, ap₂, subst, ◌∙◌}
+use mathlib.Core.Path.{◌≡◌, refl, sym, ap, subst, ◌∙◌}
 use mathlib.Core.Bool.{Bool, true, false, cond}
 use mathlib.Core.List.{List, [], ◌∷◌, ◌++◌, map}
 use mathlib.Core.Option.{Option, some, none, get_or}
@@ -14,8 +14,8 @@ use Rattle.specification.specs.Refusal.{first_of}
 use Rattle.specification.specs.Tables.{Tables}
 use Rattle.notation.specs.Fields.{records_of, part, faulty}
 use Rattle.notation.specs.Forms.{Header}
-use Rattle.comma_text.specs.declared.reading.Refusal.{Refusal}
 use Rattle.std.specs.Prelude.{Ok}
+use Rattle.comma_text.specs.reading.Answers.{Refusal}
 use Rattle.comma_text.specs.declared.reading.records.Refused.{Refused}
 use Rattle.comma_text.specs.reading.Records.{refused_at}
 use Rattle.comma_text.specs.reading.Text.{further, first_after, header_in, no_header, entry_in, entries_in, Contents, contents_of, refusal_at, not_refused, settings_by}
@@ -138,12 +138,12 @@ module _ (t : List ℕ) (c : ℕ) (u : Tables) (g w : List ℕ) where
               course_decided (first_of not_refused (time_cases t (further (first_after (course_fault k.variables) [] es)) f short c)) (course_accepted f c u g w) u g w
 
       pub course_broken : (r at : ℕ) → refused_at r at ≡ counted_courses k.variables [] (entries_at k.variables rest)
-          → course_refused (refusal_at r at) u g w ≡ course_outcome t c u g w
+          → course_refused (refusal_at 2 at) u g w ≡ course_outcome t c u g w
       unfolding further
       course_broken r at q =
           let f = counted_faulty k.variables r at [] (entries_at k.variables rest) q in
           let i : place ≡ at = rw (ne_eqb (first_after (course_fault k.variables) [] (entries_at k.variables rest)) 0 (λ z. omega (arith, z, f.found))) (omega (arith, f.record_is)) in
-          ap₂ (λ (x y : ℕ). course_refused (refusal_at x y) u g w) f.refusal (sym i)
+          ap (λ (x : ℕ). course_refused (refusal_at 2 x) u g w) (sym i)
           ∙ by_refusal place says (refusal_at 2 place) (refuse_2 place says (λ z. omega (arith, z, i, f.record_is))) (λ z. omega (arith, z))
           ∙ sym outcome
 

@@ -1,38 +1,42 @@
 -- `running::run_records` meets its contract: the settings, the records' levels and the records decide, and what nothing refuses is written.
 use mathlib.Core.Path.{◌≡◌, refl, sym, ap, ◌∙◌}
+use mathlib.Core.Bool.{Bool}
 use mathlib.Core.List.{List}
 use Prim.Native.Nat.{ℕ, suc, ◌+◌, ◌*◌, ◌≤◌}
 use native.Mathlib.Omega.{arith}
 use lib.IntN.{ℤ}
 use lib.ListN.{length, drop, length-drop, length-map}
 use Rattle.std.specs.Prelude.{Result, Ok, Err}
+use Rattle.std.proofs.lemmas.Result.{err_from_is_err_and}
 use Rattle.residue.specs.Layout.{length_fill}
 use Rattle.residue.specs.Lists.{Among}
 use Rattle.residue.specs.Vector.{Below}
 use Rattle.residue.proofs.Layouts.{fill_zeros}
 use Rattle.residue.proofs.level.Moduli.{modulus_range}
+use Rattle.specification.specs.Answers.{number_of}
+use Rattle.specification.specs.Lent.{lent_mut}
 use Rattle.specification.specs.declared.settings.Settings.{Settings}
 use Rattle.specification.specs.Settings.{Accepted}
 use Rattle.specification.specs.Points.{IsPoint}
-use Rattle.specification.specs.Tables.{Tables, five_tables}
 use Rattle.specification.specs.Refusal.{first_of}
-use Rattle.comma_text.specs.reading.Text.{refusal_at, not_refused}
+use Rattle.specification.proofs.RefusalNumbers.{numbered}
+use Rattle.comma_text.specs.reading.Answers.{fault_of}
+use Rattle.comma_text.specs.reading.Text.{refusal_at, not_refused, header_cases}
+use Rattle.comma_text.specs.reading.Records.{entries_at, counted_entries}
 use Rattle.comma_text.specs.reading.Points.{levels_at}
 use Rattle.comma_text.proofs.reading.FirstPlaces.{fault_le}
 use Rattle.comma_text.proofs.reading.TextCases.{Allowed, room}
 use Rattle.comma_text.proofs.reading.WholeText.{count_small}
-use Rattle.courses.specs.TimeCourse.{Timed, course_refusal}
+use Rattle.courses.specs.TimeCourse.{Timed}
 use Rattle.courses.specs.Records.{RecordedAs, HeldIn}
 use Rattle.course_text.specs.Reading.{place_outside}
-use Rattle.forward.specs.declared.running.Course.{Course}
 use Rattle.course_text.specs.Form.{all_timed, timed_of, first_state_outside}
-use Rattle.forward.specs.Outcome.{refused_course}
-use Rattle.forward.specs.Running.{RunOutcome, DecidedAs}
+use Rattle.forward.specs.Outcome.{course_answer}
+use Rattle.forward.specs.Running.{decided_of}
 use Rattle.forward.proofs.running.Recorded.{entries_all, each_point, held, records_low}
-use Rattle.forward.proofs.running.RunCases.{cases, settings_refuse, state_refuses, records_decide, run_refused, run_accepted, run_written}
+use Rattle.forward.proofs.running.RunCases.{settings_refuse, state_refuses, records_decide, run_refused, run_accepted, run_written}
 use Rattle.forward.proofs.running.Accepted.{given, inside, answer_is, tables_are, genes_told}
 use Rattle.forward.proofs.running.run_records.Goals as goal
-use Rattle.forward.proofs.running.run_records.Goals.{After-decide-decided, After-read_records, After-settings_refusal-first, In_default, Else-refusal-ne0, Start}
 
 -- a place of the first fault is one of the list's
 outside_few : (p m : ℕ) (E : List (List ℤ)) → first_state_outside p m E ≤ length E
@@ -43,59 +47,50 @@ timed_many : (p m : ℕ) (E : List (List ℤ)) → length (all_timed p m E) ≡ 
 unfolding all_timed
 timed_many p m E = length-map E (timed_of p m)
 
-module _ (b : Start) where
-  abbrev s : Settings
-  s = b.args.settings
+-- settings and lengths that are not refused
+space : (s : Settings) (short : Bool) {x : Unit {0}} → fault_of (Ok x) ≡ first_of not_refused (header_cases s short) → Allowed s short
+unfolding fault_of
+space s short e = room s short _ e refl
 
-  abbrev text : List ℕ
-  text = drop b.args.from b.args.text.now
+accepted : {s : Settings} {short : Bool} → Allowed s short → s.order ≤ 3 → Accepted s
+accepted h order = record { modulus = h.modulus; some = h.some; few = h.few; order = order; weights = h.right }
 
+module _ (s : Settings) (text : List ℕ) (n : ℕ) (counted : counted_entries 0 (entries_at s.variables text) ≡ Ok n) where
   abbrev E : List (List ℤ)
   E = levels_at s.variables text
 
   abbrev l : List Timed
   l = all_timed s.modulus s.variables E
 
-  abbrev lent : Tables
-  lent = five_tables b.args.states.now b.args.standard.now b.args.leads.now b.args.coefficients.now b.args.counts.now
+  all : length E ≡ n
+  all = (entries_all s.variables n text counted).1
 
-  abbrev genes : List ℕ
-  genes = b.args.interpolants.now
-
-  all : length E ≡ b.args.entries
-  all = (entries_all s.variables b.args.entries text b.requires.text_value).1
-
-  few : b.args.entries ≤ 16384
-  few = count_small s.variables b.args.entries text (omega (arith, length-drop b.args.from b.args.text.now, b.requires.from_in_bounds.1)) b.requires.text_value
-
-  many : length l ≡ b.args.entries
+  many : length l ≡ n
   many = timed_many s.modulus s.variables E ∙ all
 
-  -- an answer that leaves all as it was; one in the place of another
-  abbrev left : Course → RunOutcome
-  left x = record { answer = x; tables = lent; interpolants = genes }
+  -- the place of a level out of range
+  place_few : {k : ℕ} → length text ≤ 16384 → k ≡ first_state_outside s.modulus s.variables E → k ≤ 16384
+  place_few h e = omega (arith, e, outside_few s.modulus s.variables E, all, count_small s.variables n text h counted)
 
-  ended : {x y : Course} → x ≡ y → left x ≡ left y
-  ended e = ap left e
+  -- the records are read
+  module _ (ok : Accepted s) (none : first_state_outside s.modulus s.variables E ≡ 0) where
+    each : (a : Timed) → Among a l → IsPoint s a.0
+    each = each_point s ok E (entries_all s.variables n text counted).0 none
 
-abbrev start : After-settings_refusal-first → Start
-start r = (goal.at.After-settings_refusal-first r).Start
+    holds : {table numbers : List ℕ} → RecordedAs l table numbers → HeldIn s.variables l table numbers
+    holds r = held s ok E (entries_all s.variables n text counted).0 none r
 
-abbrev passed : After-read_records → Else-refusal-ne0
-passed q = (goal.at.After-read_records q).Else-refusal-ne0
+    low : {table numbers : List ℕ} → RecordedAs l table numbers → Below s.modulus table
+    low r = records_low s ok E (entries_all s.variables n text counted).0 none r
 
-abbrev found : After-decide-decided → In_default
-found d = (goal.at.After-decide-decided d).In_default
+table_long : {l : List Timed} {table numbers : List ℕ} → RecordedAs l table numbers → length table ≡ 32768
+table_long r = ap (λ (t : List ℕ). length t) r.states ∙ length_fill 32768 _
 
-abbrev of : After-read_records → Start
-of q = start (goal.at.Else-refusal-ne0 (passed q)).After-settings_refusal-first
+numbers_long : {l : List Timed} {table numbers : List ℕ} → RecordedAs l table numbers → length numbers ≡ 4096
+numbers_long r = ap (λ (t : List ℕ). length t) r.courses ∙ length_fill 4096 _
 
--- settings and lengths
-space : (c : Else-refusal-ne0) → Allowed (s (start (goal.at.Else-refusal-ne0 c).After-settings_refusal-first)) (start (goal.at.Else-refusal-ne0 c).After-settings_refusal-first).args.short
-space c = room _ _ c.settings_refusal-first.result c.settings_refusal-first.ensures c.if-refusal-ne0.false
-
-accepted : (c : Else-refusal-ne0) → Accepted (s (start (goal.at.Else-refusal-ne0 c).After-settings_refusal-first))
-accepted c = let h = space c in record { modulus = h.modulus; some = h.some; few = h.few; order = (start (goal.at.Else-refusal-ne0 c).After-settings_refusal-first).requires.order_bound.0; weights = h.right }
+rows_fit : {l : List Timed} {table numbers : List ℕ} → RecordedAs l table numbers → 8 * length l ≤ length table
+rows_fit r = omega (arith, table_long r, r.few)
 
 -- the place, from 1, of the record that was out of range, or 0
 all_read : (r : Result (Unit {0}) ℕ) → ((k : ℕ) → r ≡ Err k → ⊥) → place_outside r ≡ 0
@@ -107,145 +102,142 @@ one_outside : (r : Result (Unit {0}) ℕ) (k : ℕ) → r ≡ Err k → place_ou
 unfolding place_outside
 one_outside r k e = ap place_outside e
 
--- the records are read
-module _ (c : In_default) where
-  abbrev q : After-read_records
-  q = (goal.at.In_default c).After-read_records
+-- the text's part is no longer than the text
+part_small : (from : ℕ) (text : List ℕ) → length text ≤ 16384 → length (drop from text) ≤ 16384
+part_small from text h = omega (arith, length-drop from text, h)
 
-  abbrev b : Start
-  b = of q
-
-  abbrev ok : Accepted (s b)
-  ok = accepted (passed q)
-
-  all_inside : place_outside q.read_records.result ≡ 0
-  all_inside = all_read q.read_records.result c.in_default.not-Err
-
-  none : first_state_outside (s b).modulus (s b).variables (E b) ≡ 0
-  none = sym q.read_records.ensures.place ∙ all_inside
-
-  abbrev table : List ℕ
-  table = q.read_records.new.records
-
-  abbrev numbers : List ℕ
-  numbers = q.read_records.new.numbers
-
-  recorded : RecordedAs (l b) table numbers
-  recorded = q.read_records.ensures.recorded all_inside
-
-  each : (a : Timed) → Among a (l b) → IsPoint (s b) a.0
-  each = each_point (s b) ok (E b) (entries_all (s b).variables b.args.entries (text b) b.requires.text_value).0 none
-
-  holds : HeldIn (s b).variables (l b) table numbers
-  holds = held (s b) ok (E b) (entries_all (s b).variables b.args.entries (text b) b.requires.text_value).0 none recorded
-
-  low : Below (s b).modulus table
-  low = records_low (s b) ok (E b) (entries_all (s b).variables b.args.entries (text b) b.requires.text_value).0 none recorded
-
-  table_long : length table ≡ 32768
-  table_long = ap (λ (t : List ℕ). length t) recorded.states ∙ length_fill 32768 _
-
-  numbers_long : length numbers ≡ 4096
-  numbers_long = ap (λ (t : List ℕ). length t) recorded.courses ∙ length_fill 4096 _
-
-  rows_fit : 8 * length (l b) ≤ length table
-  rows_fit = omega (arith, table_long, recorded.few)
-
--- they are decided
-module _ (d : After-decide-decided) where
-  abbrev f : In_default
-  f = found d
-
-  abbrev a : Start
-  a = b f
-
-  abbrev points : List ℕ
-  points = d.decide-decided.new.points
-
-  abbrev times : List ℕ
-  times = d.decide-decided.new.times
-
-  abbrev firsts : List ℕ
-  firsts = d.decide-decided.new.firsts
-
-  decided : DecidedAs a.args.course (l a) (table f) d.decide-decided.result points times firsts
-  decided = d.decide-decided.ensures (s a).variables (l a) (holds f) (many a)
-
-  zero : d.decide-decided.result.refusal ≡ 0 → (course_refusal a.args.course (l a)).0 ≡ 0
-  zero z = sym (ap (λ (x : ℕ × ℕ). x.0) decided.answer) ∙ z
-
-  firsts_long : length firsts ≡ 64
-  firsts_long = d.decide-decided.auto.firsts
-
-pub returns-then-refusal-ne0 : goal.returns-then-refusal-ne0
-returns-then-refusal-ne0 c = let r = c in
-    let b = start (goal.at.returns-then-refusal-ne0 r).After-settings_refusal-first in
-    ended b c.refused.ensures
-    ∙ run_refused (s b) (text b) b.args.course b.args.short (lent b) (genes b) r.settings_refusal-first.result
-    (settings_refuse (s b) (text b) b.args.course b.args.short r.settings_refusal-first.result r.settings_refusal-first.ensures c.if-refusal-ne0.true) c.if-refusal-ne0.true
+pub returns-in_err-check_settings : goal.returns-in_err-check_settings
+unfolding course_answer fault_of
+returns-in_err-check_settings c =
+    let p = err_from_is_err_and c.from_residual.result c.from_residual.ensures.1 in
+    let f = c.in_err-check_settings.field-0.0 in
+    let s = c.args.settings in
+    let text = drop c.args.from c.args.text.now in
+    let first = settings_refuse s text c.args.course c.args.short _ c.in_err-check_settings.ensures (numbered f.refusal) in
+    rw (p.1, p.2) (run_refused s text c.args.course c.args.short (lent_mut c.args.tables) c.args.interpolants.now _ first (numbered f.refusal))
 
 pub overflow_cast-p : goal.overflow_cast-p
-overflow_cast-p c = let h = modulus_range _ (space (goal.at.overflow_cast-p c).Else-refusal-ne0).modulus in omega arith
+overflow_cast-p c = let h = modulus_range _ (space c.args.settings c.args.short c.in_ok-check_settings.ensures).modulus in omega arith
 
-pub read_records-requires : goal.read_records-requires
-read_records-requires c = let e = c in
-    let b = start (goal.at.read_records-requires e).After-settings_refusal-first in
-    let h = space (goal.at.read_records-requires e).Else-refusal-ne0 in
-    let k = modulus_range _ h.modulus in record { at_in_bounds = (b.requires.from_in_bounds.0, b.requires.from_in_bounds.1, h.some, h.few, omega arith); text_value = b.requires.text_value; records_value = (sym (fill_zeros 32768), sym (fill_zeros 4096)) }
+pub read_records-requires-clause-at_in_bounds : goal.read_records-requires-clause-at_in_bounds
+read_records-requires-clause-at_in_bounds c =
+    let h = space c.args.settings c.args.short c.in_ok-check_settings.ensures in
+    let k = modulus_range _ h.modulus in
+    (c.requires.from_in_bounds.0, c.requires.from_in_bounds.1, h.some, h.few, omega arith)
 
--- the place of a level out of range
-place_few : (q : After-read_records) → place_outside q.read_records.result ≤ 16384
-place_few q = let b = of q in omega (arith, q.read_records.ensures.place, outside_few (s b).modulus (s b).variables (E b), all b, few b)
+pub read_records-requires-clause-records_value : goal.read_records-requires-clause-records_value
+read_records-requires-clause-records_value c = (sym (fill_zeros 32768), sym (fill_zeros 4096))
 
-pub overflow_cast-record : goal.overflow_cast-record
-overflow_cast-record c = omega (arith, one_outside _ _ c.in-Err.is, place_few (goal.at.overflow_cast-record c).After-read_records)
+pub overflow_cast-result : goal.overflow_cast-result
+overflow_cast-result c =
+    let few = place_few c.args.settings (drop c.args.from c.args.text.now) c.args.entries c.requires.text_value
+    (part_small c.args.from c.args.text.now c.requires.from_in_bounds.1) c.read_records.ensures.place in
+    omega (arith, one_outside c.read_records.result c.in-Err.record c.in-Err.is, few)
 
-pub overflow_add-record : goal.overflow_add-record
-overflow_add-record c = omega (arith, one_outside _ _ c.in-Err.is, place_few (goal.at.overflow_add-record c).After-read_records)
+pub overflow_add-result : goal.overflow_add-result
+overflow_add-result c =
+    let few = place_few c.args.settings (drop c.args.from c.args.text.now) c.args.entries c.requires.text_value
+    (part_small c.args.from c.args.text.now c.requires.from_in_bounds.1) c.read_records.ensures.place in
+    omega (arith, one_outside c.read_records.result c.in-Err.record c.in-Err.is, few)
 
 pub returns-in-Err : goal.returns-in-Err
-returns-in-Err c = let q = (goal.at.returns-in-Err c).After-read_records in
-    let b = of q in
+unfolding course_answer number_of
+returns-in-Err c =
     let k = place_outside c.read_records.result in
-    let i = one_outside _ _ c.in-Err.is in
+    let s = c.args.settings in
+    let text = drop c.args.from c.args.text.now in
+    let h = space s c.args.short c.in_ok-check_settings.ensures in
+    let i = one_outside c.read_records.result c.in-Err.record c.in-Err.is in
     let j : c.in-Err.record + 2 ≡ suc k = omega (arith, i) in
-    ended b (c.refused-in-Err.ensures ∙ ap (λ (j : ℕ). refused_course (refusal_at 9 j)) j)
-    ∙ run_refused (s b) (text b) b.args.course b.args.short (lent b) (genes b) (refusal_at 9 (suc k))
-    (state_refuses (s b) (text b) b.args.course b.args.short (space (passed q)) k c.read_records.ensures.place (λ z. omega (arith, i, z))) (λ z. omega (arith, z))
+    rw j
+    (run_refused s text c.args.course c.args.short (lent_mut c.args.tables) c.args.interpolants.now (refusal_at 9 (suc k))
+    (state_refuses s text c.args.course c.args.short h k c.read_records.ensures.place (λ z. omega (arith, i, z))) (λ z. omega (arith, z)))
 
-pub decide-decided-requires : goal.decide-decided-requires
-decide-decided-requires c = let f = c in record { count_le_most_records = (omega (arith, (recorded (goal.at.decide-decided-requires f).In_default).few, many (b (goal.at.decide-decided-requires f).In_default)), table_long (goal.at.decide-decided-requires f).In_default, numbers_long (goal.at.decide-decided-requires f).In_default); points_value = (refl, refl, refl) }
+pub decide-requires-clause-count_le_most_records : goal.decide-requires-clause-count_le_most_records
+decide-requires-clause-count_le_most_records c =
+    let r = c.read_records.ensures.recorded (all_read c.read_records.result c.in_default.not-Err) in
+    (omega (arith, r.few, many c.args.settings (drop c.args.from c.args.text.now) c.args.entries c.requires.text_value), table_long r, numbers_long r)
 
--- what the records decide
-told : (d : After-decide-decided) → let a = a d in
-    refusal_at d.decide-decided.result.refusal d.decide-decided.result.at ≡ first_of not_refused (cases (s a) (text a) a.args.course a.args.short)
-told d = let a = a d in
-    records_decide (s a) (text a) a.args.course a.args.short (space (passed (q (f d)))) (none (f d)) d.decide-decided.result.refusal d.decide-decided.result.at (decided d).answer
+pub returns-in_err-decided : goal.returns-in_err-decided
+unfolding course_answer decided_of
+returns-in_err-decided c =
+    let p = err_from_is_err_and c.from_residual-in_err-decided.result c.from_residual-in_err-decided.ensures.1 in
+    let f = c.in_err-decided.field-0.0 in
+    let s = c.args.settings in
+    let text = drop c.args.from c.args.text.now in
+    let h = space s c.args.short c.in_ok-check_settings.ensures in
+    let ok = accepted h c.requires.order_bound.0 in
+    let r = c.read_records.ensures.recorded (all_read c.read_records.result c.in_default.not-Err) in
+    let none = sym c.read_records.ensures.place ∙ all_read c.read_records.result c.in_default.not-Err in
+    let d = c.in_err-decided.ensures s.variables (l s text c.args.entries c.requires.text_value)
+    (holds s text c.args.entries c.requires.text_value ok none r) (many s text c.args.entries c.requires.text_value) in
+    rw (p.1, p.2)
+    (run_refused s text c.args.course c.args.short (lent_mut c.args.tables) c.args.interpolants.now (refusal_at (number_of f.refusal) f.at)
+    (records_decide s text c.args.course c.args.short h none _ _ d.answer) (numbered f.refusal))
 
-pub returns-then-beyond-ne0 : goal.returns-then-beyond-ne0
-returns-then-beyond-ne0 c = let d = c in
-    let a = a (goal.at.returns-then-beyond-ne0 d).After-decide-decided in
-    ended a c.refused-then-beyond-ne0.ensures
-    ∙ run_refused (s a) (text a) a.args.course a.args.short (lent a) (genes a) (refusal_at d.decide-decided.result.refusal d.decide-decided.result.at) (told (goal.at.returns-then-beyond-ne0 d).After-decide-decided) c.if-beyond-ne0.true
+pub write_course-requires-clause-points_given : goal.write_course-requires-clause-points_given
+unfolding decided_of
+write_course-requires-clause-points_given c =
+    let s = c.args.settings in
+    let text = drop c.args.from c.args.text.now in
+    let k = c.requires.text_value in
+    let ok = accepted (space s c.args.short c.in_ok-check_settings.ensures) c.requires.order_bound.0 in
+    let r = c.read_records.ensures.recorded (all_read c.read_records.result c.in_default.not-Err) in
+    let none = sym c.read_records.ensures.place ∙ all_read c.read_records.result c.in_default.not-Err in
+    let d = c.in_ok-decided.ensures s.variables (l s text c.args.entries k) (holds s text c.args.entries k ok none r) (many s text c.args.entries k) in
+    let zero = sym (ap (λ (x : ℕ × ℕ). x.0) d.answer) in
+    (given s ok c.args.course (l s text c.args.entries k) (each s text c.args.entries k ok none) zero (d.tabled refl), ap (λ (t : List ℕ). length t) (d.tabled refl).times ∙ length_fill 64 _)
 
-pub write_course-requires : goal.write_course-requires
-write_course-requires c = let z = c.if-beyond-ne0.false in
-    let d = c in
-    let f = f (goal.at.write_course-requires d).After-decide-decided in
-    let a = a (goal.at.write_course-requires d).After-decide-decided in
-    let tab = (decided (goal.at.write_course-requires d).After-decide-decided).tabled z in
-    let o = a.requires.counts_value (space (passed (q f))).long in record { points_given = (given (s a) (ok f) a.args.course (l a) (each f) (zero (goal.at.write_course-requires d).After-decide-decided z) tab, ap (λ (t : List ℕ). length t) tab.times ∙ length_fill 64 _); counts_value = o; records_len = (table_long f, low f, omega (arith, (decided (goal.at.write_course-requires d).After-decide-decided).inside z, (recorded f).few)); firsts_len = (firsts_long (goal.at.write_course-requires d).After-decide-decided, inside (s a) (ok f) a.args.course (l a) (each f) (zero (goal.at.write_course-requires d).After-decide-decided z) tab ((decided (goal.at.write_course-requires d).After-decide-decided).kept z) (rows_fit f) (low f) (firsts_long (goal.at.write_course-requires d).After-decide-decided)) }
+pub write_course-requires-clause-counts_value : goal.write_course-requires-clause-counts_value
+write_course-requires-clause-counts_value c = c.requires.counts_value (space c.args.settings c.args.short c.in_ok-check_settings.ensures).long
+
+pub write_course-requires-clause-records_len : goal.write_course-requires-clause-records_len
+unfolding decided_of
+write_course-requires-clause-records_len c =
+    let s = c.args.settings in
+    let text = drop c.args.from c.args.text.now in
+    let k = c.requires.text_value in
+    let ok = accepted (space s c.args.short c.in_ok-check_settings.ensures) c.requires.order_bound.0 in
+    let r = c.read_records.ensures.recorded (all_read c.read_records.result c.in_default.not-Err) in
+    let none = sym c.read_records.ensures.place ∙ all_read c.read_records.result c.in_default.not-Err in
+    let d = c.in_ok-decided.ensures s.variables (l s text c.args.entries k) (holds s text c.args.entries k ok none r) (many s text c.args.entries k) in
+    (table_long r, low s text c.args.entries k ok none r, omega (arith, d.inside refl, r.few))
+
+pub write_course-requires-clause-firsts_len : goal.write_course-requires-clause-firsts_len
+unfolding decided_of
+write_course-requires-clause-firsts_len c =
+    let s = c.args.settings in
+    let text = drop c.args.from c.args.text.now in
+    let k = c.requires.text_value in
+    let ok = accepted (space s c.args.short c.in_ok-check_settings.ensures) c.requires.order_bound.0 in
+    let r = c.read_records.ensures.recorded (all_read c.read_records.result c.in_default.not-Err) in
+    let none = sym c.read_records.ensures.place ∙ all_read c.read_records.result c.in_default.not-Err in
+    let d = c.in_ok-decided.ensures s.variables (l s text c.args.entries k) (holds s text c.args.entries k ok none r) (many s text c.args.entries k) in
+    let zero = sym (ap (λ (x : ℕ × ℕ). x.0) d.answer) in (
+      c.decide.auto.firsts,
+      inside s ok c.args.course (l s text c.args.entries k) (each s text c.args.entries k ok none) zero (d.tabled refl) (d.kept refl) (rows_fit r)
+          (low s text c.args.entries k ok none r) c.decide.auto.firsts,
+    )
 
 pub returns : goal.returns
-returns c = let w = c in
-    let z = w.if-beyond-ne0.false in
-    let d = w in
-    let f = f (goal.at.returns d).After-decide-decided in
-    let a = a (goal.at.returns d).After-decide-decided in
-    let tab = (decided (goal.at.returns d).After-decide-decided).tabled z in
-    let known = w.write_course.ensures in
-    run_written (s a) (text a) a.args.course a.args.short (lent a) (genes a)
-    (answer_is (s a) (ok f) a.args.course (l a) (each f) (zero (goal.at.returns d).After-decide-decided z) tab ((decided (goal.at.returns d).After-decide-decided).kept z) (rows_fit f) (low f) (firsts_long (goal.at.returns d).After-decide-decided) ((decided (goal.at.returns d).After-decide-decided).first z) known)
-    (tables_are (s a) (ok f) a.args.course (l a) (each f) (zero (goal.at.returns d).After-decide-decided z) tab ((decided (goal.at.returns d).After-decide-decided).kept z) (rows_fit f) (low f) (firsts_long (goal.at.returns d).After-decide-decided) ((decided (goal.at.returns d).After-decide-decided).first z) known)
-    (genes_told (s a) (ok f) a.args.course (l a) (each f) (zero (goal.at.returns d).After-decide-decided z) tab ((decided (goal.at.returns d).After-decide-decided).kept z) (rows_fit f) (low f) (firsts_long (goal.at.returns d).After-decide-decided) ((decided (goal.at.returns d).After-decide-decided).first z) known)
-    ∙ run_accepted (s a) (text a) a.args.course a.args.short (lent a) (genes a) (refusal_at d.decide-decided.result.refusal d.decide-decided.result.at) (told (goal.at.returns d).After-decide-decided) z
+unfolding decided_of
+returns c =
+    let s = c.args.settings in
+    let text = drop c.args.from c.args.text.now in
+    let k = c.requires.text_value in
+    let n = c.args.entries in
+    let h = space s c.args.short c.in_ok-check_settings.ensures in
+    let ok = accepted h c.requires.order_bound.0 in
+    let r = c.read_records.ensures.recorded (all_read c.read_records.result c.in_default.not-Err) in
+    let none = sym c.read_records.ensures.place ∙ all_read c.read_records.result c.in_default.not-Err in
+    let d = c.in_ok-decided.ensures s.variables (l s text n k) (holds s text n k ok none r) (many s text n k) in
+    let zero = sym (ap (λ (x : ℕ × ℕ). x.0) d.answer) in
+    run_written s text c.args.course c.args.short (lent_mut c.args.tables) c.args.interpolants.now
+    (answer_is s ok c.args.course (l s text n k) (each s text n k ok none) zero (d.tabled refl) (d.kept refl) (rows_fit r) (low s text n k ok none r)
+    c.decide.auto.firsts (d.first refl) c.write_course.ensures)
+    (tables_are s ok c.args.course (l s text n k) (each s text n k ok none) zero (d.tabled refl) (d.kept refl) (rows_fit r) (low s text n k ok none r)
+    c.decide.auto.firsts (d.first refl) c.write_course.ensures)
+    (genes_told s ok c.args.course (l s text n k) (each s text n k ok none) zero (d.tabled refl) (d.kept refl) (rows_fit r) (low s text n k ok none r)
+    c.decide.auto.firsts (d.first refl) c.write_course.ensures)
+    ∙ run_accepted s text c.args.course c.args.short (lent_mut c.args.tables) c.args.interpolants.now (refusal_at 0 0)
+    (records_decide s text c.args.course c.args.short h none _ _ d.answer) refl
