@@ -1,7 +1,6 @@
 -- The theory over the definitions: the basis exists, is unique and is what is computed; agreement; the worked examples.
 pub mod Refused
 pub mod Cases
-pub mod RefusalNumbers
 pub mod Repeats
 pub mod ideal
 pub mod drawing

@@ -11,7 +11,7 @@ use Rattle.residue.proofs.level.Moduli.{modulus_range}
 use Rattle.residue.proofs.Layouts.{fill_zeros}
 use Rattle.specification.specs.Refusal.{first_of}
 use Rattle.specification.specs.declared.settings.Settings.{Settings}
-use Rattle.specification.proofs.RefusalNumbers.{numbered}
+use Rattle.specification.proofs.Refused.{number_above_0}
 use Rattle.comma_text.specs.reading.Answers.{Refusal, fault_of, Gathered, gathered_of, read_of}
 use Rattle.comma_text.specs.reading.Text.{Contents, valued_points, entries_cases, header_cases, not_refused, refusal_at}
 use Rattle.comma_text.specs.reading.Text.{text_refused}
@@ -69,7 +69,7 @@ returns-in_err-check_settings c =
     let p = err_from_is_err_and c.from_residual.result c.from_residual.ensures.1 in
     let f = c.in_err-check_settings.field-0.0 in
     let d = first c.args.settings c.short_buffers-short.ensures c.in_err-check_settings.ensures in
-    rw (p.1, p.2) (text_refused_lem _ _ _ _ _ _ _ (first_of_both _ _ _ (numbered f.refusal) d) (numbered f.refusal))
+    rw (p.1, p.2) (text_refused_lem _ _ _ _ _ _ _ (first_of_both _ _ _ (number_above_0 f.refusal) d) (number_above_0 f.refusal))
 
 pub overflow_cast-p : goal.overflow_cast-p
 overflow_cast-p c =
@@ -91,7 +91,7 @@ returns-in_err-n c =
     let p = err_from_is_err_and c.from_residual-in_err-n.result c.from_residual-in_err-n.ensures.1 in
     let f = c.in_err-n.field-0.0 in
     let h = space _ c.short_buffers-short.ensures c.in_ok-check_settings.ensures in
-    rw (p.1, p.2) (text_refused_lem _ _ _ _ _ _ _ (decided c.args.settings _ c.in_err-n.ensures h) (numbered f.refusal))
+    rw (p.1, p.2) (text_refused_lem _ _ _ _ _ _ _ (decided c.args.settings _ c.in_err-n.ensures h) (number_above_0 f.refusal))
 
 pub copy-requires : goal.copy-requires
 copy-requires c =

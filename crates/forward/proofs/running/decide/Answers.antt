@@ -5,7 +5,7 @@ use native.Mathlib.Omega.{arith}
 use Rattle.std.specs.Prelude.{Ok, Err}
 use Rattle.std.proofs.lemmas.Result.{err_from_is_err_and}
 use Rattle.specification.specs.Answers.{number_of}
-use Rattle.specification.proofs.RefusalNumbers.{numbered}
+use Rattle.specification.proofs.Refused.{number_above_0}
 use Rattle.courses.specs.Moves.{gathered_of}
 use Rattle.courses.proofs.moves.CoursePlaces.{found_named, found_first}
 use Rattle.forward.specs.Running.{decided_of}
@@ -17,7 +17,7 @@ unfolding decided_of gathered_of
 returns-in_err-n c m l held all =
     let p = err_from_is_err_and c.from_residual.result c.from_residual.ensures.1 in
     let f = c.in_err-n.field-0.0 in
-    rw (p.1, p.2) (moves_refuse c.args.course (gathered_of (Err f)) (c.in_err-n.ensures m l held all) (numbered f.refusal))
+    rw (p.1, p.2) (moves_refuse c.args.course (gathered_of (Err f)) (c.in_err-n.ensures m l held all) (number_above_0 f.refusal))
 
 pub returns-then-first-count : goal.returns-then-first-count
 unfolding decided_of gathered_of

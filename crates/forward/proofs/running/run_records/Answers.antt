@@ -19,7 +19,7 @@ use Rattle.specification.specs.declared.settings.Settings.{Settings}
 use Rattle.specification.specs.Settings.{Accepted}
 use Rattle.specification.specs.Points.{IsPoint}
 use Rattle.specification.specs.Refusal.{first_of}
-use Rattle.specification.proofs.RefusalNumbers.{numbered}
+use Rattle.specification.proofs.Refused.{number_above_0}
 use Rattle.comma_text.specs.reading.Answers.{fault_of}
 use Rattle.comma_text.specs.reading.Text.{refusal_at, not_refused, header_cases}
 use Rattle.comma_text.specs.reading.Records.{entries_at, counted_entries}
@@ -113,8 +113,8 @@ returns-in_err-check_settings c =
     let f = c.in_err-check_settings.field-0.0 in
     let s = c.args.settings in
     let text = drop c.args.from c.args.text.now in
-    let first = settings_refuse s text c.args.course c.args.short _ c.in_err-check_settings.ensures (numbered f.refusal) in
-    rw (p.1, p.2) (run_refused s text c.args.course c.args.short (lent_mut c.args.tables) c.args.interpolants.now _ first (numbered f.refusal))
+    let first = settings_refuse s text c.args.course c.args.short _ c.in_err-check_settings.ensures (number_above_0 f.refusal) in
+    rw (p.1, p.2) (run_refused s text c.args.course c.args.short (lent_mut c.args.tables) c.args.interpolants.now _ first (number_above_0 f.refusal))
 
 pub overflow_cast-p : goal.overflow_cast-p
 overflow_cast-p c = let h = modulus_range _ (space c.args.settings c.args.short c.in_ok-check_settings.ensures).modulus in omega arith
@@ -173,7 +173,7 @@ returns-in_err-decided c =
     (holds s text c.args.entries c.requires.text_value ok none r) (many s text c.args.entries c.requires.text_value) in
     rw (p.1, p.2)
     (run_refused s text c.args.course c.args.short (lent_mut c.args.tables) c.args.interpolants.now (refusal_at (number_of f.refusal) f.at)
-    (records_decide s text c.args.course c.args.short h none _ _ d.answer) (numbered f.refusal))
+    (records_decide s text c.args.course c.args.short h none _ _ d.answer) (number_above_0 f.refusal))
 
 pub write_course-requires-clause-points_given : goal.write_course-requires-clause-points_given
 unfolding decided_of

@@ -13,7 +13,7 @@ use Rattle.specification.specs.Answers.{number_of}
 use Rattle.specification.specs.Lent.{lent_mut}
 use Rattle.specification.specs.Tables.{Tables, too_short}
 use Rattle.specification.specs.declared.settings.Settings.{Settings}
-use Rattle.specification.proofs.RefusalNumbers.{numbered}
+use Rattle.specification.proofs.Refused.{number_above_0}
 use Rattle.notation.specs.Forms.{Header}
 use Rattle.comma_text.specs.reading.Text.{settings_by}
 use Rattle.comma_text.specs.reading.Records.{header_said, entries_at}
@@ -95,7 +95,7 @@ returns-in_err-ran c =
     rw (p.1, p.2)
     (course_kept c.args.text.now c.args.course u c.args.interpolants.now c.args.weights.now c.if-text-gt16384.false h rest (sym c.in-Some.ensures.said)
     c.in-Ok.n c.in-Ok.ensures _
-    (ran (settings_by h) rest c.args.course u c.args.interpolants.now c.args.weights.now c.short_buffers-short.ensures c.in_err-ran.ensures) (numbered f.refusal))
+    (ran (settings_by h) rest c.args.course u c.args.interpolants.now c.args.weights.now c.short_buffers-short.ensures c.in_err-ran.ensures) (number_above_0 f.refusal))
 
 pub copy-requires : goal.copy-requires
 unfolding course_answer

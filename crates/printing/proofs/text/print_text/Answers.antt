@@ -2,7 +2,7 @@
 use mathlib.Core.Path.{refl, sym}
 use native.Mathlib.Omega.{arith}
 use Rattle.specification.specs.Answers.{number_of}
-use Rattle.specification.proofs.RefusalNumbers.{within, numbered}
+use Rattle.specification.proofs.Refused.{number_above_0, number_small}
 use Rattle.comma_text.specs.reading.Answers.{read_of}
 use Rattle.writing.proofs.appending.Appends.{put_within}
 use Rattle.printing.proofs.lines.LongestPrint.{refusal_length}
@@ -14,17 +14,17 @@ returns-then-out-lt131072-clause-fact_1 c = print_short _ _ c.if-out-lt131072.tr
 
 pub put_refusal-requires : goal.put_refusal-requires
 put_refusal-requires c =
-    let b = within c.in-Err.fault.refusal in
+    let b = number_small c.in-Err.fault.refusal in
     let l = refusal_length (number_of c.in-Err.fault.refusal) c.in-Err.fault.at (omega arith) (omega arith) in
     omega arith
 
 pub returns-in-Err-clause-fact_1 : goal.returns-in-Err-clause-fact_1
 unfolding read_of
-returns-in-Err-clause-fact_1 c = print_long _ _ c.if-out-lt131072.false (printed_refusal c.in-Err.ensures (numbered c.in-Err.fault.refusal)) c.put_refusal.ensures
+returns-in-Err-clause-fact_1 c = print_long _ _ c.if-out-lt131072.false (printed_refusal c.in-Err.ensures (number_above_0 c.in-Err.fault.refusal)) c.put_refusal.ensures
 
 pub returns-in-Err-clause-fact_2 : goal.returns-in-Err-clause-fact_2
 returns-in-Err-clause-fact_2 c =
-    let b = within c.in-Err.fault.refusal in
+    let b = number_small c.in-Err.fault.refusal in
     let l = refusal_length (number_of c.in-Err.fault.refusal) c.in-Err.fault.at (omega arith) (omega arith) in
     put_within c.put_refusal.ensures (omega arith)
 
