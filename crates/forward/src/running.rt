@@ -101,8 +101,7 @@ fn decide(
             first: 0,
         };
     }
-    let first = first_of_course(count, numbers, course);
-    if first < count {
+    if let Some(first) = first_of_course(count, numbers, course) {
         return Decided {
             refusal: 0,
             at: 0,
