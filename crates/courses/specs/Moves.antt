@@ -1,5 +1,5 @@
 -- Moves as the code finds them among records in two tables. No public promise names these: they serve the contracts of the functions that gather moves.
-use Rattle.std.specs.Prelude.{◌≡◌, Bool, cond, ◌&&◌, not, List, [], ◌∷◌, ℕ, suc, ◌+◌, ◌<◌, length, get_or, take, eqb, ltb, Result, Ok, Err}
+use Rattle.std.specs.Prelude.{◌≡◌, Bool, cond, ◌&&◌, not, List, [], ◌∷◌, Option, Some, None, ℕ, zero, suc, ◌+◌, ◌<◌, length, get_or, take, eqb, ltb, Result, Ok, Err}
 use Rattle.residue.specs.Lists.{same_list}
 use Rattle.residue.specs.Layout.{fill, row_at}
 use Rattle.specification.specs.Refusal.{first_of}
@@ -57,6 +57,11 @@ pub record MovesGathered (l : List Timed) (records : List ℕ) (g : Gathered) (p
   pub answer : (g.refusal, g.at) ≡ first_of (0, 0) (moves_cases (moves_of l))
   pub tabled : g.refusal ≡ 0 → TabledAs (points_of_moves (moves_of l)) g.n points counts
   pub kept : g.refusal ≡ 0 → FirstsOf (moves_of l) (length l) records firsts
+
+-- the number of a record, which is 1 or more: 0 stands for none
+abbrev pub some_record : ℕ → Option ℕ
+some_record zero = None
+some_record (suc k) = Some (suc k)
 
 -- 8 at record i of the list, unless 17 is due at a record; 0 where it is not
 unfoldable pub many_answer : ℕ → ℕ → Gathered

@@ -1,11 +1,11 @@
 // The moves of records: the distinct states that have a successor, how often each has one, and a record where it has.
-ghost use Rattle.std.specs.Prelude.{◌≡◌, cond, ◌&&◌, ◌||◌, List, [], ℕ, suc, ◌+◌, ◌*◌, ◌<◌, ◌≤◌, eqb, length, get_or, set, take, replicate, Err};
+ghost use Rattle.std.specs.Prelude.{◌≡◌, unwrap_or, IfSome, cond, ◌&&◌, ◌||◌, List, [], ℕ, suc, ◌+◌, ◌*◌, ◌<◌, ◌≤◌, eqb, length, get_or, set, take, replicate, Err};
 ghost use Rattle.residue.specs.Sizes.{most_points, states_size, counts_size};
 ghost use Rattle.residue.specs.Lists.{same_list};
 ghost use Rattle.residue.specs.Layout.{row_at};
 ghost use Rattle.courses.specs.TimeCourse.{Timed, moves_of, first_move, other_next};
 ghost use Rattle.courses.specs.Records.{most_records, records_size, HeldIn};
-ghost use Rattle.courses.specs.Moves.{has_next, move_at, moves_before, next_in, other_in, gathered_of, many_answer, MovesGathered, place_of_course};
+ghost use Rattle.courses.specs.Moves.{has_next, move_at, moves_before, next_in, other_in, gathered_of, some_record, many_answer, MovesGathered, place_of_course};
 
 use points::gathering::{HINTS, enter};
 use points::places::key;
@@ -64,19 +64,19 @@ fn has_other(i: usize, count: usize, records: &[u8], numbers: &[u8]) -> bool
     false
 }
 
-// The first record of the text at which a state stands with another successor than before, or 0. It compares each record with all before it, and is asked only
+// The first record of the text at which a state stands with another successor than before. It compares each record with all before it, and is asked only
 // where there are more than 64 points.
-fn first_other(count: usize, records: &[u8], numbers: &[u8]) -> u16
+fn first_other(count: usize, records: &[u8], numbers: &[u8]) -> Option<u16>
     requires { (count ≤ most_records) × (count ≤ length numbers.now) × (8 * count ≤ length records.now) }
     ensures { (m : ℕ) (l : List Timed) → HeldIn m l records.now numbers.now → length l ≡ count
-        → result ≡ first_move other_next [] (moves_of l) }
+        → result ≡ some_record (first_move other_next [] (moves_of l)) }
 {
     for i in 0..count {
         if has_other(i, count, records, numbers) {
-            return i as u16 + 2;
+            return Some(i as u16 + 2);
         }
     }
-    0
+    None
 }
 
 // The number of points, and whether the successor is the one that is kept with its point.
@@ -140,14 +140,13 @@ fn too_many(count: usize, i: usize, records: &[u8], numbers: &[u8]) -> Fault
     ensures { (m : ℕ) (l : List Timed) → HeldIn m l records.now numbers.now → length l ≡ count
         → gathered_of (Err result) ≡ many_answer (first_move other_next [] (moves_of l)) i }
 {
-    let other = first_other(count, records, numbers);
-    if other != 0 {
-        return Fault {
+    match first_other(count, records, numbers) {
+        Some(at) => Fault {
             refusal: Refusal::OtherSuccessor,
-            at: other,
-        };
+            at,
+        },
+        None => at_record(Refusal::TooMany, i),
     }
-    at_record(Refusal::TooMany, i)
 }
 
 // The distinct states with a successor of records, in tables of zeros, with their counts and a record for each, or the refusal that comes first. A state that
@@ -194,15 +193,13 @@ pub fn gather_moves(
     Ok(n)
 }
 
-// Where the first record of a course stands, `count` where no record has its number.
-pub fn first_of_course(count: usize, numbers: &[u8], course: u64) -> usize
+// Where the first record of a course stands, if one has its number.
+pub fn first_of_course(count: usize, numbers: &[u8], course: u64) -> Option<usize>
     requires { count ≤ length numbers.now }
-    ensures { result ≡ place_of_course course (take count numbers.now) }
+    ensures within { IfSome result (λ i. i < count) }
+    ensures place { unwrap_or result count ≡ place_of_course course (take count numbers.now) }
 {
-    for i in 0..count {
-        if numbers[i] as u64 == course {
-            return i;
-        }
-    }
-    count
+    numbers[..count]
+        .iter()
+        .position(|number| u64::from(*number) == course)
 }

@@ -71,8 +71,7 @@ fn decide(
         → DecidedAs course l records.now (decided_of result) points.new times.new firsts.new }
 {
     let n = gather_moves(count, records, numbers, points, times, firsts)?;
-    let first = first_of_course(count, numbers, course);
-    if first < count {
+    if let Some(first) = first_of_course(count, numbers, course) {
         return Ok(Decided { n, first });
     }
     Err(Fault {

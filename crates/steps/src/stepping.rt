@@ -31,9 +31,8 @@ fn put_factors(k: usize, n: usize, standard: &[u8], powers: &[u8], factors: &mut
     requires { (k < 8) × (8 * n ≤ length standard.now) × (length powers.now ≡ 2048) × (n ≤ length factors.old) × (n ≤ 64) }
     ensures { factors.new ≡ over (factors_of k n standard.now powers.now) factors.old }
 {
-    for j in 0..n {
-        let exponent = standard[8 * j + k] as usize;
-        factors[j] = powers[8 * exponent + k];
+    for (j, monomial) in standard[..8 * n].chunks_exact(8).enumerate() {
+        factors[j] = powers[8 * usize::from(monomial[k]) + k];
     }
 }
 

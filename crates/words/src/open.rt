@@ -33,15 +33,15 @@ pub fn pass(at: usize, known: &mut [u64])
     ensures { Passed (λ i. i ≡ at) known.old known.new }
 {
     let w = at / 64;
-    known[w] = known[w] | 1u64 << at % 64;
+    known[w] |= 1u64 << at % 64;
 }
 
 fn meet(a: &mut [u64], b: &[u64])
     requires { (length a.old ≡ 4) × (length b.now ≡ 4) }
     ensures { Wordwise (λ x y. bit_and x y) a.old b.now a.new }
 {
-    for w in 0..4 {
-        a[w] = a[w] & b[w];
+    for (w, word) in b.iter().enumerate() {
+        a[w] &= *word;
     }
 }
 
@@ -49,8 +49,8 @@ fn join(a: &mut [u64], b: &[u64])
     requires { (length a.old ≡ 4) × (length b.now ≡ 4) }
     ensures { Wordwise (λ x y. bit_or x y) a.old b.now a.new }
 {
-    for w in 0..4 {
-        a[w] = a[w] | b[w];
+    for (w, word) in b.iter().enumerate() {
+        a[w] |= *word;
     }
 }
 
@@ -64,7 +64,7 @@ pub fn pass_multiples(byte: u8, multiples: &[u64], known: &mut [u64])
     while left != 0 {
         let from = 4 * u8::trailing_zeros(left) as usize;
         meet(&mut common, &multiples[from..from + 4]);
-        left = left & (left - 1);
+        left &= left - 1;
     }
     join(known, &common);
 }

@@ -35,9 +35,9 @@ fn rest_at(own: u64, pivots: u64, rows: &[u8], columns: &[u64], polynomials: &[u
     let mut left = own & pivots;
     while left != 0 {
         let j = rows[u64::trailing_zeros(left) as usize] as usize;
-        column = column ^ columns[j];
-        polynomial = polynomial ^ polynomials[j];
-        left = left & (left - 1);
+        column ^= columns[j];
+        polynomial ^= polynomials[j];
+        left &= left - 1;
     }
     Left { column, polynomial }
 }

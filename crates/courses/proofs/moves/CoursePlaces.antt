@@ -1,12 +1,12 @@
 -- Where a course begins: the search along the numbers, and what its place says of the records.
 use mathlib.Core.Path.{◌≡◌, refl, sym, ◌∙◌, ap, ap₂}
 use mathlib.Core.Bool.{Bool, true, false, cond, ◌||◌}
+use mathlib.Core.Logic.{◌≢◌}
 use mathlib.Core.List.{List, [], ◌∷◌, map}
-use Prim.Native.Nat.{ℕ, suc, ◌+◌, ◌<◌, ◌≤◌}
+use Prim.Native.Nat.{ℕ, suc, ◌+◌, ◌<◌}
 use native.Mathlib.Numerals.{add-one}
 use native.Mathlib.Omega.{arith}
-use lib.ListN.{length, get_or, take, drop, drop_of_length-le}
-use lib.Seq.{drop-cons, get_or-take, length-take-le}
+use lib.ListN.{length, get_or, take}
 use lib.Dec.{eqb, ltb, leb-suc-suc}
 use borrow.Author.Tests.{lt-ltb, eq-eqb, ne_eqb}
 use Rattle.residue.specs.Lists.{some}
@@ -16,27 +16,18 @@ use Rattle.courses.specs.Records.{HeldIn}
 use Rattle.courses.specs.Moves.{state_at, place_of_course}
 use Rattle.courses.proofs.moves.HeldRecords.{row_is}
 
-pub course_start : (c : ℕ) (l : List ℕ) → 0 + place_of_course c (drop 0 l) ≡ place_of_course c l
-course_start c l = omega arith
-
-module _ (c count : ℕ) (numbers : List ℕ) (i : ℕ) (low : i < count) (room : count ≤ length numbers) where
-  first : drop i (take count numbers) ≡ get_or numbers i 0 ∷ drop (suc i) (take count numbers)
-  first =
-      drop-cons (take count numbers) i 0 (omega (arith, length-take-le count numbers room, low))
-      ∙ ap (λ (k : ℕ). k ∷ drop (suc i) (take count numbers)) (get_or-take count numbers i 0 low)
-
-  pub course_hit : get_or numbers i 0 ≡ c → i ≡ i + place_of_course c (drop i (take count numbers))
-  unfolding place_of_course
-  course_hit e = rw (first, eq-eqb (get_or numbers i 0) c e) (omega arith)
-
-  pub course_on : (get_or numbers i 0 ≡ c → ⊥) → i + 1 + place_of_course c (drop (i + 1) (take count numbers)) ≡ i + place_of_course c (drop i (take count numbers))
-  unfolding place_of_course
-  course_on n = rw (first, ne_eqb (get_or numbers i 0) c n, add-one i) (omega arith)
-
-pub course_end : (c count : ℕ) (numbers : List ℕ) (i : ℕ) → count ≤ i → i ≤ count → count ≤ length numbers
-    → count ≡ i + place_of_course c (drop i (take count numbers))
+-- the place of a course among numbers, by the first of them
+pub course_hit : (c x : ℕ) (l : List ℕ) → x ≡ c → place_of_course c (x ∷ l) ≡ 0
 unfolding place_of_course
-course_end c count numbers i h k room = rw (drop_of_length-le (take count numbers) {i = i} (omega (arith, length-take-le count numbers room, h))) (omega arith)
+course_hit c x l e = rw (eq-eqb x c e) refl
+
+pub course_miss : (c x : ℕ) (l : List ℕ) → x ≢ c → place_of_course c (x ∷ l) ≡ place_of_course c l + 1
+unfolding place_of_course
+course_miss c x l n = rw (ne_eqb x c n) (sym (add-one (place_of_course c l)))
+
+pub course_none : (c : ℕ) → place_of_course c [] ≡ 0
+unfolding place_of_course
+course_none c = refl
 
 -- 18 is given where the place is the end
 pub course_named : (c : ℕ) (l : List Timed) → some (λ a. eqb a.1 c) l ≡ ltb (place_of_course c (map (λ a. a.1) l)) (length l)

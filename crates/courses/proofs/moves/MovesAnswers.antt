@@ -2,7 +2,7 @@
 use mathlib.Core.Path.{◌≡◌, refl, sym, ap, ◌∙◌, subst}
 use mathlib.Core.Bool.{Bool, true, false, not, cond}
 use mathlib.Core.List.{List, [], ◌∷◌}
-use Prim.Native.Nat.{ℕ, ◌+◌}
+use Prim.Native.Nat.{ℕ, zero, suc, ◌+◌}
 use native.Mathlib.Decide.{ℕ_discrete}
 use native.Mathlib.Omega.{arith}
 use lib.ListN.{length}
@@ -14,9 +14,28 @@ use Rattle.specification.proofs.counted.Saturated.{beyond}
 use Rattle.points.proofs.gathering.Gathering.{Holds, held_as}
 use Rattle.courses.specs.TimeCourse.{Timed, Move, moves_of, points_of_moves, first_move, other_next, many_points, often_counted, move_case, moves_cases}
 use Rattle.courses.specs.TimeCourse.{course_cases, course_refusal}
-use Rattle.courses.specs.Moves.{Gathered, many_answer, MovesGathered}
+use Rattle.std.specs.Prelude.{Some, None}
+use Rattle.std.proofs.lemmas.Option.{none-some, same_Some}
+use Rattle.courses.specs.Moves.{Gathered, some_record, many_answer, MovesGathered}
 use Rattle.courses.proofs.moves.FirstMoves.{never_many}
 use Rattle.courses.proofs.moves.MovesGathered.{Gathering}
+
+-- a record's number as an option
+pub some_told : (m : ℕ) → (m ≡ 0 → ⊥) → Some m ≡ some_record m
+some_told zero z = absurd (z refl)
+some_told (suc k) z = refl
+
+pub none_told : (m : ℕ) → m ≡ 0 → None ≡ some_record m
+none_told zero z = refl
+none_told (suc k) z = absurd (omega arith)
+
+pub record_there : (m at : ℕ) → some_record m ≡ Some at → (at ≡ m) × (m ≡ 0 → ⊥)
+record_there zero at e = absurd (none-some at e)
+record_there (suc k) at e = (sym (same_Some (suc k) at e), λ z. omega arith)
+
+pub record_away : (m : ℕ) → some_record m ≡ None → m ≡ 0
+record_away zero e = refl
+record_away (suc k) e = absurd (none-some (suc k) (sym e))
 
 -- 17 where it is due at a record, else 8
 pub other_first : (k i : ℕ) → (k ≡ 0 → ⊥) → record { refusal = 17; at = k; n = 0 } ≡ many_answer k i

@@ -1,22 +1,20 @@
 -- `moves::too_many` meets its contract.
-use mathlib.Core.Path.{ap, ◌∙◌}
-use Prim.Native.Nat.{ℕ}
+use mathlib.Core.Path.{sym, ap, ◌∙◌}
 use Rattle.std.specs.Prelude.{Err}
 use Rattle.specification.specs.Answers.{number_of}
 use Rattle.specification.specs.declared.refusals.Fault.{Fault}
-use Rattle.courses.specs.Moves.{gathered_of, many_answer}
-use Rattle.courses.proofs.moves.MovesAnswers.{other_first, many_first}
+use Rattle.courses.specs.Moves.{gathered_of}
+use Rattle.courses.proofs.moves.MovesAnswers.{record_there, record_away, other_first, many_first}
 use Rattle.courses.proofs.moves.too_many.Goals as goal
 
-pub returns-then-other-ne0 : goal.returns-then-other-ne0
+pub returns-in-Some : goal.returns-in-Some
 unfolding gathered_of number_of
-returns-then-other-ne0 c = let a = c.args in
-    λ m l h e. other_first c.first_other-other.result a.i c.if-other-ne0.true
-    ∙ ap (λ (k : ℕ). many_answer k a.i) (c.first_other-other.ensures m l h e)
+returns-in-Some c m l h e =
+    let t = record_there _ c.in-Some.at (sym (c.first_other.ensures m l h e) ∙ c.in-Some.is) in
+    rw t.0 (other_first _ c.args.i t.1)
 
-pub returns : goal.returns
+pub returns-in-None : goal.returns-in-None
 unfolding gathered_of number_of
-returns c = let a = c.args in
-    λ m l h e.
-    ap (λ (f : Fault). gathered_of (Err f)) c.at_record.ensures ∙ many_first c.first_other-other.result a.i c.if-other-ne0.false
-    ∙ ap (λ (k : ℕ). many_answer k a.i) (c.first_other-other.ensures m l h e)
+returns-in-None c m l h e =
+    ap (λ (f : Fault). gathered_of (Err f)) c.at_record.ensures
+    ∙ many_first _ c.args.i (record_away _ (sym (c.first_other.ensures m l h e) ∙ c.in-None.is))
