@@ -1,14 +1,10 @@
 -- `bytes::copy` meets its contract. The loop has written the entries before i.
-use mathlib.Core.Path.{◌≡◌, refl, ◌∙◌}
+use mathlib.Core.Path.{refl, ◌∙◌}
 use native.Mathlib.Omega.{arith}
-use lib.ListN.{length, get_or}
-use Rattle.residue.proofs.vector.Filled.{filled_none, kept_length, filled_more}
+use lib.ListN.{get_or}
+use Rattle.residue.proofs.vector.Filled.{filled_none, filled_more}
 use Rattle.residue.proofs.bytes.Copies.{copied}
 use Rattle.residue.proofs.bytes.copy.Goals as goal
-use Rattle.residue.proofs.bytes.copy.Goals.{At-loop-i}
-
-long : (l : At-loop-i) → length l.loop-i.to ≡ length l.args.to.now
-long l = kept_length (λ k. get_or l.args.from.now k 0) l.loop-i.i l.args.to.now l.loop-i.to l.loop-i.invariant.1
 
 pub loop-i-init : goal.loop-i-init
 loop-i-init c = (omega arith, filled_none _ _)
