@@ -2,12 +2,11 @@
 use mathlib.Core.Path.{◌≡◌, ap, ◌∙◌}
 use mathlib.Core.List.{List}
 use Prim.Native.Nat.{ℕ, ◌+◌, ◌%◌, ◌<◌, ◌≤◌}
-use native.Mathlib.Nat.{mod-lt}
 use native.Mathlib.Omega.{arith}
 use lib.ListN.{length, get_or}
 use Rattle.residue.specs.Vector.{Below, add_scaled}
 use Rattle.elimination.specs.Elimination.{ZeroFrom}
-use Rattle.residue.proofs.vector.Filled.{filled_none, kept_length, own, filled_more, filled_part}
+use Rattle.residue.proofs.vector.Filled.{filled_none, own, filled_more, filled_part}
 use Rattle.residue.proofs.vector.Vectors.{add_scaled_length, add_scaled_below}
 use Rattle.elimination.proofs.reducing.Multiples.{added_at, added_none}
 use Rattle.elimination.proofs.reducing.gain_three.Invariants.{entry}
@@ -50,15 +49,8 @@ module _ (l : At-loop-i) where
   abbrev g : ℕ → ℕ
   g = entry start.args.p start.args.dst.now start.args.a.now start.args.b.now start.args.c.now
 
-  long : length l.loop-i.dst ≡ length start.args.dst.now
-  long = kept_length g l.loop-i.i start.args.dst.now l.loop-i.dst l.loop-i.invariant.1
-
   here : get_or l.loop-i.dst l.loop-i.i 0 ≡ get_or start.args.dst.now l.loop-i.i 0
   here = own g l.loop-i.i start.args.dst.now l.loop-i.dst l.loop-i.invariant.1 0
-
-  -- a remainder is a residue
-  left : {x : ℕ} (y : ℕ) → x ≡ y % start.args.p → x < start.args.p
-  left y e = rw e (mod-lt y (omega arith))
 
 pub loop-i-init : goal.loop-i-init
 loop-i-init c = (omega arith, filled_none _ _)

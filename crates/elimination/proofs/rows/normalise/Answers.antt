@@ -5,8 +5,7 @@ use mathlib.Core.List.{List, ◌++◌}
 use Prim.Native.Nat.{ℕ, ◌+◌, ◌<◌}
 use native.Mathlib.Decide.{dec_lt}
 use native.Mathlib.Omega.{arith}
-use lib.ListN.{length, get_or, set, take, drop, length-set, take-append-drop}
-use lib.Seq.{length-take-le}
+use lib.ListN.{get_or, set, take, drop, take-append-drop}
 use Rattle.residue.specs.Modulus.{is_modulus}
 use Rattle.residue.specs.Inverse.{inverse_of}
 use Rattle.residue.specs.Vector.{Below, scaled}
@@ -23,9 +22,6 @@ inverse_small p x z = go (is_modulus p) refl (dec_lt x p)
     go true m (yes h) = inverse_below_lem p x m h
     go true m (no h) = rw (no_residue p x (omega (arith, h))) z
     go false m d = rw (no_modulus p x m) z
-
-front_long : (w : List ℕ) (own : ℕ) → own < length w → length (take (own + 1) (set w own 1)) ≡ own + 1
-front_long w own h = length-take-le (own + 1) (set w own 1) (simp length-set (omega arith))
 
 -- the row with its own coefficient, up to that: residues
 front_below : (s : Start) → Below s.args.p (take (s.args.own + 1) (set s.args.work.now s.args.own 1))
