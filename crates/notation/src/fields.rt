@@ -38,17 +38,11 @@ fn quote_end(text: &[u8], at: usize) -> usize
 {
     let mut i = at;
     while i < text.len() {
-        if text[i] != QUOTE {
-            i += 1;
-            continue;
+        match &text[i..] {
+            [QUOTE, QUOTE, ..] => i += 2,
+            [QUOTE, ..] => return i,
+            _ => i += 1,
         }
-        if i + 1 == text.len() {
-            return i;
-        }
-        if text[i + 1] != QUOTE {
-            return i;
-        }
-        i += 2;
     }
     i
 }

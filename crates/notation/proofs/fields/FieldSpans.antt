@@ -26,6 +26,9 @@ rest_size t at = ap length (all_behind t at) ∙ length-drop at t
 pub rest_first : (t : List ℕ) (at : ℕ) → at < length t → get_or (take (length t - at) (drop at t)) 0 0 ≡ get_or t at 0
 rest_first t at h = ap (λ (l : List ℕ). get_or l 0 0) (all_behind t at) ∙ get_or-drop at t 0 0 ∙ ap (λ (j : ℕ). get_or t j 0) (add-zero at)
 
+pub rest_second : (t : List ℕ) (at : ℕ) → get_or (take (length t - at) (drop at t)) 1 0 ≡ get_or t (at + 1) 0
+rest_second t at = ap (λ (l : List ℕ). get_or l 1 0) (all_behind t at) ∙ get_or-drop at t 1 0
+
 pub front_le : (kind : ℕ → Bool) (l : List ℕ) → front kind l ≤ length l
 unfolding front
 front_le kind [] = omega arith

@@ -26,9 +26,6 @@ loop-j-init c = start _ _ _ _ _ c.requires.at_in_bounds.0 c.requires.fact
 pub residue_at-level-requires : goal.residue_at-level-requires
 residue_at-level-requires c = record { at_in_bounds = (c.loop-j.invariant.within, (given (goal.at.residue_at-level-requires c).At-loop-j).requires.at_in_bounds.4); fact = level_there _ _ _ _ _ _ _ _ _ _ c.loop-j.invariant c.loop-j-test.true }
 
-pub bounds-row-j : goal.bounds-row-j
-bounds-row-j c = omega (arith, (turn (goal.at.bounds-row-j c).After-residue_at-level).loop-j.invariant.kept, (given (turn (goal.at.bounds-row-j c).After-residue_at-level)).requires.at_in_bounds)
-
 pub overflow_mul-key : goal.overflow_mul-key
 overflow_mul-key c = omega (arith, key_small (goal.at.overflow_mul-key c).After-residue_at-level)
 
@@ -40,19 +37,6 @@ loop-j-preserved c = let r = (goal.at.loop-j-preserved c).After-residue_at-level
     let l = turn r in
     rw c.from.ensures (step _ _ _ _ _ _ _ _ _ _ l.loop-j.invariant r.residue_at-level.result r.residue_at-level.ensures c.is_some-inside.result c.is_some-inside.ensures
     c.unwrap_or-residue.result c.unwrap_or-residue.ensures c.loop-j-test.true (given l).requires.at_in_bounds.1 (byte (goal.at.loop-j-preserved c).After-unwrap_or-residue))
-
--- the point's digits and as many zeros as there are bytes behind it
-pub overflow_mul-zeros : goal.overflow_mul-zeros
-overflow_mul-zeros c = omega (arith, (given (goal.at.overflow_mul-zeros c).At-loop-j).requires.at_in_bounds.3)
-
-pub overflow_sub-zeros : goal.overflow_sub-zeros
-overflow_sub-zeros c = omega (arith, (given (goal.at.overflow_sub-zeros c).At-loop-j).requires.at_in_bounds.3)
-
-pub overflow_shl-spelled : goal.overflow_shl-spelled
-overflow_shl-spelled c = omega (arith, (given (goal.at.overflow_shl-spelled c).At-loop-j).requires.at_in_bounds.2, (given (goal.at.overflow_shl-spelled c).At-loop-j).requires.at_in_bounds.3)
-
-pub shape_of-row : goal.shape_of-row
-shape_of-row c = c.loop-j.invariant.kept
 
 pub returns : goal.returns
 returns c = let whole = point_done _ _ _ _ _ _ _ _ _ _ c.loop-j.invariant c.loop-j-test.false (given (goal.at.returns c).At-loop-j).requires.at_in_bounds.3 in record { fact_1 = whole.0; fact_2 = whole.1 }

@@ -70,18 +70,6 @@ unfolding header_said spanned
 returns-in_err-from c =
     rw c.from_residual.ensures (header_read _ _ _ (head_broken c.loop-from.variables (drop c.loop-from.at c.args.text.now) c.in_err-from.ensures.said ∙ c.loop-from.invariant.whole) tt)
 
-pub slice_bounds-read_last-count : goal.slice_bounds-read_last-count
-slice_bounds-read_last-count c = (within (goal.at.slice_bounds-read_last-count c).In_ok-from).0
-
-pub slice_bounds-read_last-start : goal.slice_bounds-read_last-start
-slice_bounds-read_last-start c = (within (goal.at.slice_bounds-read_last-start c).In_ok-from).0
-
-pub slice_bounds-read_last-end : goal.slice_bounds-read_last-end
-slice_bounds-read_last-end c = (within (goal.at.slice_bounds-read_last-end c).In_ok-from).1
-
-pub read_last-requires : goal.read_last-requires
-read_last-requires c = c.loop-from.invariant.kept ∙ c.requires
-
 pub returns-in_err-modulus : goal.returns-in_err-modulus
 unfolding header_said last_said kept
 returns-in_err-modulus c = let d = (goal.at.returns-in_err-modulus c).After-read_last in
