@@ -2,17 +2,11 @@
 use mathlib.Core.Path.{◌≡◌}
 use mathlib.Core.Logic.{⊎_elim}
 use native.Mathlib.Omega.{arith}
-use lib.ListN.{get_or}
 use Rattle.monomial.proofs.candidate.Turns.{pass_start, pass_shut, pass_other, pass_one}
 use Rattle.monomial.proofs.candidate.pass.Goals as goal
 
 pub loop-k-init : goal.loop-k-init
 loop-k-init c = (omega arith, pass_start _ _ _ _ _)
-
-pub overflow_add-ranks : goal.overflow_add-ranks
-overflow_add-ranks c = let l = c in
-    let s = l in
-    omega (arith, s.requires.below (get_or l.loop-k.at l.loop-k.k 0) (omega arith), s.requires.below_2 l.loop-k.k (omega arith))
 
 pub loop-k-preserved : goal.loop-k-preserved
 loop-k-preserved c = let v = c.loop-k.invariant.1 in (
