@@ -8,14 +8,7 @@ use lib.ListN.{length, drop, get_or, drop_of_length-le}
 use lib.Seq.{drop-cons}
 use Rattle.residue.specs.Congruence.{Mod}
 use Rattle.residue.proofs.Congruence.{rfl, of, ◌then◌, ◌times◌, reduce}
-use Rattle.monomial.specs.Monomial.{degree, monomial_at}
-use Rattle.monomial.specs.Order.{weigh}
-
-pub degree_turn : (a : List ℕ) (i : ℕ) → i < length a → degree (drop i a) ≡ get_or a i 0 + degree (drop (i + 1) a)
-degree_turn a i h = rw (add-one, drop-cons a i 0)
-
-pub weigh_turn : (w a : List ℕ) (i : ℕ) → i < length w → i < length a → weigh (drop i w) (drop i a) ≡ get_or w i 0 * get_or a i 0 + weigh (drop (i + 1) w) (drop (i + 1) a)
-weigh_turn w a i h k = rw (add-one, drop-cons w i 0, drop-cons a i 0)
+use Rattle.monomial.specs.Monomial.{monomial_at}
 
 -- the product of the powers passed, modulo p, times the value of what is left
 module _ (p : ℕ) (P a : List ℕ) (i x : ℕ) (v : Mod p (x * monomial_at (drop i P) (drop i a)) (monomial_at P a)) where

@@ -61,13 +61,11 @@ fn pass(
     let mut standard = 0;
     for k in 0..m {
         let t = at[k] as usize;
-        if t < found {
-            if ranks[t] + steps[k] == rank {
-                at[k] = (t + 1) as u8;
-                count += 1;
-                variable = k;
-                standard = t;
-            }
+        if t < found && ranks[t] + steps[k] == rank {
+            at[k] = (t + 1) as u8;
+            count += 1;
+            variable = k;
+            standard = t;
         }
     }
     Parents {

@@ -2,7 +2,6 @@
 use mathlib.Core.Path.{refl, sym, ◌∙◌, ◌≡◌, ap, subst}
 use native.Mathlib.Omega.{arith}
 use Rattle.residue.proofs.level.Moduli.{modulus_range}
-use Rattle.residue.proofs.Replaced.{zeros_long}
 use Rattle.construction.proofs.drawing.Grounds.{points_long, points_below}
 use Rattle.construction.proofs.drawing.Loop.{head_start, own_below, cost_fits, kept_few, ends, ends_rows, costs, next_small, next_exponent, goes_on, head_sized, worked_long, worked_below, room_lead, keeps_lead, room_standard, keeps_standard, kept_sized}
 use mathlib.Core.Logic.{⊎_elim}
@@ -21,10 +20,6 @@ use Rattle.construction.specs.Drawing.{product_values, PointsGiven}
 use Rattle.construction.proofs.drawing.LoopState.{DrawingSized, Kept, kept_as}
 use Rattle.construction.proofs.drawing.draw.Goals as goal
 use Rattle.construction.proofs.drawing.draw.Goals.{After-first_nonzero, After-keep, After-keep_lead, After-keep_standard, After-next, After-exponents_of-exponents, After-put_columns, After-variable_ranks_under-steps, After-reduce-cancellations, After-struct_known-1, At-loop-exponents, In-Some, In-Some-next, Joined-first_nonzero, Start, In-None}
-
--- what the sizes leave room for: the values of n points in a working row, one pivot row more, and as many monomials as there are points
-pub row_room : {n l : ℕ} → n ≤ 64 → l ≡ 128 → n ≤ l
-row_room h e = omega arith
 
 pub pivot_room : {n found r v : ℕ} → found < n → n ≤ 64 → r ≡ 73728 → v ≡ 64 → (n + found < 128) × ((1152 * found + 1152 ≤ r) × (found < v))
 pivot_room h k er ev = (omega arith, (omega arith, omega arith))
@@ -93,10 +88,6 @@ some_found e = let h = e.in-Some.ensures in omega (arith, h.0, h.1)
 
 pub found_64 : (e : In-Some) → (head (goal.at.In-Some e).After-first_nonzero).loop-exponents.found < 64
 found_64 e = omega (arith, standard_fits (goal.at.In-Some e).After-first_nonzero (some_found e), (given (head (goal.at.In-Some e).After-first_nonzero)).most)
-
--- and with its pivot row
-abbrev pub with_values : After-keep → After-keep_standard
-with_values c = (goal.at.After-keep c).After-keep_standard
 
 -- the monomial is kept
 module _ (j : Joined-first_nonzero) where
@@ -182,24 +173,15 @@ overflow_add-cancellations c = let e = c in
     let l = top (goal.at.overflow_add-cancellations e).After-reduce-cancellations in
     omega (arith, cost_fits (given l) l.loop-exponents.invariant e.reduce-cancellations.ensures.work_after e.reduce-cancellations.ensures.value)
 
-pub first_nonzero-requires : goal.first_nonzero-requires
-first_nonzero-requires c = let e = c in row_room (given (top (goal.at.first_nonzero-requires e).After-reduce-cancellations)).most (work_128 (goal.at.first_nonzero-requires e).After-reduce-cancellations)
-
 pub keep_lead-requires : goal.keep_lead-requires
 keep_lead-requires c = let t = c in
     let l = head (goal.at.keep_lead-requires t).After-first_nonzero in
     let z = head_sizes l in record { n_bound = ((given l).most, (z.found_room, lead_fits (goal.at.keep_lead-requires t).After-first_nonzero t.in-None.ensures)); leads_len = (z.leads_long, z.coefficients_long); work_len = work_128 (reduced (goal.at.keep_lead-requires t).After-first_nonzero) }
 
-pub overflow_add-r : goal.overflow_add-r
-overflow_add-r c = let t = as_lead (goal.at.overflow_add-r c).After-keep_lead in omega (arith, lead_fits (goal.at.In-None t).After-first_nonzero t.in-None.ensures)
-
 pub keep_standard-requires : goal.keep_standard-requires
 keep_standard-requires c = let e = c in
     let l = head (goal.at.keep_standard-requires e).After-first_nonzero in
     let z = head_sizes l in record { found_bound = found_64 (goal.at.keep_standard-requires e).In-Some; standard_len = (z.standard_long, z.values_long) }
-
-pub offset_bounds-ranks-found : goal.offset_bounds-ranks-found
-offset_bounds-ranks-found c = omega (arith, found_64 (as_standard (goal.at.offset_bounds-ranks-found c).After-keep_standard))
 
 pub bounds-ranks-found : goal.bounds-ranks-found
 bounds-ranks-found c = let e = as_standard (goal.at.bounds-ranks-found c).After-keep_standard in omega (arith, found_64 e, (head_sizes (head (goal.at.In-Some e).After-first_nonzero)).ranks_long)
@@ -209,33 +191,6 @@ keep-requires c = let e = as_standard (goal.at.keep-requires c).After-keep_stand
     let l = head (goal.at.In-Some e).After-first_nonzero in
     let z = head_sizes l in
     let w = pivot_room (standard_fits (goal.at.In-Some e).After-first_nonzero (some_found e)) (given l).most z.rows_long z.pivots_long in record { le_p = range l; at_lt_n = (e.in-Some.ensures.0, (w.0, work_128 (reduced (goal.at.In-Some e).After-first_nonzero))); block_size_in_bounds = w.1; below = work_residues (reduced (goal.at.In-Some e).After-first_nonzero) }
-
-pub overflow_add-found : goal.overflow_add-found
-overflow_add-found c = omega (arith, found_64 (as_standard (with_values (goal.at.overflow_add-found c).After-keep)))
-
-pub shape_of-standard-in_default : goal.shape_of-standard-in_default
-shape_of-standard-in_default c = let j = joined (goal.at.shape_of-standard-in_default c).After-next in
-    let t = start (above j) in
-    (sizes j).standard_long ∙ sym (zeros_long t.args.standard.now 512 t.requires.standard_value.0)
-
-pub shape_of-leads-in_default : goal.shape_of-leads-in_default
-shape_of-leads-in_default c = let j = joined (goal.at.shape_of-leads-in_default c).After-next in
-    let t = start (above j) in
-    (sizes j).leads_long ∙ sym (zeros_long t.args.leads.now 3592 t.requires.standard_value.1.0)
-
-pub shape_of-coefficients-in_default : goal.shape_of-coefficients-in_default
-shape_of-coefficients-in_default c = let j = joined (goal.at.shape_of-coefficients-in_default c).After-next in
-    let t = start (above j) in
-    (sizes j).coefficients_long ∙ sym (zeros_long t.args.coefficients.now 28736 t.requires.standard_value.1.1)
-
-pub shape_of-rows-in_default : goal.shape_of-rows-in_default
-shape_of-rows-in_default c = let j = joined (goal.at.shape_of-rows-in_default c).After-next in
-    let t = start (above j) in
-    (sizes j).rows_long ∙ sym t.requires.rows_long.0
-
-pub shape_of-pivots-in_default : goal.shape_of-pivots-in_default
-shape_of-pivots-in_default c = let j = joined (goal.at.shape_of-pivots-in_default c).After-next in
-    (sizes j).pivots_long ∙ sym (start (above j)).requires.rows_long.1
 
 pub returns-in_default : goal.returns-in_default
 returns-in_default c = let s = c in

@@ -32,21 +32,6 @@ drawing c = (goal.at.After-slice_known-13-1 c).After-draw
 abbrev cleared : After-draw → After-clear-3
 cleared d = (goal.at.After-draw d).After-clear-3
 
-pub shape_of-standard : goal.shape_of-standard
-shape_of-standard c = let d = drawing (goal.at.shape_of-standard c).After-slice_known-13-1 in d.draw.auto.standard ∙ (first (cleared d)).clear.auto.to
-
-pub shape_of-leads : goal.shape_of-leads
-shape_of-leads c = let d = drawing (goal.at.shape_of-leads c).After-slice_known-13-1 in d.draw.auto.leads ∙ (second (cleared d)).clear-2.auto.to
-
-pub shape_of-coefficients : goal.shape_of-coefficients
-shape_of-coefficients c = let d = drawing (goal.at.shape_of-coefficients c).After-slice_known-13-1 in d.draw.auto.coefficients ∙ (cleared d).clear-3.auto.to
-
-pub shape_of-rows : goal.shape_of-rows
-shape_of-rows c = (drawing (goal.at.shape_of-rows c).After-slice_known-13-1).draw.auto.rows
-
-pub shape_of-pivots : goal.shape_of-pivots
-shape_of-pivots c = (drawing (goal.at.shape_of-pivots c).After-slice_known-13-1).draw.auto.pivots
-
 pub returns : goal.returns
 returns c =
     let e = (drawing (goal.at.returns c).After-slice_known-13-1).draw.ensures in

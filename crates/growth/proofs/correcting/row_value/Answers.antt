@@ -1,15 +1,11 @@
 -- `correcting::row_value` meets its contract.
 use mathlib.Core.Path.{ap₂, ◌∙◌}
 use Prim.Native.Nat.{ℕ, ◌+◌, ◌%◌}
-use native.Mathlib.Nat.{mod-lt, mod-add-mod, add-mod-mod}
-use native.Mathlib.Omega.{arith}
+use native.Mathlib.Nat.{mod-add-mod, add-mod-mod}
 use Rattle.residue.specs.Vector.{dot_of}
 use Rattle.monomial.specs.Monomial.{monomial_at}
 use Rattle.growth.specs.Growing.{row_value_at}
 use Rattle.growth.proofs.correcting.row_value.Goals as goal
-
-pub add-requires : goal.add-requires
-add-requires c = let s = c in record { p_bound = s.requires.le_p.1; x_lt_p = (rw c.value.ensures (mod-lt _ (omega arith)), rw c.dot.ensures (mod-lt _ (omega arith))) }
 
 pub returns : goal.returns
 unfolding row_value_at

@@ -1,5 +1,5 @@
 -- `growing::add_tables` meets its contract: the new tables are made beside the old ones, and copied over them.
-use mathlib.Core.Path.{◌≡◌, refl, sym}
+use mathlib.Core.Path.{◌≡◌}
 use native.Mathlib.Omega.{arith}
 use lib.ListN.{length}
 use Rattle.construction.proofs.drawing.Given.{tabled_long, tabled_over}
@@ -39,38 +39,17 @@ copied_1 d = first (goal.at.After-copy-2 (copied_2 d)).After-new_leads-3-1
 sizes : (d : After-add_to-k) → let s = start d in (length s.args.standard.now ≡ 512) × ((length s.args.leads.now ≡ 3592) × (length s.args.coefficients.now ≡ 28736))
 sizes d = tabled_long (start d).requires.drawn_up.tabled
 
-pub add_to-k-requires : goal.add_to-k-requires
-add_to-k-requires c = let s = opened (goal.at.add_to-k-requires c).After-new_coefficients-1 in record { points_given = s.requires.points_given; drawn_up = s.requires.drawn_up; n_bound = s.requires.n_bound; new_point = s.requires.new_point; new_standard_value = (refl, refl, refl) }
-
-pub slice_bounds-copy-end : goal.slice_bounds-copy-end
-slice_bounds-copy-end c = sym (made (goal.at.slice_bounds-copy-end c).After-new_standard-3-1).add_to-k.auto.new_standard
-
 pub copy-requires : goal.copy-requires
 copy-requires c = let a = made (goal.at.copy-requires c).After-new_standard-3-1 in
     omega (arith, sizes a, a.add_to-k.auto.new_standard)
-
-pub slice_bounds-copy-end-2 : goal.slice_bounds-copy-end-2
-slice_bounds-copy-end-2 c = sym (added (first (goal.at.slice_bounds-copy-end-2 c).After-new_leads-3-1)).add_to-k.auto.new_leads
 
 pub copy-requires-2 : goal.copy-requires-2
 copy-requires-2 c = let a = added (first (goal.at.copy-requires-2 c).After-new_leads-3-1) in
     omega (arith, sizes a, a.add_to-k.auto.new_leads)
 
-pub slice_bounds-copy-end-3 : goal.slice_bounds-copy-end-3
-slice_bounds-copy-end-3 c = sym (added (first (goal.at.After-copy-2 (second (goal.at.slice_bounds-copy-end-3 c).After-new_coefficients-3-1)).After-new_leads-3-1)).add_to-k.auto.new_coefficients
-
 pub copy-requires-3 : goal.copy-requires-3
 copy-requires-3 c = let a = added (first (goal.at.After-copy-2 (second (goal.at.copy-requires-3 c).After-new_coefficients-3-1)).After-new_leads-3-1) in
     omega (arith, sizes a, a.add_to-k.auto.new_coefficients)
-
-pub shape_of-standard : goal.shape_of-standard
-shape_of-standard c = (copied_1 (goal.at.shape_of-standard c).After-slice_known-6-1).copy.auto.to
-
-pub shape_of-leads : goal.shape_of-leads
-shape_of-leads c = (copied_2 (goal.at.shape_of-leads c).After-slice_known-6-1).copy-2.auto.to
-
-pub shape_of-coefficients : goal.shape_of-coefficients
-shape_of-coefficients c = (third (goal.at.shape_of-coefficients c).After-slice_known-6-1).copy-3.auto.to
 
 pub returns : goal.returns
 returns c = let x = copied_1 (goal.at.returns c).After-slice_known-6-1 in

@@ -1,17 +1,16 @@
 -- `products::put_row` meets its contract.
 use mathlib.Core.Path.{◌≡◌, sym, ap, subst, ◌∙◌}
-use mathlib.Core.List.{List, [], ◌∷◌, map}
-use Prim.Native.Nat.{ℕ, zero, suc, ◌+◌, ◌*◌, ◌-◌, ◌%◌, ◌<◌, ◌≤◌}
+use mathlib.Core.List.{List, map}
+use Prim.Native.Nat.{ℕ, ◌+◌, ◌*◌, ◌-◌, ◌%◌, ◌<◌, ◌≤◌}
 use native.Mathlib.Omega.{arith}
 use native.Mathlib.Nat.{mul-le-mul_left}
-use lib.ListN.{length, get_or, take, drop, replicate}
+use lib.ListN.{length, take, drop, replicate}
 use Rattle.residue.specs.Vector.{Below}
 use Rattle.elimination.specs.Elimination.{eliminated}
 use Rattle.residue.specs.Layout.{groups, over}
 use Rattle.residue.proofs.vector.Vectors.{below_take, below_drop}
 use Rattle.elimination.proofs.reducing.Eliminated.{eliminated_below}
 use Rattle.residue.proofs.Layouts.{remainders_below}
-use Rattle.residue.proofs.Replaced.{part_long}
 use Rattle.monomial.specs.Monomial.{monomial_at}
 use Rattle.monomial.proofs.insert.Writes.{row_in_lem}
 use Rattle.growth.specs.Growing.{corrected_row, reduced_row}
@@ -19,20 +18,9 @@ use Rattle.growth.proofs.NewRows.{one_term}
 use Rattle.growth.proofs.products.put_row.Goals as goal
 use Rattle.growth.proofs.products.put_row.Goals.{After-put_term_values, After-eliminate}
 
--- 1 is a residue
-one : {p : ℕ} (i : ℕ) → i < 1 → 2 ≤ p → get_or (1 ∷ []) i 0 < p
-one zero h k = omega arith
-one (suc i) h k = absurd (omega arith)
-
 -- the width of the part of a list that is lent from `at` on, and the two parts that are lent here
 width : (at w : ℕ) → at + w - at ≡ w
 width at w = omega arith
-
-left_64 : (n : ℕ) (l : List ℕ) → n < 64 → length l ≡ 128 → length (take (n + 64 - n) (drop n l)) ≡ 64
-left_64 n l h e = part_long n _ 64 l (width n 64) (omega arith)
-
-place_64 : (k i : ℕ) (t moved : List ℕ) → i ≤ k → 64 * k + 64 ≤ length t → length moved ≡ length t → length (take (64 * i + 64 - 64 * i) (drop (64 * i) moved)) ≡ 64
-place_64 k i t moved h l e = part_long (64 * i) _ 64 moved (width (64 * i) 64) (omega arith)
 
 -- what elimination leaves of the values of a monomial is its row
 left_is : (p n : ℕ) (points rows pivots a values left : List ℕ) → values ≡ over (map (λ point. monomial_at point a % p) (groups 8 n points)) (replicate 128 0)

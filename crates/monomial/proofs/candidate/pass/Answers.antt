@@ -1,26 +1,26 @@
 -- `candidate::pass` meets its contract. The first k variables have been looked at.
 use mathlib.Core.Path.{◌≡◌}
-use mathlib.Core.Logic.{⊎_elim}
 use native.Mathlib.Omega.{arith}
-use lib.ListN.{get_or}
 use Rattle.monomial.proofs.candidate.Turns.{pass_start, pass_shut, pass_other, pass_one}
 use Rattle.monomial.proofs.candidate.pass.Goals as goal
+use Rattle.monomial.proofs.candidate.pass.Goals.{then-t-found+then-ranks-t, else-t-found, else-t-found-via-then-t-found+else-ranks-t, else-t-found-via-else-t-found}
 
 pub loop-k-init : goal.loop-k-init
 loop-k-init c = (omega arith, pass_start _ _ _ _ _)
 
-pub overflow_add-ranks : goal.overflow_add-ranks
-overflow_add-ranks c = let l = c in
-    let s = l in
-    omega (arith, s.requires.below (get_or l.loop-k.at l.loop-k.k 0) (omega arith), s.requires.below_2 l.loop-k.k (omega arith))
-
 pub loop-k-preserved : goal.loop-k-preserved
-loop-k-preserved c = let v = c.loop-k.invariant.1 in (
-  omega arith,
-  ⊎_elim (λ w. pass_one _ _ _ v w.if-t-found.true w.if-ranks-t.true w.at-is w.count-is w.variable-is w.standard-is)
-      (⊎_elim (λ w. pass_other _ _ _ v w.if-t-found.true w.if-ranks-t.false w.at-is w.count-is w.variable-is w.standard-is) (λ w. pass_shut _ _ _ v w.if-t-found.false w.at-is w.count-is w.variable-is w.standard-is))
-      c.if-t-found.branch-raw,
-)
+loop-k-preserved c =
+    let v = c.loop-k.invariant.1 in (
+      omega arith,
+      elim c.if-t-found.branch [
+        | then-t-found+then-ranks-t w ↦ pass_one _ _ _ v w.if-t-found.true w.if-ranks-t.true w.at-is w.count-is w.variable-is w.standard-is
+        | else-t-found w ↦
+            elim w.else-t-found.branch [
+              | else-t-found-via-then-t-found+else-ranks-t u ↦ pass_other _ _ _ v u.if-t-found.true u.if-ranks-t.false w.at-is w.count-is w.variable-is w.standard-is
+              | else-t-found-via-else-t-found u ↦ pass_shut _ _ _ v u.if-t-found.false w.at-is w.count-is w.variable-is w.standard-is
+            ]
+      ],
+    )
 
 pub returns : goal.returns
 returns c = let l = c in

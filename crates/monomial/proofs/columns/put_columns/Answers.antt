@@ -1,35 +1,20 @@
 -- `columns::put_columns` meets its contract. The loop has written the first k columns into the table.
-use mathlib.Core.Path.{◌≡◌, sym, ap, ◌∙◌}
+use mathlib.Core.Path.{◌≡◌, ap, ◌∙◌}
 use Prim.Native.Nat.{ℕ, ◌+◌, ◌*◌, ◌-◌}
 use native.Mathlib.Omega.{arith}
-use lib.ListN.{length}
-use Rattle.residue.specs.Layout.{fill, in_places, length_fill}
-use Rattle.residue.proofs.Replaced.{part_long, zeros_long}
+use Rattle.residue.specs.Layout.{fill, in_places}
 use Rattle.monomial.specs.Columns.{columns_of}
 use Rattle.monomial.proofs.columns.Entries.{columns_none, columns_more}
 use Rattle.monomial.proofs.columns.put_columns.Goals as goal
 use Rattle.monomial.proofs.columns.put_columns.Goals.{At-loop-k}
 
-long : (l : At-loop-k) → length l.loop-k.columns ≡ 512
-long l = ap length l.loop-k.invariant.1 ∙ length_fill 512 _
-
 pub loop-k-init : goal.loop-k-init
 loop-k-init c = let s = c in (omega arith, s.requires.columns_value ∙ columns_none s.args.n s.args.points.now)
-
-pub slice_bounds-put_column-end : goal.slice_bounds-put_column-end
-slice_bounds-put_column-end c = omega (arith, long (goal.at.slice_bounds-put_column-end c).At-loop-k)
-
-pub put_column-requires : goal.put_column-requires
-put_column-requires c = let l = c in
-    omega (arith, part_long (64 * l.loop-k.k) (64 * l.loop-k.k + 64 - 64 * l.loop-k.k) 64 l.loop-k.columns (omega arith) (omega (arith, long (goal.at.put_column-requires l).At-loop-k)))
 
 pub loop-k-preserved : goal.loop-k-preserved
 loop-k-preserved c = let l = c in
     let s = l in
     (omega arith, columns_more s.args.n s.args.points.now l.loop-k.k (64 * l.loop-k.k + 64 - 64 * l.loop-k.k) l.loop-k.columns (omega arith) (omega arith) l.loop-k.invariant.1 (omega arith) c.put_column.ensures)
-
-pub shape_of-columns : goal.shape_of-columns
-shape_of-columns c = long (goal.at.shape_of-columns c).At-loop-k ∙ sym (zeros_long _ 512 c.requires.columns_value)
 
 pub returns : goal.returns
 returns c = let l = c in

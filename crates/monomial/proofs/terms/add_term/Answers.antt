@@ -3,9 +3,9 @@ use mathlib.Core.Path.{◌≡◌, sym, ap, subst, ◌∙◌}
 use mathlib.Core.List.{List, ◌++◌}
 use Prim.Native.Nat.{ℕ}
 use native.Mathlib.Omega.{arith}
-use lib.ListN.{length, take, drop, replicate, length-replicate}
+use lib.ListN.{length, take, replicate}
 use Rattle.residue.specs.Vector.{Below, add_scaled}
-use Rattle.monomial.proofs.terms.TermRows.{front_ones, front_made, front_room, monomial_row, monomial_row_long, monomial_row_below}
+use Rattle.monomial.proofs.terms.TermRows.{front_ones, front_made, monomial_row, monomial_row_long, monomial_row_below}
 use Rattle.monomial.proofs.terms.add_term.Goals as goal
 use Rattle.monomial.proofs.terms.add_term.Goals.{After-multiply_monomial, Start}
 
@@ -30,17 +30,8 @@ module _ (m : After-multiply_monomial) where
   front : (rest : List ℕ) → take start.args.n (made ++ rest) ≡ row start
   front rest = front_made start.args.n made (row start) rest m.multiply_monomial.ensures (long start)
 
-pub slice_bounds-multiply_monomial-end : goal.slice_bounds-multiply_monomial-end
-slice_bounds-multiply_monomial-end c = let s = c in sym (ap length (ones (goal.at.slice_bounds-multiply_monomial-end s).Start) ∙ length-replicate {A = ℕ} s.args.n 1)
-
 pub multiply_monomial-requires : goal.multiply_monomial-requires
 multiply_monomial-requires c = let s = c in record { le_p = (s.requires.le_p.0, s.requires.le_p.1.0); points_len = s.requires.points_len; values_value = ones (goal.at.multiply_monomial-requires s).Start }
-
-pub slice_bounds-term-end-2 : goal.slice_bounds-term-end-2
-slice_bounds-term-end-2 c = let m = c in front_room (start (goal.at.slice_bounds-term-end-2 m).After-multiply_monomial).args.n (made (goal.at.slice_bounds-term-end-2 m).After-multiply_monomial) (drop {A = ℕ} (start (goal.at.slice_bounds-term-end-2 m).After-multiply_monomial).args.n (replicate 64 1)) (ap length m.multiply_monomial.ensures ∙ long (start (goal.at.slice_bounds-term-end-2 m).After-multiply_monomial))
-
-pub slice_bounds-add_scaled-end : goal.slice_bounds-add_scaled-end
-slice_bounds-add_scaled-end c = let m = c in sym (ap length (front (goal.at.slice_bounds-add_scaled-end m).After-multiply_monomial _) ∙ long (start (goal.at.slice_bounds-add_scaled-end m).After-multiply_monomial))
 
 pub add_scaled-requires : goal.add_scaled-requires
 add_scaled-requires c = let m = c in

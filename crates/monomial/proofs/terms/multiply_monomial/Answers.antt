@@ -1,12 +1,7 @@
 -- `terms::multiply_monomial` meets its contract. At each point, what is there times the value of the variables left is the monomial's value.
 use native.Mathlib.Omega.{arith}
-use Rattle.monomial.proofs.terms.TermRows.{ones_left, variable_more, all_left}
+use Rattle.monomial.proofs.terms.TermRows.{variable_more, all_left}
 use Rattle.monomial.proofs.terms.multiply_monomial.Goals as goal
-
-pub loop-k-init : goal.loop-k-init
-loop-k-init c =
-    let s = c.args in
-    ones_left s.p s.n s.a.now s.points.now s.values.now (omega arith) c.requires.values_value
 
 pub loop-k-preserved : goal.loop-k-preserved
 loop-k-preserved c =

@@ -32,9 +32,6 @@ pub returns-then-e-eq0 : goal.returns-then-e-eq0
 returns-then-e-eq0 c = let s = c in
     not_raised s.args.p s.args.e s.args.values.now (column_of s.args.k s.args.n s.args.points.now) c.if-e-eq0.true (s.requires.values_len.0 ∙ sym (column_long s.args.k s.args.n s.args.points.now)) s.requires.values_len.1
 
-pub slice_bounds-multiply_powers-end : goal.slice_bounds-multiply_powers-end
-slice_bounds-multiply_powers-end c = sym (long (goal.at.slice_bounds-multiply_powers-end c).After-put_column)
-
 pub multiply_powers-requires : goal.multiply_powers-requires
 multiply_powers-requires c = let r = c in
     let s = start (goal.at.multiply_powers-requires r).After-put_column in record { le_p = s.requires.le_p.0; dst_len = s.requires.values_len.0 ∙ sym (long (goal.at.multiply_powers-requires r).After-put_column); below = (s.requires.values_len.1, below (goal.at.multiply_powers-requires r).After-put_column) }

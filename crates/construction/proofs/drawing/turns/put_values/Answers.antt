@@ -41,9 +41,6 @@ module _ (s : Start) where
   column_long : length column ≡ s.args.n
   column_long = part_long (64 * s.args.product.now.variable) s.args.n s.args.n s.args.columns.now refl (omega arith)
 
-pub slice_bounds-multiply-end-2 : goal.slice_bounds-multiply-end-2
-slice_bounds-multiply-end-2 c = sym (front_long (goal.at.slice_bounds-multiply-end-2 c).After-copy)
-
 pub multiply-requires : goal.multiply-requires
 multiply-requires c = let r = c in
     let s = start (goal.at.multiply-requires r).After-copy in

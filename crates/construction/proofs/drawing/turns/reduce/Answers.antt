@@ -27,18 +27,6 @@ module _ (q : After-copy) where
   loaded : q.copy.new.to ++ drop start.args.n start.args.work.now ≡ fill 128 (take start.args.n start.args.own.now)
   loaded = load start.args.own.now start.args.work.now start.args.n start.requires.work_value (omega arith) (omega arith) (q.copy.ensures ∙ over_all (take start.args.n start.args.own.now) (take start.args.n start.args.work.now) (same_fronts start))
 
-pub slice_bounds-copy-end : goal.slice_bounds-copy-end
-slice_bounds-copy-end c = let s = c in sym (length-take-le s.args.n s.args.own.now (omega arith))
-
-pub slice_bounds-copy-end-2 : goal.slice_bounds-copy-end-2
-slice_bounds-copy-end-2 c = let s = c in omega (arith, zeros_long s.args.work.now 128 s.requires.work_value)
-
-pub slice_bounds-copy-end-3 : goal.slice_bounds-copy-end-3
-slice_bounds-copy-end-3 c = let s = c in sym (length-take-le s.args.n s.args.work.now (omega (arith, zeros_long s.args.work.now 128 s.requires.work_value)))
-
-pub copy-requires : goal.copy-requires
-copy-requires c = omega (arith, same_fronts (goal.at.copy-requires c).Start)
-
 pub eliminate-requires : goal.eliminate-requires
 eliminate-requires c = let q = c in
     let s = start (goal.at.eliminate-requires q).After-copy in record {
