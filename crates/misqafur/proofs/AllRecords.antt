@@ -34,7 +34,7 @@ use Rattle.specification.proofs.Records.{whole_of, range_of, offered_of, draw_co
 use Rattle.notation.specs.Fields.{records_of}
 use Rattle.comma_text.specs.reading.Text.{no_header, header_in, Contents, contents_of, entry_point, Valued, valued_point, valued_points, first_outside, first_after, too_often}
 use Rattle.comma_text.specs.reading.Text.{settings_by, text_accepted, TextOutcome}
-use Rattle.comma_text.specs.declared.reading.Read.{Read}
+use Rattle.comma_text.specs.reading.Answers.{Read}
 use Rattle.comma_text.proofs.reading.FirstPlaces.{fault_step}
 use Rattle.comma_text.proofs.reading.FirstValues.{few_points}
 use Rattle.comma_text.proofs.reading.EntryLengths.{AllLong, point_long}

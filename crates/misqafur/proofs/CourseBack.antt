@@ -12,7 +12,7 @@ use Rattle.std.specs.Prelude.{Option}
 use Rattle.courses.specs.TimeCourse.{told_return}
 use Rattle.courses.specs.Returns.{Ends, comes, never}
 use Rattle.courses.specs.declared.returns.Return.{Return}
-use Rattle.forward.specs.declared.running.Course.{Course}
+use Rattle.forward.specs.Outcome.{Course}
 use Rattle.forward.specs.Outcome.{CourseOutcome, course_accepted, course_outcome}
 use Rattle.forward.proofs.PassedCourse.{course_few, course_never, course_alone, taken, accepted_is, course_holds, course_ends}
 use Rattle.misqafur.specs.Packing.{packed, packed_course, CourseFits}

@@ -8,7 +8,7 @@ use Rattle.specification.specs.Solving.{Filled, answering, Listed, listed}
 use Rattle.comma_text.specs.reading.Answers.{Read}
 use Rattle.specification.specs.Tables.{Tables}
 use Rattle.comma_text.specs.reading.Text.{TextOutcome, text_ended}
-use Rattle.forward.specs.declared.running.Course.{Course}
+use Rattle.forward.specs.Outcome.{Course}
 use Rattle.forward.specs.Outcome.{CourseOutcome}
 use Rattle.misqafur.specs.Packing.{packed_answer, packed_drawn, packed_wired, packed_read, left, packed_outcome, packed_drawing, left_list, packed_list, left_reading, packed_reading}
 use Rattle.json_sheets.specs.Calls.{Written, Taken, WrittenText, wrote, Received, received}

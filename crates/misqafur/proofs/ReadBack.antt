@@ -14,8 +14,8 @@ use Rattle.specification.specs.Refusal.{first_of}
 use Rattle.specification.specs.Counted.{entered_all, gathered}
 use Rattle.specification.proofs.Numbers.{at_most}
 use Rattle.notation.specs.Fields.{records_of}
-use Rattle.comma_text.specs.declared.reading.Refusal.{Refusal}
-use Rattle.comma_text.specs.declared.reading.Read.{Read}
+use Rattle.comma_text.specs.reading.Answers.{Refusal}
+use Rattle.comma_text.specs.reading.Answers.{Read}
 use Rattle.comma_text.specs.reading.Text.{header_in, form_fault, Contents, valued_points, not_refused, TextCase}
 use Rattle.comma_text.specs.reading.Text.{TextOutcome}
 use Rattle.comma_text.specs.reading.Text.{short_buffers, header_cases, points_cases, entries_cases, read_cases, text_accepted, text_refused, text_decided, read_outcome}

@@ -8,7 +8,7 @@ use Rattle.specification.specs.Adding.{Outcome, DrawOutcome}
 use Rattle.specification.specs.Solving.{Listed}
 use Rattle.comma_text.specs.reading.Answers.{Read}
 use Rattle.comma_text.specs.reading.Text.{TextOutcome}
-use Rattle.forward.specs.declared.running.Course.{Course}
+use Rattle.forward.specs.Outcome.{Course}
 use Rattle.forward.specs.Outcome.{CourseOutcome}
 use Rattle.json_sheets.specs.Calls.{Written, Taken, WrittenText, Received}
 

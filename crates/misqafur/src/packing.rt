@@ -2,7 +2,7 @@
 ghost use Rattle.std.specs.Prelude.{◌≡◌, ◌+◌, ◌*◌, ◌≤◌};
 ghost use Rattle.specification.specs.Answers.{number_of, refusal_of, answer_of, drawn_of, wired_of};
 ghost use Rattle.comma_text.specs.reading.Answers.{read_of};
-ghost use Rattle.forward.specs.Outcome.{course_of};
+ghost use Rattle.forward.specs.Outcome.{course_answer};
 ghost use Rattle.json_sheets.specs.Calls.{written_of, taken_of};
 ghost use Rattle.misqafur.specs.Packing.{settings_given, packed_answer, packed_drawn, packed_wired, packed_read};
 ghost use Rattle.misqafur.specs.Packing.{packed_course, CourseFits, packed_written, packed_taken};
@@ -84,8 +84,8 @@ pub fn pack_read(a: Result<Read, Fault>) -> u64
 }
 
 pub fn pack_course(a: Result<Course, Fault>) -> u64
-    requires { CourseFits (course_of a) }
-    ensures { result ≡ packed_course (course_of a) }
+    requires { CourseFits (course_answer a) }
+    ensures { result ≡ packed_course (course_answer a) }
 {
     match a {
         Ok(c) => {
