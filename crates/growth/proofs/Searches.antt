@@ -1,27 +1,13 @@
 -- The search for the first row that is not 0: what is left of it is the whole of it.
-use mathlib.Core.Path.{◌≡◌, ◌∙◌, sym, ap, ap₂}
-use mathlib.Core.List.{List, []}
+use mathlib.Core.Path.{◌≡◌, ◌∙◌, ap}
 use mathlib.Core.Bool.{cond}
 use mathlib.Core.Logic.{◌≢◌}
-use Prim.Native.Nat.{ℕ, zero, suc, ◌+◌, ◌*◌, ◌-◌, ◌<◌, ◌≤◌}
+use Prim.Native.Nat.{ℕ, zero, suc, ◌+◌, ◌-◌, ◌<◌, ◌≤◌}
 use native.Mathlib.Omega.{arith}
 use native.Mathlib.Decide.{ℕ_discrete}
 use lib.Dec.{eqb}
 use borrow.Author.Tests.{eq-eqb, ne_eqb}
-use lib.ListN.{take, drop, get_or}
-use lib.Seq.{take-take}
-use Rattle.residue.specs.Layout.{groups}
-use Rattle.residue.proofs.Places.{groups_at}
-use Rattle.growth.specs.Growing.{row_value_at, value_of_row, first_from}
-
--- the value that was computed is that of row i
-pub value_here : (p n : ℕ) (point values leads table : List ℕ) (r i : ℕ) {k x : ℕ} {rows : List (List ℕ)} → rows ≡ groups 8 r leads → i < r → n ≤ 64 → k ≡ n
-    → x ≡ row_value_at p point (take n values) (get_or rows i []) (take k (drop (64 * i) table)) → x ≡ value_of_row p n point values leads table i
-unfolding value_of_row
-value_here p n point values leads table r i {k} {x} {rows} er h l ek e =
-    e
-    ∙ ap₂ (row_value_at p point (take n values)) (ap (λ (t : List (List ℕ)). get_or t i []) er ∙ groups_at 8 r i leads [] h)
-    (ap (λ (j : ℕ). take j (drop (64 * i) table)) ek ∙ sym (take-take n 64 (drop (64 * i) table) l))
+use Rattle.growth.specs.Growing.{first_from}
 
 -- The first number that is not 0.
 module _ (f : ℕ → ℕ) where

@@ -1,6 +1,6 @@
 // Rows of the basis when a point is added: their values there, the first that is not 0, and the others corrected by it.
 ghost use Rattle.std.specs.Prelude.{◌≡◌, ◌*◌, ◌<◌, ◌≤◌, length};
-ghost use Rattle.std.specs.Option.{unwrap_or};
+ghost use Rattle.std.specs.Option.{IfSome, unwrap_or};
 ghost use Rattle.residue.specs.Sizes.{most_points};
 ghost use Rattle.residue.specs.Vector.{Below, add_scaled};
 ghost use Rattle.residue.specs.Layout.{in_places, over};
@@ -33,7 +33,8 @@ pub(crate) fn row_value(
     )
 }
 
-// The first of r rows, in increasing order, whose value at the point is not 0.
+// The first of r rows, in increasing order, whose value at the point is not 0; none where each is 0.
+// Document 01 names this form: a labelled search over rows and their terms, left from inside by break with the row index.
 pub(crate) fn first_row(
     p: u8,
     n: usize,
@@ -48,15 +49,31 @@ pub(crate) fn first_row(
     requires r_in_bounds { (8 * r ≤ length leads.now) × (64 * r ≤ length coefficients.now) }
     requires below { Below p point.now }
     requires below_2 { Below p values.now × Below p coefficients.now }
-    ensures { unwrap_or result r ≡ first_from (value_of_row p n point.now values.now leads.now coefficients.now) 0 r }
+    ensures within { IfSome result (λ i. i < r) }
+    ensures place { unwrap_or result r ≡ first_from (value_of_row p n point.now values.now leads.now coefficients.now) 0 r }
 {
-    for (i, lead) in rows(r, leads).iter().enumerate() {
-        let row = &coefficients[64 * i..64 * i + n];
-        if row_value(p, point, &values[..n], lead, row) != 0 {
-            return Some(i);
+    let monomials = rows(r, leads);
+    let mut i = 0;
+    'rows: loop {
+        if i == r {
+            break None;
         }
+        let first = 64 * i;
+        let mut sum = value(p, point, &monomials[i]);
+        let mut j = 0;
+        'terms: loop {
+            if j == n {
+                if sum != 0 {
+                    break 'rows Some(i);
+                }
+                break 'terms;
+            }
+            let term = arithmetic::mul(p, coefficients[first + j], values[j]);
+            sum = arithmetic::add(p, sum, term);
+            j += 1;
+        }
+        i += 1;
     }
-    None
 }
 
 // A row of coefficients plus factor times the lost row, with the factor put into the column of its lead.

@@ -147,10 +147,15 @@ fn add_to(
     let mut values = [0u8; sizes::POINTS];
     values_at(p, n, before.standard, point, &mut values);
     // The point is new, so that a row is not 0 there.
-    let Some(j) = correcting::first_row(p, n, r, point, &values, before.leads, before.coefficients)
-    else {
-        return r;
-    };
+    let j = correcting::first_row(
+        p,
+        n,
+        r,
+        point,
+        &values,
+        before.leads,
+        before.coefficients,
+    ).unwrap();
     grow(
         settings,
         before,

@@ -1,8 +1,8 @@
 -- `growing::add_to` meets its contract.
 use mathlib.Core.Path.{refl, sym, ap, subst, ◌∙◌}
-use Prim.Native.Nat.{◌≤◌, ◌<◌}
+use Prim.Native.Nat.{ℕ, ◌≤◌, ◌<◌}
 use native.Mathlib.Omega.{arith}
-use Rattle.std.specs.Option.{unwrap_or}
+use Rattle.std.specs.Prelude.{Option, None, Some, IsSome, unwrap_or}
 use Rattle.residue.specs.Vector.{Below}
 use Rattle.residue.specs.Layout.{groups}
 use Rattle.residue.proofs.level.Moduli.{modulus_range}
@@ -28,9 +28,14 @@ small c =
     let m = range (goal.at.After-values_at c).Start in
     subst (Below p) (sym c.values_at.ensures) (remainders_below p (monomial_at s.point.now) (groups 8 s.before.now.n s.before.now.standard.now) 64 (omega (arith, m.0)))
 
+-- an answer below the number that stands for none is not none
+some_below : (o : Option ℕ) (r : ℕ) → unwrap_or o r < r → IsSome o
+some_below None r h = absurd (omega arith)
+some_below (Some j) r h = refl
+
 -- a row is not 0 at the point
 found : (c : After-first_row) → unwrap_or c.first_row.result c.args.before.now.r < c.args.before.now.r
-found c = rw c.first_row.ensures (inside c.requires.points_given c.requires.drawn_up c.requires.n_bound c.requires.new_point _ c.values_at.ensures _ refl)
+found c = rw c.first_row.ensures.place (inside c.requires.points_given c.requires.drawn_up c.requires.n_bound c.requires.new_point _ c.values_at.ensures _ refl)
 
 pub overflow_cast-p : goal.overflow_cast-p
 overflow_cast-p c = omega (arith, range (goal.at.overflow_cast-p c).Start)
@@ -58,14 +63,14 @@ first_row-requires-clause-r_in_bounds c =
 pub first_row-requires-clause-below_2 : goal.first_row-requires-clause-below_2
 first_row-requires-clause-below_2 c = (small (goal.at.first_row-requires-clause-below_2 c).After-values_at, (fine (goal.at.first_row-requires-clause-below_2 c).Start).residues)
 
-pub returns-in_default : goal.returns-in_default
-returns-in_default c = let f = found (goal.at.returns-in_default c).After-first_row in absurd (omega (arith, ap (λ o. unwrap_or o c.args.before.now.r) c.in_default.is))
+pub unwrap-j-requires : goal.unwrap-j-requires
+unwrap-j-requires c = some_below c.first_row.result c.args.before.now.r (found c)
 
 pub grow-requires-clause-j_lt_r : goal.grow-requires-clause-j_lt_r
 grow-requires-clause-j_lt_r c =
     let h = fine (goal.at.grow-requires-clause-j_lt_r c).Start in
     let f = found (goal.at.grow-requires-clause-j_lt_r c).After-first_row in
-    (omega (arith, ap (λ o. unwrap_or o c.args.before.now.r) c.in-Some.is), h.most, h.few, points_long c.requires.points_given, c.requires.drawn_up.pivot_rows.long_rows)
+    (omega (arith, ap (λ o. unwrap_or o c.args.before.now.r) c.unwrap-j.ensures), h.most, h.few, points_long c.requires.points_given, c.requires.drawn_up.pivot_rows.long_rows)
 
 pub grow-requires-clause-standard_len : goal.grow-requires-clause-standard_len
 grow-requires-clause-standard_len c =
@@ -86,4 +91,4 @@ grow-requires-clause-leads_below c = (fine (goal.at.grow-requires-clause-leads_b
 pub returns : goal.returns
 returns c =
     added c.requires.points_given c.requires.drawn_up c.requires.n_bound c.requires.new_point _ c.values_at.ensures _
-    (sym (ap (λ o. unwrap_or o c.args.before.now.r) c.in-Some.is) ∙ c.first_row.ensures) _ _ _ _ c.grow.ensures.new_standard_after c.grow.ensures.new_coefficients_after
+    (sym (ap (λ o. unwrap_or o c.args.before.now.r) c.unwrap-j.ensures) ∙ c.first_row.ensures.place) _ _ _ _ c.grow.ensures.new_standard_after c.grow.ensures.new_coefficients_after
