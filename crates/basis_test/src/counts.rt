@@ -73,6 +73,9 @@ impl Counts {
         for (name, part) in NAMES.iter().zip(&self.parts) {
             println!(rt; "{name}: {} passed, {} failed", part.passed, part.failed)?;
         }
-        println!(rt; "sum: {} passed, {} failed", self.sum.passed, self.sum.failed)
+        println!(rt;
+            "sum: {} passed, {} failed",
+            self.sum.passed, self.sum.failed
+        )
     }
 }

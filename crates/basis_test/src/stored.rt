@@ -27,9 +27,9 @@ fn read_head<R: io::Read>(input: &mut R) -> Option<Head> {
     input.read_exact(&mut head).ok()?;
     Some(Head {
         settings: Settings {
-            modulus: u16::from_le_bytes([head[0], head[1]]) as u64,
-            variables: head[2] as u64,
-            order: head[3] as u64,
+            modulus: u64::from(u16::from_le_bytes([head[0], head[1]])),
+            variables: u64::from(head[2]),
+            order: u64::from(head[3]),
             weights: [0; 8],
         },
         refusal: head[4],

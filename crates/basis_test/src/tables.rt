@@ -1,5 +1,10 @@
 // The tables of a case: those that are due, and those that a call is lent and leaves.
 use crate::buffers::holds;
+use addition::adding;
+use basis::drawing;
+use specification::answers::{Drawing, Size};
+use specification::refusals::Refusal;
+use specification::settings::Settings;
 use specification::tables::{TablesMut, TablesRef};
 
 #[derive(Drop)]
@@ -54,14 +59,48 @@ impl Left {
         }
     }
 
-    pub fn lent(&mut self) -> TablesMut<'_> {
-        TablesMut {
-            states: &mut self.states,
-            standard: &mut self.standard,
-            leads: &mut self.leads,
-            coefficients: &mut self.coefficients,
-            counts: &mut self.counts,
-        }
+    // Drawing up into these tables.
+    pub fn draw_up(&mut self, settings: Settings, levels: &[i8]) -> Result<Drawing, Refusal> {
+        let Left {
+            states,
+            standard,
+            leads,
+            coefficients,
+            counts,
+        } = self;
+        let tables = TablesMut {
+            states,
+            standard,
+            leads,
+            coefficients,
+            counts,
+        };
+        drawing::draw_up(settings, tables, levels)
+    }
+
+    // Adding a point to the n points of these tables.
+    pub fn add_point(
+        &mut self,
+        settings: Settings,
+        n: u64,
+        r: u64,
+        levels: &[i8],
+    ) -> Result<Size, Refusal> {
+        let Left {
+            states,
+            standard,
+            leads,
+            coefficients,
+            counts,
+        } = self;
+        let tables = TablesMut {
+            states,
+            standard,
+            leads,
+            coefficients,
+            counts,
+        };
+        adding::add_point(settings, n, r, tables, levels)
     }
 
     pub fn hold_counts(&self, due: &Due) -> bool {

@@ -2,8 +2,6 @@
 use crate::buffers::{back, front};
 use crate::stored::Head;
 use crate::tables::{Due, Left};
-use addition::adding::add_point;
-use basis::drawing::draw_up;
 use specification::answers::Size;
 use specification::refusals::Refusal;
 
@@ -18,7 +16,7 @@ fn is_due(got: Result<Size, Refusal>, refusal: u8, size: Size) -> bool {
 // Drawing up: the refusal, the counts and the cancellations, which a refusal has none of, and every byte of the tables with the guards behind them.
 pub fn drawn(head: Head, levels: &[i8], due: &Due) -> bool {
     let mut left = Left::new();
-    let got = draw_up(head.settings, left.lent(), levels);
+    let got = left.draw_up(head.settings, levels);
     let cancellations = got.map_or(0, |drawing| drawing.cancellations);
     let size = got.map(|drawing| Size {
         n: drawing.n,
@@ -32,40 +30,27 @@ pub fn drawn(head: Head, levels: &[i8], due: &Due) -> bool {
 
 // Adding the last point to the others answers the same as drawing up all, and leaves its counts.
 fn add(head: Head, levels: &[i8], left: &mut Left, due: &Due) -> bool {
-    let before = draw_up(
-        head.settings,
-        left.lent(),
-        front(levels, head.before as usize),
-    );
+    let before = left.draw_up(head.settings, front(levels, head.before as usize));
     let (n, r) = before.map_or((0, 0), |drawing| (drawing.n as u64, drawing.r as u64));
     let last = back(levels, head.before as usize);
-    let got = add_point(head.settings, n, r, left.lent(), last);
+    let got = left.add_point(head.settings, n, r, last);
     is_due(got, 0, head.size) && left.hold_counts(due)
 }
 
 // Offering the last point once more counts it twice.
 fn again(head: Head, levels: &[i8], left: &mut Left) -> bool {
     let last = back(levels, head.before as usize);
-    let repeated = add_point(
-        head.settings,
-        head.size.n as u64,
-        head.size.r as u64,
-        left.lent(),
-        last,
-    );
+    let n = head.size.n as u64;
+    let repeated = left.add_point(head.settings, n, head.size.r as u64, last);
     is_due(repeated, 0, head.size) && left.counts_last(head.size.n, 2)
 }
 
 // A point out of range is refused.
 fn outside(head: Head, levels: &[i8], left: &mut Left) -> bool {
     let count = back(levels, head.before as usize).len();
-    let large = add_point(
-        head.settings,
-        head.size.n as u64,
-        head.size.r as u64,
-        left.lent(),
-        front(&[127i8; 8], count),
-    );
+    let n = head.size.n as u64;
+    let beyond = front(&[127i8; 8], count);
+    let large = left.add_point(head.settings, n, head.size.r as u64, beyond);
     is_due(large, 9, Size { n: 0, r: 0 })
 }
 
