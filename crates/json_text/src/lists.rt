@@ -7,6 +7,7 @@ ghost use Rattle.json_text.specs.Writing.{before, list_text, rows_text};
 use writing::appending::put_byte;
 
 // The comma before every item but the first.
+#[inline(always)]
 fn put_before(out: &mut [u8], at: usize, i: usize) -> usize
     requires { Room at (before i) out.old }
     ensures { Put at (before i) out.old out.new result }
@@ -18,6 +19,7 @@ fn put_before(out: &mut [u8], at: usize, i: usize) -> usize
 }
 
 // A number in one, two or three digits, with no call of itself: most of a text is numbers.
+#[inline(always)]
 pub(crate) fn put_number(out: &mut [u8], at: usize, v: u8) -> usize
     requires { Room at (decimal v) out.old }
     ensures { Put at (decimal v) out.old out.new result }
@@ -34,6 +36,7 @@ pub(crate) fn put_number(out: &mut [u8], at: usize, v: u8) -> usize
     put_byte(out, last, b'0' + v % 10)
 }
 
+#[inline(always)]
 fn put_item(out: &mut [u8], at: usize, i: usize, v: u8) -> usize
     requires { Room at (before i ++ decimal v) out.old }
     ensures { Put at (before i ++ decimal v) out.old out.new result }

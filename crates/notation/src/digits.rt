@@ -9,6 +9,7 @@ pub struct Leading {
     pub count: usize,
 }
 
+#[inline(always)]
 fn leading_of(size: u16, count: usize) -> Option<Leading>
     ensures { result ≡ leading_of size count }
 {
@@ -19,6 +20,7 @@ fn leading_of(size: u16, count: usize) -> Option<Leading>
 }
 
 // The one to three digits at the front, which no other follows: found and read at once.
+#[inline(always)]
 pub fn read_leading(content: &[u8]) -> Option<Leading>
     ensures { LeadingRead content.now result }
 {

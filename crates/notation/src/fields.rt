@@ -54,6 +54,7 @@ pub struct End {
     pub next: usize,
 }
 
+#[inline(always)]
 fn read_end(text: &[u8], at: usize) -> Option<End>
     requires { at ≤ length text.now }
     ensures { EndRead text.now at false result }
@@ -80,6 +81,7 @@ fn read_end(text: &[u8], at: usize) -> Option<End>
 }
 
 // What stands behind a content: in a field with quotes the one that closes it comes first.
+#[inline(always)]
 pub fn content_end(text: &[u8], at: usize, quotes: bool) -> Option<End>
     requires { at ≤ length text.now }
     ensures { EndRead text.now at quotes result }

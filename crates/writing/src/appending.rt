@@ -2,6 +2,7 @@
 ghost use Rattle.std.specs.Prelude.{[], ◌∷◌};
 ghost use Rattle.writing.specs.Appending.{Room, Put};
 
+#[inline(always)]
 pub fn put_byte(out: &mut [u8], at: usize, b: u8) -> usize
     requires { Room at (b ∷ []) out.old }
     ensures { Put at (b ∷ []) out.old out.new result }

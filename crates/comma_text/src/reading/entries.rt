@@ -12,6 +12,7 @@ use crate::reading::records;
 use residue::level;
 
 // The residue of a level by its sign and size. A size that fits no signed byte is out of range like any other.
+#[inline(always)]
 fn residue_of(p: u8, negative: bool, size: u16) -> Option<u8>
     requires { p ≤ 128 }
     ensures { result ≡ residue_of p (with_sign negative size) }
@@ -34,6 +35,7 @@ pub struct Placed {
 }
 
 // The residue of the level in the field at `at`.
+#[inline(always)]
 fn residue_at(text: &[u8], at: usize, p: u8) -> Placed
     requires at_in_bounds { (at ≤ length text.now) × (p ≤ 128) }
     requires fact { level_field (drop at text.now) ≡ broken → ⊥ }
@@ -56,6 +58,7 @@ pub struct Point {
 }
 
 // The point of the entry at `at`, with its key in 8 bytes, which end in zeros, and where the last column begins.
+#[inline(always)]
 pub fn fill_point(text: &[u8], at: usize, p: u8, variables: usize, row: &mut [u8]) -> Point
     requires at_in_bounds { (at ≤ length text.now) × (variables ≤ length row.old) × (1 ≤ variables) × (variables ≤ 8) × (p ≤ 128) }
     requires fact { entry_part variables (drop at text.now) ≡ faulty → ⊥ }

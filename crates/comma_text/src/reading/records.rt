@@ -18,6 +18,7 @@ pub struct LevelAt {
 }
 
 // The level or value whose digits begin at `at`, behind its quote and its sign if it has them.
+#[inline(always)]
 fn sized_level(text: &[u8], at: usize, quotes: bool, negative: bool) -> Option<LevelAt>
     requires { at ≤ length text.now }
     ensures fact_1 { level_at_said text.now result ≡ size_field quotes negative (drop at text.now) }
@@ -34,6 +35,7 @@ fn sized_level(text: &[u8], at: usize, quotes: bool, negative: bool) -> Option<L
 }
 
 // The level or value whose content begins at `at`, behind its quote if it has one.
+#[inline(always)]
 fn signed_level(text: &[u8], at: usize, quotes: bool) -> Option<LevelAt>
     requires { at ≤ length text.now }
     ensures fact_1 { level_at_said text.now result ≡ reading level_of (field_from quotes (drop at text.now)) }
@@ -46,6 +48,7 @@ fn signed_level(text: &[u8], at: usize, quotes: bool) -> Option<LevelAt>
 }
 
 // The level or value in the field at `at`, with quotes or without. Its bytes are gone through once.
+#[inline(always)]
 pub fn level_at(text: &[u8], at: usize) -> Option<LevelAt>
     requires { at ≤ length text.now }
     ensures { LevelRead text.now at result }
