@@ -128,13 +128,17 @@ pub fn check_entry(
     };
     let mut from = at;
     for _ in 0..variables {
-        let level = level_at(text, from).ok_or(broken)?;
+        let Some(level) = level_at(text, from) else {
+            return Err(broken);
+        };
         if !level.more {
             return Err(broken);
         }
         from = level.next;
     }
-    let last = level_at(text, from).ok_or(broken)?;
+    let Some(last) = level_at(text, from) else {
+        return Err(broken);
+    };
     if last.more {
         return Err(broken);
     }

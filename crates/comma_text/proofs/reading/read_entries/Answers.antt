@@ -17,7 +17,6 @@ use Rattle.comma_text.specs.reading.Text.{Contents, valued_points, entries_cases
 use Rattle.comma_text.specs.reading.Text.{text_refused}
 use Rattle.comma_text.specs.reading.Records.{entries_at, counted_entries}
 use Rattle.comma_text.specs.reading.Points.{levels_at, saying, answered, GatheredAs}
-
 use Rattle.comma_text.proofs.reading.TextCases.{Allowed, room, long_buffers, first_of_both, settings_over, answer_refusal, answer_number}
 use Rattle.comma_text.proofs.reading.TextCases.{text_refused_lem, text_accepted_lem, assembled}
 use Rattle.comma_text.proofs.reading.FirstValues.{gathered_points}
