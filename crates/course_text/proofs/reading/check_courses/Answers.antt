@@ -53,9 +53,6 @@ module _ (c : After-course_number-number) where
 pub loop-from-init : goal.loop-from-init
 loop-from-init c = none_checked _ _ _ c.requires.0
 
-pub overflow_add-n : goal.overflow_add-n
-overflow_add-n c = omega (arith, c.loop-from.invariant.few, c.loop-from.invariant.within)
-
 pub check_entry-requires : goal.check_entry-requires
 check_entry-requires c = c.loop-from.invariant.within
 
@@ -63,16 +60,13 @@ pub returns-in_err-entry : goal.returns-in_err-entry
 unfolding entry_said
 returns-in_err-entry c =
     let e : c.from_residual.result ≡ Err c.in_err-entry.field-0.0 = search rules in
-    e ∙ no_record c.loop-from.invariant c.loop-from-test.true _ _ c.in_err-entry.ensures.said
+    e ∙ no_record c.loop-from.invariant c.loop-from-test.true _ c.in_err-entry.ensures.said
 
 pub slice_bounds-wrong_number-end : goal.slice_bounds-wrong_number-end
 slice_bounds-wrong_number-end c = sym c.loop-from.invariant.marked.long
 
 pub wrong_number-requires : goal.wrong_number-requires
 wrong_number-requires c = (small (goal.at.wrong_number-requires c).After-course_number-number, c.loop-from.invariant.marked.long)
-
-pub overflow_add-result : goal.overflow_add-result
-overflow_add-result c = let l = turn (goal.at.overflow_add-result c).After-course_number-number in omega (arith, l.loop-from.invariant.few, l.loop-from.invariant.within)
 
 pub returns-then-wrong_number : goal.returns-then-wrong_number
 returns-then-wrong_number c = let k = c in wrong_here (turn (goal.at.returns-then-wrong_number k).After-course_number-number).loop-from.invariant (taken (goal.at.returns-then-wrong_number k).After-course_number-number) (last (goal.at.returns-then-wrong_number k).After-course_number-number) (next (goal.at.returns-then-wrong_number k).After-course_number-number) (within (goal.at.returns-then-wrong_number k).After-course_number-number) (said (goal.at.returns-then-wrong_number k).After-course_number-number) _ k.course_number-number.ensures _ c.wrong_number.ensures c.if-wrong_number.true
@@ -83,8 +77,8 @@ overflow_cast-marks c = omega (arith, small (goal.at.overflow_cast-marks c).Afte
 pub bounds-marks-number : goal.bounds-marks-number
 bounds-marks-number c = omega (arith, small (goal.at.bounds-marks-number c).After-course_number-number)
 
-pub overflow_add-n-in-loop-from : goal.overflow_add-n-in-loop-from
-overflow_add-n-in-loop-from c = let l = turn (goal.at.overflow_add-n-in-loop-from c).After-course_number-number in omega (arith, l.loop-from.invariant.few, l.loop-from.invariant.within)
+pub overflow_add-n : goal.overflow_add-n
+overflow_add-n c = let l = turn (goal.at.overflow_add-n c).After-course_number-number in omega (arith, l.loop-from.invariant.few, l.loop-from.invariant.within)
 
 pub loop-from-smaller : goal.loop-from-smaller
 loop-from-smaller c = let k = c in omega (arith, further (goal.at.loop-from-smaller k).After-course_number-number, taken (goal.at.loop-from-smaller k).After-course_number-number)
