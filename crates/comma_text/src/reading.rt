@@ -10,7 +10,7 @@ ghost use Rattle.comma_text.specs.reading.Text.{short_buffers, header_cases, not
 ghost use Rattle.comma_text.specs.reading.Records.{entries_at, counted_entries};
 ghost use Rattle.comma_text.specs.reading.Points.{entries_outcome};
 
-use crate::reading::records::{HeaderAt, Refused};
+use crate::reading::records::HeaderAt;
 use points::weights::right_weights;
 use residue::{bytes, sizes};
 use specification::refusals::{Fault, Refusal};
@@ -139,19 +139,12 @@ pub fn read_text(
     else {
         return Err(in_header(Refusal::Form));
     };
-    match records::check_entries(text, next, variables) {
-        Err(Refused { refusal: _, at }) => Err(Fault {
-            refusal: Refusal::Form,
-            at: at as u16,
-        }),
-        Ok(n) => {
-            let settings = Settings {
-                modulus: modulus as u64,
-                variables: variables as u64,
-                order: order as u64,
-                weights: said,
-            };
-            read_entries(text, next, settings, n, states, values, counts, weights)
-        }
-    }
+    let n = records::check_entries(text, next, variables)?;
+    let settings = Settings {
+        modulus: modulus as u64,
+        variables: variables as u64,
+        order: order as u64,
+        weights: said,
+    };
+    read_entries(text, next, settings, n, states, values, counts, weights)
 }

@@ -3,18 +3,17 @@ use Rattle.std.specs.Prelude.{◌≡◌, cond, List, [], ◌∷◌, ◌++◌, �
 use Rattle.std.proofs.Math.Option.{Option}
 use Rattle.specification.specs.Levels.{in_range}
 use Rattle.notation.specs.Fields.{Part}
-use Rattle.comma_text.specs.reading.Text.{broken_at}
-use Rattle.comma_text.specs.reading.Records.{entries_refused}
+use Rattle.comma_text.specs.reading.Records.{form_fault_at}
 use Rattle.comma_text.specs.reading.Points.{levels_in, behind_entry}
-use Rattle.comma_text.specs.declared.reading.records.Refused.{Refused}
+use Rattle.specification.specs.declared.refusals.Fault.{Fault}
 use Rattle.courses.specs.Records.{RecordedAs}
 use Rattle.course_text.specs.Form.{number_of, course_fault, all_timed, first_state_outside}
 use Rattle.course_text.specs.declared.reading.Timed.{Timed}
 
 -- `check_courses`: the count of the records, those of `seen` being passed, or the refusal of the first that has a fault of form, the header being 1
-unfoldable pub counted_courses : ℕ → List (Option (List ℤ)) → List (Option (List ℤ)) → Result ℕ Refused
+unfoldable pub counted_courses : ℕ → List (Option (List ℤ)) → List (Option (List ℤ)) → Result ℕ Fault
 counted_courses m seen [] = Ok (length seen)
-counted_courses m seen (e ∷ l) = cond (course_fault m seen e) (entries_refused (broken_at (length seen + 2))) (counted_courses m (seen ++ (e ∷ [])) l)
+counted_courses m seen (e ∷ l) = cond (course_fault m seen e) (Err (form_fault_at (length seen + 2))) (counted_courses m (seen ++ (e ∷ [])) l)
 
 -- `read_record`: whether the m levels are in range, the course number, and the text behind the record
 pub record TimedAs (p m : ℕ) (text : List ℕ) (e : Part (List ℤ)) (r : Timed) : Type 0 where

@@ -11,7 +11,8 @@ ghost use Rattle.course_text.specs.Form.{course_in};
 ghost use Rattle.course_text.specs.Reading.{counted_courses, TimedAs, ReadAs};
 
 use comma_text::reading::entries::fill_point;
-use comma_text::reading::records::{Refused, check_entry, level_at};
+use comma_text::reading::records::{check_entry, level_at};
+use specification::refusals::{Fault, Refusal};
 
 // The course number that the last column's level is, 0 where it is none.
 fn course_number(negative: bool, size: u16) -> u8
@@ -41,7 +42,7 @@ fn wrong_number(number: u8, latest: u8, marks: &[u8]) -> bool
 }
 
 // Whether all records from `at` on, behind the header, are entries of so many variables whose numbers are courses' and stand in runs, and how many there are.
-pub fn check_courses(text: &[u8], at: usize, variables: usize) -> Result<usize, Refused>
+pub fn check_courses(text: &[u8], at: usize, variables: usize) -> Result<usize, Fault>
     requires { (at ≤ length text.now) × (length text.now ≤ 16384) }
     ensures { result ≡ counted_courses variables [] (entries_at variables (drop at text.now)) }
 {
@@ -50,12 +51,14 @@ pub fn check_courses(text: &[u8], at: usize, variables: usize) -> Result<usize, 
     let mut from = at;
     let mut n = 0;
     while from < text.len() {
-        let entry = check_entry(text, from, variables, n + 2)?;
+        // Each record takes a byte of the text, so that its number fits.
+        let record = n as u16 + 2;
+        let entry = check_entry(text, from, variables, record)?;
         let number = course_number(entry.negative, entry.size);
         if wrong_number(number, latest, &marks) {
-            return Err(Refused {
-                refusal: 2,
-                at: n + 2,
+            return Err(Fault {
+                refusal: Refusal::Form,
+                at: record,
             });
         }
         marks[number as usize] = 1;

@@ -13,7 +13,7 @@ ghost use Rattle.forward.specs.Running.{decided_of, DecidedAs, CourseWritten, ru
 
 use basis::drawing::draw_points;
 use comma_text::reading::check_settings;
-use comma_text::reading::records::{HeaderAt, Refused, read_header};
+use comma_text::reading::records::{HeaderAt, read_header};
 use course_text::reading::{check_courses, read_records};
 use courses::moves::{first_of_course, gather_moves};
 use courses::returns::Return;
@@ -256,15 +256,7 @@ pub fn time_course(
             at: 1,
         });
     };
-    let n = match check_courses(text, next, variables) {
-        Ok(n) => n,
-        Err(Refused { refusal: _, at }) => {
-            return Err(Fault {
-                refusal: Refusal::Form,
-                at: at as u16,
-            });
-        }
-    };
+    let n = check_courses(text, next, variables)?;
     let settings = Settings {
         modulus: modulus as u64,
         variables: variables as u64,

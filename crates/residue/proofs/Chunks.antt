@@ -32,9 +32,9 @@ fewer w v l x r h f e q =
 pub YieldsList-from_chunks_exact : {s : _} (w : ℕ) (l : List ℕ) → 0 < w → chunks_exact_rest s ≡ l → chunks_exact_size s ≡ w → YieldsList (chunks_exact_steps {A = ℕ}) (λ x. x.now) s (groups w (length l / w) l)
 YieldsList-from_chunks_exact {s} w l h e q =
     let y = YieldsList-from_shown_while (chunks_exact_steps {A = ℕ}) (λ x. x.now) (λ s. groups (chunks_exact_size s) (length (chunks_exact_rest s) / chunks_exact_size s) (chunks_exact_rest s)) (λ s. 0 < chunks_exact_size s)
-        (λ s t p k. none_left (chunks_exact_size s) _ (chunks_exact_rest s) (div-eq_of_lt k.1.0))
-        (λ s x t p k. (omega (arith, k.0), one_more (chunks_exact_size s) (chunks_exact_size t) _ _ (chunks_exact_rest s) x.now (chunks_exact_rest t) k.0 k.1.0 k.1.1 (fewer (chunks_exact_size s) (chunks_exact_size t) (chunks_exact_rest s) x.now (chunks_exact_rest t) p k.0 k.1.0 k.1.1)))
-        s (omega arith) in
+    (λ s t p k. none_left (chunks_exact_size s) _ (chunks_exact_rest s) (div-eq_of_lt k.1.0))
+    (λ s x t p k. (omega (arith, k.0), one_more (chunks_exact_size s) (chunks_exact_size t) _ _ (chunks_exact_rest s) x.now (chunks_exact_rest t) k.0 k.1.0 k.1.1 (fewer (chunks_exact_size s) (chunks_exact_size t) (chunks_exact_rest s) x.now (chunks_exact_rest t) p k.0 k.1.0 k.1.1)))
+    s (omega arith) in
     subst (λ (ys : List (List ℕ)). YieldsList (chunks_exact_steps {A = ℕ}) (λ x. x.now) s ys) (ap₂ (λ (m : ℕ) (t : List ℕ). groups m (length t / m) t) q e) y
 
 -- The first n rows of a table.

@@ -15,11 +15,16 @@ pub fn is_modulus(p: u64) -> bool
     PRIMES.iter().any(|prime| p == u64::from(*prime))
 }
 
-// How far a level is from 0: a byte without a sign, since -128 is that far from it too.
+// How far a level is from 0. It is widened before it is negated: -128 has no negation of its own width. The requirement names this form, the negation and the
+// checked widening (docs/SCOPE.md, 'Expected form in each place').
 pub fn magnitude(level: i8) -> u8
     ensures { result ≡ nat_abs level }
 {
-    level.unsigned_abs()
+    if level < 0 {
+        (-(level as i16)) as u8
+    } else {
+        level as u8
+    }
 }
 
 // The residue of a level, where it has one. The sign is looked at last, so that it costs no branch.

@@ -1,5 +1,5 @@
 -- The whole text: what its header and its entries say of the outcome.
-use mathlib.Core.Path.{◌≡◌, refl, sym, ap, ◌∙◌, subst}
+use mathlib.Core.Path.{◌≡◌, refl, sym, ap, ap₂, ◌∙◌, subst}
 use mathlib.Core.Bool.{Bool, true, false, cond}
 use mathlib.Core.Logic.{◌≢◌}
 use mathlib.Core.List.{List, [], ◌∷◌, ◌++◌, map}
@@ -22,12 +22,14 @@ use Rattle.comma_text.specs.reading.Text.{text_accepted, text_refused, text_deci
 use Rattle.comma_text.specs.reading.Records.{reads, header_part, entries_at, counted_entries}
 use Rattle.comma_text.specs.reading.Points.{levels_at, saying, entries_outcome}
 use Rattle.comma_text.specs.reading.Answers.{Refusal}
-use Rattle.std.specs.Prelude.{Ok}
-use Rattle.comma_text.specs.declared.reading.records.Refused.{Refused}
-use Rattle.comma_text.specs.reading.Records.{refused_at}
+use Rattle.std.specs.Prelude.{Ok, Err}
+use Rattle.specification.specs.declared.refusals.Fault.{Fault}
+use Rattle.specification.specs.declared.refusals.Refusal.{Refusal as R}
+use Rattle.specification.specs.declared.refusals.Refusal.TheVariants.{Form}
+use Rattle.specification.specs.Answers.{number_of}
+use Rattle.comma_text.specs.reading.Records.{form_fault_at}
 use Rattle.notation.proofs.fields.EnoughTurns.{records_unroll}
 use Rattle.comma_text.proofs.reading.entries.EntriesRead.{all_entries}
-use Rattle.comma_text.proofs.reading.FirstPlaces.{fault_le}
 use Rattle.comma_text.proofs.reading.AcceptedPoints.{SmallOrder, in_small}
 use Rattle.comma_text.proofs.reading.TextCases.{text_refused_lem}
 
@@ -81,20 +83,20 @@ unfolding further
 further_some k n = rw (ne_eqb k 0 n)
 
 -- the count of the entries, or the first that is none
-pub record Fault (j k a : ℕ) (es : List (Option (List ℤ))) : Type 0 where
-  pub refusal : k ≡ 2
-  pub at : a ≡ j + suc (first_fault is_none es)
+pub record Counted (j : ℕ) (f : Fault) (es : List (Option (List ℤ))) : Type 0 where
+  pub refusal : f.refusal ≡ Form
+  pub at : f.at ≡ j + suc (first_fault is_none es)
   pub found : first_fault is_none es ≡ 0 → ⊥
 
-pub counted_refused : (j k a : ℕ) (es : List (Option (List ℤ))) → refused_at k a ≡ counted_entries j es → Fault j k a es
+pub counted_refused : (j : ℕ) (f : Fault) (es : List (Option (List ℤ))) → Err f ≡ counted_entries j es → Counted j f es
 unfolding counted_entries first_fault is_none further
-counted_refused j k a [] e = let z : ◌≡◌ {A = ℕ} 0 1 = cc in absurd (omega arith)
-counted_refused j k a (none ∷ es) e =
-    let r : ◌≡◌ {A = Refused} (record { refusal = k; at = a }) (record { refusal = 2; at = j + 2 }) = cc in
-    let q : a ≡ j + 2 = ap (λ (x : Refused). x.at) r in
-    record { refusal = ap (λ (x : Refused). x.refusal) r; at = q; found = λ z. omega arith }
-counted_refused j k a (some zs ∷ es) e =
-    let r = counted_refused (suc j) k a es e in
+counted_refused j f [] e = let z : ◌≡◌ {A = ℕ} 0 1 = cc in absurd (omega arith)
+counted_refused j f (none ∷ es) e =
+    let r : f ≡ form_fault_at (j + 2) = cc in
+    let q : f.at ≡ j + 2 = ap (λ (x : Fault). x.at) r in
+    record { refusal = ap (λ (x : Fault). x.refusal) r; at = q; found = λ z. omega arith }
+counted_refused j f (some zs ∷ es) e =
+    let r = counted_refused (suc j) f es e in
     let g = further_some (first_fault is_none es) r.found in
     let q = r.at in
     record { refusal = r.refusal; at = omega (arith, g, q); found = λ z. omega (arith, g) }
@@ -179,14 +181,15 @@ module _ (t s v n w : List ℕ) where
           of_entries es = let f : Contents = record { header = k; entries = map (λ x. get_or x []) es } in
               text_decided (first_of not_refused (read_cases t (further (first_fault is_none es)) f short)) (text_accepted f s v n w) s v n w
 
-      pub entry_broken : (r a : ℕ) → refused_at r a ≡ counted_entries 0 (entries_at k.variables rest)
-          → text_refused (refusal_at 2 a) s v n w ≡ read_outcome t s v n w
-      entry_broken r a c =
-          let f = counted_refused 0 r a (entries_at k.variables rest) c in
-          let g = further_some (first_fault is_none (entries_at k.variables rest)) f.found in
-          let q = f.at in
-          let i : place ≡ a = omega arith in
-          ap (λ (x : ℕ). text_refused (refusal_at 2 x) s v n w) (sym i)
+      pub entry_broken : (f : Fault) → Err f ≡ counted_entries 0 (entries_at k.variables rest)
+          → text_refused (refusal_at (number_of f.refusal) f.at) s v n w ≡ read_outcome t s v n w
+      unfolding number_of
+      entry_broken f c =
+          let b = counted_refused 0 f (entries_at k.variables rest) c in
+          let g = further_some (first_fault is_none (entries_at k.variables rest)) b.found in
+          let q = b.at in
+          let i : place ≡ f.at = omega arith in
+          ap₂ (λ (x : R) (y : ℕ). text_refused (refusal_at (number_of x) y) s v n w) b.refusal (sym i)
           ∙ text_refused_lem _ _ s v n w _ (refuse_2 t place says short h (λ z. omega arith)) (λ z. omega arith)
           ∙ sym outcome
 
@@ -198,12 +201,6 @@ module _ (t s v n w : List ℕ) where
           ap (λ (x : Refusal). text_decided x (text_accepted says s v n w) s v n w)
           (sym (form_pass t place says short h (ap further z)))
           ∙ sym outcome
-
--- the record of a refused entry, within its type
-pub record_small : (m k a : ℕ) (l : List ℕ) → length l ≤ 16384 → refused_at k a ≡ counted_entries 0 (entries_at m l) → a ≤ 16385
-record_small m k a l h c =
-    let f = (counted_refused 0 k a (entries_at m l) c).at in
-    omega (arith, fault_le is_none (entries_at m l), entries_few m l)
 
 -- the number of entries, within the text's length
 pub count_small : (m n : ℕ) (l : List ℕ) → length l ≤ 16384 → counted_entries 0 (entries_at m l) ≡ Ok n → n ≤ 16384

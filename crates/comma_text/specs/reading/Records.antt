@@ -6,13 +6,14 @@ use Rattle.std.proofs.Math.Option.{Option, some, none}
 use Rattle.notation.specs.Digits.{decimal_number}
 use Rattle.notation.specs.Fields.{Field, field, broken, unquoted, quoted, field_of, Part, part, faulty, kept, record_of, records_of}
 use Rattle.notation.specs.Forms.{level_of, entry_of, Header, header_of}
-use Rattle.comma_text.specs.reading.Text.{refusal_at, not_refused, broken_at, entry_in, last_level}
+use Rattle.comma_text.specs.reading.Text.{not_refused, broken_at, entry_in, last_level}
 use Rattle.notation.specs.Said.{with_sign}
 use Rattle.comma_text.specs.reading.Answers.{Refusal}
 use Rattle.comma_text.specs.declared.reading.records.LevelAt.{LevelAt}
 use Rattle.comma_text.specs.declared.reading.records.HeaderAt.{HeaderAt}
 use Rattle.comma_text.specs.declared.reading.records.Entry.{Entry}
-use Rattle.comma_text.specs.declared.reading.records.Refused.{Refused}
+use Rattle.specification.specs.declared.refusals.Fault.{Fault}
+use Rattle.specification.specs.declared.refusals.Refusal.TheVariants.{Form}
 
 -- a field by what its content says, if it has the form
 unfoldable pub held : {A : Type 0} → Option A → Bool → List ℕ → Field A
@@ -104,36 +105,34 @@ pub record HeaderRead (text weights : List ℕ) (r : Answer HeaderAt) : Type 0 w
   pub number : header_refusal r ≡ part_refusal 1 (header_part text)
   pub within : HeaderWithin (length text) r
 
--- An entry ends behind its last level, or is refused with its number and record.
+-- refusal 2 of this record
+abbrev pub form_fault_at : ℕ → Fault
+form_fault_at at = record { refusal = Form; at = at }
+
+-- An entry ends behind its last level, or is refused with its fault.
 pub data Checked : Type 0 where
   ends : (last : ℤ) (rest : List ℕ) → Checked
-  refuses : (r : Refusal) → Checked
+  refuses : (f : Fault) → Checked
 
 unfoldable pub checked : ℕ → ℕ → Part (List ℤ) → Checked
 checked at m (part levels rest) = ends (last_level m levels) rest
-checked at m faulty = refuses (broken_at at)
+checked at m faulty = refuses (form_fault_at at)
 
-unfoldable pub entry_said : List ℕ → Result Entry Refused → Checked
+unfoldable pub entry_said : List ℕ → Result Entry Fault → Checked
 entry_said text (Ok e) = ends (with_sign e.negative e.size) (drop e.next text)
-entry_said text (Err r) = refuses (refusal_at r.refusal r.at)
+entry_said text (Err f) = refuses f
 
-abbrev pub EntryWithin : ℕ → Result Entry Refused → Type 0
+abbrev pub EntryWithin : ℕ → Result Entry Fault → Type 0
 EntryWithin n (Ok e) = e.next ≤ n
-EntryWithin n (Err r) = Unit {0}
+EntryWithin n (Err f) = Unit {0}
 
 -- `check_entry` at a place, for an entry of m levels and a value whose record has this number
-pub record EntryRead (text : List ℕ) (at m «record» : ℕ) (r : Result Entry Refused) : Type 0 where
+pub record EntryRead (text : List ℕ) (at m «record» : ℕ) (r : Result Entry Fault) : Type 0 where
   pub said : entry_said text r ≡ checked «record» m (entry_part m (drop at text))
   pub within : EntryWithin (length text) r
 
-abbrev pub refused_at : ℕ → ℕ → Result ℕ Refused
-refused_at refusal at = Err (record { refusal = refusal; at = at })
-
-abbrev pub entries_refused : Refusal → Result ℕ Refused
-entries_refused r = refused_at r.refusal r.at
-
 -- the count of the entries, k being passed, or the refusal of the first record that is none, the header being 1
-unfoldable pub counted_entries : ℕ → List (Option (List ℤ)) → Result ℕ Refused
+unfoldable pub counted_entries : ℕ → List (Option (List ℤ)) → Result ℕ Fault
 counted_entries k [] = Ok k
 counted_entries k (some levels ∷ l) = counted_entries (suc k) l
-counted_entries k (none ∷ l) = entries_refused (broken_at (k + 2))
+counted_entries k (none ∷ l) = Err (form_fault_at (k + 2))

@@ -7,6 +7,7 @@ ghost use Rattle.comma_text.specs.reading.Records.{HeaderRead, EntryRead, entrie
 use notation::fields::{End, Span};
 use notation::forms::Settings;
 use notation::{digits, fields, forms};
+use specification::refusals::{Fault, Refusal};
 
 // A level or value: its sign and size, whether another field of its record follows, and where the text goes on.
 #[derive(Clone, Copy)]
@@ -100,13 +101,6 @@ pub fn read_header(text: &[u8], weights: &mut [u8]) -> Option<HeaderAt>
     }
 }
 
-// A record that is refused, by its number in the text.
-#[derive(Clone, Copy)]
-pub struct Refused {
-    pub refusal: u8,
-    pub at: usize,
-}
-
 // An entry: the level in its last column, by its sign and size, and where it ends.
 #[derive(Clone, Copy)]
 pub struct Entry {
@@ -116,28 +110,27 @@ pub struct Entry {
 }
 
 // The record at `at`, whose number is `record`, as an entry of so many variables, if it is one.
-pub fn check_entry(
-    text: &[u8],
-    at: usize,
-    variables: usize,
-    record: usize,
-) -> Result<Entry, Refused>
+pub fn check_entry(text: &[u8], at: usize, variables: usize, record: u16) -> Result<Entry, Fault>
     requires { at ≤ length text.now }
     ensures { EntryRead text.now at variables «record» result }
 {
-    let broken = Refused {
-        refusal: 2,
+    let broken = Fault {
+        refusal: Refusal::Form,
         at: record,
     };
     let mut from = at;
     for _ in 0..variables {
-        let level = level_at(text, from).ok_or(broken)?;
+        let Some(level) = level_at(text, from) else {
+            return Err(broken);
+        };
         if !level.more {
             return Err(broken);
         }
         from = level.next;
     }
-    let last = level_at(text, from).ok_or(broken)?;
+    let Some(last) = level_at(text, from) else {
+        return Err(broken);
+    };
     if last.more {
         return Err(broken);
     }
@@ -149,14 +142,15 @@ pub fn check_entry(
 }
 
 // How many records there are from `at` on, behind the header, if all are entries of so many variables.
-pub fn check_entries(text: &[u8], at: usize, variables: usize) -> Result<usize, Refused>
+pub fn check_entries(text: &[u8], at: usize, variables: usize) -> Result<usize, Fault>
     requires { (at ≤ length text.now) × (length text.now ≤ 16384) }
     ensures { result ≡ counted_entries 0 (entries_at variables (drop at text.now)) }
 {
     let mut from = at;
     let mut n = 0;
     while from < text.len() {
-        from = check_entry(text, from, variables, n + 2)?.next;
+        // Each entry takes a byte of the text, so that the number of its record fits.
+        from = check_entry(text, from, variables, n as u16 + 2)?.next;
         n += 1;
     }
     Ok(n)

@@ -1,5 +1,5 @@
 -- The records are checked one after the other, each by those before it.
-use mathlib.Core.Path.{◌≡◌, refl, sym, ap, ap₂, ◌∙◌, subst}
+use mathlib.Core.Path.{◌≡◌, refl, sym, ap, ◌∙◌, subst}
 use mathlib.Core.Bool.{Bool, true, false, not, cond, ◌&&◌, ◌||◌}
 use mathlib.Core.List.{List, [], ◌∷◌, ◌++◌}
 use mathlib.Core.Option
@@ -10,11 +10,11 @@ use lib.IntN.{ℤ}
 use lib.ListN.{length, get_or, set, drop, replicate, length-drop, length-append, drop_of_length-le}
 use lib.Dec.{eqb}
 use Rattle.notation.specs.Fields.{part, records_from, records_of}
-use Rattle.comma_text.specs.reading.Text.{refusal_at}
+use Rattle.specification.specs.declared.refusals.Fault.{Fault}
 use Rattle.comma_text.specs.reading.Records.{entry_part, entries_at, ends, refuses, checked}
 use Rattle.comma_text.specs.reading.Text.{last_level}
-use Rattle.std.specs.Prelude.{Ok}
-use Rattle.comma_text.specs.reading.Records.{refused_at}
+use Rattle.std.specs.Prelude.{Ok, Err}
+use Rattle.comma_text.specs.reading.Records.{form_fault_at}
 use Rattle.comma_text.proofs.reading.records.EntriesChecked.{entry_shorter, entries_more, entries_none, of_ends, of_refuses}
 use Rattle.comma_text.proofs.reading.entries.OneMore.{map_snoc}
 use Rattle.course_text.specs.Form.{course_in, number_of, numbers_of, latest, comes_back, course_fault}
@@ -50,20 +50,20 @@ module _ {m : ℕ} {t : List ℕ} {at : ℕ} {marks : List ℕ} {last from n : �
 
     -- the next record is at fault
     fault : (e : Option (List ℤ)) (l : List (Option (List ℤ))) → entries_at m (drop from t) ≡ e ∷ l → course_fault m g.seen e ≡ true
-        → refused_at 2 (n + 2) ≡ counted_courses m [] (entries_at m (drop at t))
+        → Err (form_fault_at (n + 2)) ≡ counted_courses m [] (entries_at m (drop at t))
     unfolding counted_courses
     fault e l q f =
-        ap (λ (k : ℕ). refused_at 2 (k + 2)) (sym g.count)
-        ∙ sym (ap (counted_courses m g.seen) q ∙ ap (λ (b : Bool). cond b (refused_at 2 (length g.seen + 2)) (counted_courses m (g.seen ++ (e ∷ [])) l)) f)
+        ap (λ (k : ℕ). Err (form_fault_at (k + 2))) (sym g.count)
+        ∙ sym (ap (counted_courses m g.seen) q ∙ ap (λ (b : Bool). cond b (Err (form_fault_at (length g.seen + 2))) (counted_courses m (g.seen ++ (e ∷ [])) l)) f)
         ∙ g.rest
 
-    pub no_record : (k b : ℕ) → refuses (refusal_at k b) ≡ checked (n + 2) m (entry_part m (drop from t))
-        → refused_at k b ≡ counted_courses m [] (entries_at m (drop at t))
+    pub no_record : (f : Fault) → refuses f ≡ checked (n + 2) m (entry_part m (drop from t))
+        → Err f ≡ counted_courses m [] (entries_at m (drop at t))
     unfolding course_fault
-    no_record k b e =
-        let p = of_refuses (n + 2) m k b (entry_part m (drop from t)) e in
+    no_record f e =
+        let p = of_refuses (n + 2) m f (entry_part m (drop from t)) e in
         let q = entries_none m (drop from t) some_left p.0 in
-        ap₂ refused_at p.1.0 p.1.1 ∙ fault none q.0 q.1 refl
+        ap (λ (x : Fault). Err x) p.1 ∙ fault none q.0 q.1 refl
 
     module _ (z : ℤ) (next : ℕ) (w : next ≤ length t) (e : ends z (drop next t) ≡ checked (n + 2) m (entry_part m (drop from t)))
         (number : ℕ) (is : number ≡ course_in z) (wrong : Bool)
@@ -93,7 +93,7 @@ module _ {m : ℕ} {t : List ℕ} {at : ℕ} {marks : List ℕ} {last from n : �
           tested ∙ ap (λ (b : Bool). eqb number 0 || b) (back_told g.marked number last number_small g.newest)
           ∙ ap (λ (c : ℕ). eqb c 0 || comes_back (numbers_of m g.seen) c) own
 
-      pub wrong_here : wrong ≡ true → refused_at 2 (n + 2) ≡ counted_courses m [] (entries_at m (drop at t))
+      pub wrong_here : wrong ≡ true → Err (form_fault_at (n + 2)) ≡ counted_courses m [] (entries_at m (drop at t))
       wrong_here b = fault (some levels) (entries_at m (drop next t)) there (sym told ∙ b)
 
       pub checked_more : wrong ≡ false → CheckedOn m t at (set marks number 1) number next (n + 1)
@@ -106,7 +106,7 @@ module _ {m : ℕ} {t : List ℕ} {at : ℕ} {marks : List ℕ} {last from n : �
         marked = subst (λ (l : List ℕ). Marked l (set marks number 1)) (sym numbers) (mark_more g.marked number number_small);
         newest = sym (ap latest numbers ∙ latest_snoc (numbers_of m g.seen) number);
         rest =
-            sym (ap (λ (b : Bool). cond b (refused_at 2 (length g.seen + 2)) (counted_courses m (g.seen ++ (some levels ∷ [])) (entries_at m (drop next t)))) (sym told ∙ b))
+            sym (ap (λ (b : Bool). cond b (Err (form_fault_at (length g.seen + 2))) (counted_courses m (g.seen ++ (some levels ∷ [])) (entries_at m (drop next t)))) (sym told ∙ b))
             ∙ sym (ap (counted_courses m g.seen) there) ∙ g.rest;
       }
         where

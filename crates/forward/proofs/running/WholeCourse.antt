@@ -1,5 +1,5 @@
 -- The whole text of a time course, from its length to what is left.
-use mathlib.Core.Path.{◌≡◌, refl, sym, ap, subst, ◌∙◌}
+use mathlib.Core.Path.{◌≡◌, refl, sym, ap, ap₂, subst, ◌∙◌}
 use mathlib.Core.Bool.{Bool, true, false, cond}
 use mathlib.Core.List.{List, [], ◌∷◌, ◌++◌, map}
 use mathlib.Core.Option.{Option, some, none, get_or}
@@ -14,14 +14,17 @@ use Rattle.specification.specs.Refusal.{first_of}
 use Rattle.specification.specs.Tables.{Tables}
 use Rattle.notation.specs.Fields.{records_of, part, faulty}
 use Rattle.notation.specs.Forms.{Header}
-use Rattle.std.specs.Prelude.{Ok}
+use Rattle.std.specs.Prelude.{Ok, Err}
 use Rattle.comma_text.specs.reading.Answers.{Refusal}
-use Rattle.comma_text.specs.declared.reading.records.Refused.{Refused}
-use Rattle.comma_text.specs.reading.Records.{refused_at}
+use Rattle.specification.specs.declared.refusals.Fault.{Fault}
+use Rattle.specification.specs.declared.refusals.Refusal.{Refusal as R}
+use Rattle.specification.specs.declared.refusals.Refusal.TheVariants.{Form}
+use Rattle.specification.specs.Answers.{number_of}
+use Rattle.comma_text.specs.reading.Records.{form_fault_at}
 use Rattle.comma_text.specs.reading.Text.{further, first_after, header_in, no_header, entry_in, entries_in, Contents, contents_of, refusal_at, not_refused, settings_by}
 use Rattle.comma_text.specs.reading.Records.{header_part, entries_at, counted_entries}
 use Rattle.comma_text.specs.reading.Points.{levels_at, saying}
-use Rattle.comma_text.proofs.reading.WholeText.{no_header_lem, some_header, entries_few}
+use Rattle.comma_text.proofs.reading.WholeText.{no_header_lem, some_header}
 use Rattle.course_text.specs.Form.{course_fault, course_form_fault}
 use Rattle.course_text.specs.Reading.{counted_courses}
 use Rattle.forward.specs.Outcome.{CourseOutcome, short_for, time_cases, course_refused, course_accepted, course_decided, course_outcome}
@@ -42,7 +45,7 @@ counted_free m n seen [] e = (refl, sym e)
 counted_free m n seen (none ∷ es) e = let z : ◌≡◌ {A = ℕ} 0 1 = cc in absurd (omega arith)
 counted_free m n seen (some zs ∷ es) e = go (course_fault m seen (some zs)) e (counted_free m n (seen ++ (some zs ∷ [])) es)
   where
-    go : (b : Bool) → Ok n ≡ cond b (refused_at 2 (length seen + 2)) (counted_courses m (seen ++ (some zs ∷ [])) es)
+    go : (b : Bool) → Ok n ≡ cond b (Err (form_fault_at (length seen + 2))) (counted_courses m (seen ++ (some zs ∷ [])) es)
         → (Ok n ≡ counted_courses m (seen ++ (some zs ∷ [])) es
         → (first_after (course_fault m) (seen ++ (some zs ∷ [])) es ≡ 0) × (counted_entries (length (seen ++ (some zs ∷ []))) es ≡ Ok n))
         → (cond b 1 (cond (eqb (first_after (course_fault m) (seen ++ (some zs ∷ [])) es) 0) 0 (suc (first_after (course_fault m) (seen ++ (some zs ∷ [])) es))) ≡ 0)
@@ -54,35 +57,30 @@ counted_free m n seen (some zs ∷ es) e = go (course_fault m seen (some zs)) e 
         (rw w.0 refl, ap (λ (k : ℕ). counted_entries k es) (sym long) ∙ w.1)
 
 -- A record that was refused is the first that has a fault of form.
-pub record Fault (seen r at place many : ℕ) : Type 0 where
-  pub refusal : r ≡ 2
-  pub record_is : at ≡ seen + suc place
+pub record Counted (seen : ℕ) (f : Fault) (place : ℕ) : Type 0 where
+  pub refusal : f.refusal ≡ Form
+  pub record_is : f.at ≡ seen + suc place
   pub found : 1 ≤ place
-  pub low : place ≤ many
 
-pub counted_faulty : (m r at : ℕ) (seen es : List (Option (List ℤ))) → refused_at r at ≡ counted_courses m seen es
-    → Fault (length seen) r at (first_after (course_fault m) seen es) (length es)
+pub counted_faulty : (m : ℕ) (f : Fault) (seen es : List (Option (List ℤ))) → Err f ≡ counted_courses m seen es
+    → Counted (length seen) f (first_after (course_fault m) seen es)
 unfolding counted_courses first_after further
-counted_faulty m r at seen [] e = let z : ◌≡◌ {A = ℕ} 0 1 = cc in absurd (omega arith)
-counted_faulty m r at seen (x ∷ es) e = go (course_fault m seen x) e (counted_faulty m r at (seen ++ (x ∷ [])) es)
+counted_faulty m f seen [] e = let z : ◌≡◌ {A = ℕ} 0 1 = cc in absurd (omega arith)
+counted_faulty m f seen (x ∷ es) e = go (course_fault m seen x) e (counted_faulty m f (seen ++ (x ∷ [])) es)
   where
-    go : (b : Bool) → refused_at r at ≡ cond b (refused_at 2 (length seen + 2)) (counted_courses m (seen ++ (x ∷ [])) es)
-        → (refused_at r at ≡ counted_courses m (seen ++ (x ∷ [])) es → Fault (length (seen ++ (x ∷ []))) r at (first_after (course_fault m) (seen ++ (x ∷ [])) es) (length es))
-        → Fault (length seen) r at (cond b 1 (cond (eqb (first_after (course_fault m) (seen ++ (x ∷ [])) es) 0) 0 (suc (first_after (course_fault m) (seen ++ (x ∷ [])) es)))) (suc (length es))
-    go true q f =
-        let s : ◌≡◌ {A = Refused} (record { refusal = r; at = at }) (record { refusal = 2; at = length seen + 2 }) = cc in
-        let a = ap (λ (x : Refused). x.refusal) s in
-        let b : at ≡ length seen + 2 = ap (λ (x : Refused). x.at) s in
-        record { refusal = a; record_is = omega (arith, b); found = omega arith; low = omega arith }
-    go false q f =
-        let w = f q in
+    go : (b : Bool) → Err f ≡ cond b (Err (form_fault_at (length seen + 2))) (counted_courses m (seen ++ (x ∷ [])) es)
+        → (Err f ≡ counted_courses m (seen ++ (x ∷ [])) es → Counted (length (seen ++ (x ∷ []))) f (first_after (course_fault m) (seen ++ (x ∷ [])) es))
+        → Counted (length seen) f (cond b 1 (cond (eqb (first_after (course_fault m) (seen ++ (x ∷ [])) es) 0) 0 (suc (first_after (course_fault m) (seen ++ (x ∷ [])) es))))
+    go true q h =
+        let s : f ≡ form_fault_at (length seen + 2) = cc in
+        let a = ap (λ (y : Fault). y.refusal) s in
+        let b : f.at ≡ length seen + 2 = ap (λ (y : Fault). y.at) s in
+        record { refusal = a; record_is = omega (arith, b); found = omega arith }
+    go false q h =
+        let w = h q in
         let long : length (seen ++ (x ∷ [])) ≡ suc (length seen) = omega (arith, length-append seen (x ∷ [])) in
         rw (ne_eqb (first_after (course_fault m) (seen ++ (x ∷ [])) es) 0 (λ z. omega (arith, z, w.found)))
-        (record { refusal = w.refusal; record_is = omega (arith, w.record_is, long); found = omega arith; low = omega (arith, w.low) })
-
--- the record of a refused one, within its type
-pub fault_small : (m r at : ℕ) (l : List ℕ) → length l ≤ 16384 → refused_at r at ≡ counted_courses m [] (entries_at m l) → at ≤ 16385
-fault_small m r at l h c = let f = counted_faulty m r at [] (entries_at m l) c in omega (arith, f.record_is, f.low, entries_few m l)
+        (record { refusal = w.refusal; record_is = omega (arith, w.record_is, long); found = omega arith })
 
 module _ (t : List ℕ) (c : ℕ) (u : Tables) (g w : List ℕ) where
   abbrev short : Bool
@@ -137,14 +135,14 @@ module _ (t : List ℕ) (c : ℕ) (u : Tables) (g w : List ℕ) where
           of_entries es = let f : Contents = record { header = k; entries = map (λ x. get_or x []) es } in
               course_decided (first_of not_refused (time_cases t (further (first_after (course_fault k.variables) [] es)) f short c)) (course_accepted f c u g w) u g w
 
-      pub course_broken : (r at : ℕ) → refused_at r at ≡ counted_courses k.variables [] (entries_at k.variables rest)
-          → course_refused (refusal_at 2 at) u g w ≡ course_outcome t c u g w
-      unfolding further
-      course_broken r at q =
-          let f = counted_faulty k.variables r at [] (entries_at k.variables rest) q in
-          let i : place ≡ at = rw (ne_eqb (first_after (course_fault k.variables) [] (entries_at k.variables rest)) 0 (λ z. omega (arith, z, f.found))) (omega (arith, f.record_is)) in
-          ap (λ (x : ℕ). course_refused (refusal_at 2 x) u g w) (sym i)
-          ∙ by_refusal place says (refusal_at 2 place) (refuse_2 place says (λ z. omega (arith, z, i, f.record_is))) (λ z. omega (arith, z))
+      pub course_broken : (r : Fault) → Err r ≡ counted_courses k.variables [] (entries_at k.variables rest)
+          → course_refused (refusal_at (number_of r.refusal) r.at) u g w ≡ course_outcome t c u g w
+      unfolding further number_of
+      course_broken r q =
+          let b = counted_faulty k.variables r [] (entries_at k.variables rest) q in
+          let i : place ≡ r.at = rw (ne_eqb (first_after (course_fault k.variables) [] (entries_at k.variables rest)) 0 (λ z. omega (arith, z, b.found))) (omega (arith, b.record_is)) in
+          ap₂ (λ (x : R) (y : ℕ). course_refused (refusal_at (number_of x) y) u g w) b.refusal (sym i)
+          ∙ by_refusal place says (refusal_at 2 place) (refuse_2 place says (λ z. omega (arith, z, i, b.record_is))) (λ z. omega (arith, z))
           ∙ sym outcome
 
       -- Of right form: the outcome is that of its records, with the weights.

@@ -10,12 +10,12 @@ use lib.IntN.{ℤ}
 use lib.ListN.{length, drop, length-drop, drop_of_length-le}
 use Rattle.notation.specs.Fields.{field, broken, Part, part, faulty, kept, with_first, record_of, behind_record, records_from, records_of}
 use Rattle.notation.specs.Forms.{entry_of}
-use Rattle.comma_text.specs.reading.Text.{refusal_at, broken_at, entry_in}
-use Rattle.comma_text.specs.reading.Answers.{Refusal}
+use Rattle.comma_text.specs.reading.Text.{entry_in}
+use Rattle.specification.specs.declared.refusals.Fault.{Fault}
 use Rattle.comma_text.specs.reading.Records.{level_field, reads, entry_part, entries_at, ends, refuses, checked, counted_entries}
 use Rattle.comma_text.specs.reading.Text.{last_level}
-use Rattle.std.specs.Prelude.{Ok}
-use Rattle.comma_text.specs.reading.Records.{refused_at}
+use Rattle.std.specs.Prelude.{Ok, Err}
+use Rattle.comma_text.specs.reading.Records.{form_fault_at}
 use Rattle.comma_text.proofs.reading.records.EntryLevels.{entry_broken, entry_more, entry_long, entry_last, entry_short}
 use Rattle.notation.proofs.fields.EnoughTurns.{Behind, shorter, stopped, record_left, records_unroll}
 
@@ -25,7 +25,7 @@ with_checked at k z (part zs rest) = refl
 with_checked at k z faulty = refl
 
 module _ (at : ℕ) (l : List ℕ) (k : ℕ) where
-  pub check_broken : level_field l ≡ broken → refuses (broken_at at) ≡ checked at k (entry_part k l)
+  pub check_broken : level_field l ≡ broken → refuses (form_fault_at at) ≡ checked at k (entry_part k l)
   unfolding checked
   check_broken e = ap (checked at k) (sym (entry_broken l k e))
 
@@ -36,7 +36,7 @@ module _ (at : ℕ) (l : List ℕ) (k : ℕ) where
     ending : more ≡ false → level_field l ≡ field z false rest
     ending h = sym e ∙ ap (λ (b : Bool). field z b rest) h
 
-    pub check_long : k ≡ 0 → more ≡ true → refuses (broken_at at) ≡ checked at k (entry_part k l)
+    pub check_long : k ≡ 0 → more ≡ true → refuses (form_fault_at at) ≡ checked at k (entry_part k l)
     unfolding checked
     check_long n h = ap (checked at k) (sym (entry_long l z rest (going h)) ∙ ap (λ (j : ℕ). entry_part j l) (sym n))
 
@@ -48,7 +48,7 @@ module _ (at : ℕ) (l : List ℕ) (k : ℕ) where
       one : suc (k - 1) ≡ k
       one = omega (arith, n)
 
-      pub check_short : more ≡ false → refuses (broken_at at) ≡ checked at k (entry_part k l)
+      pub check_short : more ≡ false → refuses (form_fault_at at) ≡ checked at k (entry_part k l)
       unfolding checked
       check_short h = ap (checked at k) (sym (entry_short l z rest (ending h) (k - 1)) ∙ ap (λ (j : ℕ). entry_part j l) one)
 
@@ -117,12 +117,10 @@ unfolding checked
 of_ends at m last rest (part zs r) e = let q : r ≡ rest = cc in (zs, ap (part zs) q, cc)
 of_ends at m last rest faulty e = let z : ◌≡◌ {A = ℕ} 0 1 = cc in absurd (omega arith)
 
-pub of_refuses : (at m k b : ℕ) (p : Part (List ℤ)) → refuses (refusal_at k b) ≡ checked at m p → (p ≡ faulty) × ((k ≡ 2) × (b ≡ at))
+pub of_refuses : (at m : ℕ) (f : Fault) (p : Part (List ℤ)) → refuses f ≡ checked at m p → (p ≡ faulty) × (f ≡ form_fault_at at)
 unfolding checked
-of_refuses at m k b (part zs r) e = let z : ◌≡◌ {A = ℕ} 0 1 = cc in absurd (omega arith)
-of_refuses at m k b faulty e =
-    let r : refusal_at k b ≡ broken_at at = cc in
-    (refl, (ap (λ (x : Refusal). x.refusal) r, ap (λ (x : Refusal). x.at) r))
+of_refuses at m f (part zs r) e = let z : ◌≡◌ {A = ℕ} 0 1 = cc in absurd (omega arith)
+of_refuses at m f faulty e = let r : f ≡ form_fault_at at = cc in (refl, r)
 
 module _ (t : List ℕ) (m from n : ℕ) (h : from < length t) where
   some_left : 0 < length (drop from t)
@@ -138,11 +136,11 @@ module _ (t : List ℕ) (m from n : ℕ) (h : from < length t) where
         ap (λ (j : ℕ). counted_entries j (entries_at m (drop next t))) (add-one n) ∙ ap (counted_entries n) (sym (entries_more m (drop from t) some_left p.0 (drop next t) p.1)),
       )
 
-  pub no_entry : (k b : ℕ) → refuses (refusal_at k b) ≡ checked (n + 2) m (entry_part m (drop from t)) → refused_at k b ≡ counted_entries n (entries_at m (drop from t))
+  pub no_entry : (f : Fault) → refuses f ≡ checked (n + 2) m (entry_part m (drop from t)) → Err f ≡ counted_entries n (entries_at m (drop from t))
   unfolding counted_entries
-  no_entry k b e =
-      let p = of_refuses (n + 2) m k b (entry_part m (drop from t)) e in
-      ap₂ refused_at p.1.0 p.1.1 ∙ ap (counted_entries n) (sym (entries_none m (drop from t) some_left p.0).1)
+  no_entry f e =
+      let p = of_refuses (n + 2) m f (entry_part m (drop from t)) e in
+      ap (λ (x : Fault). Err x) p.1 ∙ ap (counted_entries n) (sym (entries_none m (drop from t) some_left p.0).1)
 
 pub no_more : (t : List ℕ) (m from n : ℕ) → length t ≤ from → Ok n ≡ counted_entries n (entries_at m (drop from t))
 unfolding entries_at records_of records_from counted_entries

@@ -57,7 +57,7 @@ pub returns-in_err-entry : goal.returns-in_err-entry
 unfolding entry_said
 returns-in_err-entry c =
     let e : c.from_residual.result ≡ Err c.in_err-entry.field-0.0 = search rules in
-    e ∙ no_record c.loop-from.invariant c.loop-from-test.true _ _ c.in_err-entry.ensures.said
+    e ∙ no_record c.loop-from.invariant c.loop-from-test.true _ c.in_err-entry.ensures.said
 
 pub wrong_number-requires : goal.wrong_number-requires
 wrong_number-requires c = (small (goal.at.wrong_number-requires c).After-course_number-number, c.loop-from.invariant.marked.long)

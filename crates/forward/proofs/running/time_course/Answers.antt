@@ -6,7 +6,9 @@ use mathlib.Core.List.{List, []}
 use Prim.Native.Nat.{ℕ, ◌≤◌}
 use native.Mathlib.Omega.{arith}
 use lib.Dec.{ltb}
-use lib.ListN.{length, drop, length-drop}
+use lib.ListN.{length, drop}
+use Rattle.std.specs.Prelude.{Err}
+use Rattle.std.proofs.Common.{rules}
 use Rattle.std.proofs.lemmas.Result.{err_from_is_err_and}
 use Rattle.residue.proofs.Tests.{neither}
 use Rattle.specification.specs.Answers.{number_of}
@@ -21,7 +23,7 @@ use Rattle.comma_text.proofs.reading.WholeText.{header_order}
 use Rattle.forward.specs.Outcome.{short_for, course_answer, course_refused}
 use Rattle.forward.specs.Running.{RunOutcome, run_outcome}
 use Rattle.forward.proofs.running.RunCases.{taken_long}
-use Rattle.forward.proofs.running.WholeCourse.{with_weights, counted_free, fault_small, too_long, header_broken, course_broken, course_taken, course_kept}
+use Rattle.forward.proofs.running.WholeCourse.{with_weights, counted_free, too_long, header_broken, course_broken, course_taken, course_kept}
 use Rattle.forward.proofs.running.time_course.Goals as goal
 
 -- buffers that are long enough
@@ -55,20 +57,13 @@ returns-in_default c =
     header_broken c.args.text.now c.args.course (lent_mut c.args.tables) c.args.interpolants.now c.args.weights.now c.if-text-gt16384.false
     (sym c.in_default.ensures.said)
 
-pub overflow_cast-result : goal.overflow_cast-result
-overflow_cast-result c =
-    let rest = drop c.in-Some.field-0.next c.args.text.now in
-    let b = c.if-text-gt16384.false in
-    let l = length-drop c.in-Some.field-0.next c.args.text.now in
-    let h = fault_small c.in-Some.field-0.variables _ _ rest (omega arith) c.in-Err.ensures in
-    omega arith
-
-pub returns-in-Err : goal.returns-in-Err
-unfolding course_refused course_answer number_of header_said
-returns-in-Err c =
+pub returns-in_err-n : goal.returns-in_err-n
+unfolding course_refused course_answer header_said
+returns-in_err-n c =
+    let e : c.from_residual.result ≡ Err c.in_err-n.field-0.0 = search rules in
     let h = header c.in-Some.field-0.modulus c.in-Some.field-0.variables c.in-Some.field-0.order c.read_header.new.weights in
-    course_broken c.args.text.now c.args.course (lent_mut c.args.tables) c.args.interpolants.now c.args.weights.now c.if-text-gt16384.false h
-    (drop c.in-Some.field-0.next c.args.text.now) (sym c.in-Some.ensures.said) _ _ c.in-Err.ensures
+    rw e (course_broken c.args.text.now c.args.course (lent_mut c.args.tables) c.args.interpolants.now c.args.weights.now c.if-text-gt16384.false h
+    (drop c.in-Some.field-0.next c.args.text.now) (sym c.in-Some.ensures.said) _ c.in_err-n.ensures)
 
 pub run_records-requires-clause-order_bound : goal.run_records-requires-clause-order_bound
 unfolding header_said
@@ -78,7 +73,7 @@ run_records-requires-clause-order_bound c =
 
 pub run_records-requires-clause-text_value : goal.run_records-requires-clause-text_value
 run_records-requires-clause-text_value c =
-    (counted_free c.in-Some.field-0.variables c.in-Ok.n [] (entries_at c.in-Some.field-0.variables (drop c.in-Some.field-0.next c.args.text.now)) c.in-Ok.ensures).1
+    (counted_free c.in-Some.field-0.variables c.in_ok-n.n [] (entries_at c.in-Some.field-0.variables (drop c.in-Some.field-0.next c.args.text.now)) c.in_ok-n.ensures).1
 
 pub run_records-requires-clause-counts_value : goal.run_records-requires-clause-counts_value
 run_records-requires-clause-counts_value c =
@@ -87,14 +82,14 @@ run_records-requires-clause-counts_value c =
 pub returns-in_err-ran : goal.returns-in_err-ran
 unfolding course_answer header_said
 returns-in_err-ran c =
-    let p = err_from_is_err_and c.from_residual.result c.from_residual.ensures.1 in
+    let p = err_from_is_err_and c.from_residual-in_err-ran.result c.from_residual-in_err-ran.ensures.1 in
     let f = c.in_err-ran.field-0.0 in
     let h = header c.in-Some.field-0.modulus c.in-Some.field-0.variables c.in-Some.field-0.order c.read_header.new.weights in
     let rest = drop c.in-Some.field-0.next c.args.text.now in
     let u = lent_mut c.args.tables in
     rw (p.1, p.2)
     (course_kept c.args.text.now c.args.course u c.args.interpolants.now c.args.weights.now c.if-text-gt16384.false h rest (sym c.in-Some.ensures.said)
-    c.in-Ok.n c.in-Ok.ensures _
+    c.in_ok-n.n c.in_ok-n.ensures _
     (ran (settings_by h) rest c.args.course u c.args.interpolants.now c.args.weights.now c.short_buffers-short.ensures c.in_err-ran.ensures) (number_above_0 f.refusal))
 
 pub copy-requires : goal.copy-requires
@@ -118,4 +113,4 @@ returns c =
     let w = c.args.weights.now in
     let run = ran (settings_by h) rest c.args.course u g w c.short_buffers-short.ensures c.in_ok-ran.ensures in
     ap (with_weights _) c.copy.ensures
-    ∙ course_taken c.args.text.now c.args.course u g w c.if-text-gt16384.false h rest (sym c.in-Some.ensures.said) c.in-Ok.n c.in-Ok.ensures _ run refl
+    ∙ course_taken c.args.text.now c.args.course u g w c.if-text-gt16384.false h rest (sym c.in-Some.ensures.said) c.in_ok-n.n c.in_ok-n.ensures _ run refl

@@ -31,7 +31,7 @@ pub returns-in_err-from : goal.returns-in_err-from
 unfolding entry_said
 returns-in_err-from c =
     let e : c.from_residual.result ≡ Err c.in_err-from.field-0.0 = search rules in
-    e ∙ no_entry c.args.text.now c.args.variables c.loop-from.from c.loop-from.n c.loop-from-test.true _ _ c.in_err-from.ensures.said ∙ c.loop-from.invariant.2
+    e ∙ no_entry c.args.text.now c.args.variables c.loop-from.from c.loop-from.n c.loop-from-test.true _ c.in_err-from.ensures.said ∙ c.loop-from.invariant.2
 
 pub loop-from-smaller : goal.loop-from-smaller
 loop-from-smaller c = let h = (passed c).0 in omega arith
