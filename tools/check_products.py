@@ -84,11 +84,12 @@ class Reader:
 
     def __init__(self, name, kinds, body, answers):
         self.name, self.kinds, self.body, self.answers = name, dict(kinds), body, answers
-        for i, token in enumerate(body):
+        # Twice, since a name may be compared with one that is declared behind it.
+        for i, token in list(enumerate(body)) * 2:
             if token == "let":
                 self.declare(i + 1 + (body[i + 1] == "mut"))
             if token == "for":
-                self.kinds[body[i + 1]] = self.bound(i + 3)
+                self.loop(i + 1)
 
     def declare(self, i):
         name, body = self.body[i], self.body
@@ -102,9 +103,32 @@ class Reader:
         for i, token in enumerate(self.body[:-2]):
             if token == name and self.body[i + 1] in ("<", "<=", "==", "!="):
                 kind = self.operand(i + 2)[0]
-                if kind:
-                    return kind
+            elif token in ("<", "<=", "==", "!=") and self.body[i + 1] == name:
+                kind = self.operand(self.before(i))[0]
+            else:
+                continue
+            if kind:
+                return kind
         return None
+
+    def loop(self, i):
+        """The names that a loop binds: over numbers the one is of their type; over the items of a list, counted or not, an item's number is an index and the
+        item of the list's type; others are of no known type."""
+        start = self.body.index("in", i)
+        end = start
+        while self.body[end] != "{":
+            end = closing(self.body, end) + 1 if self.body[end] in ("(", "[") else end + 1
+        names = [name for name in self.body[i:start] if re.match(r"[A-Za-z_]\w*$", name)]
+        self.kinds.update(dict.fromkeys(names))
+        if ".." in self.body[start:end] and "(" not in self.body[i:start]:
+            first = start + 1 + (self.body[start + 1] == "(" and ".." in self.body[start + 1:closing(self.body, start + 1)])
+            self.kinds[names[0]] = self.bound(first)
+            return
+        if "enumerate" in self.body[start:end]:
+            self.kinds[names[0]] = "usize"
+        items = [token for token in self.body[start + 1:end] if token not in ("&", "mut")]
+        if items[1:] in ([], [".", "iter", "(", ")"], [".", "iter", "(", ")", ".", "enumerate", "(", ")"]):
+            self.kinds[names[-1]] = scalar(self.kinds.get(items[0]))
 
     def bound(self, i):
         """The type of a loop's index: that of a bound that has one, else that of an index."""
@@ -137,12 +161,13 @@ class Reader:
         elif token in ("(", "["):
             kind, i = self.expression(i + 1), closing(body, i) + 1
         else:
+            first = token
             while i + 1 < len(body) and body[i + 1] == "::":
                 i += 2
             token = body[i]
             kind, i = scalar(self.kinds.get(token)), i + 1
             if i < len(body) and body[i] == "(":
-                kind, i = self.answers.get(token), closing(body, i) + 1
+                kind, i = first if token == "from" else self.answers.get(token), closing(body, i) + 1
         while i < len(body):
             if body[i] == "[":
                 i = closing(body, i) + 1
@@ -169,6 +194,10 @@ class Reader:
             raise Unclear(f"{self.name}: the operand before `{self.body[i]}`")
         return j
 
+    def reads(self, i):
+        """Whether a star stands before what it reads, and is no operator: nothing that it could multiply ends before it."""
+        return self.body[i] == "*" and not re.match(r"[\w)\]]", self.body[i - 1] if i else "") or self.body[i - 1] in ("return", "in", "else", "match", "if", "mut")
+
     def judge(self, i):
         """What is wrong with the operator at a place, or None."""
         text = " ".join(self.body[max(0, i - 6):i + 7])
@@ -185,7 +214,7 @@ class Reader:
 def judged(sources):
     """How many operators there are, and what is wrong with them."""
     parsed = [one for source in sources for one in functions(source)]
-    answers = {"count_ones": "u32", **{name: answer for name, _, answer, _ in parsed}}
+    answers = {"count_ones": "u32", ".count_ones": "u32", **{name: answer for name, _, answer, _ in parsed}}
     for source in sources:
         for fields in re.findall(r"struct \w+ \{([^}]*)\}", source):
             answers.update({"." + name: kind for name, kind in re.findall(r"(\w+): (\w+)", fields)})
@@ -193,7 +222,7 @@ def judged(sources):
     for name, kinds, _, body in parsed:
         reader = Reader(name, kinds, body, answers)
         for i, token in enumerate(body):
-            if token in OPERATORS:
+            if token in OPERATORS and not reader.reads(i):
                 count += 1
                 problem = reader.judge(i)
                 wrong += [problem] if problem else []
@@ -218,6 +247,9 @@ fn put(n: usize, p: u8, to: &mut [u8], from: &[u8]) {
         let place = 64 * i;
         to[place] = from[8 * i + 1];
     }
+    for (i, x) in from.iter().enumerate() {
+        to[usize::from(i * 2)] = mul(p, *x, to[i]);
+    }
 }
 """
 TRIES = (
@@ -232,12 +264,14 @@ TRIES = (
     ("let place = 64 * i", "let place = 64 * p as u16"),
     ("let place = 64 * i", "let place = 64 * unknown"),
     ("from as u8", "2 * x"),
+    ("mul(p, *x, to[i])", "*x * to[i]"),
+    ("mul(p, *x, to[i])", "*x % p"),
 )
 
 
 def tries():
     """The edits of a small source that are not noticed."""
-    if judged([TRY]) != (5, []):
+    if judged([TRY]) != (6, []):
         return [f"the small source is refused: {judged([TRY])}"]
     missed = []
     for old, new in TRIES:
