@@ -1,5 +1,5 @@
 #!/usr/bin/env python3
-"""Holds what README.md, docs/ (but docs/changes and docs/PORT.md, which tell of what was) and include/misqafur.h say of the tree to the tree. Read are, in all of them:
+"""Holds what README.md, docs/ (but docs/changes, docs/PORT.md and docs/DESIGN-PASS.md, which tell of what was) and include/misqafur.h say of the tree to the tree. Read are, in all of them:
   `crate::module::item`  the module, or the item in it; `module::item`: in that module of some crate
   PATH                   from the root (docs/X, crates/X, …) or CRATE/src, /specs, /proofs or /must-fail on: it is there. * is any
                          name, and so is one in capitals; specs/F and proofs/F alone are crate specification's;
@@ -194,7 +194,7 @@ def frozen(tree, sums):
 
 
 def faults(tree, sums):
-    pages = [path for path in tree.files if re.fullmatch(r"README\.md|docs/(?!changes/|PORT\.md$).*\.md|include/.*\.h", path)]
+    pages = [path for path in tree.files if re.fullmatch(r"README\.md|docs/(?!changes/|PORT\.md$|DESIGN-PASS\.md$).*\.md|include/.*\.h", path)]
     checks = [check(tree, page, tree.files[page]) for page in pages for check in (items, paths, placed, header)]
     checks += [check(tree) for check in (theorems, review, repository, believed, citing)] + [frozen(tree, sums)]
     found = []
