@@ -45,13 +45,13 @@ fn chosen(x: u8, y: u8, k: u8) -> u8
 }
 
 // The product with a number of so many bits, by doubling and adding from its highest bit on: no number in its way is greater than a sum of two residues.
-pub fn product<const BITS: u8>(p: u8, x: u8, y: u8) -> u8
-    requires p_bound { (p ≤ 61) × (BITS ≤ 8) }
-    requires x_lt_p { (x < p) × (y < 2 ^ BITS) }
+pub fn product(p: u8, bits: u8, x: u8, y: u8) -> u8
+    requires p_bound { (p ≤ 61) × (bits ≤ 8) }
+    requires x_lt_p { (x < p) × (y < 2 ^ bits) }
     ensures { result ≡ (x * y) % p }
 {
     let mut sum = 0;
-    for k in (0..BITS).rev() {
+    for k in (0..bits).rev() {
         sum = add(p, double(p, sum), chosen(x, y, k));
     }
     sum
@@ -62,7 +62,7 @@ pub fn mul(p: u8, x: u8, y: u8) -> u8
     requires x_lt_p { (x < p) × (y < p) }
     ensures { result ≡ (x * y) % p }
 {
-    product::<6>(p, x, y)
+    product(p, 6, x, y)
 }
 
 // Any byte, reduced.
@@ -70,7 +70,7 @@ pub fn reduce(p: u8, x: u8) -> u8
     requires { (2 ≤ p) × (p ≤ 61) }
     ensures { result ≡ x % p }
 {
-    product::<8>(p, 1, x)
+    product(p, 8, 1, x)
 }
 
 // x to the power e by squares; anything to the power 0 is 1.

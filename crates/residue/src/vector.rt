@@ -57,7 +57,7 @@ pub fn multiply(p: u8, dst: &mut [u8], src: &[u8])
     ensures { dst.new ≡ pointwise p dst.old src.now }
 {
     if p <= 7 {
-        each_with(dst, src, |x, y| product::<3>(p, x, y));
+        each_with(dst, src, |x, y| product(p, 3, x, y));
     } else {
         each_with(dst, src, |x, y| mul(p, x, y));
     }

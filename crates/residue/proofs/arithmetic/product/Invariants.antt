@@ -4,4 +4,4 @@ use Prim.Native.Nat.{◌*◌, ◌/◌, ◌%◌, ◌^◌}
 use Rattle.residue.proofs.arithmetic.product.Given as goal
 
 abbrev pub invariant-loop-k : goal.invariant-loop-k
-invariant-loop-k g l = l.sum ≡ (l.x * (l.y / 2 ^ l.k)) % l.p
+invariant-loop-k l = l.sum ≡ (l.x * (l.y / 2 ^ l.k)) % l.p
