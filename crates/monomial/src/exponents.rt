@@ -26,7 +26,7 @@ pub(crate) fn degree(a: &[u8; 8]) -> u64
 }
 
 // The sum of weight times exponent.
-pub(crate) fn weigh(weights: &[u8; 8], a: &[u8; 8]) -> u64
+pub fn weigh(weights: &[u8; 8], a: &[u8; 8]) -> u64
     ensures { result ≡ weigh weights.now a.now }
 {
     let mut sum: u64 = 0;
