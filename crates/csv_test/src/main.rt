@@ -11,6 +11,9 @@ use std::rt::Files;
 // The byte that every lent byte is before the reader comes.
 const FRESH: u8 = 170;
 
+// What stands in place of a refusal's number for a case that cannot be read: it lends more than there is, or its text is longer than the room for one.
+const UNREAD: u8 = 255;
+
 // The lent buffers, each a few bytes longer than what the reader writes to it.
 #[derive(Drop)]
 struct Buffers {
@@ -38,20 +41,21 @@ struct Wanted {
 }
 
 impl Wanted {
-    fn is_answer(&self, got: Result<Read, Fault>) -> bool {
+    fn is_answer(&self, got: Option<Result<Read, Fault>>) -> bool {
+        let nothing = Read {
+            modulus: 0,
+            variables: 0,
+            order: 0,
+            n: 0,
+        };
         match got {
-            Ok(read) => self.refusal == 0 && self.at == 0 && self.read == read,
-            Err(fault) => {
-                let nothing = Read {
-                    modulus: 0,
-                    variables: 0,
-                    order: 0,
-                    n: 0,
-                };
+            Some(Ok(read)) => self.refusal == 0 && self.at == 0 && self.read == read,
+            Some(Err(fault)) => {
                 self.refusal == fault.refusal.number()
                     && self.at == fault.at
                     && self.read == nothing
             }
+            None => self.refusal == UNREAD && self.at == 0 && self.read == nothing,
         }
     }
 }
@@ -80,10 +84,10 @@ impl Buffers {
         }
     }
 
-    // The reader over the first bytes of each buffer; nothing where a case lends more than there is.
-    fn read(&mut self, text: &[u8], lent: Lent) -> Option<Result<Read, Fault>> {
+    // The reader over the first bytes of each buffer; nothing where there is no text or a case lends more than there is.
+    fn read(&mut self, text: Option<&[u8]>, lent: Lent) -> Option<Result<Read, Fault>> {
         Some(read_text(
-            text,
+            text?,
             self.states.get_mut(..lent.states)?,
             self.values.get_mut(..lent.values)?,
             self.counts.get_mut(..lent.counts)?,
@@ -124,13 +128,7 @@ fn run_text<R: io::Read>(input: &mut R, length: usize, lent: Lent, want: Wanted)
     let mut text = [0u8; 70000];
     let mut buffers = Buffers::fresh();
     read_front(input, &mut text, length);
-    let Some(text) = text.get(..length) else {
-        return false;
-    };
-    let Some(got) = buffers.read(text, lent) else {
-        return false;
-    };
-    if !want.is_answer(got) {
+    if !want.is_answer(buffers.read(text.get(..length), lent)) {
         return false;
     }
     if want.refusal == 0 {
