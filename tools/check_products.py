@@ -120,15 +120,24 @@ class Reader:
             end = closing(self.body, end) + 1 if self.body[end] in ("(", "[") else end + 1
         names = [name for name in self.body[i:start] if re.match(r"[A-Za-z_]\w*$", name)]
         self.kinds.update(dict.fromkeys(names))
-        if ".." in self.body[start:end] and "(" not in self.body[i:start]:
-            first = start + 1 + (self.body[start + 1] == "(" and ".." in self.body[start + 1:closing(self.body, start + 1)])
+        first = start + 1 + (self.body[start + 1] == "(")
+        if "(" not in self.body[i:start] and self.ranges(first):
             self.kinds[names[0]] = self.bound(first)
             return
-        if "enumerate" in self.body[start:end]:
+        # The first of two names is a count where the items are counted last of all.
+        if self.body[i] == "(" and self.body[i + 2] == "," and self.body[end - 4:end] == [".", "enumerate", "(", ")"]:
             self.kinds[names[0]] = "usize"
         items = [token for token in self.body[start + 1:end] if token not in ("&", "mut")]
         if items[1:] in ([], [".", "iter", "(", ")"], [".", "iter", "(", ")", ".", "enumerate", "(", ")"]):
             self.kinds[names[-1]] = scalar(self.kinds.get(items[0]))
+
+    def ranges(self, i):
+        """Whether what begins at a place are the numbers of a range: two dots stand in it, and not inside an index."""
+        while self.body[i] not in ("{", ")"):
+            if self.body[i] in ("..", "..="):
+                return True
+            i = closing(self.body, i) + 1 if self.body[i] in ("(", "[") else i + 1
+        return False
 
     def bound(self, i):
         """The type of a loop's index: that of a bound that has one, else that of an index."""
@@ -161,13 +170,12 @@ class Reader:
         elif token in ("(", "["):
             kind, i = self.expression(i + 1), closing(body, i) + 1
         else:
-            first = token
             while i + 1 < len(body) and body[i + 1] == "::":
                 i += 2
             token = body[i]
             kind, i = scalar(self.kinds.get(token)), i + 1
             if i < len(body) and body[i] == "(":
-                kind, i = first if token == "from" else self.answers.get(token), closing(body, i) + 1
+                kind, i = self.answers.get(token), closing(body, i) + 1
         while i < len(body):
             if body[i] == "[":
                 i = closing(body, i) + 1
@@ -196,7 +204,7 @@ class Reader:
 
     def reads(self, i):
         """Whether a star stands before what it reads, and is no operator: nothing that it could multiply ends before it."""
-        return self.body[i] == "*" and not re.match(r"[\w)\]]", self.body[i - 1] if i else "") or self.body[i - 1] in ("return", "in", "else", "match", "if", "mut")
+        return self.body[i] == "*" and not re.match(r"[\w)\]?}]", self.body[i - 1] if i else "") or self.body[i - 1] in ("return", "in", "else", "match", "if", "mut")
 
     def judge(self, i):
         """What is wrong with the operator at a place, or None."""
@@ -204,9 +212,12 @@ class Reader:
         begin = self.before(i)
         kinds = {self.operand(begin)[0], self.operand(i + 1)[0]} - {None}
         literals = all(self.body[j][0].isdigit() for j in (begin, i + 1))
+        # So many times an index: a number's type says nothing of what it was made from, but a literal multiplies no two residues.
+        right = next(j for j in range(i + 1, len(self.body)) if self.body[j] != "(")
+        indexed = self.body[begin][0].isdigit() and self.body[right:right + 3] == ["usize", "::", "from"]
         if self.body[begin] in {name for where, name in HALVED if where == self.name} and self.body[i + 1] == "2":
             return None
-        if literals or (kinds and kinds <= COUNTS):
+        if literals or indexed or (kinds and kinds <= COUNTS):
             return None
         return f"{self.name}: {'a residue' if kinds else 'an operand of no known type'} in `{text}`"
 
@@ -266,6 +277,13 @@ TRIES = (
     ("from as u8", "2 * x"),
     ("mul(p, *x, to[i])", "*x * to[i]"),
     ("mul(p, *x, to[i])", "*x % p"),
+    ("mul(p, *x, to[i])", "(u32::from(*x) * u32::from(to[i]) % u32::from(p)) as u8"),
+    ("mul(p, *x, to[i])", "usize::from(*x) * usize::from(p)"),
+    ("mul(p, *x, to[i])", "{ let y = inverse(p, *x)? * to[i]; y }"),
+    ("mul(p, *x, to[i])", "{ let y = if n == 0 { p } else { *x } * to[i]; y }"),
+    ("mul(p, *x, to[i])", "{ let y = { *x } * to[i]; y }"),
+    ("for (i, x) in from.iter().enumerate() {", "for (x, (i, y)) in from.iter().zip(to.iter().enumerate()) { let z = *x * *x;"),
+    ("for (i, x) in from.iter().enumerate() {", "for x in from[0..n].iter() { let z = *x * *x;"),
 )
 
 
