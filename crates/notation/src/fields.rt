@@ -39,8 +39,12 @@ fn quote_end(text: &[u8], at: usize) -> usize
     let mut i = at;
     while i < text.len() {
         match &text[i..] {
-            [QUOTE, QUOTE, ..] => i += 2,
-            [QUOTE, ..] => return i,
+            [QUOTE, rest @ ..] => {
+                let [QUOTE, ..] = rest else {
+                    return i;
+                };
+                i += 2;
+            }
             _ => i += 1,
         }
     }
