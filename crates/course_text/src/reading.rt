@@ -11,7 +11,7 @@ ghost use Rattle.course_text.specs.Form.{course_in};
 ghost use Rattle.course_text.specs.Reading.{counted_courses, TimedAs, ReadAs};
 
 use comma_text::reading::entries::fill_point;
-use comma_text::reading::records::{check_entry, level_at};
+use comma_text::reading::records::{check_entry, fault_of_record, level_at};
 use specification::refusals::{Fault, Refusal};
 
 // The course number that the last column's level is, 0 where it is none.
@@ -52,13 +52,16 @@ pub fn check_courses(text: &[u8], at: usize, variables: usize) -> Result<usize, 
     let mut n = 0;
     while from < text.len() {
         // Each record takes a byte of the text, so that its number fits.
-        let record = n as u16 + 2;
-        let entry = check_entry(text, from, variables, record)?;
+        let record = n + 2;
+        let entry = match check_entry(text, from, variables, record) {
+            Ok(entry) => entry,
+            Err(broken) => return Err(fault_of_record(broken)),
+        };
         let number = course_number(entry.negative, entry.size);
         if wrong_number(number, latest, &marks) {
             return Err(Fault {
                 refusal: Refusal::Form,
-                at: record,
+                at: record as u16,
             });
         }
         marks[number as usize] = 1;

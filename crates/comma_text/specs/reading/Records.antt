@@ -12,6 +12,7 @@ use Rattle.comma_text.specs.reading.Answers.{Refusal}
 use Rattle.comma_text.specs.declared.reading.records.LevelAt.{LevelAt}
 use Rattle.comma_text.specs.declared.reading.records.HeaderAt.{HeaderAt}
 use Rattle.comma_text.specs.declared.reading.records.Entry.{Entry}
+use Rattle.comma_text.specs.declared.reading.records.Broken.{Broken}
 use Rattle.specification.specs.declared.refusals.Fault.{Fault}
 use Rattle.specification.specs.declared.refusals.Refusal.TheVariants.{Form}
 
@@ -118,18 +119,23 @@ unfoldable pub checked : ℕ → ℕ → Part (List ℤ) → Checked
 checked at m (part levels rest) = ends (last_level m levels) rest
 checked at m faulty = refuses (form_fault_at at)
 
-unfoldable pub entry_said : List ℕ → Result Entry Fault → Checked
-entry_said text (Ok e) = ends (with_sign e.negative e.size) (drop e.next text)
-entry_said text (Err f) = refuses f
+-- the fault of a record that breaks the form
+abbrev pub fault_of_record : Broken → Fault
+fault_of_record b = record { refusal = b.refusal; at = b.at }
 
-abbrev pub EntryWithin : ℕ → Result Entry Fault → Type 0
-EntryWithin n (Ok e) = e.next ≤ n
-EntryWithin n (Err f) = Unit {0}
+unfoldable pub entry_said : List ℕ → Result Entry Broken → Checked
+entry_said text (Ok e) = ends (with_sign e.negative e.size) (drop e.next text)
+entry_said text (Err b) = refuses (fault_of_record b)
+
+-- an entry ends within the text, and a refusal has the record's own number
+abbrev pub EntryWithin : ℕ → ℕ → Result Entry Broken → Type 0
+EntryWithin n «record» (Ok e) = e.next ≤ n
+EntryWithin n «record» (Err b) = b.at ≡ «record»
 
 -- `check_entry` at a place, for an entry of m levels and a value whose record has this number
-pub record EntryRead (text : List ℕ) (at m «record» : ℕ) (r : Result Entry Fault) : Type 0 where
+pub record EntryRead (text : List ℕ) (at m «record» : ℕ) (r : Result Entry Broken) : Type 0 where
   pub said : entry_said text r ≡ checked «record» m (entry_part m (drop at text))
-  pub within : EntryWithin (length text) r
+  pub within : EntryWithin (length text) «record» r
 
 -- the count of the entries, k being passed, or the refusal of the first record that is none, the header being 1
 unfoldable pub counted_entries : ℕ → List (Option (List ℤ)) → Result ℕ Fault

@@ -1,8 +1,8 @@
 // The records of a text: the header, and behind it the entries, each of m levels and one value.
-ghost use Rattle.std.specs.Prelude.{◌≡◌, ◌≤◌, length, drop, replicate};
+ghost use Rattle.std.specs.Prelude.{◌≡◌, ◌<◌, ◌≤◌, length, drop, replicate};
 ghost use Rattle.notation.specs.Forms.{level_of};
 ghost use Rattle.comma_text.specs.reading.Records.{reading, field_from, size_field, level_at_said, LevelWithin, LevelRead};
-ghost use Rattle.comma_text.specs.reading.Records.{HeaderRead, EntryRead, entries_at, counted_entries};
+ghost use Rattle.comma_text.specs.reading.Records.{HeaderRead, EntryRead, fault_of_record, entries_at, counted_entries};
 
 use notation::fields::{End, Span};
 use notation::forms::Settings;
@@ -109,12 +109,19 @@ pub struct Entry {
     pub next: usize,
 }
 
+// A record that breaks the form: its refusal, and its number, whatever that is.
+#[derive(Clone, Copy, Debug, PartialEq, Eq)]
+pub struct Broken {
+    pub refusal: Refusal,
+    pub at: usize,
+}
+
 // The record at `at`, whose number is `record`, as an entry of so many variables, if it is one.
-pub fn check_entry(text: &[u8], at: usize, variables: usize, record: u16) -> Result<Entry, Fault>
+pub fn check_entry(text: &[u8], at: usize, variables: usize, record: usize) -> Result<Entry, Broken>
     requires { at ≤ length text.now }
     ensures { EntryRead text.now at variables «record» result }
 {
-    let broken = Fault {
+    let broken = Broken {
         refusal: Refusal::Form,
         at: record,
     };
@@ -141,6 +148,17 @@ pub fn check_entry(text: &[u8], at: usize, variables: usize, record: u16) -> Res
     })
 }
 
+// The fault of a record of a text, whose number fits.
+pub fn fault_of_record(broken: Broken) -> Fault
+    requires { broken.at < 65536 }
+    ensures { result ≡ fault_of_record broken }
+{
+    Fault {
+        refusal: broken.refusal,
+        at: broken.at as u16,
+    }
+}
+
 // How many records there are from `at` on, behind the header, if all are entries of so many variables.
 pub fn check_entries(text: &[u8], at: usize, variables: usize) -> Result<usize, Fault>
     requires { (at ≤ length text.now) × (length text.now ≤ 16384) }
@@ -150,7 +168,10 @@ pub fn check_entries(text: &[u8], at: usize, variables: usize) -> Result<usize, 
     let mut n = 0;
     while from < text.len() {
         // Each entry takes a byte of the text, so that the number of its record fits.
-        from = check_entry(text, from, variables, n as u16 + 2)?.next;
+        match check_entry(text, from, variables, n + 2) {
+            Ok(entry) => from = entry.next,
+            Err(broken) => return Err(fault_of_record(broken)),
+        }
         n += 1;
     }
     Ok(n)

@@ -1,14 +1,14 @@
 -- `reading::check_courses` meets its contract. What the records from `from` on say, behind those that were passed, is what all say.
-use mathlib.Core.Path.{◌≡◌, refl, ◌∙◌}
+use mathlib.Core.Path.{◌≡◌, refl, ap, ◌∙◌}
 use mathlib.Core.List.{List}
 use Prim.Native.Nat.{ℕ, ◌+◌, ◌<◌, ◌≤◌}
 use native.Mathlib.Omega.{arith}
 use lib.IntN.{ℤ}
 use lib.ListN.{length, drop}
 use Rattle.std.specs.Prelude.{Err}
-use Rattle.std.proofs.Common.{rules}
 use Rattle.notation.specs.Said.{with_sign}
 use Rattle.comma_text.specs.declared.reading.records.Entry.{Entry}
+use Rattle.specification.specs.declared.refusals.Fault.{Fault}
 use Rattle.comma_text.specs.reading.Records.{entry_part, entry_said, ends, checked}
 use Rattle.course_text.proofs.reading.CoursesChecked.{none_checked, all_checked, no_record, passes, number_small, wrong_here, checked_more}
 use Rattle.course_text.proofs.reading.check_courses.Goals as goal
@@ -25,7 +25,7 @@ turn c = (goal.at.After-course_number-number c).At-loop-from
 
 module _ (c : After-course_number-number) where
   abbrev entry : Entry
-  entry = c.in_ok-entry.entry
+  entry = c.in-Ok.entry
 
   abbrev last : ℤ
   last = with_sign entry.negative entry.size
@@ -34,12 +34,12 @@ module _ (c : After-course_number-number) where
   next = entry.next
 
   within : next ≤ length (text (turn c))
-  within = c.in_ok-entry.ensures.within
+  within = c.in-Ok.ensures.within
 
   said : ends last (drop next (text (turn c)))
       ≡ checked ((turn c).loop-from.n + 2) (start (turn c)).args.variables (entry_part (start (turn c)).args.variables (drop (turn c).loop-from.from (text (turn c))))
   unfolding entry_said
-  said = c.in_ok-entry.ensures.said
+  said = c.in-Ok.ensures.said
 
   taken : (turn c).loop-from.from < length (text (turn c))
   taken = c.loop-from-test.true
@@ -53,11 +53,10 @@ module _ (c : After-course_number-number) where
 pub loop-from-init : goal.loop-from-init
 loop-from-init c = none_checked _ _ _ c.requires.0
 
-pub returns-in_err-entry : goal.returns-in_err-entry
+pub returns-in-Err : goal.returns-in-Err
 unfolding entry_said
-returns-in_err-entry c =
-    let e : c.from_residual.result ≡ Err c.in_err-entry.field-0.0 = search rules in
-    e ∙ no_record c.loop-from.invariant c.loop-from-test.true _ c.in_err-entry.ensures.said
+returns-in-Err c =
+    ap (λ (f : Fault). Err f) c.fault_of_record.ensures ∙ no_record c.loop-from.invariant c.loop-from-test.true _ c.in-Err.ensures.said
 
 pub wrong_number-requires : goal.wrong_number-requires
 wrong_number-requires c = (small (goal.at.wrong_number-requires c).After-course_number-number, c.loop-from.invariant.marked.long)

@@ -1,5 +1,5 @@
 -- `records::check_entry` meets its contract. What the levels from `from` on say of the entry is what all say.
-use mathlib.Core.Path.{◌≡◌, sym, ◌∙◌}
+use mathlib.Core.Path.{◌≡◌, refl, sym, ◌∙◌}
 use mathlib.Core.List.{List}
 use Prim.Native.Nat.{ℕ, ◌+◌, ◌-◌, ◌≤◌}
 use native.Mathlib.Omega.{arith}
@@ -32,13 +32,19 @@ one_less n i = omega arith
 
 pub returns-in_default : goal.returns-in_default
 unfolding entry_said
-returns-in_default c = record { said = check_broken _ _ (c.args.variables - c.loop.counter) (nothing _ _ c.in_default.ensures) ∙ c.loop.invariant.same; within = tt }
+returns-in_default c = record {
+  said = check_broken _ _ (c.args.variables - c.loop.counter) (nothing _ _ c.in_default.ensures) ∙ c.loop.invariant.same;
+  within = refl;
+}
 
 pub returns-then-not-level : goal.returns-then-not-level
 unfolding entry_said
 returns-then-not-level c =
     let l = level _ _ c.in-Some.level c.in-Some.ensures in
-    record { said = check_short _ _ (c.args.variables - c.loop.counter) _ _ _ l (λ e. omega arith) (search rules) ∙ c.loop.invariant.same; within = tt }
+    record {
+      said = check_short _ _ (c.args.variables - c.loop.counter) _ _ _ l (λ e. omega arith) (search rules) ∙ c.loop.invariant.same;
+      within = refl;
+    }
 
 pub loop-preserved : goal.loop-preserved
 loop-preserved c =
@@ -50,13 +56,19 @@ loop-preserved c =
 
 pub returns-in_default-level_at : goal.returns-in_default-level_at
 unfolding entry_said
-returns-in_default-level_at c = record { said = check_broken _ _ (c.args.variables - c.loop.counter) (nothing _ _ c.in_default-level_at.ensures) ∙ c.loop.invariant.same; within = tt }
+returns-in_default-level_at c = record {
+  said = check_broken _ _ (c.args.variables - c.loop.counter) (nothing _ _ c.in_default-level_at.ensures) ∙ c.loop.invariant.same;
+  within = refl;
+}
 
 pub returns-then-last : goal.returns-then-last
 unfolding entry_said
 returns-then-last c =
     let l = level _ _ c.in-Some-level_at.last c.in-Some-level_at.ensures in
-    record { said = check_long _ _ (c.args.variables - c.loop.counter) _ _ _ l (all_passed _ _ c.loop-test.false) c.if-last.true ∙ c.loop.invariant.same; within = tt }
+    record {
+      said = check_long _ _ (c.args.variables - c.loop.counter) _ _ _ l (all_passed _ _ c.loop-test.false) c.if-last.true ∙ c.loop.invariant.same;
+      within = refl;
+    }
 
 pub returns : goal.returns
 unfolding entry_said
