@@ -63,23 +63,30 @@ fn read_end(text: &[u8], at: usize) -> Option<End>
     requires { at ≤ length text.now }
     ensures { EndRead text.now at false result }
 {
-    match &text[at..] {
-        [] => Some(End {
+    let [first, rest @ ..] = &text[at..] else {
+        return Some(End {
             more: false,
             next: at,
-        }),
-        [COMMA, ..] => Some(End {
+        });
+    };
+    match *first {
+        COMMA => Some(End {
             more: true,
             next: at + 1,
         }),
-        [LF, ..] => Some(End {
+        LF => Some(End {
             more: false,
             next: at + 1,
         }),
-        [CR, LF, ..] => Some(End {
-            more: false,
-            next: at + 2,
-        }),
+        CR => {
+            let [LF, ..] = rest else {
+                return None;
+            };
+            Some(End {
+                more: false,
+                next: at + 2,
+            })
+        }
         _ => None,
     }
 }

@@ -1,20 +1,18 @@
 -- `fields::read_end` meets its contract, by the bytes at the front of those from `at` on.
-use mathlib.Core.Path.{◌≡◌, refl, sym, ap, ◌∙◌}
+use mathlib.Core.Path.{◌≡◌, sym, ap, ◌∙◌}
 use mathlib.Core.Bool.{Bool, true, false}
 use mathlib.Core.List.{List}
 use Prim.Native.Nat.{ℕ, ◌+◌, ◌-◌, ◌<◌, ◌≤◌}
 use native.Mathlib.Omega.{arith}
 use lib.ListN.{length, get_or, take, drop}
 use lib.Seq.{drop-drop}
-use lib.Dec.{eqb}
-use borrow.Author.Tests.{eqb-true, eqb-false}
 use Rattle.std.specs.Prelude.{Some, None}
 use Rattle.std.proofs.Common.{rules}
-use Rattle.notation.specs.Fields.{field, broken, ending, comma, lf, cr}
+use Rattle.notation.specs.Fields.{field, broken, ending, lf}
 use Rattle.notation.specs.Spans.{ended_by, EndRead}
 use Rattle.notation.proofs.Numbers.{end_says}
 use Rattle.notation.proofs.fields.FieldEnds.{end_text, end_comma, end_lf, end_other, end_cr, end_cr_other, end_crlf}
-use Rattle.notation.proofs.fields.FieldSpans.{all_behind, rest_size}
+use Rattle.notation.proofs.fields.FieldSpans.{all_behind, rest_size, rest_first}
 use Rattle.notation.proofs.fields.read_end.Goals as goal
 
 module _ (t : List ℕ) (at : ℕ) where
@@ -31,23 +29,14 @@ module _ (t : List ℕ) (at : ℕ) where
   unfolding ended_by
   breaks e = end_says (λ content. sym (e content) ∙ ap (ending content) (all_behind t at)) tt
 
-  -- a lone byte that is no comma and no LF: CR or another
-  lone : 0 < length rest → length rest < 2 → (get_or rest 0 0 ≡ comma → ⊥) → (get_or rest 0 0 ≡ lf → ⊥) → (content : List ℕ) → ending content rest ≡ broken
-  lone h k n m content = go (eqb (get_or rest 0 0) cr) refl
-    where
-      go : (x : Bool) → eqb (get_or rest 0 0) cr ≡ x → ending content rest ≡ broken
-      go true e = end_cr content rest 0 h n m (eqb-true _ cr e) (omega arith)
-      go false e = end_other content rest 0 h n m (eqb-false _ cr e)
+  -- the byte behind the first, where there is one
+  second : 1 < length rest → get_or (take (length rest - 1) (drop 1 rest)) 0 0 ≡ get_or rest 1 0
+  second h = rest_first rest 1 h
 
-pub returns-in-empty : goal.returns-in-empty
+pub returns-in_default : goal.returns-in_default
 unfolding ended_by
-returns-in-empty c = let a = c.args in
-    end_says (λ content. sym (end_text content a.text.now a.at (omega (arith, rest_size a.text.now a.at)))) (omega arith)
-
-pub returns-in-13 : goal.returns-in-13
-returns-in-13 c = let a = c.args in
-    let l = rest a.text.now a.at in
-    ends a.text.now a.at 2 false (omega (arith, rest_size a.text.now a.at)) (λ content. end_crlf content l 0 (search rules) (search rules) (search rules) (search rules) (search rules) (search rules))
+returns-in_default c = let a = c.args in
+    end_says (λ content. sym (end_text content a.text.now a.at (omega (arith, rest_size a.text.now a.at, c.in_default.len_below)))) (omega arith)
 
 pub returns-in-44 : goal.returns-in-44
 returns-in-44 c = let a = c.args in
@@ -59,13 +48,30 @@ returns-in-10 c = let a = c.args in
     let h : 0 < length (rest a.text.now a.at) = search rules in
     ends a.text.now a.at 1 false (omega (arith, rest_size a.text.now a.at)) (λ content. end_lf content (rest a.text.now a.at) 0 h (search rules) (search rules))
 
-pub returns-in_default : goal.returns-in_default
-returns-in_default c = breaks c.args.text.now c.args.at (lone c.args.text.now c.args.at (search rules) (search rules) (search rules) (search rules))
+pub returns-in-10-rest : goal.returns-in-10-rest
+returns-in-10-rest c = let a = c.args in
+    let l = rest a.text.now a.at in
+    let n = rest_size a.text.now a.at in
+    let m = rest_size l 1 in
+    let k : 1 < length l = omega (arith, c.in-10-rest.len_at_least) in
+    let f : get_or l 1 0 ≡ lf = rw (← second a.text.now a.at k) (search rules) in
+    ends a.text.now a.at 2 false (omega arith) (λ content. end_crlf content l 0 (omega arith) (search rules) (search rules) (search rules) k f)
 
-pub returns-in_default-2 : goal.returns-in_default-2
-returns-in_default-2 c = let a = c.args in
-    breaks a.text.now a.at (λ content. end_cr_other content (rest a.text.now a.at) 0 (search rules) (search rules) (search rules) (search rules) (search rules) (search rules))
+pub returns-in_default-rest : goal.returns-in_default-rest
+returns-in_default-rest c = let a = c.args in
+    let l = rest a.text.now a.at in
+    let h : 0 < length l = search rules in
+    let m = rest_size l 1 in
+    breaks a.text.now a.at (λ content. end_cr content l 0 h (search rules) (search rules) (search rules) (omega (arith, c.in_default-rest.len_below)))
 
-pub returns-in_default-3 : goal.returns-in_default-3
-returns-in_default-3 c = let a = c.args in
+pub returns-in_default-rest-2 : goal.returns-in_default-rest-2
+returns-in_default-rest-2 c = let a = c.args in
+    let l = rest a.text.now a.at in
+    let m = rest_size l 1 in
+    let k : 1 < length l = omega (arith, c.in_default-rest.len_at_least) in
+    let o : get_or l 1 0 ≡ lf → ⊥ = rw (← second a.text.now a.at k) (search rules) in
+    breaks a.text.now a.at (λ content. end_cr_other content l 0 (omega arith) (search rules) (search rules) (search rules) k o)
+
+pub returns-in_default-first : goal.returns-in_default-first
+returns-in_default-first c = let a = c.args in
     breaks a.text.now a.at (λ content. end_other content (rest a.text.now a.at) 0 (search rules) (search rules) (search rules) (search rules))
