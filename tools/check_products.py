@@ -19,6 +19,8 @@ COUNTS = {"usize", "u32", "u64"}
 HALVED = {("power", "left"), ("multiply_powers", "left")}
 TOKEN = re.compile(r"[A-Za-z_]\w*|\d\w*|'\w+|[-+*/%=<>!&|]=|->|=>|::|\.\.=?|<<|>>|&&|\|\||[^\s\w]")
 OPERATORS = {"*", "/", "%", "*=", "/=", "%="}
+# What goes on with an operand.
+FURTHER = {"as", ".", "[", "("}
 
 
 class Unclear(Exception):
@@ -103,7 +105,7 @@ class Reader:
         for i, token in enumerate(self.body[:-2]):
             if token == name and self.body[i + 1] in ("<", "<=", "==", "!="):
                 kind = self.operand(i + 2)[0]
-            elif token in ("<", "<=", "==", "!=") and self.body[i + 1] == name:
+            elif token in ("<", "<=", "==", "!=") and self.body[i + 1] == name and self.body[i + 2] not in FURTHER:
                 kind = self.operand(self.before(i))[0]
             else:
                 continue
@@ -121,7 +123,8 @@ class Reader:
         names = [name for name in self.body[i:start] if re.match(r"[A-Za-z_]\w*$", name)]
         self.kinds.update(dict.fromkeys(names))
         first = start + 1 + (self.body[start + 1] == "(")
-        if "(" not in self.body[i:start] and self.ranges(first):
+        whole = first == start + 1 or self.body[closing(self.body, start + 1) + 1:end] in ([], [".", "rev", "(", ")"])
+        if "(" not in self.body[i:start] and whole and self.ranges(first):
             self.kinds[names[0]] = self.bound(first)
             return
         # The first of two names is a count where the items are counted last of all.
@@ -204,7 +207,14 @@ class Reader:
 
     def reads(self, i):
         """Whether a star stands before what it reads, and is no operator: nothing that it could multiply ends before it."""
-        return self.body[i] == "*" and not re.match(r"[\w)\]?}]", self.body[i - 1] if i else "") or self.body[i - 1] in ("return", "in", "else", "match", "if", "mut")
+        return self.body[i] == "*" and not re.match(r"[\w)\]?}>]", self.body[i - 1] if i else "") or self.body[i - 1] in ("return", "in", "else", "match", "if", "mut")
+
+    def index(self, i):
+        """Whether a number made an index stands at a place, and nothing is done with it there: its type says nothing of what it was made from, but so many times
+        an index is no product of two residues."""
+        while self.body[i] == "(":
+            i += 1
+        return self.body[i:i + 4] == ["usize", "::", "from", "("] and self.body[closing(self.body, i + 3) + 1] not in FURTHER
 
     def judge(self, i):
         """What is wrong with the operator at a place, or None."""
@@ -212,9 +222,7 @@ class Reader:
         begin = self.before(i)
         kinds = {self.operand(begin)[0], self.operand(i + 1)[0]} - {None}
         literals = all(self.body[j][0].isdigit() for j in (begin, i + 1))
-        # So many times an index: a number's type says nothing of what it was made from, but a literal multiplies no two residues.
-        right = next(j for j in range(i + 1, len(self.body)) if self.body[j] != "(")
-        indexed = self.body[begin][0].isdigit() and self.body[right:right + 3] == ["usize", "::", "from"]
+        indexed = self.body[i] == "*" and self.body[begin][0].isdigit() and self.index(i + 1)
         if self.body[begin] in {name for where, name in HALVED if where == self.name} and self.body[i + 1] == "2":
             return None
         if literals or indexed or (kinds and kinds <= COUNTS):
@@ -284,6 +292,10 @@ TRIES = (
     ("mul(p, *x, to[i])", "{ let y = { *x } * to[i]; y }"),
     ("for (i, x) in from.iter().enumerate() {", "for (x, (i, y)) in from.iter().zip(to.iter().enumerate()) { let z = *x * *x;"),
     ("for (i, x) in from.iter().enumerate() {", "for x in from[0..n].iter() { let z = *x * *x;"),
+    ("for (i, x) in from.iter().enumerate() {", "for x in (0..n).map(|i| from[i]) { let z = x * x;"),
+    ("mul(p, *x, to[i])", "{ let mut y = 1; while n < y as usize { y = y * y; } y }"),
+    ("mul(p, *x, to[i])", "8 * usize::from(*x).pow(2)"),
+    ("mul(p, *x, to[i])", "60 % usize::from(p)"),
 )
 
 

@@ -57,30 +57,31 @@ counted_free m n seen (some zs ∷ es) e = go (course_fault m seen (some zs)) e 
         (rw w.0 refl, ap (λ (k : ℕ). counted_entries k es) (sym long) ∙ w.1)
 
 -- A record that was refused is the first that has a fault of form.
-pub record Counted (seen : ℕ) (f : Fault) (place : ℕ) : Type 0 where
+pub record Counted (seen : ℕ) (f : Fault) (place many : ℕ) : Type 0 where
   pub refusal : f.refusal ≡ Form
   pub record_is : f.at ≡ seen + suc place
   pub found : 1 ≤ place
+  pub low : place ≤ many
 
 pub counted_faulty : (m : ℕ) (f : Fault) (seen es : List (Option (List ℤ))) → Err f ≡ counted_courses m seen es
-    → Counted (length seen) f (first_after (course_fault m) seen es)
+    → Counted (length seen) f (first_after (course_fault m) seen es) (length es)
 unfolding counted_courses first_after further
 counted_faulty m f seen [] e = let z : ◌≡◌ {A = ℕ} 0 1 = cc in absurd (omega arith)
 counted_faulty m f seen (x ∷ es) e = go (course_fault m seen x) e (counted_faulty m f (seen ++ (x ∷ [])) es)
   where
     go : (b : Bool) → Err f ≡ cond b (Err (form_fault_at (length seen + 2))) (counted_courses m (seen ++ (x ∷ [])) es)
-        → (Err f ≡ counted_courses m (seen ++ (x ∷ [])) es → Counted (length (seen ++ (x ∷ []))) f (first_after (course_fault m) (seen ++ (x ∷ [])) es))
-        → Counted (length seen) f (cond b 1 (cond (eqb (first_after (course_fault m) (seen ++ (x ∷ [])) es) 0) 0 (suc (first_after (course_fault m) (seen ++ (x ∷ [])) es))))
+        → (Err f ≡ counted_courses m (seen ++ (x ∷ [])) es → Counted (length (seen ++ (x ∷ []))) f (first_after (course_fault m) (seen ++ (x ∷ [])) es) (length es))
+        → Counted (length seen) f (cond b 1 (cond (eqb (first_after (course_fault m) (seen ++ (x ∷ [])) es) 0) 0 (suc (first_after (course_fault m) (seen ++ (x ∷ [])) es)))) (suc (length es))
     go true q h =
         let s : f ≡ form_fault_at (length seen + 2) = cc in
         let a = ap (λ (y : Fault). y.refusal) s in
         let b : f.at ≡ length seen + 2 = ap (λ (y : Fault). y.at) s in
-        record { refusal = a; record_is = omega (arith, b); found = omega arith }
+        record { refusal = a; record_is = omega (arith, b); found = omega arith; low = omega arith }
     go false q h =
         let w = h q in
         let long : length (seen ++ (x ∷ [])) ≡ suc (length seen) = omega (arith, length-append seen (x ∷ [])) in
         rw (ne_eqb (first_after (course_fault m) (seen ++ (x ∷ [])) es) 0 (λ z. omega (arith, z, w.found)))
-        (record { refusal = w.refusal; record_is = omega (arith, w.record_is, long); found = omega arith })
+        (record { refusal = w.refusal; record_is = omega (arith, w.record_is, long); found = omega arith; low = omega (arith, w.low) })
 
 module _ (t : List ℕ) (c : ℕ) (u : Tables) (g w : List ℕ) where
   abbrev short : Bool
