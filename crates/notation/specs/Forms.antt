@@ -79,11 +79,15 @@ weighted ws = (3, fill 8 ws)
 abbrev pub default_order : ℕ
 default_order = 2
 
+-- the order by weights, by what stands behind the word in a header of m names
+abbrev pub weight_order : ℕ → List ℕ → Option Ordered
+weight_order m l = map weighted (weights_of m l)
+
 -- the order, by what stands behind the digits in a header of m names: a word, or `weight` with a weight for each name (M-109)
 unfoldable pub order_word : ℕ → List ℕ → Option Ordered
 order_word m l = cond (same_list l []) (some (unweighted default_order))
     (cond (same_list l lex_word) (some (unweighted 0)) (cond (same_list l grlex_word) (some (unweighted 1)) (cond (same_list l grevlex_word) (some (unweighted 2))
-    (cond (same_list (take 7 l) weight_word) (map weighted (weights_of m (drop 7 l))) none))))
+    (cond (same_list (take 7 l) weight_word) (weight_order m (drop 7 l)) none))))
 
 -- what the header says
 pub record Header : Type 0 where

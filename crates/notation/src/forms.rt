@@ -1,7 +1,6 @@
 // The forms of a field's content.
 ghost use Rattle.std.specs.Prelude.{◌≡◌, ◌≤◌, length, drop, set, replicate};
-ghost use Rattle.std.proofs.Math.Option.{map};
-ghost use Rattle.notation.specs.Forms.{weight_first, weights_of, weighted, order_word, modulus_and_order, last_field};
+ghost use Rattle.notation.specs.Forms.{weight_first, weight_order, order_word, modulus_and_order, last_field};
 ghost use Rattle.notation.specs.Said.{weight_said, WeightWithin, OrderRead, LastRead};
 
 use crate::digits::read_leading;
@@ -44,7 +43,7 @@ fn keep_weight(weights: &mut [u8], i: usize, weight: u8)
 // As many weights as there are names, into eight zeros: the order is then by weights.
 fn read_weights(content: &[u8], names: usize, weights: &mut [u8]) -> Option<u8>
     requires { weights.old ≡ replicate 8 0 }
-    ensures { OrderRead (map weighted (weights_of names content.now)) weights.new result }
+    ensures { OrderRead (weight_order names content.now) weights.new result }
 {
     let mut at = 0;
     for i in 0..names {
